@@ -572,7 +572,7 @@ def events_in(fields):
     return []
 
 
-def told_slot(reply):
+def reported_slot(reply):
     slot, waived, number, act, last = reply
     words = [f"{slot}:"] + [f"waived {number} given {given}" for number, given in waived]
     words.append("idle" if act is None else f"{number} {act}")
@@ -621,7 +621,7 @@ class Player:
     def reply(self, event):
         try:
             if event[0] == "slot":
-                return told_slot(self.slot())
+                return reported_slot(self.slot())
             take = self.die.submit if event[0] == "job" else self.die.collect
             return f"taken {take(*event[1:])}"
         except Refused as refusal:
@@ -649,7 +649,7 @@ class Player:
         if name == "collect":
             return die.collect(*event_in(fields)[1:])
         if name in ("slot", "at-once"):
-            return told_slot(self.slot())
+            return reported_slot(self.slot())
         if name in ("slots", "pass"):
             replies = [self.slot() for _ in range(int(fields[1]))]
             numbers = ["-" if act is None else str(number) for _, _, number, act, _ in replies]

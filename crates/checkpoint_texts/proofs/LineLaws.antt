@@ -31,9 +31,9 @@ commas-append (x ∷ xs) field = ap (λ t. 44 ∷ (x ++ t)) (commas-append xs fi
     ∙ ap (λ t. 44 ∷ t) (sym (append_assoc x (after_commas xs) (44 ∷ field)))
 
 -- one field more
-pub commas-behind : (fields : Fields) (field t1 t2 t3 : List ℕ) → t2 ≡ t1 ++ after_commas fields → t3 ≡ t2 ++ (44 ∷ field)
+pub commas-beyond : (fields : Fields) (field t1 t2 t3 : List ℕ) → t2 ≡ t1 ++ after_commas fields → t3 ≡ t2 ++ (44 ∷ field)
     → t3 ≡ t1 ++ after_commas (fields ++ field ∷ [])
-commas-behind fields field t1 t2 t3 one two =
+commas-beyond fields field t1 t2 t3 one two =
     two ∙ rw one (append_assoc t1 (after_commas fields) (44 ∷ field) ∙ ap (λ t. t1 ++ t) (sym (commas-append fields field)))
 
 -- the whole line

@@ -9,7 +9,7 @@ use Rattle.text_base.specs.Marks.{is_within}
 use Rattle.text_base.proofs.MarkLaws.{within-short}
 use Rattle.checkpoint_texts.specs.CheckpointOf.{Reading, checkpoint_from, checkpoint_of, dies_from, header_of, most_records, whole_at}
 use Rattle.checkpoint_texts.specs.Gathering.{between, with_record}
-use Rattle.checkpoint_texts.specs.Readings.{IsOutside, Tells}
+use Rattle.checkpoint_texts.specs.Readings.{IsOutside, Says}
 use Rattle.checkpoint_texts.specs.declared.fault.RecordFault.TheVariants as fault
 use Rattle.checkpoint_texts.specs.declared.fault.TextFault.{TextFault}
 use Rattle.checkpoint_texts.specs.declared.fault.TextFault.TheVariants.{NoMemory, Broken}
@@ -22,20 +22,20 @@ low-line n low = grind (arith)
 pub high-line : (n : ℕ) → 2105481 < n → nat_lt most_records n ≡ true
 high-line n high = grind (arith)
 
-pub tells-same : (read r : Reading) → read ≡ r → Tells (Some read) r
-tells-same read (Ok x) same = same
-tells-same read (Err e) same = inr same
+pub says-same : (read r : Reading) → read ≡ r → Says (Some read) r
+says-same read (Ok x) same = same
+says-same read (Err e) same = inr same
 
-pub tells-outside : (known : Option Reading) (e : TextFault) → IsOutside e → Tells known (Err e)
-tells-outside None e out = tt
-tells-outside (Some read) e out = inl out
+pub says-outside : (known : Option Reading) (e : TextFault) → IsOutside e → Says known (Err e)
+says-outside None e out = tt
+says-outside (Some read) e out = inl out
 
 -- what is known of the records so far says the same
-told-on : (whole : Option Reading) (here r : Reading) → Stays whole (Some here) → Tells (Some here) r → Tells whole r
-told-on None here r so-far told = tt
-told-on (Some w) here (Ok x) so-far told = let same : here ≡ w = cc so-far in sym same ∙ told
-told-on (Some w) here (Err e) so-far (inl out) = inl out
-told-on (Some w) here (Err e) so-far (inr bad) = let same : here ≡ w = cc so-far in inr (sym same ∙ bad)
+said-on : (whole : Option Reading) (here r : Reading) → Stays whole (Some here) → Says (Some here) r → Says whole r
+said-on None here r so-far said = tt
+said-on (Some w) here (Ok x) so-far said = let same : here ≡ w = cc so-far in sym same ∙ said
+said-on (Some w) here (Err e) so-far (inl out) = inl out
+said-on (Some w) here (Err e) so-far (inr bad) = let same : here ≡ w = cc so-far in inr (sym same ∙ bad)
 
 record-then : (g g2 : Gathered) (n : ℕ) (fields : Fields) (rest : List Fields) → nat_lt most_records n ≡ false → with_record n g fields ≡ Ok g2
     → dies_from g n (fields ∷ rest) ≡ dies_from g2 (n + 1) rest
@@ -68,31 +68,31 @@ dies-more g g2 n fields (Some rows) new (Some w) takes low is so-far =
 -- a record that adds nothing
 pub dies-fault : (g : Gathered) (n : ℕ) (fields : Fields) (left new : Option (List Fields)) (whole : Option Reading) (e : TextFault)
     → TakesRow left new true fields → nat_lt most_records n ≡ false → (e ≡ NoMemory) ⊎ (with_record n g fields ≡ Err e)
-    → Stays whole (option_map (dies_from g n) left) → Tells whole (Err e)
+    → Stays whole (option_map (dies_from g n) left) → Says whole (Err e)
 dies-fault g n fields left new None e takes low why so-far = tt
 dies-fault g n fields None new (Some w) e takes low why so-far = absurd (cc so-far)
 dies-fault g n fields (Some rows) new (Some w) e takes low (inl memory) so-far = inl (inl memory)
 dies-fault g n fields (Some rows) new (Some w) e takes low (inr is) so-far =
-    told-on (Some w) (dies_from g n rows) (Err e) so-far (inr (rw takes.2 (record-fault g n fields takes.0 e low is)))
+    said-on (Some w) (dies_from g n rows) (Err e) so-far (inr (rw takes.2 (record-fault g n fields takes.0 e low is)))
 
 -- a record too many
 pub dies-over : (g : Gathered) (n : ℕ) (fields : Fields) (left new : Option (List Fields)) (whole : Option Reading)
     → TakesRow left new true fields → nat_lt most_records n ≡ true
-    → Stays whole (option_map (dies_from g n) left) → Tells whole (Err (Broken n 1 fault.TooMany))
+    → Stays whole (option_map (dies_from g n) left) → Says whole (Err (Broken n 1 fault.TooMany))
 dies-over g n fields left new None takes high so-far = tt
 dies-over g n fields None new (Some w) takes high so-far = absurd (cc so-far)
 dies-over g n fields (Some rows) new (Some w) takes high so-far =
-    told-on (Some w) (dies_from g n rows) (Err (Broken n 1 fault.TooMany)) so-far
+    said-on (Some w) (dies_from g n rows) (Err (Broken n 1 fault.TooMany)) so-far
     (inr (rw takes.2 (record-over g n fields takes.0 high)))
 
 -- no record is left
 pub dies-end : (g : Gathered) (n : ℕ) (fields : Fields) (left new : Option (List Fields)) (whole : Option Reading) (r : Reading)
     → TakesRow left new false fields → r ≡ whole_at n g
-    → Stays whole (option_map (dies_from g n) left) → Tells whole r
+    → Stays whole (option_map (dies_from g n) left) → Says whole r
 dies-end g n fields left new None r takes is so-far = tt
 dies-end g n fields None new (Some w) r takes is so-far = absurd (cc so-far)
 dies-end g n fields (Some rows) new (Some w) r takes is so-far =
-    told-on (Some w) (dies_from g n rows) r so-far (tells-same (dies_from g n rows) r (rw takes (record-none g n) ∙ sym is))
+    said-on (Some w) (dies_from g n rows) r so-far (says-same (dies_from g n rows) r (rw takes (record-none g n) ∙ sym is))
 
 -- at the end of a text it fits
 pub fits-end : (r : Reading) (fits left new : Option Bool) → Stays fits left → KeepsFit left new false
@@ -110,34 +110,34 @@ fits-then (Some fit) (Some own) c one two = two ∙ one
 -- The header
 
 pub header-read : (fields : Fields) (old mid : Option (List Fields)) (r : Reading) → TakesRow old mid true fields
-    → header_of fields ≡ Ok tt → Tells (option_map (dies_from (between []) 2) mid) r → Tells (option_map checkpoint_from old) r
-header-read fields None mid r takes is told = tt
-header-read fields (Some rows) mid r takes is told =
-    told-on (Some (checkpoint_from rows)) (dies_from (between []) 2 takes.0) r
-    (ap Some (sym (rw (takes.2, is) refl))) (rw takes.1 at told)
+    → header_of fields ≡ Ok tt → Says (option_map (dies_from (between []) 2) mid) r → Says (option_map checkpoint_from old) r
+header-read fields None mid r takes is said = tt
+header-read fields (Some rows) mid r takes is said =
+    said-on (Some (checkpoint_from rows)) (dies_from (between []) 2 takes.0) r
+    (ap Some (sym (rw (takes.2, is) refl))) (rw takes.1 at said)
 
 pub header-fault : (fields : Fields) (old mid : Option (List Fields)) (e : TextFault) → TakesRow old mid true fields
-    → header_of fields ≡ Err e → Tells (option_map checkpoint_from old) (Err e)
+    → header_of fields ≡ Err e → Says (option_map checkpoint_from old) (Err e)
 header-fault fields None mid e takes is = tt
 header-fault fields (Some rows) mid e takes is = inr (rw (takes.2, is) refl)
 
 pub header-none : (fields : Fields) (old mid : Option (List Fields)) → TakesRow old mid false fields
-    → Tells (option_map checkpoint_from old) (Err (Broken 1 1 fault.Header))
+    → Says (option_map checkpoint_from old) (Err (Broken 1 1 fault.Header))
 header-none fields None mid takes = tt
 header-none fields (Some rows) mid takes = inr (rw takes refl)
 
-pub fits-behind : (r : Reading) (a b : Option Bool) → KeepsFit a b true → OnOk r (IfSome b (λ fit. fit ≡ true))
+pub fits-beyond : (r : Reading) (a b : Option Bool) → KeepsFit a b true → OnOk r (IfSome b (λ fit. fit ≡ true))
     → OnOk r (IfSome a (λ fit. fit ≡ true))
-fits-behind (Err e) a b keeps fits = tt
-fits-behind (Ok x) None b keeps fits = tt
-fits-behind (Ok x) (Some fit) b keeps fits = rw keeps at fits
+fits-beyond (Err e) a b keeps fits = tt
+fits-beyond (Ok x) None b keeps fits = tt
+fits-beyond (Ok x) (Some fit) b keeps fits = rw keeps at fits
 
 -- The text
 
-pub text-tells : (text : Option (List ℕ)) (left : Option (List Fields)) (r : Reading) → left ≡ option_map rows_of text
-    → Tells (option_map checkpoint_from left) r → Tells (option_map checkpoint_of text) r
-text-tells None left r is told = tt
-text-tells (Some t) left r is told = rw is at told
+pub text-says : (text : Option (List ℕ)) (left : Option (List Fields)) (r : Reading) → left ≡ option_map rows_of text
+    → Says (option_map checkpoint_from left) r → Says (option_map checkpoint_of text) r
+text-says None left r is said = tt
+text-says (Some t) left r is said = rw is at said
 
 pub text-fits : (text : Option (List ℕ)) (left : Option Bool) (r : Reading) → left ≡ option_map (is_within 134217728) text
     → OnOk r (IfSome left (λ fit. fit ≡ true)) → OnOk r (IfSome text (λ bytes. length bytes ≤ 134217728))

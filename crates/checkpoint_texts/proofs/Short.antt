@@ -35,8 +35,8 @@ two-long : (a : List ℕ) → length (after_commas (a ∷ [])) ≡ length a + 1
 unfolding after_commas
 two-long a = omega (arith, length-append a [])
 
-behind-long : (a b : List ℕ) → length (a ++ (b ++ 10 ∷ [])) ≡ length a + length b + 1
-behind-long a b = omega (arith, length-append a (b ++ 10 ∷ []), length-append b (10 ∷ []))
+beyond-long : (a b : List ℕ) → length (a ++ (b ++ 10 ∷ [])) ≡ length a + length b + 1
+beyond-long a b = omega (arith, length-append a (b ++ 10 ∷ []), length-append b (10 ∷ []))
 
 line-short : (a b : List ℕ) (fields : Fields) (most : ℕ) → ArePlain (a ∷ b ∷ fields)
     → length (a ++ (after_commas (b ∷ fields) ++ 10 ∷ [])) ≤ most → line-length (a ∷ b ∷ fields) ≤ most
@@ -46,7 +46,7 @@ numbers-short : (kind : List ℕ) (a b : ℕ) → length kind ≤ 5 → a < 2 ^ 
     → length (kind ++ (after_commas (decimal a ∷ decimal b ∷ []) ++ 10 ∷ [])) ≤ 60
 numbers-short kind a b few one two = omega (
   arith,
-  behind-long kind (after_commas (decimal a ∷ decimal b ∷ [])),
+  beyond-long kind (after_commas (decimal a ∷ decimal b ∷ [])),
   three-long (decimal a) (decimal b),
   short-number a one,
   short-number b two,
@@ -65,7 +65,7 @@ task-short : (balance : ℕ) → balance < 2 ^ 32 → line-length (task_record b
 task-short balance small = line-short (codes "task") (decimal balance) [] 60 (plain-number (codes "task") balance refl)
     (omega (
       arith,
-      behind-long (codes "task") (after_commas (decimal balance ∷ [])),
+      beyond-long (codes "task") (after_commas (decimal balance ∷ [])),
       two-long (decimal balance),
       short-number balance small,
     ))
@@ -80,7 +80,7 @@ page-short : (place : Option Place) (bytes : Option PageData) → IfSome place I
 page-short None bytes small has = line-short (codes "page") [] ([] ∷ bytes_field bytes ∷ []) 60 (plain-page None bytes)
     (omega (
       arith,
-      behind-long (codes "page") (after_commas ([] ∷ [] ∷ bytes_field bytes ∷ [])),
+      beyond-long (codes "page") (after_commas ([] ∷ [] ∷ bytes_field bytes ∷ [])),
       four-long [] [] (bytes_field bytes),
       bytes-short None bytes has,
     ))
@@ -88,7 +88,7 @@ page-short (Some place) bytes small has =
     line-short (codes "page") (decimal place.block) (decimal place.page ∷ bytes_field bytes ∷ []) 60 (plain-page (Some place) bytes)
     (omega (
       arith,
-      behind-long (codes "page") (after_commas (decimal place.block ∷ decimal place.page ∷ bytes_field bytes ∷ [])),
+      beyond-long (codes "page") (after_commas (decimal place.block ∷ decimal place.page ∷ bytes_field bytes ∷ [])),
       four-long (decimal place.block) (decimal place.page) (bytes_field bytes),
       short-number place.block small.0,
       short-number place.page small.1,

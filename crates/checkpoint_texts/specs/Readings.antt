@@ -29,7 +29,7 @@ Shows view (Ok x) read = read ≡ Ok (view x)
 Shows view (Err e) read = (e ≡ NoMemory) ⊎ (read ≡ Err e)
 
 -- a call gave what the text says, if that is known, and memory and the reader didn't fail
-abbrev pub Tells : {X : Type 0} → Option (Result X TextFault) → Result X TextFault → Type 0
-Tells None result = ⊤
-Tells (Some read) (Ok x) = read ≡ Ok x
-Tells (Some read) (Err e) = IsOutside e ⊎ (read ≡ Err e)
+abbrev pub Says : {X : Type 0} → Option (Result X TextFault) → Result X TextFault → Type 0
+Says None result = ⊤
+Says (Some read) (Ok x) = read ≡ Ok x
+Says (Some read) (Err e) = IsOutside e ⊎ (read ≡ Err e)

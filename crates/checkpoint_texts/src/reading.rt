@@ -8,7 +8,7 @@ ghost use Rattle.text_base.specs.CsvRecordsLeft.{KeepsFit, fits_left, rows_left}
 ghost use Rattle.text_base.specs.Plain.{IsPlain};
 ghost use Rattle.checkpoint_texts.specs.CheckpointOf.{checkpoint_from, checkpoint_of, dies_from, header_of};
 ghost use Rattle.checkpoint_texts.specs.Gathering.{between};
-ghost use Rattle.checkpoint_texts.specs.Readings.{IsOutside, Tells};
+ghost use Rattle.checkpoint_texts.specs.Readings.{IsOutside, Says};
 
 use crate::fault::{RecordFault, TextFault};
 use crate::gathered::{gather, no_dies, whole};
@@ -71,7 +71,7 @@ fn take_dies<R: Read>(
     row: &mut ByteRecord,
 ) -> Result<SavedStore, TextFault>
     requires { IsPlain rows.old }
-    ensures store { Tells (option_map (dies_from (between []) 2) (rows_left R.remaining rows.old))
+    ensures store { Says (option_map (dies_from (between []) 2) (rows_left R.remaining rows.old))
         result }
     ensures fits { OnOk result (IfSome (fits_left R.remaining rows.old) (λ fits. fits ≡ true)) }
 {
@@ -104,7 +104,7 @@ fn take_store<R: Read>(
     row: &mut ByteRecord,
 ) -> Result<SavedStore, TextFault>
     requires { IsPlain rows.old }
-    ensures store { Tells (option_map checkpoint_from (rows_left R.remaining rows.old)) result }
+    ensures store { Says (option_map checkpoint_from (rows_left R.remaining rows.old)) result }
     ensures fits { OnOk result (IfSome (fits_left R.remaining rows.old) (λ fits. fits ≡ true)) }
 {
     if !next(rows, row)? {
@@ -137,7 +137,7 @@ fn take_store<R: Read>(
 ///
 /// What was read fits no plan as yet: [`check`](die_checkpoint::Checkpoint::check) says whether it does.
 pub fn read_checkpoint<R: Read + Drop>(alloc: Global, reader: R) -> Result<SavedStore, TextFault>
-    ensures store { Tells (option_map checkpoint_of (R.remaining reader)) result }
+    ensures store { Says (option_map checkpoint_of (R.remaining reader)) result }
     ensures bound { OnOk result (IfSome (R.remaining reader) (λ text. length text ≤ 134217728)) }
 {
     let mut rows = rows_up_to(alloc, reader, MAX_BYTES);

@@ -36,12 +36,12 @@ fn play_all<R: Files + Threads + Wait + Sync, W: Write>(
 }
 
 /// The words after the program's name.
-fn words_behind<R: Env>(rt: &R, alloc: Global) -> io::Result<Vec<String>> {
+fn words_after<R: Env>(rt: &R, alloc: Global) -> io::Result<Vec<String>> {
     Ok(env::args(&(rt, alloc))?.skip(1).collect(alloc)?)
 }
 
 fn main(rt: HostRuntime) -> io::Result<ExitCode> {
-    let tables = words_behind(&rt, rt.alloc())?;
+    let tables = words_after(&rt, rt.alloc())?;
     let mut out = rt.stdout();
     let tally = play_all(&rt, rt.alloc(), tables.as_slice(), &mut out)?;
     tally.print(&mut out)?;

@@ -14,7 +14,7 @@ use std::thread::Threads;
 
 /// What the threads of a die were answered in a life.
 #[derive(Clone, Copy, Drop)]
-pub(crate) struct Told {
+pub(crate) struct Reported {
     pub(crate) control: Diary,
     pub(crate) logger: Diary,
     pub(crate) carried: Carried,
@@ -58,7 +58,7 @@ pub(crate) fn run_die<N: Nand + Send, R: Threads + Wait + Sync>(
     die: &Die<N>,
     mut pass: DiePass<N>,
     life: u8,
-) -> Result<(DiePass<N>, Told), Refusal>
+) -> Result<(DiePass<N>, Reported), Refusal>
     requires { pass.lock ≡ die.now }
     ensures { IfOk result (λ made. made.0.lock ≡ die.now) }
 {
@@ -79,12 +79,12 @@ pub(crate) fn run_die<N: Nand + Send, R: Threads + Wait + Sync>(
     );
     die.join_pass(&mut pass, first);
     die.join_pass(&mut pass, second);
-    let told = Told {
+    let said = Reported {
         control,
         logger,
         carried,
     };
-    Ok((pass, told))
+    Ok((pass, said))
 }
 
 /// Runs both dies of a store at once for a life, and hands their passes back, in order.
@@ -94,7 +94,7 @@ pub(crate) fn run_dies<N: Nand + Send, R: Threads + Wait + Sync>(
     store: &Store<N>,
     passes: Vec<DiePass<N>>,
     life: u8,
-) -> Result<(Vec<DiePass<N>>, [Told; 2]), Refusal>
+) -> Result<(Vec<DiePass<N>>, [Reported; 2]), Refusal>
     requires { map (λ pass. pass.lock) passes.items ≡ store.now }
     ensures { IfOk result (λ made. map (λ pass. pass.lock) made.0.items ≡ store.now) }
 {
@@ -107,18 +107,18 @@ pub(crate) fn run_dies<N: Nand + Send, R: Threads + Wait + Sync>(
     let mut back = Vec::with_capacity(alloc, 2)?;
     let (zero, one) = thread::join(
         rt,
-        || -> Result<(DiePass<N>, Told), Refusal>
+        || -> Result<(DiePass<N>, Reported), Refusal>
             requires { zero_pass.lock ≡ zero.now }
             ensures { IfOk result (λ made. made.0.lock ≡ zero.entry.now) }
         { run_die(rt, alloc, zero, zero_pass, life) },
-        || -> Result<(DiePass<N>, Told), Refusal>
+        || -> Result<(DiePass<N>, Reported), Refusal>
             requires { one_pass.lock ≡ one.now }
             ensures { IfOk result (λ made. made.0.lock ≡ one.entry.now) }
         { run_die(rt, alloc, one, one_pass, life) },
     );
-    let (zero_pass, zero_told) = zero?;
-    let (one_pass, one_told) = one?;
+    let (zero_pass, zero_reported) = zero?;
+    let (one_pass, one_reported) = one?;
     back.push_reserved(zero_pass);
     back.push_reserved(one_pass);
-    Ok((back, [zero_told, one_told]))
+    Ok((back, [zero_reported, one_reported]))
 }

@@ -46,9 +46,9 @@ fn live<R: Threads + Wait + Sync, W: Write>(
 ) -> Result<Vec<DieCore<Device>>, Stop>
     requires { map (λ pass. pass.lock) passes.items ≡ store }
 {
-    let (passes, told) = run_dies(rt, alloc, &store, passes, life)?;
+    let (passes, said) = run_dies(rt, alloc, &store, passes, life)?;
     let dies = closed(rt, store, passes)?;
-    print_life(out, alloc, life, &told, dies.as_slice())?;
+    print_life(out, alloc, life, &said, dies.as_slice())?;
     Ok(dies)
 }
 

@@ -1,6 +1,6 @@
 //! What the recorder prints of its dies, once their store is closed.
 
-use crate::dies::Told;
+use crate::dies::Reported;
 use crate::plan::Device;
 use crate::tasks::Diary;
 use late_cert::{Certificate, check};
@@ -36,30 +36,30 @@ fn print_diary<W: Write>(out: &mut W, name: &str, diary: &Diary) -> io::Result<(
 }
 
 /// Prints what the threads of a die were answered.
-fn print_told<W: Write>(out: &mut W, told: &Told) -> io::Result<()> {
-    let slots = told.carried.slots;
-    match told.carried.stop {
+fn print_reported<W: Write>(out: &mut W, said: &Reported) -> io::Result<()> {
+    let slots = said.carried.slots;
+    match said.carried.stop {
         Some(refusal) => writeln!(out, "{slots} slots, then {refusal}")?,
         None => writeln!(out, "{slots} slots")?,
     }
-    print_diary(out, "control", &told.control)?;
-    print_diary(out, "logger", &told.logger)
+    print_diary(out, "control", &said.control)?;
+    print_diary(out, "logger", &said.logger)
 }
 
 /// When the work that a certificate names was due, in rising order. Which number a job has depends on which thread was
 /// first, and its deadline doesn't.
-fn dues(
+fn deadlines(
     alloc: Global,
     core: &DieCore<Device>,
     certificate: &Certificate,
 ) -> Result<Vec<u32>, Refusal> {
-    let mut dues = Items::new(alloc);
+    let mut deadlines = Items::new(alloc);
     for job in certificate.jobs.as_slice() {
-        dues.push(core.job(*job)?.due)?;
+        deadlines.push(core.job(*job)?.due)?;
     }
-    let mut dues = dues.into_vec();
-    dues.sort_unstable();
-    Ok(dues)
+    let mut deadlines = deadlines.into_vec();
+    deadlines.sort_unstable();
+    Ok(deadlines)
 }
 
 /// Prints the worst lateness of a die with its certificate, and what the check of the certificate says.
@@ -72,7 +72,7 @@ fn print_worst<W: Write>(
         return Ok(());
     };
     let verdict = check(&core.rows(alloc)?, &certificate);
-    let filled = dues(alloc, core, &certificate)?;
+    let filled = deadlines(alloc, core, &certificate)?;
     written(writeln!(
         out,
         "  worst lateness {}: due {}, completed {}",
@@ -96,11 +96,11 @@ fn print_die<W: Write>(
     out: &mut W,
     alloc: Global,
     number: usize,
-    told: &Told,
+    said: &Reported,
     core: &DieCore<Device>,
 ) -> Result<(), Refusal> {
     written(write!(out, "die {number}: "))?;
-    written(print_told(out, told))?;
+    written(print_reported(out, said))?;
     print_worst(out, alloc, core)
 }
 
@@ -109,12 +109,12 @@ pub(crate) fn print_life<W: Write>(
     out: &mut W,
     alloc: Global,
     life: u8,
-    told: &[Told],
+    said: &[Reported],
     dies: &[DieCore<Device>],
 ) -> Result<(), Refusal> {
     written(writeln!(out, "life {life}"))?;
-    for (number, (told, core)) in told.iter().zip(dies).enumerate() {
-        print_die(out, alloc, number, told, core)?;
+    for (number, (said, core)) in said.iter().zip(dies).enumerate() {
+        print_die(out, alloc, number, said, core)?;
     }
     Ok(())
 }

@@ -35,15 +35,15 @@ opened : (pages : ℕ) (block : BlockCounts) → is_open pages block ≡ true �
 opened pages block h = (grind (arith, nat_tests), grind (arith, nat_tests))
 
 -- the block that is found after a number
-found_behind : (o : Option ℕ) (from block : ℕ) → option_map (λ behind. from + behind) o ≡ Some block
-    → (behind : ℕ) × (o ≡ Some behind) × (from + behind ≡ block)
-found_behind None from block is = absurd cc
-found_behind (Some behind) from block is = (behind, refl, same_Some (from + behind) block is)
+found_after : (o : Option ℕ) (from block : ℕ) → option_map (λ beyond. from + beyond) o ≡ Some block
+    → (beyond : ℕ) × (o ≡ Some beyond) × (from + beyond ≡ block)
+found_after None from block is = absurd cc
+found_after (Some beyond) from block is = (beyond, refl, same_Some (from + beyond) block is)
 
 pub second_breaks : (pages : ℕ) (blocks : List BlockCounts) (b : ℕ) → IsSecondOpen pages blocks b → HasOneOpen pages blocks → ⊥
 second_breaks pages blocks b s one_open =
     let first_open = opened pages (counts_at blocks s.first) (position-Some (is_open pages) blocks s.first no_counts s.first_is).1 in
-    let f = found_behind (position (is_open pages) (drop (s.first + 1) blocks)) (s.first + 1) b s.second_is in
+    let f = found_after (position (is_open pages) (drop (s.first + 1) blocks)) (s.first + 1) b s.second_is in
     let there : counts_at (drop (s.first + 1) blocks) f.0 ≡ counts_at blocks b = get_or-drop (s.first + 1) blocks f.0 no_counts
     ∙ ap (λ (k : ℕ). counts_at blocks k) f.2 in
     let second_open = opened pages (counts_at blocks b) (ap (is_open pages) (sym there)

@@ -55,9 +55,9 @@ not_before pages blocks first b is opened =
       | inr past ↦ past
     ]
 
-not_behind : (pages : ℕ) (blocks : List BlockCounts) (from b : ℕ) → None ≡ position (is_open pages) (drop from blocks)
+not_after : (pages : ℕ) (blocks : List BlockCounts) (from b : ℕ) → None ≡ position (is_open pages) (drop from blocks)
     → IsOpen pages blocks b → b < from
-not_behind pages blocks from b none opened =
+not_after pages blocks from b none opened =
     elim (cases_lt b from) [
       | inl below ↦ below
       | inr past ↦ (let fails = fails_at (is_open pages) (drop from blocks) (b - from) (sym none) refl in
@@ -81,8 +81,8 @@ one_open pages blocks first is none one other open_one open_other = omega (
   arith,
   not_before pages blocks first one is open_one,
   not_before pages blocks first other is open_other,
-  not_behind pages blocks (first + 1) one none open_one,
-  not_behind pages blocks (first + 1) other none open_other,
+  not_after pages blocks (first + 1) one none open_one,
+  not_after pages blocks (first + 1) other none open_other,
 )
 
 -- as a slice of the rest is read

@@ -20,7 +20,7 @@ is_open pages block = nat_lt 0 block.filled && nat_lt block.filled pages
 
 -- the first open block from a number on
 abbrev pub open_from : ℕ → ℕ → List BlockCounts → Option ℕ
-open_from pages from blocks = option_map (λ behind. from + behind) (position (is_open pages) (drop from blocks))
+open_from pages from blocks = option_map (λ beyond. from + beyond) (position (is_open pages) (drop from blocks))
 
 -- with more erases a block's count might reach the greatest that a device counts to before the last slot of a life
 abbrev pub most_erases : ℕ

@@ -38,7 +38,7 @@ pub(crate) fn second_open(blocks: &[BlockCounts], pages: u32) -> Option<u32>
     match open_at(blocks, pages) {
         None => None,
         Some(first) => match open_at(&blocks[first + 1..], pages) {
-            Some(behind) => Some((first + 1 + behind) as u32),
+            Some(beyond) => Some((first + 1 + beyond) as u32),
             None => None,
         },
     }

@@ -27,12 +27,12 @@ use Rattle.die_log.specs.Model.Opening.{IsOpening}
 
 -- Parts of a legal log
 
-legal_behind : (start : Start) (later moment : Log) → IsLegal start (later ++ moment) → IsLegal start moment
-legal_behind start [] moment h = h
-legal_behind start (e ∷ later) moment h = legal_behind start later moment h.0
+legal_after : (start : Start) (later moment : Log) → IsLegal start (later ++ moment) → IsLegal start moment
+legal_after start [] moment h = h
+legal_after start (e ∷ later) moment h = legal_after start later moment h.0
 
 legal_entry : (start : Start) (log : Log) (e : Entry) (past : Log) → IsLegal start log → HasEntry log e past → IsLegalEntry start past e
-legal_entry start log e past h has = (legal_behind start has.0 (e ∷ past) (subst (IsLegal start) has.1 h)).1
+legal_entry start log e past h has = (legal_after start has.0 (e ∷ past) (subst (IsLegal start) has.1 h)).1
 
 legal_slot : (start : Start) (log : Log) (s : SlotReply) (past : Log) → IsLegal start log → HasSlot log s past
     → IsLegalReply start past (replies.Slot s)
@@ -48,7 +48,7 @@ owed_fits start [] h = omega arith
 owed_fits start (e ∷ past) h = h.1.room
 
 legal_moment : (start : Start) (log moment : Log) → IsLegal start log → HasMoment log moment → IsLegal start moment
-legal_moment start log moment h has = legal_behind start has.0 moment (subst (IsLegal start) has.1 h)
+legal_moment start log moment h has = legal_after start has.0 moment (subst (IsLegal start) has.1 h)
 
 -- The certificate
 
@@ -80,7 +80,7 @@ keeps_promises start bound log exact =
       exact = exact;
       legal = legal;
       arrivals = λ e past has. (legal_entry start log e past legal has).in_time;
-      reads = λ s past number page bytes has ran. (legal_act start log s past number _ legal has ran).1.tells;
+      reads = λ s past number page bytes has ran. (legal_act start log s past number _ legal has ran).1.says;
       programs = λ s past number act has ran. (legal_act start log s past number act legal has ran).1.finds;
       room = λ moment has. owed_fits start moment (legal_moment start log moment legal has);
       never_idle = λ s past has idle. subst (IsLegalRun start past s.waived) idle (legal_slot start log s past legal has).1;

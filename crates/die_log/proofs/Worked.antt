@@ -4,7 +4,7 @@ pub mod ReadSeesTheWrite
 mod BlankPage
 mod FifthWrite
 pub mod EarlierDuePreempts
-pub mod EqualDues
+pub mod EqualDeadlines
 pub mod TwoJobsOneDue
 mod WaivedWithSpare
 mod RefusalsInOrder

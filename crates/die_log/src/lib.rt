@@ -43,6 +43,6 @@ pub use laws::{
     quiet_moments_are_openings, worst_is_worst,
 };
 pub use lives::{
-    few_erases, lives_are_least_late, lives_keep_promises, lives_tell_the_last_write,
+    few_erases, lives_are_least_late, lives_keep_promises, lives_report_the_last_write,
     planned_lives_go_on, wear_adds_up,
 };

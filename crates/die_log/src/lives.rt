@@ -45,7 +45,7 @@ pub fn lives_keep_promises()
 
 /// Each read gives what the last finished write or trim of its page left on it, in whichever life that was, or else
 /// what stood on it where the die's first life started.
-pub fn lives_tell_the_last_write()
+pub fn lives_report_the_last_write()
     ensures { ForEachLife (λ first log earlier.
         (s : SlotReply) (past : Log) (number page : ℕ) (bytes : PageData) →
         HasSlot log s past → s.ran ≡ Some (number, does.Read page bytes) →

@@ -21,7 +21,7 @@ use Rattle.die_service.specs.Passes.{AddsEntry, AddsNone}
 use Rattle.slot_types.specs.Arrivals.{IsArrival}
 use Rattle.slot_types.specs.Arriving.{arrivals_by, arrivals_after}
 use Rattle.slot_types.proofs.Arriving.{arrived_one, later_one}
-use Rattle.die_service.specs.Runs.{AskedEvent, asked_event, comes_at, AreAsked, place_behind, with_refused, slots_in, slot_counted, stop_of}
+use Rattle.die_service.specs.Runs.{AskedEvent, asked_event, comes_at, AreAsked, place_beyond, with_refused, slots_in, slot_counted, stop_of}
 use Rattle.die_service.specs.Runs.{stop_or}
 use Rattle.die_service.specs.Stores.{DiePass}
 use Rattle.die_service.specs.Drives.{Course, WorkerState, Asks, IsFit, Comes, NoneDue, BringsOne, Brings, TakesSlot, IsStopped}
@@ -30,10 +30,10 @@ use Rattle.die_log.specs.Model.Start.{Start}
 
 -- One event
 
-pub behind_arrival : (e : Event) (n : ℕ) → IsArrival e → place_behind e n ≡ n + 1
-behind_arrival events.Slot n arrives = absurd arrives
-behind_arrival (events.Submit task release due ops) n arrives = omega arith
-behind_arrival (events.Collect task release due) n arrives = omega arith
+pub after_arrival : (e : Event) (n : ℕ) → IsArrival e → place_beyond e n ≡ n + 1
+after_arrival events.Slot n arrives = absurd arrives
+after_arrival (events.Submit task release due ops) n arrives = omega arith
+after_arrival (events.Collect task release due) n arrives = omega arith
 
 pub none_noted : (e : Event) (n : ℕ) (reply : Reply) → with_refused n e (Ok reply) [] ≡ []
 none_noted events.Slot n reply = refl
@@ -65,7 +65,7 @@ module _ (never : Bool) (clock : ℕ) (p q : DiePass) (c d : Course) (event : Ev
           same = same;
           start = adds.grown.topic;
           far = far_accepts never p.view q.view comes.arrival.event reply adds;
-          place = comes.place ∙ sym (behind_arrival comes.arrival.event c.place arrives);
+          place = comes.place ∙ sym (after_arrival comes.arrival.event c.place arrives);
           refused = comes.refused ∙ (sym (append-nil c.refused)
               ∙ ap (λ l. c.refused ++ l) (sym (none_noted comes.arrival.event c.place reply)));
         };
@@ -91,7 +91,7 @@ module _ (never : Bool) (clock : ℕ) (p q : DiePass) (c d : Course) (event : Ev
           same = same;
           start = none.grown.topic;
           far = far_refuses never p.view q.view comes.arrival.event refused none;
-          place = place ∙ (comes.place ∙ sym (behind_arrival comes.arrival.event c.place arrives));
+          place = place ∙ (comes.place ∙ sym (after_arrival comes.arrival.event c.place arrives));
           refused = notes ∙ (ap (λ l. l ++ record { place = d.place - 1; refused = refused } ∷ []) comes.refused
               ∙ ap (λ l. c.refused ++ l) (ap (λ n. record { place = n; refused = refused } ∷ []) here
               ∙ sym (one_noted comes.arrival.event c.place refused arrives)));

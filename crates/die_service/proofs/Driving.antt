@@ -11,7 +11,7 @@ use Rattle.die_service.specs.declared.refused.RefusedAt.{RefusedAt}
 use Rattle.die_service.specs.Logs.{DieCall, log_of}
 use Rattle.die_service.specs.Passes.{DieView, HasGrown, AddsEntry, AddsNone}
 use Rattle.slot_core.specs.Calls.{MayRefuse}
-use Rattle.die_service.specs.Runs.{AskedEvent, asked_event, accepted_by, slots_in, slot_counted, place_behind, with_refused, refused_from, stop_or, stop_of}
+use Rattle.die_service.specs.Runs.{AskedEvent, asked_event, accepted_by, slots_in, slot_counted, place_beyond, with_refused, refused_from, stop_or, stop_of}
 use Rattle.die_service.specs.Runs.{IsReasoned}
 use Rattle.die_service.specs.Stores.{DiePass}
 use Rattle.die_service.specs.Drives.{Course, place_after, Far, Asks, IsFit}
@@ -92,18 +92,18 @@ stop_more (x ∷ xs) ys none = one x.event x.reply (stop_more xs ys) none
 
 pub place_more : (place : ℕ) (xs ys : List AskedEvent) → place_after place (xs ++ ys) ≡ place_after (place_after place xs) ys
 place_more place [] ys = refl
-place_more place (x ∷ xs) ys = place_more (place_behind x.event place) xs ys
+place_more place (x ∷ xs) ys = place_more (place_beyond x.event place) xs ys
 
 pub refused_more : (place : ℕ) (xs ys : List AskedEvent) → refused_from place (xs ++ ys) ≡ refused_from place xs
     ++ refused_from (place_after place xs) ys
 refused_more place [] ys = refl
-refused_more place (x ∷ xs) ys = ap (with_refused place x.event x.reply) (refused_more (place_behind x.event place) xs ys) ∙ one x.event x.reply
+refused_more place (x ∷ xs) ys = ap (with_refused place x.event x.reply) (refused_more (place_beyond x.event place) xs ys) ∙ one x.event x.reply
   where
     rest : List RefusedEvent
-    rest = refused_from (place_after (place_behind x.event place) xs) ys
+    rest = refused_from (place_after (place_beyond x.event place) xs) ys
 
     front : List RefusedEvent
-    front = refused_from (place_behind x.event place) xs
+    front = refused_from (place_beyond x.event place) xs
 
     one : (e : Event) (r : Result Reply RefusedAt) → with_refused place e r (front ++ rest) ≡ with_refused place e r front ++ rest
     one events.Slot r = refl
@@ -134,10 +134,10 @@ module _ (never : Bool) (start : Start) where
       }
 
   -- a reason after other calls
-  reasoned_behind : (v w x : DieView) (xs more : List AskedEvent) (event : Event) (refused : RefusedAt) → w.number ≡ v.number
+  reasoned_after : (v w x : DieView) (xs more : List AskedEvent) (event : Event) (refused : RefusedAt) → w.number ≡ v.number
       → calls_by v.number w.seen ≡ calls_by v.number v.seen ++ accepted_by v.number xs
       → IsReasoned never start w more event refused x → IsReasoned never start v (xs ++ more) event refused x
-  reasoned_behind v w x xs more event refused same own r = record {
+  reasoned_after v w x xs more event refused same own r = record {
     within = r.within;
     reason = r.reason;
     own = own_more v.number _ _ _ xs more (subst (λ (n : ℕ). calls_by n (take refused.entries x.seen) ≡ calls_by n w.seen
@@ -166,7 +166,7 @@ module _ (never : Bool) (start : Start) where
           → IsReasoned never start v before event refused x
       by before after event refused (inl h) = reasoned_later v w x before event refused g.starts (f.refused before h.0 event refused h.1)
       by before after event refused (inr h) = subst (λ (l : List AskedEvent). IsReasoned never start v l event refused x) (sym h.1)
-          (reasoned_behind v w x xs h.0 event refused same f.own (g.refused h.0 after event refused h.2))
+          (reasoned_after v w x xs h.0 event refused same f.own (g.refused h.0 after event refused h.2))
 
 -- One call
 

@@ -131,11 +131,11 @@ row_at most first (r ∷ rows) zero row at are =
 row_at most first (r ∷ rows) (suc n) row at are = row_at most r.ops_end rows n row at are.2
 
 -- the operations of a row begin where those of the row before it end
-pub begins_behind : (first : ℕ) (rows : List FeedRow) (n : ℕ) (before : FeedRow) → slice_get rows n ≡ Some before
+pub begins_after : (first : ℕ) (rows : List FeedRow) (n : ℕ) (before : FeedRow) → slice_get rows n ≡ Some before
     → begins_at first rows (suc n) ≡ before.ops_end
-begins_behind first [] n before at = absurd (none-some before at)
-begins_behind first (r ∷ rows) zero before at = ap (λ (x : FeedRow). x.ops_end) (same_Some r before at)
-begins_behind first (r ∷ rows) (suc n) before at = begins_behind r.ops_end rows n before at
+begins_after first [] n before at = absurd (none-some before at)
+begins_after first (r ∷ rows) zero before at = ap (λ (x : FeedRow). x.ops_end) (same_Some r before at)
+begins_after first (r ∷ rows) (suc n) before at = begins_after r.ops_end rows n before at
 
 pub place_at : (ops : List Op) (first : ℕ) (rows : List FeedRow) (n : ℕ) (row : FeedRow) → slice_get rows n ≡ Some row
     → slice_get (feed_from ops first rows) n ≡ Some (arrival_at ops (begins_at first rows n) row)
@@ -264,12 +264,12 @@ in_order ops from first (row ∷ rows) is =
       in_order ops row.at row.ops_end rows both.1,
     )
 
-pub order_tells : (ops : List Op) (from first : ℕ) (rows : List FeedRow) → IsInOrder from (feed_from ops first rows)
+pub order_reports : (ops : List Op) (from first : ℕ) (rows : List FeedRow) → IsInOrder from (feed_from ops first rows)
     → all_follow from rows ≡ true
-order_tells ops from first [] is = refl
-order_tells ops from first (row ∷ rows) is = true_both (follows from row) (all_follow row.at rows)
+order_reports ops from first [] is = refl
+order_reports ops from first (row ∷ rows) is = true_both (follows from row) (all_follow row.at rows)
     (true_both (arrives row.head) (nat_le from row.at) ((head_arrives row.head (ops_between ops first row.ops_end)).1 is.0)
-    ((at_most from row.at).1 is.1)) (order_tells ops row.at row.ops_end rows is.2)
+    ((at_most from row.at).1 is.1)) (order_reports ops row.at row.ops_end rows is.2)
 
 arrive_by : (from : ℕ) (feed : List Arrival) → IsInOrder from feed → AllByRecursion (λ (a : Arrival). IsArrival a.event) feed
 arrive_by from [] is = tt

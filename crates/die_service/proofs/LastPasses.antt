@@ -7,42 +7,42 @@ use Rattle.slot_core.specs.Core.{Core}
 use Rattle.turn_lock.specs.Log.{AllBy}
 use Rattle.die_service.specs.Logs.{log_of, calls_of}
 use Rattle.die_service.specs.Passes.{DieView}
-use Rattle.die_service.specs.Stores.{DiePass, IsTold, AreTold, HasLogOf, IsClosedWith}
+use Rattle.die_service.specs.Stores.{DiePass, IsReported, AreReported, HasLogOf, IsClosedWith}
 use Rattle.die_service.proofs.Lists.{log_of_calls}
 use Rattle.die_log.specs.Model.Start.{Start}
 
 -- Passes that were answered
 
-pub told_length : (ps : List DiePass) (out : ℕ) (qs : List DiePass) → AreTold ps out qs → length qs ≡ length ps
-told_length [] out [] told = refl
-told_length [] out (q ∷ qs) told = absurd told
-told_length (p ∷ ps) out [] told = absurd told
-told_length (p ∷ ps) out (q ∷ qs) (inl told) = ap suc (told_length ps out qs told.1)
-told_length (p ∷ ps) out (q ∷ qs) (inr told) = ap suc (ap length told.2)
+pub reported_length : (ps : List DiePass) (out : ℕ) (qs : List DiePass) → AreReported ps out qs → length qs ≡ length ps
+reported_length [] out [] said = refl
+reported_length [] out (q ∷ qs) said = absurd said
+reported_length (p ∷ ps) out [] said = absurd said
+reported_length (p ∷ ps) out (q ∷ qs) (inl said) = ap suc (reported_length ps out qs said.1)
+reported_length (p ∷ ps) out (q ∷ qs) (inr said) = ap suc (ap length said.2)
 
-pub told_locks : (ps : List DiePass) (out : ℕ) (qs : List DiePass) → AreTold ps out qs → map (λ (p : DiePass). p.lock) qs
+pub reported_locks : (ps : List DiePass) (out : ℕ) (qs : List DiePass) → AreReported ps out qs → map (λ (p : DiePass). p.lock) qs
     ≡ map (λ (p : DiePass). p.lock) ps
-told_locks [] out [] told = refl
-told_locks [] out (q ∷ qs) told = absurd told
-told_locks (p ∷ ps) out [] told = absurd told
-told_locks (p ∷ ps) out (q ∷ qs) (inl told) = rw (told.0.0.0, told_locks ps out qs told.1) refl
-told_locks (p ∷ ps) out (q ∷ qs) (inr told) = rw (told.1.0.0, told.2) refl
+reported_locks [] out [] said = refl
+reported_locks [] out (q ∷ qs) said = absurd said
+reported_locks (p ∷ ps) out [] said = absurd said
+reported_locks (p ∷ ps) out (q ∷ qs) (inl said) = rw (said.0.0.0, reported_locks ps out qs said.1) refl
+reported_locks (p ∷ ps) out (q ∷ qs) (inr said) = rw (said.1.0.0, said.2) refl
 
-pub told_sole : (ps : List DiePass) (qs : List DiePass) → AreTold ps 0 qs → AllByRecursion (λ (p : DiePass). p.view.sole ≡ true) qs
-told_sole [] [] told = tt
-told_sole [] (q ∷ qs) told = absurd told
-told_sole (p ∷ ps) [] told = absurd told
-told_sole (p ∷ ps) (q ∷ qs) (inl told) = (told.0.1.2 refl, told_sole ps qs told.1)
-told_sole (p ∷ ps) (q ∷ qs) (inr told) = absurd (omega (arith, told.0))
+pub reported_sole : (ps : List DiePass) (qs : List DiePass) → AreReported ps 0 qs → AllByRecursion (λ (p : DiePass). p.view.sole ≡ true) qs
+reported_sole [] [] said = tt
+reported_sole [] (q ∷ qs) said = absurd said
+reported_sole (p ∷ ps) [] said = absurd said
+reported_sole (p ∷ ps) (q ∷ qs) (inl said) = (said.0.1.2 refl, reported_sole ps qs said.1)
+reported_sole (p ∷ ps) (q ∷ qs) (inr said) = absurd (omega (arith, said.0))
 
 -- where each pass knew that no other is left, none is out
-pub sole_none_out : (ps : List DiePass) (out : ℕ) (qs : List DiePass) → AreTold ps out qs
+pub sole_none_out : (ps : List DiePass) (out : ℕ) (qs : List DiePass) → AreReported ps out qs
     → AllByRecursion (λ (p : DiePass). p.view.sole ≡ true) ps → out ≡ 0
-sole_none_out [] out [] told sole = told
-sole_none_out [] out (q ∷ qs) told sole = absurd told
-sole_none_out (p ∷ ps) out [] told sole = absurd told
-sole_none_out (p ∷ ps) out (q ∷ qs) (inl told) sole = sole_none_out ps out qs told.1 sole.1
-sole_none_out (p ∷ ps) out (q ∷ qs) (inr told) sole = told.1.1.4 sole.0
+sole_none_out [] out [] said sole = said
+sole_none_out [] out (q ∷ qs) said sole = absurd said
+sole_none_out (p ∷ ps) out [] said sole = absurd said
+sole_none_out (p ∷ ps) out (q ∷ qs) (inl said) sole = sole_none_out ps out qs said.1 sole.1
+sole_none_out (p ∷ ps) out (q ∷ qs) (inr said) sole = said.1.1.4 sole.0
 
 -- the slice is the whole of the list
 pub written : {A : Type 0} (n : ℕ) (xs ys : List A) → length ys ≡ length xs → n ≡ length xs → take n (ys ++ drop (length ys) xs) ≡ ys
@@ -62,30 +62,30 @@ pub same_plan : (a b : Start) → Some a ≡ Some b → a ≡ b
 same_plan a b e = cc
 
 module _ {N : Type 0} (never : Bool) where
-  closed_after : (p q : DiePass) (die : Core N) → IsTold p 0 q → HasLogOf never q die → IsClosedWith p die
-  closed_after p q die told has = record {
-    log_is = sym (log_of_calls die.log) ∙ ap log_of (has.calls_are ∙ told.1.3 refl);
+  closed_after : (p q : DiePass) (die : Core N) → IsReported p 0 q → HasLogOf never q die → IsClosedWith p die
+  closed_after p q die said has = record {
+    log_is = sym (log_of_calls die.log) ∙ ap log_of (has.calls_are ∙ said.1.3 refl);
     promised = has.promised;
     about_is = about_is;
-    all_joined = (q.view.made, later, sym told.1.1 ∙ ap (λ (l : List ℕ). 1 + length l) told.0.2);
-    by_own = subst (λ (x : ℕ × List ℕ). AllBy (x.0 ∷ x.1) (calls_of die.log)) (λ i. (told.0.1 i, told.0.2 i)) has.by_own;
+    all_joined = (q.view.made, later, sym said.1.1 ∙ ap (λ (l : List ℕ). 1 + length l) said.0.2);
+    by_own = subst (λ (x : ℕ × List ℕ). AllBy (x.0 ∷ x.1) (calls_of die.log)) (λ i. (said.0.1 i, said.0.2 i)) has.by_own;
   }
     where
       about_is : p.view.about ≡ Some die.start
-      about_is = sym told.0.3 ∙ has.about_is
+      about_is = sym said.0.3 ∙ has.about_is
 
       later : p.view.made ≤ q.view.made
-      later = subst (λ (n : ℕ). p.view.made ≤ n) (sym (ap (λ (v : DieView). v.made) told.1.0.view_is)) told.1.0.later
+      later = subst (λ (n : ℕ). p.view.made ≤ n) (sym (ap (λ (v : DieView). v.made) said.1.0.view_is)) said.1.0.later
 
-  pub closed_each : (ps qs : List DiePass) (dies : List (Core N)) → AreTold ps 0 qs → AllZip (HasLogOf never) qs dies
+  pub closed_each : (ps qs : List DiePass) (dies : List (Core N)) → AreReported ps 0 qs → AllZip (HasLogOf never) qs dies
       → AllZip IsClosedWith ps dies
-  closed_each [] [] [] told has = tt
-  closed_each [] [] (die ∷ dies) told has = has
-  closed_each [] (q ∷ qs) dies told has = absurd told
-  closed_each (p ∷ ps) [] dies told has = absurd told
-  closed_each (p ∷ ps) (q ∷ qs) [] told has = absurd has
-  closed_each (p ∷ ps) (q ∷ qs) (die ∷ dies) (inl told) has = (closed_after p q die told.0 has.0, closed_each ps qs dies told.1 has.1)
-  closed_each (p ∷ ps) (q ∷ qs) (die ∷ dies) (inr told) has = absurd (omega (arith, told.0))
+  closed_each [] [] [] said has = tt
+  closed_each [] [] (die ∷ dies) said has = has
+  closed_each [] (q ∷ qs) dies said has = absurd said
+  closed_each (p ∷ ps) [] dies said has = absurd said
+  closed_each (p ∷ ps) (q ∷ qs) [] said has = absurd has
+  closed_each (p ∷ ps) (q ∷ qs) (die ∷ dies) (inl said) has = (closed_after p q die said.0 has.0, closed_each ps qs dies said.1 has.1)
+  closed_each (p ∷ ps) (q ∷ qs) (die ∷ dies) (inr said) has = absurd (omega (arith, said.0))
 
   pub one_closed : (qs : List DiePass) (dies : List (Core N)) (q : DiePass) (die : Core N) → AllZip (HasLogOf never) qs dies
       → HasLogOf never q die → AllZip (HasLogOf never) (qs ++ q ∷ []) (dies ++ die ∷ [])

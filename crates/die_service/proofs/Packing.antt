@@ -80,9 +80,9 @@ slice_get_drop (x ∷ xs) (suc first) n = slice_get_drop xs first n
 pub copied_more : (old l l2 ops : List Op) (first place : ℕ) (op : Op) → first ≤ place → l ≡ old ++ take (place - first) (drop first ops)
     → l2 ≡ l ++ op ∷ [] → slice_get ops place ≡ Some op → l2 ≡ old ++ take (place + 1 - first) (drop first ops)
 copied_more old l l2 ops first place op forward so_far is at =
-    let behind : first + (place - first) ≡ place = omega (arith, forward) in
+    let beyond : first + (place - first) ≡ place = omega (arith, forward) in
     let next : place - first + 1 ≡ place + 1 - first = omega (arith, forward) in
     is ∙ ap (λ k. k ++ op ∷ []) so_far ∙ append_assoc old (take (place - first) (drop first ops)) (op ∷ [])
     ∙ ap (λ k. old ++ k) (sym (take_next (drop first ops) (place - first) op (slice_get_drop ops first (place - first)
-    ∙ (ap (slice_get ops) behind ∙ at))))
+    ∙ (ap (slice_get ops) beyond ∙ at))))
     ∙ ap (λ (n : ℕ). old ++ take n (drop first ops)) next

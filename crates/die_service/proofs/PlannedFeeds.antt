@@ -36,13 +36,13 @@ use Rattle.die_service.specs.declared.refused.RefusedAt.{RefusedAt}
 use Rattle.die_service.specs.PlannedRuns.{events_in, events_from, events_of_feed, FeedKeepsPlan, RanAlone, IsForMemory, IsForMemoryOrFault}
 use Rattle.die_service.specs.PlannedRuns.{AreTakenUntilMemory, FeedGoesAsPlanned}
 use Rattle.slot_core.specs.Calls.{MayRefuse}
-use Rattle.die_service.specs.Runs.{AskedEvent, asked_event, AllArrive, comes_at, AreAsked, InClockOrder, with_refused, place_behind}
+use Rattle.die_service.specs.Runs.{AskedEvent, asked_event, AllArrive, comes_at, AreAsked, InClockOrder, with_refused, place_beyond}
 use Rattle.die_service.specs.Runs.{refused_from, stop_or, stop_of}
 use Rattle.die_service.proofs.Passing.{slot_answered}
 use Rattle.die_service.specs.Passes.{IsSlotReply}
-use Rattle.die_service.proofs.RunAlone.{saids, start_is, said_is, said_exact, are_told}
+use Rattle.die_service.proofs.RunAlone.{saids, start_is, said_is, said_exact, are_reported}
 use Rattle.die_service.proofs.SlotCalls.{slot_counted, slot_refused, numbered, stays_at}
-use Rattle.die_service.proofs.Transcripts.{AreTold, said_log, said_accepted, said_refused, front_exact}
+use Rattle.die_service.proofs.Transcripts.{AreReported, said_log, said_accepted, said_refused, front_exact}
 use Rattle.die_log.specs.Model.Start.{Start}
 use Rattle.die_log.specs.Results.Supply.{AreStocked}
 use Rattle.die_log.specs.Model.Opening.{IsOpening}
@@ -106,9 +106,9 @@ later_arrive clock = later_hold comes_at clock (λ a. IsArrival a.event)
 split_one : (before after : List AskedEvent) (s : AskedEvent) → before ++ s ∷ after ≡ (before ++ s ∷ []) ++ after
 split_one before after s = sym (append_assoc before (s ∷ []) after)
 
-behind_first : (all before fed after : List AskedEvent) (s : AskedEvent) → all ≡ before ++ ((s ∷ fed) ++ after) → all ≡ (before ++ s ∷ [])
+after_first : (all before fed after : List AskedEvent) (s : AskedEvent) → all ≡ before ++ ((s ∷ fed) ++ after) → all ≡ (before ++ s ∷ [])
     ++ (fed ++ after)
-behind_first all before fed after s is = is ∙ split_one before (fed ++ after) s
+after_first all before fed after s is = is ∙ split_one before (fed ++ after) s
 
 -- all that was said is `front`, or a slot was refused after it, with which the events begin that are left over
 abbrev Ends : List AskedEvent → List Event → List AskedEvent → Type 0
@@ -145,14 +145,14 @@ more_events due later over fed front slot are is =
     ∙ (sym (append_assoc (asked fed) (events.Slot ∷ asked front) over)
     ∙ ap (λ (es : List Event). es ++ over) (sym (map-append (λ (s : AskedEvent). s.event) fed (carried slot ∷ front))))
 
-module _ (never : Bool) (start : Start) (all : List AskedEvent) (known : AreTold never start all) where
+module _ (never : Bool) (start : Start) (all : List AskedEvent) (known : AreReported never start all) where
   -- the feed's events take no slot
   fed_stay : (fed before after : List AskedEvent) → all ≡ before ++ (fed ++ after) → AllFed fed → now (said_log (before ++ fed))
       ≡ now (said_log before)
   fed_stay [] before after is h = ap (λ (b : List AskedEvent). now (said_log b)) (append-nil before)
   fed_stay (s ∷ fed) before after is h =
       ap (λ (b : List AskedEvent). now (said_log b)) (split_one before fed s)
-      ∙ (fed_stay fed (before ++ s ∷ []) after (behind_first all before fed after s is) h.1
+      ∙ (fed_stay fed (before ++ s ∷ []) after (after_first all before fed after s is) h.1
       ∙ stays_at never start all before (fed ++ after) s.event s.reply known is h.0)
 
   parts : (left clock : ℕ) (feed : List Arrival) (before rest : List AskedEvent) → all ≡ before ++ rest → InClockOrder left clock feed rest
@@ -164,14 +164,14 @@ module _ (never : Bool) (start : Start) (all : List AskedEvent) (known : AreTold
     events_are = sym ordered ∙ sym (append-nil (asked rest));
     ends = inl refl;
   }
-  parts (suc left) clock feed before rest is (fed, behind, split, are, inr (refused, last)) at_now arrive = record {
+  parts (suc left) clock feed before rest is (fed, beyond, split, are, inr (refused, last)) at_now arrive = record {
     front = fed;
     over = events.Slot ∷ events_from left (clock + 1) (arrivals_after comes_at clock feed);
     heard = heard_fed fed (all_fed (arrivals_by comes_at clock feed) fed are (here_arrive clock feed arrive));
     events_are = ap (λ (es : List Event). es ++ events.Slot ∷ events_from left (clock + 1) (arrivals_after comes_at clock feed)) (sym are);
     ends = inr (refused, events_from left (clock + 1) (arrivals_after comes_at clock feed), split ∙ ap (λ (xs : List AskedEvent). fed ++ xs) last, refl);
   }
-  parts (suc left) clock feed before rest is (fed, behind, split, are, inl (slot, more, first, ordered)) at_now arrive =
+  parts (suc left) clock feed before rest is (fed, beyond, split, are, inl (slot, more, first, ordered)) at_now arrive =
       let later = arrivals_after comes_at clock feed in
       let rest_is : rest ≡ fed ++ carried slot ∷ more = split ∙ ap (λ (xs : List AskedEvent). fed ++ xs) first in
       let here : all ≡ before ++ (fed ++ carried slot ∷ more) = is ∙ ap (λ (xs : List AskedEvent). before ++ xs) rest_is in
@@ -244,7 +244,7 @@ module _ (never : Bool) (start : Start) (all : List AskedEvent) (known : AreTold
   counts [] before after h is = omega (arith, ap (λ (b : List AskedEvent). now (said_log b)) (append-nil before))
   counts (s ∷ front) before after h is =
       let one = counts_one before (front ++ after) s.event s.reply h.0 is in
-      let more = counts front (before ++ s ∷ []) after h.1 (behind_first all before front after s is) in
+      let more = counts front (before ++ s ∷ []) after h.1 (after_first all before front after s is) in
       let same : now (said_log (before ++ s ∷ front)) ≡ now (said_log ((before ++ s ∷ []) ++ front)) = ap
       (λ (b : List AskedEvent). now (said_log b)) (split_one before front s) in
       let counted : slots (asked (s ∷ front)) ≡ cond (is_slot s.event) 1 0 + slots (asked front) = sum_by-cons (λ e. cond (is_slot e) 1 0)
@@ -290,9 +290,9 @@ run_longer start (call ∷ calls) past = answered_longer call.0 call.1 (answer s
 -- What keeps the plan
 
 -- the event of an entry comes after those before it
-pub told_more : (past log : Log) (event : Event) (reply : Reply) (rest : List Event) → log ≡ with_entry 0 event reply past → events_of_log past
+pub reported_more : (past log : Log) (event : Event) (reply : Reply) (rest : List Event) → log ≡ with_entry 0 event reply past → events_of_log past
     ++ event ∷ rest ≡ events_of_log log ++ rest
-told_more past log event reply rest is = sym (append_assoc (events_of_log past) (event ∷ []) rest) ∙ ap (λ (l : Log). events_of_log l ++ rest) (sym is)
+reported_more past log event reply rest is = sym (append_assoc (events_of_log past) (event ∷ []) rest) ∙ ap (λ (l : Log). events_of_log l ++ rest) (sym is)
 
 pub not_refused : (start : Start) (past : Log) (event : Event) (refusal : Refusal) → refusal_of start past event ≡ None
     → answer start past event ≡ replies.Refused refusal → ⊥
@@ -303,7 +303,7 @@ no_slot : (event : Event) → IsArrival event → event ≡ events.Slot → ⊥
 no_slot event h is = subst IsArrival is h
 
 module _ (never : Bool) (start : Start) (times : Times) (bound : IsOpening start) (passes : Passes start.plan times)
-    (stocked : AreStocked start times) (all : List AskedEvent) (known : AreTold never start all) (exact : IsExact start (said_log all)) where
+    (stocked : AreStocked start times) (all : List AskedEvent) (known : AreReported never start all) (exact : IsExact start (said_log all)) where
   -- an event of the feed that keeps the plan is refused out of memory alone
   by_memory : (past : Log) (event : Event) (rest : List Event) (refusal : Refusal) → IsArrival event → IsExact start past
       → KeepsPlan start.plan times (events_of_log past ++ event ∷ rest) → MayRefuse never start past event refusal → IsForMemory never refusal
@@ -317,20 +317,20 @@ module _ (never : Bool) (start : Start) (times : Times) (bound : IsOpening start
       → KeepsPlan start.plan times (events_of_log (said_log before) ++ (asked front ++ over)) → AreTakenUntilMemory never (refused_from place front)
   taken_from [] before after over place is h keeps = tt
   taken_from (s ∷ front) before after over place is h keeps = by s.event s.reply is h.0 keeps
-      (λ n. taken_from front (before ++ s ∷ []) after over n (behind_first all before front after s is) h.1)
+      (λ n. taken_from front (before ++ s ∷ []) after over n (after_first all before front after s is) h.1)
     where
       by : (event : Event) (reply : Result Reply RefusedAt) → all ≡ before ++ ((asked_event event reply ∷ front) ++ after) → IsHeard event reply
           → KeepsPlan start.plan times (events_of_log (said_log before) ++ (event ∷ asked front ++ over))
           → ((n : ℕ) → KeepsPlan start.plan times (events_of_log (said_log (before ++ asked_event event reply ∷ [])) ++ (asked front ++ over))
           → AreTakenUntilMemory never (refused_from n front))
-          → AreTakenUntilMemory never (with_refused place event reply (refused_from (place_behind event place) front))
+          → AreTakenUntilMemory never (with_refused place event reply (refused_from (place_beyond event place) front))
       by events.Slot (Ok reply) at heard keep more = more place
-          (subst (KeepsPlan start.plan times) (told_more (said_log before) _ events.Slot reply (asked front ++ over)
+          (subst (KeepsPlan start.plan times) (reported_more (said_log before) _ events.Slot reply (asked front ++ over)
           (said_accepted before events.Slot reply)) keep)
       by events.Slot (Err refused) at heard keep more = absurd heard
       by (events.Submit task release due ops) (Ok reply) at heard keep more =
           more (suc place) (subst (KeepsPlan start.plan times)
-          (told_more (said_log before) _ (events.Submit task release due ops) reply (asked front ++ over)
+          (reported_more (said_log before) _ (events.Submit task release due ops) reply (asked front ++ over)
           (said_accepted before (events.Submit task release due ops) reply)) keep)
       by (events.Submit task release due ops) (Err refused) at heard keep more =
           by_memory (said_log before) (events.Submit task release due ops) (asked front ++ over) refused.refusal tt
@@ -338,7 +338,7 @@ module _ (never : Bool) (start : Start) (times : Times) (bound : IsOpening start
           (known.refused before (front ++ after) (events.Submit task release due ops) refused at)
       by (events.Collect task release due) (Ok reply) at heard keep more =
           more (suc place) (subst (KeepsPlan start.plan times)
-          (told_more (said_log before) _ (events.Collect task release due) reply (asked front ++ over)
+          (reported_more (said_log before) _ (events.Collect task release due) reply (asked front ++ over)
           (said_accepted before (events.Collect task release due) reply)) keep)
       by (events.Collect task release due) (Err refused) at heard keep more =
           by_memory (said_log before) (events.Collect task release due) (asked front ++ over) refused.refusal tt
@@ -369,7 +369,7 @@ module _ (never : Bool) (start : Start) (times : Times) (bound : IsOpening start
 refused_last : (front : List AskedEvent) (refused : RefusedAt) (place : ℕ) → refused_from place (front ++ asked_event events.Slot (Err refused) ∷ [])
     ≡ refused_from place front
 refused_last [] refused place = refl
-refused_last (s ∷ front) refused place = ap (with_refused place s.event s.reply) (refused_last front refused (place_behind s.event place))
+refused_last (s ∷ front) refused place = ap (with_refused place s.event s.reply) (refused_last front refused (place_beyond s.event place))
 
 heard_on : (event : Event) (reply : Result Reply RefusedAt) (later : Option RefusedAt) → IsHeard event reply → stop_or event reply later
     ≡ later
@@ -378,9 +378,9 @@ heard_on events.Slot (Err refused) later h = absurd h
 heard_on (events.Submit task release due ops) reply later h = refl
 heard_on (events.Collect task release due) reply later h = refl
 
-stops_behind : (front rest : List AskedEvent) → AreHeard front → stop_of (front ++ rest) ≡ stop_of rest
-stops_behind [] rest h = refl
-stops_behind (s ∷ front) rest h = heard_on s.event s.reply (stop_of (front ++ rest)) h.0 ∙ stops_behind front rest h.1
+stops_after : (front rest : List AskedEvent) → AreHeard front → stop_of (front ++ rest) ≡ stop_of rest
+stops_after [] rest h = refl
+stops_after (s ∷ front) rest h = heard_on s.event s.reply (stop_of (front ++ rest)) h.0 ∙ stops_after front rest h.1
 
 stops_for_memory : (never : Bool) (start : Start) (past : Log) (refusal : Refusal) → now past < MAX_SLOT
     → MayRefuse never start past events.Slot refusal → IsForMemoryOrFault never refusal
@@ -396,7 +396,7 @@ record Goes (never : Bool) (start : Start) (all : List AskedEvent) : Type 0 wher
   carried_is : IfSome (stop_of all) (λ stop. IsForMemoryOrFault never stop.refusal)
 
 module _ (never : Bool) (start : Start) (times : Times) (bound : IsOpening start) (passes : Passes start.plan times)
-    (stocked : AreStocked start times) (all : List AskedEvent) (known : AreTold never start all) (exact : IsExact start (said_log all)) where
+    (stocked : AreStocked start times) (all : List AskedEvent) (known : AreReported never start all) (exact : IsExact start (said_log all)) where
   goes : (es : List Event) (p : Parts es all) → KeepsPlan start.plan times es → Goes never start all
   goes es p keeps = by p.ends
     where
@@ -412,7 +412,7 @@ module _ (never : Bool) (start : Start) (times : Times) (bound : IsOpening start
             taken_is = subst (λ (xs : List AskedEvent). AreTakenUntilMemory never (refused_from 0 xs)) (sym same)
                 (taken_from never start times bound passes stocked all known exact p.front [] [] p.over 0 here p.heard kept);
             carried_is = subst (λ (o : Option RefusedAt). IfSome o (λ stop. IsForMemoryOrFault never stop.refusal))
-                (sym (ap stop_of here ∙ stops_behind p.front [] p.heard)) tt;
+                (sym (ap stop_of here ∙ stops_after p.front [] p.heard)) tt;
           }
       by (inr (refused, more, last, left)) =
           let s : AskedEvent = asked_event events.Slot (Err refused) in
@@ -432,7 +432,7 @@ module _ (never : Bool) (start : Start) (times : Times) (bound : IsOpening start
             taken_is = subst (AreTakenUntilMemory never) (sym (ap (refused_from 0) last ∙ refused_last p.front refused 0))
                 (taken_from never start times bound passes stocked all known exact p.front [] (s ∷ []) p.over 0 last p.heard kept);
             carried_is = subst (λ (o : Option RefusedAt). IfSome o (λ stop. IsForMemoryOrFault never stop.refusal))
-                (sym (ap stop_of last ∙ stops_behind p.front (s ∷ []) p.heard))
+                (sym (ap stop_of last ∙ stops_after p.front (s ∷ []) p.heard))
                 (stops_for_memory never start (said_log p.front) refused.refusal few (known.refused p.front [] events.Slot refused last));
           }
 
@@ -440,7 +440,7 @@ pub go_as_planned : (never : Bool) (start : Start) (count : ℕ) (feed : List Ar
     → FeedKeepsPlan start count feed → RanAlone never start count feed end log → FeedGoesAsPlanned never start.plan end log
 go_as_planned never start count feed end log arrive k r =
     let all : List AskedEvent = saids never count start feed end log r in
-    let known = are_told never count start feed end log r in
+    let known = are_reported never count start feed end log r in
     let bound : IsOpening start = subst IsOpening (start_is never count start feed end log r) r.ran.exact.opens in
     let g = goes never start k.times bound k.passes k.stocked all known (said_exact never count start feed end log r) (events_of_feed count feed)
     (parts never start all known count 0 feed [] all refl r.ran.ordered refl arrive) k.keeps in

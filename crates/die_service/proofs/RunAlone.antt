@@ -10,7 +10,7 @@ use Rattle.die_service.specs.PlannedRuns.{RanAlone}
 use Rattle.slot_core.specs.Calls.{MayRefuse}
 use Rattle.die_service.specs.Runs.{AskedEvent, accepted_by}
 use Rattle.die_service.proofs.LastPasses.{same_plan}
-use Rattle.die_service.proofs.Transcripts.{AreTold, said_log, told_accepted, own_of_log, front_own}
+use Rattle.die_service.proofs.Transcripts.{AreReported, said_log, reported_accepted, own_of_log, front_own}
 use Rattle.die_log.specs.Model.Start.{Start}
 
 module _ (never_fails : Bool) (slots : ℕ) (start : Start) (feed : List Arrival) (end : DieEnd) (log : Log)
@@ -41,9 +41,9 @@ module _ (never_fails : Bool) (slots : ℕ) (start : Start) (feed : List Arrival
   pub said_exact : IsExact start (said_log saids)
   said_exact = subst (λ (x : Start × Log). IsExact x.0 x.1) (λ i. (start_is i, log_of (seen_is i))) r.ran.exact.exact
 
-  pub are_told : AreTold never_fails start saids
-  are_told = record {
-    accepted = λ before after event reply is. told_accepted start saids before after event reply said_exact is;
+  pub are_reported : AreReported never_fails start saids
+  are_reported = record {
+    accepted = λ before after event reply is. reported_accepted start saids before after event reply said_exact is;
     refused = λ before after event refused is.
         let why = r.ran.refused before after event refused is in
         let these : take refused.entries r.last.view.seen

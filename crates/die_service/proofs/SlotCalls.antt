@@ -21,7 +21,7 @@ use Rattle.die_service.specs.declared.refused.RefusedAt.{RefusedAt}
 use Rattle.die_service.specs.Passes.{IsTakenReply}
 use Rattle.die_service.specs.Runs.{AskedEvent, asked_event}
 use Rattle.die_service.proofs.Passing.{submit_taken, collect_taken}
-use Rattle.die_service.proofs.Transcripts.{AreTold, said_log, said_accepted, said_refused}
+use Rattle.die_service.proofs.Transcripts.{AreReported, said_log, said_accepted, said_refused}
 use Rattle.die_log.specs.Model.Start.{Start}
 
 -- Slots
@@ -82,9 +82,9 @@ taken_stays start past (events.Collect task release due) reply h is taken = by r
 taken_stays start past events.Slot reply h is taken = absurd h
 
 pub stays_at : (never_fails : Bool) (start : Start) (saids before after : List AskedEvent) (event : Event) (reply : Result Reply RefusedAt)
-    → AreTold never_fails start saids → saids ≡ before ++ asked_event event reply ∷ after → IsArrival event
+    → AreReported never_fails start saids → saids ≡ before ++ asked_event event reply ∷ after → IsArrival event
     → now (said_log (before ++ asked_event event reply ∷ [])) ≡ now (said_log before)
-stays_at never_fails start saids before after event (Ok reply) told is h =
-    let t = told.accepted before after event reply is in
+stays_at never_fails start saids before after event (Ok reply) said is h =
+    let t = said.accepted before after event reply is in
     ap now (said_accepted before event reply) ∙ taken_stays start (said_log before) event reply h t.0 t.1
-stays_at never_fails start saids before after event (Err refused) told is h = ap now (said_refused before event refused)
+stays_at never_fails start saids before after event (Err refused) said is h = ap now (said_refused before event refused)

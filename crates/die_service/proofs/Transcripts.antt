@@ -42,15 +42,15 @@ said_refused before event refused = said_more before (asked_event event (Err ref
 -- What is known of each call
 
 -- an accepted call was answered by the log of those before it, and a refused one may be refused by a die at that log
-pub record AreTold (never_fails : Bool) (start : Start) (saids : List AskedEvent) : Type 0 where
+pub record AreReported (never_fails : Bool) (start : Start) (saids : List AskedEvent) : Type 0 where
   pub accepted : (before after : List AskedEvent) (event : Event) (reply : Reply) → saids ≡ before ++ asked_event event (Ok reply) ∷ after
       → (answer start (said_log before) event ≡ reply) × IsAccepted reply
   pub refused : (before after : List AskedEvent) (event : Event) (refused : RefusedAt) → saids ≡ before ++ asked_event event (Err refused) ∷ after
       → MayRefuse never_fails start (said_log before) event refused.refusal
 
-exact_behind : (start : Start) (xs ys : Log) → IsExact start (xs ++ ys) → IsExact start ys
-exact_behind start [] ys h = h
-exact_behind start (x ∷ xs) ys h = exact_behind start xs ys h.0
+exact_after : (start : Start) (xs ys : Log) → IsExact start (xs ++ ys) → IsExact start ys
+exact_after start [] ys h = h
+exact_after start (x ∷ xs) ys h = exact_after start xs ys h.0
 
 split_one : (before after : List AskedEvent) (s : AskedEvent) → before ++ s ∷ after ≡ (before ++ s ∷ []) ++ after
 split_one before after s = sym (append_assoc before (s ∷ []) after)
@@ -58,16 +58,16 @@ split_one before after s = sym (append_assoc before (s ∷ []) after)
 -- the log of what was said at first is exact
 pub front_exact : (start : Start) (saids before after : List AskedEvent) → IsExact start (said_log saids) → saids ≡ before ++ after
     → IsExact start (said_log before)
-front_exact start saids before after exact is = exact_behind start (log_of (accepted_by 0 after)) (said_log before)
+front_exact start saids before after exact is = exact_after start (log_of (accepted_by 0 after)) (said_log before)
     (subst (IsExact start) (ap said_log is ∙ said_more before after) exact)
 
-pub told_accepted : (start : Start) (saids before after : List AskedEvent) (event : Event) (reply : Reply) → IsExact start (said_log saids)
+pub reported_accepted : (start : Start) (saids before after : List AskedEvent) (event : Event) (reply : Reply) → IsExact start (said_log saids)
     → saids ≡ before ++ asked_event event (Ok reply) ∷ after → (answer start (said_log before) event ≡ reply) × IsAccepted reply
-told_accepted start saids before after event reply exact is =
+reported_accepted start saids before after event reply exact is =
     let all : said_log saids ≡ log_of (accepted_by 0 after) ++ said_log (before ++ asked_event event (Ok reply) ∷ []) =
     ap said_log (is ∙ split_one before after (asked_event event (Ok reply))) ∙ said_more (before ++ asked_event event (Ok reply) ∷ []) after in
     let here : IsExact start (with_entry 0 event reply (said_log before)) = subst (IsExact start) (said_accepted before event reply)
-    (exact_behind start (log_of (accepted_by 0 after)) (said_log (before ++ asked_event event (Ok reply) ∷ [])) (subst (IsExact start) all exact)) in
+    (exact_after start (log_of (accepted_by 0 after)) (said_log (before ++ asked_event event (Ok reply) ∷ [])) (subst (IsExact start) all exact)) in
     (sym here.1, here.2)
 
 -- Calls of one caller

@@ -15,7 +15,7 @@ use Rattle.die_service.specs.Passes.{AddsEntry, AddsNone}
 use Rattle.die_service.specs.Runs.{AskedEvent, asked_event, slots_in, slot_counted, stop_of, stop_or, HasRun}
 use Rattle.die_service.specs.Stores.{DiePass}
 use Rattle.die_service.specs.Drives.{Course, WorkerState, Asks, IsFit, IsFirstState, Comes, NoneDue, batch_at, end_at}
-use Rattle.die_service.specs.Work.{WorkCall, Before, Asked, After, clock_behind, with_call, calls_for, WorksOne, WorksDue, WorksSlot, WorksStop}
+use Rattle.die_service.specs.Work.{WorkCall, Before, Asked, After, clock_beyond, with_call, calls_for, WorksOne, WorksDue, WorksSlot, WorksStop}
 use Rattle.die_service.specs.Work.{WorksOff}
 use Rattle.die_service.proofs.Bringing.{brings_accepted, brings_refused, slot_taken, slot_stopped, IsBringing, brings_none, brings_more, brings_all}
 use Rattle.die_service.proofs.Clocking.{IsOnTime, IsOver, starts, goes_on, gives_up, ends, drives}
@@ -30,23 +30,23 @@ module _ {W : Type 0} (does : W → WorkCall → W → Type 0) where
 -- the clock once these were asked
 abbrev pub clock_after : ℕ → List AskedEvent → ℕ
 clock_after clock [] = clock
-clock_after clock (s ∷ saids) = clock_after (clock_behind clock s.event s.reply) saids
+clock_after clock (s ∷ saids) = clock_after (clock_beyond clock s.event s.reply) saids
 
 pub clock_more : (clock : ℕ) (xs ys : List AskedEvent) → clock_after clock (xs ++ ys) ≡ clock_after (clock_after clock xs) ys
 clock_more clock [] ys = refl
-clock_more clock (x ∷ xs) ys = clock_more (clock_behind clock x.event x.reply) xs ys
+clock_more clock (x ∷ xs) ys = clock_more (clock_beyond clock x.event x.reply) xs ys
 
 pub calls_more : (die clock : ℕ) (xs ys : List AskedEvent) → calls_for die clock (xs ++ ys)
     ≡ calls_for die clock xs ++ calls_for die (clock_after clock xs) ys
 calls_more die clock [] ys = refl
 calls_more die clock (x ∷ xs) ys =
-    ap (with_call die clock x.event x.reply) (calls_more die (clock_behind clock x.event x.reply) xs ys) ∙ one x.event x.reply
+    ap (with_call die clock x.event x.reply) (calls_more die (clock_beyond clock x.event x.reply) xs ys) ∙ one x.event x.reply
   where
     front : List WorkCall
-    front = calls_for die (clock_behind clock x.event x.reply) xs
+    front = calls_for die (clock_beyond clock x.event x.reply) xs
 
     rest : List WorkCall
-    rest = calls_for die (clock_after (clock_behind clock x.event x.reply) xs) ys
+    rest = calls_for die (clock_after (clock_beyond clock x.event x.reply) xs) ys
 
     one : (e : Event) (r : Result Reply RefusedAt) → with_call die clock e r (front ++ rest) ≡ with_call die clock e r front ++ rest
     one events.Slot (Ok (replies.Slot reply)) = refl

@@ -11,13 +11,13 @@ use Rattle.die_log.specs.Results.Certificates.{NothingDone, IsOfWorst, HoldsOver
 use Rattle.die_service.specs.declared.queries.Query.{Query}
 use Rattle.die_service.specs.declared.queries.Query.TheVariants as asks
 use Rattle.die_service.specs.declared.queries.Answer.{Answer}
-use Rattle.die_service.specs.declared.queries.Answer.TheVariants as tells
+use Rattle.die_service.specs.declared.queries.Answer.TheVariants as says
 use Rattle.die_service.specs.Logs.{DieCall, log_of}
 use Rattle.die_log.specs.Model.Start.{Start}
 
 -- what became of the job or collection of this number; refused where the log has none of it, or memory is refused, which
 -- it never is where no read gave anything
-pub record TellsOutcome (start : Start) (log : Log) (job : ℕ) (result : Result Outcome Refusal) : Type 0 where
+pub record SaysOutcome (start : Start) (log : Log) (job : ℕ) (result : Result Outcome Refusal) : Type 0 where
   pub ok : IfOk result (λ outcome. outcome_at start log job ≡ Some outcome)
   pub unknown : (result ≡ Err UnknownJob) ↔ (job_at log job ≡ None)
   pub nothing : (outcome : Outcome) → outcome_at start log job ≡ Some outcome → reads_given outcome ≡ [] → IsOk result
@@ -25,7 +25,7 @@ pub record TellsOutcome (start : Start) (log : Log) (job : ℕ) (result : Result
 
 -- the certificate of the log's worst job, none where nothing is done; refused where memory is refused, which it never
 -- is where nothing is done
-pub record TellsCertificate (start : Start) (log : Log) (result : Result (Option Certificate) Refusal) : Type 0 where
+pub record SaysCertificate (start : Start) (log : Log) (result : Result (Option Certificate) Refusal) : Type 0 where
   pub ok : IfOk result (λ built. built ≡ certificate start.plan log)
   pub none : IfOk result (λ built. (built ≡ None) ↔ NothingDone start.plan log)
   pub worst : IfOk result (λ built. IfSome built (IsOfWorst start.plan log))
@@ -34,12 +34,12 @@ pub record TellsCertificate (start : Start) (log : Log) (result : Result (Option
   pub nothing : NothingDone start.plan log → IsOk result
   pub refused : IfErr result (λ refusal. refusal ≡ NoMemory)
 
-abbrev pub Tells : Start → Log → Query → Answer → Type 0
-Tells start log (asks.Outcome job) (tells.Outcome result) = TellsOutcome start log job result
-Tells start log asks.Worst (tells.Worst result) = result ≡ worst_of start.plan log
-Tells start log asks.Certificate (tells.Certificate result) = TellsCertificate start log result
-Tells start log asks.Now (tells.Now result) = result ≡ now log
-Tells start log _ _ = ⊥
+abbrev pub Says : Start → Log → Query → Answer → Type 0
+Says start log (asks.Outcome job) (says.Outcome result) = SaysOutcome start log job result
+Says start log asks.Worst (says.Worst result) = result ≡ worst_of start.plan log
+Says start log asks.Certificate (says.Certificate result) = SaysCertificate start log result
+Says start log asks.Now (says.Now result) = result ≡ now log
+Says start log _ _ = ⊥
 
 abbrev pub MayAnswer : Start → List DieCall → Query → Answer → Type 0
-MayAnswer start calls query answer = Tells start (log_of calls) query answer
+MayAnswer start calls query answer = Says start (log_of calls) query answer

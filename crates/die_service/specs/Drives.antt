@@ -17,7 +17,7 @@ use Rattle.die_service.specs.Passes.{DieView}
 use Rattle.die_service.specs.Replies.{HasExactLog}
 use Rattle.slot_types.specs.Arrivals.{IsArrival}
 use Rattle.slot_types.specs.Arriving.{arrivals_by, arrivals_after}
-use Rattle.die_service.specs.Runs.{AskedEvent, asked_event, comes_at, AreAsked, accepted_by, slots_in, place_behind, refused_from, stop_of}
+use Rattle.die_service.specs.Runs.{AskedEvent, asked_event, comes_at, AreAsked, accepted_by, slots_in, place_beyond, refused_from, stop_of}
 use Rattle.die_service.specs.Runs.{IsReasoned, HasRun}
 use Rattle.die_service.specs.Stores.{DiePass}
 use Rattle.die_log.specs.Model.Start.{Start}
@@ -65,7 +65,7 @@ end_at s = record { slots = s.slots; refused = s.course.refused; stop = s.stop }
 -- the place of the next event after these
 abbrev pub place_after : ℕ → List AskedEvent → ℕ
 place_after place [] = place
-place_after place (s ∷ saids) = place_after (place_behind s.event place) saids
+place_after place (s ∷ saids) = place_after (place_beyond s.event place) saids
 
 -- the pass is of a die with this start, and has seen an exact log
 abbrev pub Knows : DieView → Start → Type 0

@@ -76,9 +76,9 @@ abbrev pub slots_in : List AskedEvent → ℕ
 slots_in [] = 0
 slots_in (s ∷ saids) = slot_counted s.event s.reply (slots_in saids)
 
-abbrev pub place_behind : Event → ℕ → ℕ
-place_behind events.Slot place = place
-place_behind _ place = suc place
+abbrev pub place_beyond : Event → ℕ → ℕ
+place_beyond events.Slot place = place
+place_beyond _ place = suc place
 
 abbrev pub with_refused : ℕ → Event → Result Reply RefusedAt → List RefusedEvent → List RefusedEvent
 with_refused place events.Slot reply more = more
@@ -88,7 +88,7 @@ with_refused place _ (Err refused) more = record { place = place; refused = refu
 -- of the events of a feed, the first of which has this place, those that were refused
 abbrev pub refused_from : ℕ → List AskedEvent → List RefusedEvent
 refused_from place [] = []
-refused_from place (s ∷ saids) = with_refused place s.event s.reply (refused_from (place_behind s.event place) saids)
+refused_from place (s ∷ saids) = with_refused place s.event s.reply (refused_from (place_beyond s.event place) saids)
 
 abbrev pub stop_or : Event → Result Reply RefusedAt → Option RefusedAt → Option RefusedAt
 stop_or events.Slot (Err refused) later = Some refused

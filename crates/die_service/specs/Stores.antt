@@ -63,19 +63,19 @@ abbrev pub DiePass : Type 0
 DiePass = PassView Event (Result Reply RefusedAt) Start
 
 -- the pass was answered that so many passes are out
-abbrev pub IsTold : DiePass → ℕ → DiePass → Type 0
-IsTold p out q = IsSamePass p q × IsOut HasExactLog p.view out q.view
+abbrev pub IsReported : DiePass → ℕ → DiePass → Type 0
+IsReported p out q = IsSamePass p q × IsOut HasExactLog p.view out q.view
 
 -- the passes were answered in order that none is out, until one was answered that some are; the later ones are as they
 -- were
-abbrev pub AreTold : List DiePass → ℕ → List DiePass → Type 0
-AreTold [] out [] = out ≡ 0
-AreTold (p ∷ ps) out (q ∷ qs) = (IsTold p 0 q × AreTold ps out qs) ⊎ ((0 < out) × IsTold p out q × (qs ≡ ps))
-AreTold _ _ _ = ⊥
+abbrev pub AreReported : List DiePass → ℕ → List DiePass → Type 0
+AreReported [] out [] = out ≡ 0
+AreReported (p ∷ ps) out (q ∷ qs) = (IsReported p 0 q × AreReported ps out qs) ⊎ ((0 < out) × IsReported p out q × (qs ≡ ps))
+AreReported _ _ _ = ⊥
 
 -- the store stays open: on the first die that has passes out there are so many, or none has and memory is refused
 abbrev pub StayOpen : List DiePass → Refusal → List DiePass → Type 0
-StayOpen ps refusal qs = ((out : ℕ) × (0 < out) × (refusal ≡ PassesOut out) × AreTold ps out qs) ⊎ ((refusal ≡ NoMemory) × AreTold ps 0 qs)
+StayOpen ps refusal qs = ((out : ℕ) × (0 < out) × (refusal ≡ PassesOut out) × AreReported ps out qs) ⊎ ((refusal ≡ NoMemory) × AreReported ps 0 qs)
 
 -- all passes that were made are this one and those that were joined into it
 abbrev pub AllJoined : DiePass → Type 0

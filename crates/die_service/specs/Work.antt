@@ -19,9 +19,9 @@ pub data WorkCall : Type 0 where
   After : (die slot : ℕ) → WorkCall
 
 -- the clock once this was asked
-abbrev pub clock_behind : ℕ → Event → Result Reply RefusedAt → ℕ
-clock_behind clock events.Slot (Ok (replies.Slot reply)) = reply.slot + 1
-clock_behind clock _ _ = clock
+abbrev pub clock_beyond : ℕ → Event → Result Reply RefusedAt → ℕ
+clock_beyond clock events.Slot (Ok (replies.Slot reply)) = reply.slot + 1
+clock_beyond clock _ _ = clock
 
 -- A slot that is carried out has the hook before it, with the clock, and after it, with its number. A refused slot has
 -- the hook before it, and an event of the feed has none.
@@ -34,7 +34,7 @@ with_call die clock event reply more = Asked (asked_event event reply) ∷ more
 -- the calls for what is asked of a die from this clock on
 abbrev pub calls_for : ℕ → ℕ → List AskedEvent → List WorkCall
 calls_for die clock [] = []
-calls_for die clock (s ∷ saids) = with_call die clock s.event s.reply (calls_for die (clock_behind clock s.event s.reply) saids)
+calls_for die clock (s ∷ saids) = with_call die clock s.event s.reply (calls_for die (clock_beyond clock s.event s.reply) saids)
 
 -- What comes of a die and of the work, where each call turns the work `u` into the work `v` as `does` says
 

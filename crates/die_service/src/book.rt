@@ -76,7 +76,7 @@ impl<N: Nand> Book for DieBook<N> {
 
     ghost gives = { λ start calls _ event reply. MayReply N.never_fails start calls event reply };
 
-    ghost tells = { MayAnswer };
+    ghost says = { MayAnswer };
 
     ghost fits = { HasExactLog };
 

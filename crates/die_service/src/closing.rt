@@ -2,7 +2,7 @@
 
 ghost use Rattle.std.specs.Prelude.{◌≡◌, ◌≤◌, true, false, [], map, length, All, IfOk, IfErr, vec_capacity};
 ghost use Rattle.std.specs.List.{AllZip};
-ghost use Rattle.die_service.specs.Stores.{AreTold, StayOpen, HasLogOf, IsClosedWith};
+ghost use Rattle.die_service.specs.Stores.{AreReported, StayOpen, HasLogOf, IsClosedWith};
 
 use crate::die::{Die, DiePass};
 use crate::store::Store;
@@ -23,7 +23,7 @@ pub struct StillOpen<N: Nand> {
 /// What `out` answers on the first die where it isn't 0, or 0.
 fn first_out<N: Nand, R: Wait>(rt: &R, dies: &[Die<N>], passes: &mut [DiePass<N>]) -> u32
     requires own { map (λ pass. pass.lock) passes.old ≡ dies.now }
-    ensures told { AreTold passes.old result passes.new }
+    ensures said { AreReported passes.old result passes.new }
 {
     let Some((die, dies)) = dies.split_first() else {
         return 0;

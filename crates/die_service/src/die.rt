@@ -9,7 +9,7 @@ ghost use Rattle.turn_lock.specs.Views.{IsLive, IsSamePass};
 ghost use Rattle.turn_lock.specs.Passes.{Parts, IsFull, IsJoined, IsOut};
 ghost use Rattle.slot_core.specs.Events.{with_ops, reply_of_note};
 ghost use Rattle.die_service.specs.Replies.{HasExactLog};
-ghost use Rattle.die_service.specs.Answers.{TellsOutcome, TellsCertificate};
+ghost use Rattle.die_service.specs.Answers.{SaysOutcome, SaysCertificate};
 ghost use Rattle.die_service.specs.Passes.{HasGrown, AddsEntry, AddsNone, Sees, IsTakenReply, IsSlotReply};
 
 use crate::book::DieBook;
@@ -229,7 +229,7 @@ impl<N: Nand> Die<N> {
         requires { pass.old.lock ≡ self.now }
         ensures same { IsSamePass pass.old pass.new }
         ensures outcome { Sees pass.old.view pass.new.view (λ start log.
-            TellsOutcome start log job result) }
+            SaysOutcome start log job result) }
     {
         match self.turned.ask(rt, pass, Query::Outcome(job)) {
             Answer::Outcome(result) => result,
@@ -261,7 +261,7 @@ impl<N: Nand> Die<N> {
         requires { pass.old.lock ≡ self.now }
         ensures same { IsSamePass pass.old pass.new }
         ensures certificate { Sees pass.old.view pass.new.view (λ start log.
-            TellsCertificate start log result) }
+            SaysCertificate start log result) }
     {
         match self.turned.ask(rt, pass, Query::Certificate) {
             Answer::Certificate(result) => result,

@@ -4,4 +4,4 @@ pub mod Inserted
 pub mod Members
 pub mod Mapped
 pub mod Heaped
-pub mod Behind
+pub mod Beyond

@@ -32,6 +32,6 @@ rest_of [] = []
 rest_of (k ∷ ks) = ks
 
 -- all but so many of the first
-abbrev pub behind : {K : Type 0} → ℕ → List K → List K
-behind zero ks = ks
-behind (suc n) ks = behind n (rest_of ks)
+abbrev pub beyond : {K : Type 0} → ℕ → List K → List K
+beyond zero ks = ks
+beyond (suc n) ks = beyond n (rest_of ks)

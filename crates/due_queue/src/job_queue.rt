@@ -2,7 +2,7 @@
 
 ghost use Rattle.std.specs.Prelude.{◌≡◌, ◌+◌, ◌<◌, ◌≤◌, [], length, Contains, IsOk, OnOk, OnErr, OnSome, IfNone};
 ghost use Rattle.slot_types.specs.Refusal.{FailsForMemory};
-ghost use Rattle.due_queue.specs.Queue.{behind, with_key, first_of, rest_of, IsRising};
+ghost use Rattle.due_queue.specs.Queue.{beyond, with_key, first_of, rest_of, IsRising};
 ghost use Rattle.due_queue.specs.Keys.{released_by};
 
 use crate::keys::{JobKey, Key, WaitKey};
@@ -90,11 +90,11 @@ impl<K: JobKey> JobQueue<K> {
 
     /// The first key after `count` others. It takes the time of so many removals and insertions. The queue is as
     /// before.
-    pub fn first_behind(&mut self, count: usize) -> Option<K>
-        ensures first { result ≡ first_of (behind count self.old.keys) }
+    pub fn first_after(&mut self, count: usize) -> Option<K>
+        ensures first { result ≡ first_of (beyond count self.old.keys) }
         ensures unchanged { self.new ≡ self.old }
     {
-        match self.pairs.first_behind(count) {
+        match self.pairs.first_after(count) {
             Some((slot, number)) => Some(K::of(slot, number)),
             None => None,
         }

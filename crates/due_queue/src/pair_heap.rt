@@ -2,7 +2,7 @@
 
 ghost use Rattle.std.specs.Prelude.{◌≡◌, ◌+◌, ◌-◌, ◌<◌, ◌≤◌, [], length, Contains, IsOk, OnOk, OnErr, OnSome, IfNone};
 ghost use Rattle.slot_types.specs.Refusal.{FailsForMemory};
-ghost use Rattle.due_queue.specs.Queue.{behind, with_key, first_of, rest_of, IsRising};
+ghost use Rattle.due_queue.specs.Queue.{beyond, with_key, first_of, rest_of, IsRising};
 ghost use Rattle.due_queue.specs.Pairs.{is_pair_before};
 
 use slot_types::Refusal;
@@ -104,8 +104,8 @@ impl PairHeap {
 
     /// The first pair after `count` others. The heap is as before, for which it gives up those others and takes them
     /// back.
-    pub fn first_behind(&mut self, count: usize) -> Option<(u32, u32)>
-        ensures first { result ≡ first_of (behind count self.old.keys) }
+    pub fn first_after(&mut self, count: usize) -> Option<(u32, u32)>
+        ensures first { result ≡ first_of (beyond count self.old.keys) }
         ensures unchanged { self.new ≡ self.old }
     {
         let first = self.first();
@@ -115,7 +115,7 @@ impl PairHeap {
         match self.pop_first() {
             None => None,
             Some(pair) => {
-                let found = self.first_behind(count - 1);
+                let found = self.first_after(count - 1);
                 self.insert(pair);
                 found
             }

@@ -14,7 +14,7 @@ use Rattle.event_log.specs.declared.deeds.Deed.{Deed}
 use Rattle.event_log.specs.declared.deeds.Deed.TheVariants.{Submit, Collect, Idle, Operation, LastOperation, CopyRead}
 use Rattle.event_log.specs.declared.deeds.Deed.TheVariants.{CopyProgram, EraseSlot, LastEraseSlot}
 use Rattle.event_log.specs.Notes.{Note, is_none}
-use Rattle.event_log.specs.Stretches.{alike_deeds, alike_notes, new_stretches, stretches}
+use Rattle.event_log.specs.NoteRecords.{alike_deeds, alike_notes, new_records, records}
 use Rattle.event_log.specs.Alike.{waives_none, is_erase, is_quiet, replied_alike, replies_alike, alike, count_if, record_count}
 use Rattle.event_log.specs.Entries.{act_reading, act_doing, act_in, act_at, reply_of, entry_of, slots_in, entries_of, reads_before}
 
@@ -138,14 +138,14 @@ entries_alike jobs k m s t =
     ∙ rw (none_as s.waived, none_as t.waived) (four (s.caller == t.caller) (is_none s.waived) (is_none t.waived)
     (alike_deeds s.deed t.deed))
 
-counted_as : (b : Bool) → count_if b ≡ new_stretches b
+counted_as : (b : Bool) → count_if b ≡ new_records b
 counted_as true = refl
 counted_as false = refl
 
 -- a log has as many records as its events take
-pub records_are : (jobs : List JobRecord) (notes : List Note) → record_count (entries_of jobs notes) ≡ stretches notes
+pub records_are : (jobs : List JobRecord) (notes : List Note) → record_count (entries_of jobs notes) ≡ records notes
 records_are jobs [] = refl
 records_are jobs (s ∷ []) = refl
 records_are jobs (s ∷ (t ∷ past)) =
     rw (entries_alike jobs (slots_in (t ∷ past)) (slots_in past) s t, counted_as (alike_notes s t))
-    (ap (λ n. new_stretches (alike_notes s t) + n) (records_are jobs (t ∷ past)))
+    (ap (λ n. new_records (alike_notes s t) + n) (records_are jobs (t ∷ past)))

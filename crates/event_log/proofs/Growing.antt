@@ -14,7 +14,7 @@ use Rattle.event_log.specs.declared.deeds.Deed.TheVariants.{Submit, Collect, Idl
 use Rattle.event_log.specs.declared.deeds.Deed.TheVariants.{CopyProgram, EraseSlot, LastEraseSlot}
 use Rattle.event_log.specs.Notes.{Note}
 use Rattle.event_log.specs.Entries.{act_doing, act_at, event_of, ran_by, reply_of, entry_of, slots_in, entries_of, reads_before}
-use Rattle.event_log.specs.Growth.{HasDone, Fits, AllFit, IsGrown, GrewAt, Grew}
+use Rattle.event_log.specs.GrownTable.{HasDone, Fits, AllFit, IsGrown, GrewAt, Grew}
 
 -- what stands in a list stands in a longer one
 pub get_front : {T : Type 0} (xs ys : List T) (k : ℕ) (x : T) → slice_get xs k ≡ Some x → slice_get (xs ++ ys) k ≡ Some x

@@ -16,7 +16,7 @@ use Rattle.event_log.specs.declared.runs.Run.{Run}
 use Rattle.event_log.specs.Spread.{spread, AreSome, last_of}
 use Rattle.event_log.specs.Notes.{Note}
 use Rattle.event_log.specs.Slots.{slot_by, carried_in}
-use Rattle.event_log.specs.Stretches.{alike_deeds, goes_on, stands_alone, newest_stands_alone}
+use Rattle.event_log.specs.NoteRecords.{alike_deeds, goes_on, stands_alone, newest_stands_alone}
 use Rattle.event_log.specs.SoundLog.{notes_in, slots_before, IsMarked}
 use Rattle.event_log.proofs.Pushing.{goes_on_alike, newest_alone}
 use Rattle.event_log.proofs.Carrying.{carried_is}

@@ -15,8 +15,8 @@ use Rattle.event_log.specs.Spread.{last_of}
 use Rattle.event_log.specs.Waivers.{waiver_of}
 use Rattle.event_log.specs.Waivers.{waived_in, waived_at}
 use Rattle.event_log.specs.Notes.{Note, is_none, notes_of, waives_newest}
-use Rattle.event_log.specs.Stretches.{is_idle, alike_deeds, alike_notes, goes_on, new_stretches, stretches, is_some_number}
-use Rattle.event_log.specs.Stretches.{has_same_block, joins, kept_of, ErasesOneBlock, stands_alone, newest_stands_alone}
+use Rattle.event_log.specs.NoteRecords.{is_idle, alike_deeds, alike_notes, goes_on, new_records, records, is_some_number}
+use Rattle.event_log.specs.NoteRecords.{has_same_block, joins, kept_of, ErasesOneBlock, stands_alone, newest_stands_alone}
 use Rattle.event_log.specs.SoundLog.{AreBefore, notes_in}
 
 -- The waivers of an event
@@ -97,18 +97,18 @@ length_of deeds callers waivers e =
 
 -- Records
 
-pub stretches_push : (s : Note) (past : List Note) → stretches (s ∷ past) ≡ new_stretches (goes_on s past) + stretches past
-stretches_push s [] = refl
-stretches_push s (t ∷ past) = refl
+pub records_push : (s : Note) (past : List Note) → records (s ∷ past) ≡ new_records (goes_on s past) + records past
+records_push s [] = refl
+records_push s (t ∷ past) = refl
 
-one_at_most : (b : Bool) → new_stretches b ≤ 1
+one_at_most : (b : Bool) → new_records b ≤ 1
 one_at_most true = omega arith
 one_at_most false = omega arith
 
 -- there are no more records than events
-pub few_stretches : (notes : List Note) → stretches notes ≤ length notes
-few_stretches [] = omega arith
-few_stretches (s ∷ past) = rw (stretches_push s past) (omega (arith, one_at_most (goes_on s past), few_stretches past))
+pub few_records : (notes : List Note) → records notes ≤ length notes
+few_records [] = omega arith
+few_records (s ∷ past) = rw (records_push s past) (omega (arith, one_at_most (goes_on s past), few_records past))
 
 -- The newest
 
@@ -375,8 +375,8 @@ joins_goes s [] h = refl
 joins_goes s (t ∷ past) h = by_true (alike_notes s t) (has_same_block s.deed t.deed) h
 
 -- as many records are kept as there are runs of like events
-pub kept_stretches : (notes : List Note) → ErasesOneBlock notes → kept_of notes ≡ stretches notes
-kept_stretches [] h = refl
-kept_stretches (s ∷ past) h =
-    ap (λ n. new_stretches (joins s past) + n) (kept_stretches past h.1)
-    ∙ ap (λ b. new_stretches b + stretches past) (joins_goes s past h.0) ∙ sym (stretches_push s past)
+pub kept_records : (notes : List Note) → ErasesOneBlock notes → kept_of notes ≡ records notes
+kept_records [] h = refl
+kept_records (s ∷ past) h =
+    ap (λ n. new_records (joins s past) + n) (kept_records past h.1)
+    ∙ ap (λ b. new_records b + records past) (joins_goes s past h.0) ∙ sym (records_push s past)

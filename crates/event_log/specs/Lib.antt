@@ -1,9 +1,9 @@
 pub mod Waivers
 pub mod Notes
-pub mod Stretches
+pub mod NoteRecords
 pub mod Spread
 pub mod Slots
 pub mod SoundLog
 pub mod Entries
-pub mod Growth
+pub mod GrownTable
 pub mod Alike

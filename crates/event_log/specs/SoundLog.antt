@@ -6,7 +6,7 @@ use Rattle.event_log.specs.declared.waivers.Waiver.{Waiver}
 use Rattle.event_log.specs.Notes.{Note, notes_of, waives_newest}
 use Rattle.event_log.specs.Slots.{slot_by}
 use Rattle.event_log.specs.Spread.{last_of}
-use Rattle.event_log.specs.Stretches.{stretches, kept_of, stands_alone}
+use Rattle.event_log.specs.NoteRecords.{records, kept_of, stands_alone}
 
 -- the waivers are of events that were before this place
 abbrev pub AreBefore : ℕ → List Waiver → Type 0
@@ -20,7 +20,7 @@ pub record IsSoundLog (deeds : List Deed) (callers : List ℕ) (waivers : List W
   pub len_is : len ≡ length deeds
   pub callers_are : length callers ≡ length deeds
   pub before : AreBefore len waivers
-  pub count_is : count ≡ stretches (notes_in deeds callers waivers)
+  pub count_is : count ≡ records (notes_in deeds callers waivers)
   pub kept_is : kept ≡ kept_of (notes_in deeds callers waivers)
   pub waives_is : waives ≡ waives_newest (notes_in deeds callers waivers)
 

@@ -2,7 +2,7 @@
 
 ghost use Rattle.std.specs.Prelude.{◌≡◌};
 ghost use Rattle.event_log.specs.Slots.{slot_by};
-ghost use Rattle.event_log.specs.Stretches.{alike_deeds, erases_for};
+ghost use Rattle.event_log.specs.NoteRecords.{alike_deeds, erases_for};
 
 use slot_types::JobNo;
 use std::mem::size_of;

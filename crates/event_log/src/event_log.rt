@@ -5,7 +5,7 @@ ghost use Rattle.slot_types.specs.Refusal.{FailsForMemory};
 ghost use Rattle.event_log.specs.Spread.{last_of};
 ghost use Rattle.event_log.specs.Notes.{Note};
 ghost use Rattle.event_log.specs.Slots.{carried_in};
-ghost use Rattle.event_log.specs.Stretches.{goes_on, new_stretches, stretches, kept_of, is_some_number, newest_stands_alone};
+ghost use Rattle.event_log.specs.NoteRecords.{goes_on, new_records, records, kept_of, is_some_number, newest_stands_alone};
 
 use crate::deeds::Deed;
 use crate::runs::{Run, Runs};
@@ -27,7 +27,7 @@ pub struct EventLog {
     callers: Runs<u32>,
     waivers: Vec<Waiver>,
     len: u32,
-    stretches: u32,
+    records: u32,
     /// For how many more events there is room, however few of them are alike.
     room: usize,
     /// For how many more waivers there is room.
@@ -57,7 +57,7 @@ impl Model for EventLog {
     } };
 
     ghost invariant = { λ l.
-        IsSoundLog l.deeds.items l.callers.items l.waivers.items l.len l.stretches l.deeds.kept l.waives
+        IsSoundLog l.deeds.items l.callers.items l.waivers.items l.len l.records l.deeds.kept l.waives
         × HasPromisedRoom l.room l.waiver_room l.deeds.room l.callers.room (vec_len l.waivers) (vec_capacity l.waivers)
         × IsMarked l.deeds.items l.deeds.marked l.callers.marked };
 }
@@ -72,7 +72,7 @@ impl EventLog {
             callers: Runs::new(alloc),
             waivers: Vec::new(alloc),
             len: 0,
-            stretches: 0,
+            records: 0,
             room: 0,
             waiver_room: 0,
             waives: false,
@@ -90,7 +90,7 @@ impl EventLog {
         self.callers.clear();
         self.waivers.clear();
         self.len = 0;
-        self.stretches = 0;
+        self.records = 0;
         self.waives = false;
     }
 
@@ -102,10 +102,10 @@ impl EventLog {
     }
 
     /// How many records the events take: maximal runs of alike events, one by itself being one.
-    pub fn stretches(&self) -> u32
-        ensures { result ≡ stretches self.now.notes }
+    pub fn records(&self) -> u32
+        ensures { result ≡ records self.now.notes }
     {
-        self.stretches
+        self.records
     }
 
     /// How many records of deeds it keeps. Neighbours that count as one run of like events and did the same are kept once, so these are as
@@ -201,7 +201,7 @@ impl EventLog {
         let same_deed = is_last_deed(&self.deeds, &deed);
         let same_caller = is_last_caller(&self.callers, caller);
         let goes_on = self.goes_on(caller, &deed, waived);
-        self.stretches = stretches_with(goes_on, self.stretches);
+        self.records = records_with(goes_on, self.records);
         // Alike deeds differ where one erase had two blocks.
         self.deeds.push_reserved(deed, goes_on & same_deed);
         self.callers.push_reserved(caller, same_caller);
@@ -235,11 +235,11 @@ impl EventLog {
 }
 
 /// How many records there are with an event that goes on with the newest, or doesn't.
-fn stretches_with(goes_on: bool, stretches: u32) -> u32
-    requires { stretches + 1 < 2 ^ 32 }
-    ensures { result ≡ new_stretches goes_on + stretches }
+fn records_with(goes_on: bool, records: u32) -> u32
+    requires { records + 1 < 2 ^ 32 }
+    ensures { result ≡ new_records goes_on + records }
 {
-    if goes_on { stretches } else { stretches + 1 }
+    if goes_on { records } else { records + 1 }
 }
 
 /// Whether the last deed, if there is one, is this one.

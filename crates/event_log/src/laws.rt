@@ -3,9 +3,9 @@
 ghost use Rattle.std.specs.Prelude.{◌≡◌, List};
 ghost use Rattle.job_table.specs.Jobs.{JobRecord};
 ghost use Rattle.event_log.specs.Notes.{Note};
-ghost use Rattle.event_log.specs.Stretches.{stretches, kept_of, ErasesOneBlock};
+ghost use Rattle.event_log.specs.NoteRecords.{records, kept_of, ErasesOneBlock};
 ghost use Rattle.event_log.specs.Entries.{entries_of};
-ghost use Rattle.event_log.specs.Growth.{AllFit, Grew};
+ghost use Rattle.event_log.specs.GrownTable.{AllFit, Grew};
 ghost use Rattle.event_log.specs.Alike.{record_count};
 
 /// As the jobs of a die grow, the entries of the events that were before stay the same.
@@ -22,12 +22,12 @@ pub fn events_go_on_fitting()
 {}
 
 /// A log keeps as many records of deeds as there are runs of like events, where neighbours in one erase have one block.
-pub fn stretches_are_kept()
-    ensures { (notes : List Note) → ErasesOneBlock notes → kept_of notes ≡ stretches notes }
+pub fn records_are_kept()
+    ensures { (notes : List Note) → ErasesOneBlock notes → kept_of notes ≡ records notes }
 {}
 
 /// A log takes as many records as its events have runs of like events, whatever the jobs.
-pub fn stretches_are_records()
+pub fn records_are_counted()
     ensures { (jobs : List JobRecord) (notes : List Note)
-        → record_count (entries_of jobs notes) ≡ stretches notes }
+        → record_count (entries_of jobs notes) ≡ records notes }
 {}

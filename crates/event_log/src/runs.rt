@@ -3,7 +3,7 @@
 ghost use Rattle.std.specs.Prelude.{◌≡◌, ◌+◌, ◌<◌, ◌≤◌, ◌∷◌, ◌++◌, ◌^◌, [], true, length, take, IsOk, OnOk, OnErr, Some};
 ghost use Rattle.slot_types.specs.Refusal.{FailsForMemory};
 ghost use Rattle.event_log.specs.Spread.{spread, last_of, AreSome};
-ghost use Rattle.event_log.specs.Stretches.{new_stretches};
+ghost use Rattle.event_log.specs.NoteRecords.{new_records};
 
 use slot_types::Refusal;
 use std::alloc::Global;
@@ -134,7 +134,7 @@ impl<T: Copy> Runs<T> {
         requires like { is_like_last ≡ true → last_of self.old.items ≡ Some item }
         requires unmarked { is_like_last ≡ true → self.old.marked < length self.old.items }
         ensures items { self.new.items ≡ self.old.items ++ item ∷ [] }
-        ensures kept { self.new.kept ≡ new_stretches is_like_last + self.old.kept }
+        ensures kept { self.new.kept ≡ new_records is_like_last + self.old.kept }
         ensures marked { self.new.marked ≡ self.old.marked }
         ensures room { self.old.room ≤ self.new.room + 1 }
     {

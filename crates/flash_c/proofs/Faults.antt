@@ -5,12 +5,12 @@ use Rattle.die_checkpoint.specs.declared.checkpoint.Checkpoint.{Checkpoint}
 use Rattle.die_checkpoint.specs.declared.fault.CheckpointFault.{CheckpointFault}
 use Rattle.die_checkpoint.specs.Faults.{HasCheckpointFault}
 use Rattle.flash_c.specs.declared.shapes.FlashWhy.{FlashWhy}
-use Rattle.flash_c.specs.Checkpoints.{TellsFault, fault_code, fault_why}
+use Rattle.flash_c.specs.Checkpoints.{SaysFault, fault_code, fault_why}
 
 -- the fault of the checkpoint that was made of the arrays is that of what the arrays stand for
-pub tells_fault : (made plan : DiePlan) (taken c : Checkpoint) (fault : CheckpointFault) (code : ℕ) (why : FlashWhy) → made ≡ plan
-    → taken ≡ c → HasCheckpointFault made taken fault → code ≡ fault_code fault → why ≡ fault_why fault → TellsFault plan c code why
-tells_fault made plan taken c fault code why of_plan of_arrays has code_is why_is = record {
+pub reports_fault : (made plan : DiePlan) (taken c : Checkpoint) (fault : CheckpointFault) (code : ℕ) (why : FlashWhy) → made ≡ plan
+    → taken ≡ c → HasCheckpointFault made taken fault → code ≡ fault_code fault → why ≡ fault_why fault → SaysFault plan c code why
+reports_fault made plan taken c fault code why of_plan of_arrays has code_is why_is = record {
   fault = fault;
   has = subst (λ (k : Checkpoint). HasCheckpointFault plan k fault) of_arrays
       (subst (λ (p : DiePlan). HasCheckpointFault p taken fault) of_plan has);

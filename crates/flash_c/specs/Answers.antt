@@ -13,21 +13,21 @@ use Rattle.flash_c.specs.Lists.{array_with}
 use Rattle.flash_c.specs.Slots.{reply_of, waived_of}
 
 -- the number of a refusal of this kind, with its numbers
-pub record TellsRefusal (Refuses : StepRefusal → Type 0) (code : ℕ) (why : FlashWhy) : Type 0 where
+pub record SaysRefusal (Refuses : StepRefusal → Type 0) (code : ℕ) (why : FlashWhy) : Type 0 where
   pub refusal : StepRefusal
   pub refuses : Refuses refusal
   pub code_is : code ≡ code_of refusal
   pub why_is : why ≡ why_of refusal
 
 -- the number of why no slot is begun
-pub record TellsUnbegun (die : Stepped) (code : ℕ) : Type 0 where
+pub record SaysUnbegun (die : Stepped) (code : ℕ) : Type 0 where
   pub refusal : StepRefusal
   pub refuses : RefusesBeginning die refusal
   pub code_is : code ≡ code_of refusal
 
 -- a slot has ended with a reply, which is reported with the collections that were waived
-pub record TellsReply (ok : Bool) (bytes : PageData) (before after : Stepped) (told : FlashReply) (room waived : List FlashWaived) : Type 0 where
+pub record SaysReply (ok : Bool) (bytes : PageData) (before after : Stepped) (said : FlashReply) (room waived : List FlashWaived) : Type 0 where
   pub reply : SlotReply
   pub ended : HasEnded ok bytes reply before after
-  pub told_is : told ≡ reply_of reply
+  pub said_is : said ≡ reply_of reply
   pub waived_is : waived ≡ array_with waived_of room reply.waived

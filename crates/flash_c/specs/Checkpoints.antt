@@ -89,7 +89,7 @@ fault_why (faults.SharedCell page) = two page 0
 -- Answers
 
 -- a checkpoint, put into these arrays as far as there is room
-pub record TellsCheckpoint (c : Checkpoint) (places places_then : List FlashPlace) (blocks blocks_then : List FlashBlock)
+pub record SaysCheckpoint (c : Checkpoint) (places places_then : List FlashPlace) (blocks blocks_then : List FlashBlock)
     (balances balances_then : List ℕ) (spare_then : ℕ) : Type 0 where
   pub places_are : places_then ≡ array_with place_of places c.places
   pub blocks_are : blocks_then ≡ array_with counts_of blocks c.blocks
@@ -97,21 +97,21 @@ pub record TellsCheckpoint (c : Checkpoint) (places places_then : List FlashPlac
   pub spare_is : spare_then ≡ c.spare
 
 -- the number of why no checkpoint is taken, with its job or block
-pub record TellsUntaken (die : Stepped) (code : ℕ) (why : FlashWhy) : Type 0 where
+pub record SaysUntaken (die : Stepped) (code : ℕ) (why : FlashWhy) : Type 0 where
   pub refusal : StepCheckpointRefusal
   pub refuses : RefusesNames die refusal
   pub code_is : code ≡ untaken_code refusal
   pub why_is : why ≡ untaken_why refusal
 
 -- the number of why the log isn't started anew, with its job or block
-pub record TellsUnrenewed (die : Stepped) (code : ℕ) (why : FlashWhy) : Type 0 where
+pub record SaysUnrenewed (die : Stepped) (code : ℕ) (why : FlashWhy) : Type 0 where
   pub refusal : StepRenewalRefusal
   pub refuses : RefusesRenewing die refusal
   pub code_is : code ≡ renewal_code refusal
   pub why_is : why ≡ renewal_why refusal
 
 -- the number of a checkpoint's first fault, with what it names
-pub record TellsFault (plan : DiePlan) (c : Checkpoint) (code : ℕ) (why : FlashWhy) : Type 0 where
+pub record SaysFault (plan : DiePlan) (c : Checkpoint) (code : ℕ) (why : FlashWhy) : Type 0 where
   pub fault : CheckpointFault
   pub has : HasCheckpointFault plan c fault
   pub code_is : code ≡ fault_code fault

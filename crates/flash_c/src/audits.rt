@@ -16,9 +16,9 @@ use crate::codes::{OK, ROWS_NOT_RISING, of_refusal, of_verdict};
 use crate::counts::count_of;
 use crate::lists::{jobs_in, rows_in};
 use crate::plans::plan_in;
+use crate::said::load_of;
 use crate::shapes::{FlashCertificate, FlashLoad, FlashPlan, FlashRow, FlashTask};
 use crate::texts::{name_of, put_text};
-use crate::told::load_of;
 use late_cert::{Certificate, check, rows_rise};
 use plan_rules::{bound, plan_test};
 use slot_types::JobNo;
@@ -79,8 +79,8 @@ pub extern "C" fn flash_plan_test(
         Err(refusal) => return of_refusal(refusal),
     }
     match plan_test(&plan) {
-        Ok(told) => {
-            *load = load_of(told);
+        Ok(said) => {
+            *load = load_of(said);
             OK
         }
         Err(refusal) => of_refusal(refusal),

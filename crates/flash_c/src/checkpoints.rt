@@ -11,7 +11,7 @@ ghost use Rattle.stepped_die.specs.Names.{GoesOn};
 ghost use Rattle.flash_c.specs.Lists.{array_with};
 ghost use Rattle.flash_c.specs.Names.{name_of, page_in};
 ghost use Rattle.flash_c.specs.Plans.{plan_in};
-ghost use Rattle.flash_c.specs.Checkpoints.{place_of, place_in, counts_of, counts_in, checkpoint_in, TellsCheckpoint, TellsUntaken, TellsFault};
+ghost use Rattle.flash_c.specs.Checkpoints.{place_of, place_in, counts_of, counts_in, checkpoint_in, SaysCheckpoint, SaysUntaken, SaysFault};
 ghost use Rattle.flash_c.specs.Conversions.{number_in};
 
 use crate::codes::{NO_MEMORY, OK, fault_why, of_fault, of_untaken, untaken_why};
@@ -168,13 +168,13 @@ pub extern "C" fn flash_checkpoint(
     requires full { die.old.value ≡ Some held }
     ensures same { die.new.value ≡ Some held }
     ensures may { result ≡ 0 → MayBeRenewed held.core }
-    ensures told { result ≡ 0
-        → TellsCheckpoint (checkpoint_of (renewed_start held.core.start held.core.log)) places.old
+    ensures said { result ≡ 0
+        → SaysCheckpoint (checkpoint_of (renewed_start held.core.start held.core.log)) places.old
         places.new
         blocks.old blocks.new balances.old balances.new spare.new }
     ensures names { result ≡ 0 → names.new
         ≡ array_with name_of names.old (contents held.core.start held.core.log) }
-    ensures cause { result ≢ 0 → TellsUntaken held result why.new }
+    ensures cause { result ≢ 0 → SaysUntaken held result why.new }
     ensures silent { result ≢ 0 → (places.new ≡ places.old) × (names.new ≡ names.old)
         × (blocks.new ≡ blocks.old)
         × (balances.new ≡ balances.old) × (spare.new ≡ spare.old) }
@@ -217,7 +217,7 @@ pub extern "C" fn flash_resume(
     ensures goes_on { result ≡ 0 → IfSome die.new.value (GoesOn (plan_in plan.now tasks.now)
         (checkpoint_in places.now blocks.now balances.now spare) (map page_in names.now)) }
     ensures refused { result ≢ 0 → die.new.value ≡ None }
-    ensures cause { result ≢ 0 → result ≢ 1 → TellsFault (plan_in plan.now tasks.now)
+    ensures cause { result ≢ 0 → result ≢ 1 → SaysFault (plan_in plan.now tasks.now)
         (checkpoint_in places.now blocks.now balances.now spare) result why.new }
 {
     let plan = match plan_in(alloc, plan, tasks) {

@@ -10,8 +10,8 @@ ghost use Rattle.stepped_die.specs.Steps.{IsNew, HasBegun, HasFailed, RefusesArr
 ghost use Rattle.flash_c.specs.Names.{page_in, is_of_a_kind, ops_looked_at, ops_in};
 ghost use Rattle.flash_c.specs.Plans.{plan_in};
 ghost use Rattle.flash_c.specs.Slots.{call_of};
-ghost use Rattle.flash_c.specs.Answers.{TellsRefusal, TellsReply, TellsUnbegun};
-ghost use Rattle.flash_c.specs.Checkpoints.{TellsUnrenewed};
+ghost use Rattle.flash_c.specs.Answers.{SaysRefusal, SaysReply, SaysUnbegun};
+ghost use Rattle.flash_c.specs.Checkpoints.{SaysUnrenewed};
 
 use crate::codes::{BAD_KIND, NO_MEMORY, OK, of_refusal, of_renewal, of_step, renewal_why, why_of};
 use crate::handles::{Handle, put, take};
@@ -119,7 +119,7 @@ pub extern "C" fn flash_submit(
     ensures silent { result ≢ 0 → number.new ≡ number.old }
     ensures kind { list_all is_of_a_kind (ops_looked_at ops.now) ≡ false → result ≡ 102 }
     ensures cause { list_all is_of_a_kind (ops_looked_at ops.now) ≡ true → result ≢ 0 →
-        TellsRefusal
+        SaysRefusal
         (RefusesArrival release (events.Submit task release due (ops_in ops.now)) held held) result
         why.new }
 {
@@ -161,7 +161,7 @@ pub extern "C" fn flash_collect(
     ensures refused { result ≢ 0 → die.new.value ≡ Some held }
     ensures silent { result ≢ 0 → number.new ≡ number.old }
     ensures cause { result ≢ 0
-        → TellsRefusal (RefusesArrival release (events.Collect task release due) held held) result
+        → SaysRefusal (RefusesArrival release (events.Collect task release due) held held) result
         why.new }
 {
     let mut boxed = take(alloc, die);
@@ -192,15 +192,15 @@ pub extern "C" fn flash_begin(
     ensures full { IsSome die.new.value }
     ensures begun { result ≡ 0 → IfSome die.new.value (λ after. IfSome after.begun (λ begun.
         HasBegun caller begun held after × (call.new ≡ call_of begun))) }
-    ensures cause { result ≢ 0 → TellsUnbegun held result }
+    ensures cause { result ≢ 0 → SaysUnbegun held result }
     ensures memory { 0 < held.core.reserved → result ≢ 1 }
     ensures refused { result ≢ 0 → die.new.value ≡ Some held }
     ensures silent { result ≢ 0 → call.new ≡ call.old }
 {
     let mut boxed = take(alloc, die);
-    let told = boxed.begin(alloc, caller);
+    let said = boxed.begin(alloc, caller);
     put(die, boxed);
-    match told {
+    match said {
         Ok(begun) => {
             *call = call_of(begun);
             OK
@@ -224,7 +224,7 @@ pub extern "C" fn flash_end(
     requires full { die.old.value ≡ Some held }
     ensures full { IsSome die.new.value }
     ensures ended { result ≡ 0 → IfSome die.new.value (λ after.
-        TellsReply (ok == 1) (page_in name.now) held after reply.new waived.old waived.new) }
+        SaysReply (ok == 1) (page_in name.now) held after reply.new waived.old waived.new) }
     ensures failed { result ≡ 15
         → IfSome die.new.value (HasFailed (ok == 1) (page_in name.now) held) }
     ensures refused { result ≢ 0 → result ≢ 15
@@ -232,14 +232,14 @@ pub extern "C" fn flash_end(
     ensures silent { result ≢ 0 → (reply.new ≡ reply.old) × (waived.new ≡ waived.old) }
 {
     let bytes = page_in(name);
-    let mut told = new_reply(alloc);
+    let mut said = new_reply(alloc);
     let mut boxed = take(alloc, die);
-    let ended = boxed.end(ok == 1, bytes, &mut told);
+    let ended = boxed.end(ok == 1, bytes, &mut said);
     put(die, boxed);
     match ended {
         Ok(()) => {
-            put_waived(waived, told.waived.as_slice());
-            *reply = reply_of(&told);
+            put_waived(waived, said.waived.as_slice());
+            *reply = reply_of(&said);
             OK
         }
         Err(refusal) => of_step(refusal),
@@ -277,7 +277,7 @@ pub extern "C" fn flash_renew(alloc: Global, die: &mut Handle, why: &mut FlashWh
     ensures renewed { result ≡ 0 → IfSome die.new.value (λ after.
         after ≡ record held { core = renewed_core held.core }) }
     ensures may { result ≡ 0 → MayBeRenewed held.core }
-    ensures cause { result ≢ 0 → TellsUnrenewed held result why.new }
+    ensures cause { result ≢ 0 → SaysUnrenewed held result why.new }
     ensures refused { result ≢ 0 → die.new.value ≡ Some held }
 {
     let mut boxed = take(alloc, die);

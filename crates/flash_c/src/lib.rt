@@ -13,7 +13,7 @@ mod loose;
 mod names;
 mod plans;
 pub mod queries;
+mod said;
 pub mod shapes;
 mod slots;
 mod texts;
-mod told;

@@ -8,9 +8,9 @@ ghost use Rattle.flash_c.specs.Slots.{waived_of};
 ghost use Rattle.flash_c.specs.Conversions.{row_of, row_in, number_in};
 
 use crate::names::name_of;
+use crate::said::{row_in, row_of};
 use crate::shapes::{FlashName, FlashRow, FlashWaived};
 use crate::slots::waived_of;
-use crate::told::{row_in, row_of};
 use late_cert::{JobList, JobRow, JobRows};
 use slot_types::{JobNo, PageData, Refusal, Waived};
 use std::alloc::Global;

@@ -9,14 +9,14 @@ ghost use Rattle.stepped_die.specs.Stepped.{Stepped};
 ghost use Rattle.flash_c.specs.Counts.{count_of};
 ghost use Rattle.flash_c.specs.Lists.{array_with};
 ghost use Rattle.flash_c.specs.Names.{name_of};
-ghost use Rattle.flash_c.specs.Conversions as tells;
+ghost use Rattle.flash_c.specs.Conversions as says;
 
 use crate::codes::{NOTHING_DONE, OK, of_refusal};
 use crate::counts::count_of;
 use crate::handles::{Handle, put, take};
 use crate::lists::{put_jobs, put_names, put_rows};
+use crate::said::{certificate_of, job_of, outcome_of, worst_of};
 use crate::shapes::{FlashCertificate, FlashJob, FlashName, FlashOutcome, FlashRow, FlashWorst};
-use crate::told::{certificate_of, job_of, outcome_of, worst_of};
 use slot_core::Outcome;
 use slot_types::JobNo;
 use std::alloc::Global;
@@ -69,15 +69,15 @@ pub extern "C" fn flash_job(alloc: Global, die: &mut Handle, number: u32, job: &
     ghost held: { Stepped }
     requires full { die.old.value ≡ Some held }
     ensures same { die.new.value ≡ Some held }
-    ensures told { result ≡ 0 → IsSomeAnd (head_at held.core.log number) (λ head.
-        job.new ≡ tells.job_of head) }
+    ensures said { result ≡ 0 → IsSomeAnd (head_at held.core.log number) (λ head.
+        job.new ≡ says.job_of head) }
     ensures unknown { result ≢ 0 → (result ≡ 17) × (job_at held.core.log number ≡ None)
         × (job.new ≡ job.old) }
 {
     let boxed = take(alloc, die);
-    let told = boxed.core().job(JobNo(number));
+    let said = boxed.core().job(JobNo(number));
     put(die, boxed);
-    match told {
+    match said {
         Ok(head) => {
             *job = job_of(head);
             OK
@@ -98,20 +98,20 @@ pub extern "C" fn flash_outcome(
     ghost held: { Stepped }
     requires full { die.old.value ≡ Some held }
     ensures same { die.new.value ≡ Some held }
-    ensures told { result ≡ 0 → IsSomeAnd (outcome_at held.core.start held.core.log job) (λ told.
-        outcome.new ≡ tells.outcome_of told) }
-    ensures reads { result ≡ 0 → IsSomeAnd (outcome_at held.core.start held.core.log job) (λ told.
-        reads.new ≡ array_with name_of reads.old (tells.reads_in told)) }
+    ensures said { result ≡ 0 → IsSomeAnd (outcome_at held.core.start held.core.log job) (λ said.
+        outcome.new ≡ says.outcome_of said) }
+    ensures reads { result ≡ 0 → IsSomeAnd (outcome_at held.core.start held.core.log job) (λ said.
+        reads.new ≡ array_with name_of reads.old (says.reads_in said)) }
     ensures unknown { result ≢ 0 → (result ≡ 17) ⊎ (result ≡ 1) }
     ensures silent { result ≢ 0 → (outcome.new ≡ outcome.old) × (reads.new ≡ reads.old) }
 {
     let boxed = take(alloc, die);
-    let told = boxed.core().outcome(alloc, JobNo(job));
+    let said = boxed.core().outcome(alloc, JobNo(job));
     put(die, boxed);
-    match told {
-        Ok(told) => {
-            put_reads(reads, &told);
-            *outcome = outcome_of(&told);
+    match said {
+        Ok(said) => {
+            put_reads(reads, &said);
+            *outcome = outcome_of(&said);
             OK
         }
         Err(refusal) => of_refusal(refusal),
@@ -120,7 +120,7 @@ pub extern "C" fn flash_outcome(
 
 /// Puts what reads gave into place, as far as there is room.
 fn put_reads(places: &mut [FlashName], outcome: &Outcome)
-    ensures { places.new ≡ array_with name_of places.old (tells.reads_in outcome.now) }
+    ensures { places.new ≡ array_with name_of places.old (says.reads_in outcome.now) }
 {
     match outcome {
         Outcome::Done { reads, .. } => put_names(places, reads.as_slice()),
@@ -134,15 +134,15 @@ pub extern "C" fn flash_worst(alloc: Global, die: &mut Handle, worst: &mut Flash
     ghost held: { Stepped }
     requires full { die.old.value ≡ Some held }
     ensures same { die.new.value ≡ Some held }
-    ensures told { result ≡ 0 → IsSomeAnd (worst_of held.core.start.plan held.core.log) (λ found.
-        worst.new ≡ tells.worst_of found) }
+    ensures said { result ≡ 0 → IsSomeAnd (worst_of held.core.start.plan held.core.log) (λ found.
+        worst.new ≡ says.worst_of found) }
     ensures nothing { result ≢ 0 → (result ≡ 103)
         × (worst_of held.core.start.plan held.core.log ≡ None) × (worst.new ≡ worst.old) }
 {
     let boxed = take(alloc, die);
-    let told = boxed.core().worst();
+    let said = boxed.core().worst();
     put(die, boxed);
-    match told {
+    match said {
         None => NOTHING_DONE,
         Some(found) => {
             *worst = worst_of(found);
@@ -156,18 +156,18 @@ pub extern "C" fn flash_worst(alloc: Global, die: &mut Handle, worst: &mut Flash
 pub extern "C" fn flash_certificate(
     alloc: Global,
     die: &mut Handle,
-    told: &mut FlashCertificate,
+    said: &mut FlashCertificate,
     jobs: &mut [u32],
 ) -> u32
     ghost held: { Stepped }
     requires full { die.old.value ≡ Some held }
     ensures same { die.new.value ≡ Some held }
-    ensures told { result ≡ 0 → IsSomeAnd (certificate held.core.start.plan held.core.log) (λ built.
-        told.new ≡ tells.certificate_of built) }
+    ensures said { result ≡ 0 → IsSomeAnd (certificate held.core.start.plan held.core.log) (λ built.
+        said.new ≡ says.certificate_of built) }
     ensures jobs { result ≡ 0 → IsSomeAnd (certificate held.core.start.plan held.core.log) (λ built.
-        jobs.new ≡ array_with tells.number_in jobs.old built.jobs) }
+        jobs.new ≡ array_with says.number_in jobs.old built.jobs) }
     ensures nothing { result ≡ 103 → certificate held.core.start.plan held.core.log ≡ None }
-    ensures silent { result ≢ 0 → (told.new ≡ told.old) × (jobs.new ≡ jobs.old) }
+    ensures silent { result ≢ 0 → (said.new ≡ said.old) × (jobs.new ≡ jobs.old) }
 {
     let boxed = take(alloc, die);
     let made = boxed.core().certificate(alloc);
@@ -177,7 +177,7 @@ pub extern "C" fn flash_certificate(
         Ok(None) => NOTHING_DONE,
         Ok(Some(built)) => {
             put_jobs(jobs, built.jobs.as_slice());
-            *told = certificate_of(&built);
+            *said = certificate_of(&built);
             OK
         }
     }
@@ -188,17 +188,17 @@ pub extern "C" fn flash_certificate(
 pub extern "C" fn flash_rows(
     alloc: Global,
     die: &mut Handle,
-    told: &mut [FlashRow],
+    said: &mut [FlashRow],
     count: &mut u32,
 ) -> u32
     ghost held: { Stepped }
     requires full { die.old.value ≡ Some held }
     ensures same { die.new.value ≡ Some held }
-    ensures rows { result ≡ 0 → told.new
-        ≡ array_with tells.row_of told.old (rows held.core.start.plan held.core.log) }
+    ensures rows { result ≡ 0 → said.new
+        ≡ array_with says.row_of said.old (rows held.core.start.plan held.core.log) }
     ensures count { result ≡ 0 → count.new
         ≡ count_of (length (rows held.core.start.plan held.core.log)) }
-    ensures silent { result ≢ 0 → (result ≡ 1) × (told.new ≡ told.old) × (count.new ≡ count.old) }
+    ensures silent { result ≢ 0 → (result ≡ 1) × (said.new ≡ said.old) × (count.new ≡ count.old) }
 {
     let boxed = take(alloc, die);
     let made = boxed.core().rows(alloc);
@@ -206,7 +206,7 @@ pub extern "C" fn flash_rows(
     match made {
         Err(refusal) => of_refusal(refusal),
         Ok(rows) => {
-            put_rows(told, rows.as_slice());
+            put_rows(said, rows.as_slice());
             *count = count_of(rows.len());
             OK
         }

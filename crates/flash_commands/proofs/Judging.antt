@@ -10,7 +10,7 @@ use Rattle.slot_types.specs.declared.refusals.Refusal.{Refusal}
 use Rattle.report_texts.specs.JobRows.{job_rows_of}
 use Rattle.text_base.specs.Writing.{InPart, IsNotWhole}
 use Rattle.report_texts.specs.declared.reports.DieReport.{DieReport}
-use Rattle.flash_commands.specs.Acts.{FindsRefused, HasThree, IsRefused, Prints, PrintsAudit, PrintsSome, TellsRefused}
+use Rattle.flash_commands.specs.Acts.{FindsRefused, HasThree, IsRefused, Prints, PrintsAudit, PrintsSome, SaysRefused}
 use Rattle.flash_commands.specs.Audit.{audit_status, audit_text, cert_line, is_refused}
 use Rattle.flash_commands.specs.declared.commands.Command.{Command}
 use Rattle.flash_commands.specs.declared.commands.Command.TheVariants as command
@@ -69,12 +69,12 @@ ends-so text old new status (inr (other, reads, wrote, is)) cut (report, read, w
     let same : other ≡ report = ap the-report (sym reads ∙ read) in
     is ∙ ap audit_status same ∙ ap (λ b. if b then 3 else 0) refused
 
-tells-refused : (text old new : Option (List ℕ)) (status : ℕ) → (status ≡ 1) ⊎ PrintsAudit text old new status
-    → (status ≡ 1 → (new ≡ old) ⊎ InPart (λ a b. (s : ℕ) × PrintsAudit text a b s) old new) → TellsRefused text old new status
-tells-refused None old new status printed cut = tt
-tells-refused (Some text) None new status printed cut = tt
-tells-refused (Some text) (Some old) None status printed cut = tt
-tells-refused (Some text) (Some old) (Some new) status printed cut =
+says-refused : (text old new : Option (List ℕ)) (status : ℕ) → (status ≡ 1) ⊎ PrintsAudit text old new status
+    → (status ≡ 1 → (new ≡ old) ⊎ InPart (λ a b. (s : ℕ) × PrintsAudit text a b s) old new) → SaysRefused text old new status
+says-refused None old new status printed cut = tt
+says-refused (Some text) None new status printed cut = tt
+says-refused (Some text) (Some old) None status printed cut = tt
+says-refused (Some text) (Some old) (Some new) status printed cut =
     (finds text old new status printed, ends-so text old new status printed cut)
 
 -- Commands
@@ -93,7 +93,7 @@ pub has-three : {W : Type 0} (contents : W → Option (List ℕ)) (c : Command) 
     → (status ≡ 1) ⊎ Prints c first second (contents old) (contents new) status → (status ≡ 1 → IsRefused contents c first second old new)
     → HasThree c first (contents old) (contents new) status
 has-three contents (command.Audit report) first second old new status printed refused =
-    tells-refused first (contents old) (contents new) status printed
+    says-refused first (contents old) (contents new) status printed
     (λ one. seen-by contents (PrintsSome (command.Audit report) first second) old new (refused one).1.part)
 has-three contents (command.Plan plan) first second old new status printed refused = not-three _ status printed
 has-three contents (command.Run plan script slots workers) first second old new status printed refused = not-three _ status printed

@@ -1,4 +1,4 @@
 mod KindLemmas
 mod Endings
-mod Told
+mod Reported
 mod Judging

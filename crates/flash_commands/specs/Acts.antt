@@ -111,11 +111,11 @@ FindsRefused text old new = (report : List DieReport) × (report_of text ≡ Ok 
     × (list_any is_refused report ≡ true)
 
 -- where the report's text is known, and what was written, the status is 3 exactly where that is so
-abbrev pub TellsRefused : Option (List ℕ) → Option (List ℕ) → Option (List ℕ) → ℕ → Type 0
-TellsRefused (Some text) (Some old) (Some new) status = (status ≡ 3) ↔ FindsRefused text old new
-TellsRefused _ _ _ status = ⊤
+abbrev pub SaysRefused : Option (List ℕ) → Option (List ℕ) → Option (List ℕ) → ℕ → Type 0
+SaysRefused (Some text) (Some old) (Some new) status = (status ≡ 3) ↔ FindsRefused text old new
+SaysRefused _ _ _ status = ⊤
 
 -- so it is of an audit; no other command ends with 3
 abbrev pub HasThree : Command → Option (List ℕ) → Option (List ℕ) → Option (List ℕ) → ℕ → Type 0
-HasThree (command.Audit report) first old new status = TellsRefused first old new status
+HasThree (command.Audit report) first old new status = SaysRefused first old new status
 HasThree _ first old new status = status ≢ 3

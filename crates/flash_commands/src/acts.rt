@@ -86,7 +86,7 @@ fn print_run<R: Threads + Wait + Sync, F: Read + Drop, S: Read + Drop, W: Write>
 }
 
 /// Tells how many rows were refused, and the first of them, if there is one. A writer that fails is passed over.
-fn tell_refused<E: Write>(err: &mut E, count: &RunCount) {
+fn report_refused<E: Write>(err: &mut E, count: &RunCount) {
     if let Some((line, number)) = count.first {
         let refused = count.refused;
         let _ = writeln!(err, "refused {refused} first line {line} with {number}");
@@ -117,7 +117,7 @@ fn run<R: Threads + Wait + Sync, F: Read + Drop, S: Read + Drop, W: Write, E: Wr
         out.new)) }
 {
     let count = print_run(rt, alloc, first, second, slots, workers, out)?;
-    tell_refused(err, &count);
+    report_refused(err, &count);
     Ok(())
 }
 

@@ -60,7 +60,7 @@ fn line_in<R: Files>(files: &R, name: &str, record: u64) -> Option<u64> {
 }
 
 /// Tells where a record of a file is, and what to do. A writer that fails is passed over.
-fn tell_record<R: Files, W: Write>(
+fn report_record<R: Files, W: Write>(
     files: &R,
     err: &mut W,
     name: Option<&str>,
@@ -78,7 +78,7 @@ fn tell_record<R: Files, W: Write>(
 }
 
 /// Tells why a file can't be opened, or not be read to its end, where that is seen. A writer that fails is passed over.
-fn tell_unread<R: Files, W: Write>(files: &R, err: &mut W, name: Option<&str>, most: u64) {
+fn report_unread<R: Files, W: Write>(files: &R, err: &mut W, name: Option<&str>, most: u64) {
     let Some(name) = name else {
         return;
     };
@@ -102,14 +102,14 @@ fn tell_unread<R: Files, W: Write>(files: &R, err: &mut W, name: Option<&str>, m
 }
 
 /// Tells which files can't be read, and why. A writer that fails is passed over.
-fn tell_files<R: Files, W: Write>(files: &R, err: &mut W, texts: Texts<'_>) {
-    tell_unread(files, err, texts.plan, u64::MAX);
-    tell_unread(files, err, texts.script, SCRIPT_BYTES);
-    tell_unread(files, err, texts.checkpoint, CHECKPOINT_BYTES);
-    tell_unread(files, err, texts.sheet, SHEET_BYTES);
-    tell_unread(files, err, texts.report, SCRIPT_BYTES);
+fn report_files<R: Files, W: Write>(files: &R, err: &mut W, texts: Texts<'_>) {
+    report_unread(files, err, texts.plan, u64::MAX);
+    report_unread(files, err, texts.script, SCRIPT_BYTES);
+    report_unread(files, err, texts.checkpoint, CHECKPOINT_BYTES);
+    report_unread(files, err, texts.sheet, SHEET_BYTES);
+    report_unread(files, err, texts.report, SCRIPT_BYTES);
     for trace in texts.traces {
-        tell_unread(files, err, Some(*trace), SCRIPT_BYTES);
+        report_unread(files, err, Some(*trace), SCRIPT_BYTES);
     }
     let once = [texts.plan, texts.script, texts.checkpoint];
     if inputs_in(&once) > 1 || inputs_among(texts.reports) > 1 || inputs_among(texts.traces) > 1 {
@@ -121,7 +121,7 @@ fn tell_files<R: Files, W: Write>(files: &R, err: &mut W, texts: Texts<'_>) {
 }
 
 /// Tells of a plan what explains it. A writer that fails is passed over.
-fn tell_plan<W: Write>(err: &mut W, plan: Option<&str>) {
+fn report_plan<W: Write>(err: &mut W, plan: Option<&str>) {
     if let Some(plan) = plan {
         let shown = shown_name(plan);
         let _ = writeln!(
@@ -132,7 +132,7 @@ fn tell_plan<W: Write>(err: &mut W, plan: Option<&str>) {
 }
 
 /// Tells where a trace's line is, and what to do. A writer that fails is passed over.
-fn tell_trace<W: Write>(err: &mut W, traces: &[&str], line: &str) {
+fn report_trace<W: Write>(err: &mut W, traces: &[&str], line: &str) {
     if let (Some(trace), Some(number)) = (traces.first(), line.strip_suffix(':')) {
         let shown = shown_name(trace);
         let _ = writeln!(
@@ -156,19 +156,19 @@ fn words_in(line: &str) -> [&str; 6] {
 }
 
 /// Tells more of a line that reported a refusal; nothing of any other line.
-fn tell_line<R: Files, W: Write>(files: &R, err: &mut W, line: &str, texts: Texts<'_>) {
+fn report_line<R: Files, W: Write>(files: &R, err: &mut W, line: &str, texts: Texts<'_>) {
     match words_in(line) {
-        ["error", "2" | "3" | "18", ..] => tell_plan(err, texts.plan),
-        ["error", "19", _, record, ..] => tell_record(files, err, texts.script, record, FORM),
-        ["error", "20", _, record, ..] => tell_record(files, err, texts.report, record, FORM),
-        ["error", "21", ..] => tell_files(files, err, texts),
+        ["error", "2" | "3" | "18", ..] => report_plan(err, texts.plan),
+        ["error", "19", _, record, ..] => report_record(files, err, texts.script, record, FORM),
+        ["error", "20", _, record, ..] => report_record(files, err, texts.report, record, FORM),
+        ["error", "21", ..] => report_files(files, err, texts),
         ["refused", _, "first", "line", record, _] => {
-            tell_record(files, err, texts.script, record, REFUSALS);
+            report_record(files, err, texts.script, record, REFUSALS);
         }
         ["error:", "the", "checkpoint,", "record", record, _] => {
-            tell_record(files, err, texts.checkpoint, record, FORM);
+            report_record(files, err, texts.checkpoint, record, FORM);
         }
-        ["error:", "line", line, ..] => tell_trace(err, texts.traces, line),
+        ["error:", "line", line, ..] => report_trace(err, texts.traces, line),
         _ => {}
     }
 }
@@ -181,13 +181,13 @@ fn of_report<'a>(line: &'a str, report: &str) -> Option<&'a str> {
 /// Tells more of what was reported of a command, line by line: of each refusal the file, the place in it, and what to
 /// do; of files that can't be opened why. It is meant for a terminal, which has shown the report. Files are opened once
 /// more, but for pipes, and read up to the place. A writer that fails is passed over.
-pub fn tell_more<R: Files, W: Write>(files: &R, err: &mut W, told: &str, texts: Texts<'_>) {
-    for line in told.lines() {
-        tell_line(files, err, line, texts);
+pub fn report_more<R: Files, W: Write>(files: &R, err: &mut W, said: &str, texts: Texts<'_>) {
+    for line in said.lines() {
+        report_line(files, err, line, texts);
         for name in texts.reports {
             if let Some(of_it) = of_report(line, name) {
                 let report = Some(*name);
-                tell_line(
+                report_line(
                     files,
                     err,
                     of_it,

@@ -21,7 +21,7 @@ pub use commands::{Command, read_words};
 pub use faults::{Fault, end};
 pub use files::{Disk, Folder, Source, inputs_among, inputs_in, open, path_of};
 pub use heard::Heard;
-pub use hints::{Texts, tell_more};
+pub use hints::{Texts, report_more};
 pub use progress::{Shown, Watched, WatchedDisk};
 pub use record_lines::line_of_record;
 pub use run_numbers::{Slots, Workers};

@@ -94,7 +94,7 @@ pub struct Watched<'a, R: Clock + Eprint, F> {
     shown: Shown,
     /// When it was made, and when it showed last.
     begun: Option<Instant>,
-    told: Option<Instant>,
+    said: Option<Instant>,
     bytes: u64,
     place: Place,
 }
@@ -112,7 +112,7 @@ impl<'a, R: Clock + Eprint, F> Watched<'a, R, F> {
             file,
             shown,
             begun,
-            told: begun,
+            said: begun,
             bytes: 0,
             place: Place::START,
         }
@@ -126,7 +126,7 @@ impl<'a, R: Clock + Eprint, F> Watched<'a, R, F> {
     }
 
     /// Shows how far it is. The line is cleared, and the next text begins where this one did.
-    fn tell(&self, now: Instant) {
+    fn say(&self, now: Instant) {
         let _ = match self.shown {
             Shown::Nothing => Ok(()),
             Shown::Bytes => eprint!(self.rt; "\x1b[K{} bytes were read\r", self.bytes),
@@ -144,7 +144,7 @@ impl<'a, R: Clock + Eprint, F> Watched<'a, R, F> {
 
     /// Counts what was read, and shows it where a tenth of a second has passed since it was shown last.
     fn note(&mut self, read: &[u8]) {
-        let Some(told) = self.told else {
+        let Some(said) = self.said else {
             return;
         };
         self.bytes = self.bytes.saturating_add(read.len() as u64);
@@ -156,15 +156,15 @@ impl<'a, R: Clock + Eprint, F> Watched<'a, R, F> {
         let Ok(now) = Instant::now(self.rt) else {
             return;
         };
-        if now.duration_since(told).as_millis() >= PAUSE {
-            self.told = Some(now);
-            self.tell(now);
+        if now.duration_since(said).as_millis() >= PAUSE {
+            self.said = Some(now);
+            self.say(now);
         }
     }
 
     /// Clears the line, where something was shown.
     fn end(&self) {
-        if self.told != self.begun {
+        if self.said != self.begun {
             let _ = eprint!(self.rt; "\x1b[K");
         }
     }

@@ -16,7 +16,7 @@ abbrev pub armed_device : {N : Type 0} → Faulty N → Faulty N
 armed_device device = record device { armed = true }
 
 -- a call that is not passed on
-pub record FailsAsTold {N : Type 0} (before : Faulty N) (well : Bool) (after : Faulty N) : Type 0 where
+pub record FailsAsReported {N : Type 0} (before : Faulty N) (well : Bool) (after : Faulty N) : Type 0 where
   pub fails : well ≡ false
   pub counted : after ≡ record before { failed = before.failed + 1 }
 
@@ -28,7 +28,7 @@ pub record EndsAsDevice {N : Type 0} (ends : N → NandCall → Bool → N → T
   pub failed : after.failed ≡ before.failed
 
 -- a call is passed on exactly until the device is armed
-pub record EndsAsTold {N : Type 0} (ends : N → NandCall → Bool → N → Type 0) (before : Faulty N) (call : NandCall) (well : Bool)
+pub record EndsAsReported {N : Type 0} (ends : N → NandCall → Bool → N → Type 0) (before : Faulty N) (call : NandCall) (well : Bool)
     (after : Faulty N) : Type 0 where
-  pub told : before.armed ≡ true → FailsAsTold before well after
+  pub said : before.armed ≡ true → FailsAsReported before well after
   pub free : before.armed ≡ false → EndsAsDevice ends before call well after

@@ -61,7 +61,7 @@ impl<N: Nand> FaultNand<N> {
 
 impl<N: Nand> Nand for FaultNand<N> {
     ghost use Rattle.std.specs.Prelude.{◌+◌, false};
-    ghost use Rattle.flash_die.specs.Faulty.{EndsAsTold};
+    ghost use Rattle.flash_die.specs.Faulty.{EndsAsReported};
 
     ghost shape_of = { λ f. N.shape_of f.inner };
 
@@ -69,7 +69,7 @@ impl<N: Nand> Nand for FaultNand<N> {
 
     ghost failures = { λ f. N.failures f.inner + f.failed };
 
-    ghost ends = { EndsAsTold N.ends };
+    ghost ends = { EndsAsReported N.ends };
 
     ghost never_fails = { false };
 

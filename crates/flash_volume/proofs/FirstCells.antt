@@ -5,13 +5,13 @@ use Rattle.std.proofs.lemmas.Bool.{cases_eq, cases_lt}
 use Rattle.slot_types.specs.declared.pages.Place.{Place}
 use Rattle.slot_types.specs.Places.{owner_of}
 use Rattle.page_map.proofs.Owners.{no_owner, unowned}
-use Rattle.flash_volume.specs.FirstCells.{LieBehind}
+use Rattle.flash_volume.specs.FirstCells.{LieAfter}
 
-module _ (blocks : ℕ) (places : List (Option Place)) (firsts : List ℕ) (sound : LieBehind blocks places firsts) where
+module _ (blocks : ℕ) (places : List (Option Place)) (firsts : List ℕ) (sound : LieAfter blocks places firsts) where
   pub none_before : (block from page : ℕ) → from ≡ get_or firsts block 0 → page < from
       → owner_of places (record { block = block; page = page }) ≡ None
   none_before block from page is before =
-      no_owner places (record { block = block; page = page }) (λ p lies. omega (arith, is, before, sound.behind p _ lies))
+      no_owner places (record { block = block; page = page }) (λ p lies. omega (arith, is, before, sound.beyond p _ lies))
 
   -- where no page lies from that cell on, none lies in the block
   pub none_at_all : (block from pages : ℕ) → from ≡ get_or firsts block 0
@@ -20,16 +20,16 @@ module _ (blocks : ℕ) (places : List (Option Place)) (firsts : List ℕ) (soun
   none_at_all block from pages is none page below =
       elim (cases_lt page from) [
         | inl before ↦ none_before block from page is before
-        | inr behind ↦ none page behind below
+        | inr beyond ↦ none page beyond below
       ]
 
   -- looks go on from another cell before which no page lies
   pub passed : (cell : Place) → cell.block < blocks
       → ((page : ℕ) → page < cell.page → owner_of places (record { block = cell.block; page = page }) ≡ None)
-      → LieBehind blocks places (set firsts cell.block cell.page)
+      → LieAfter blocks places (set firsts cell.block cell.page)
   passed cell below none = record {
     len = length-set firsts cell.block cell.page ∙ sound.len;
-    behind = λ page place lies.
+    beyond = λ page place lies.
         elim (cases_eq place.block cell.block) [
           | inl same ↦
               let here : get_or (set firsts cell.block cell.page) place.block 0 ≡ cell.page =
@@ -38,12 +38,12 @@ module _ (blocks : ℕ) (places : List (Option Place)) (firsts : List ℕ) (soun
               elim (cases_lt place.page cell.page) [
                 | inl before ↦ absurd (unowned places page (record { block = cell.block; page = place.page }) (none place.page before)
                     (lies ∙ ap (λ (b : ℕ). Some (record { block = b; page = place.page })) same))
-                | inr behind ↦ omega (arith, here, behind)
+                | inr beyond ↦ omega (arith, here, beyond)
               ]
           | inr other ↦ omega (
             arith,
             get_or-set_other firsts cell.block place.block cell.page 0 other,
-            sound.behind page place lies,
+            sound.beyond page place lies,
           )
         ];
   }

@@ -36,10 +36,10 @@ module _ (counts words : List ℕ) (marks : MarksFree counts words (length count
         | inr apart ↦
             elim (cases_lt block least) [
               | inl before ↦ absurd (omega (arith, here, first.first block before))
-              | inr behind ↦ absurd (omega (
+              | inr beyond ↦ absurd (omega (
                 arith,
                 marks.free least first.within,
-                free_fails (get_or counts least 0) (at.2 least (omega (arith, apart, behind))),
+                free_fails (get_or counts least 0) (at.2 least (omega (arith, apart, beyond))),
               ))
             ]
       ] in

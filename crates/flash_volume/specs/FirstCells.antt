@@ -4,6 +4,6 @@ use Rattle.slot_types.specs.declared.pages.Place.{Place}
 use Rattle.slot_types.specs.Places.{place_of}
 
 -- there is a cell for each block, and of the pages that lie in the block none lies before it
-pub record LieBehind (blocks : ℕ) (places : List (Option Place)) (firsts : List ℕ) : Type 0 where
+pub record LieAfter (blocks : ℕ) (places : List (Option Place)) (firsts : List ℕ) : Type 0 where
   pub len : length firsts ≡ blocks
-  pub behind : (page : ℕ) (place : Place) → place_of places page ≡ Some place → slice_index firsts place.block ≤ place.page
+  pub beyond : (page : ℕ) (place : Place) → place_of places page ≡ Some place → slice_index firsts place.block ≤ place.page

@@ -25,13 +25,13 @@ pub(crate) struct PlacedPages {
 
 impl Model for PlacedPages {
     ghost use Rattle.page_map.specs.Placing.{Placing};
-    ghost use Rattle.flash_volume.specs.FirstCells.{LieBehind};
+    ghost use Rattle.flash_volume.specs.FirstCells.{LieAfter};
 
     ghost Value = { Placing };
 
     ghost view = { λ p. p.map };
 
-    ghost invariant = { λ p. LieBehind p.map.shape.blocks p.map.places p.firsts.items };
+    ghost invariant = { λ p. LieAfter p.map.shape.blocks p.map.places p.firsts.items };
 }
 
 impl PlacedPages {

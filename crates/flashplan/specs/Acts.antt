@@ -89,9 +89,9 @@ abbrev pub PrintsRun : Option (List ℕ) → Option (List ℕ) → Type 0
 PrintsRun old new = (dies : List (Core Memory)) × PrintsReport old new dies
 
 -- what is reported of a script: whether it keeps the plans
-abbrev pub TellsKept : Option (List ℕ) → Option (List ℕ) → ℕ → Bool → Type 0
-TellsKept plan script slots true = KeepsPlans plan script slots
-TellsKept plan script slots false = BreaksPlans plan script slots
+abbrev pub SaysKept : Option (List ℕ) → Option (List ℕ) → ℕ → Bool → Type 0
+SaysKept plan script slots true = KeepsPlans plan script slots
+SaysKept plan script slots false = BreaksPlans plan script slots
 
 -- the status of what is reported of a script
 abbrev pub kept_status : Result (Option Bool) Refusal → ℕ

@@ -1,7 +1,7 @@
 //! Commands that are carried out.
 
 ghost use Rattle.std.specs.Prelude.{◌≡◌, ◌≢◌, ◌≤◌, IfErr, IfOk, IfSome, OnOk, is_ok, if◌then◌else◌};
-ghost use Rattle.flashplan.specs.Acts.{IsBroken, IsDone, IsHostFault, IsUnwritten, PrintsArrivals, SaysOf, TellsKept, kept_status};
+ghost use Rattle.flashplan.specs.Acts.{IsBroken, IsDone, IsHostFault, IsUnwritten, PrintsArrivals, SaysOf, SaysKept, kept_status};
 ghost use Rattle.flashplan.specs.Acts.{PrintsPassingPlan, fit_status};
 ghost use Rattle.flashplan.specs.Commands.{FitsRun};
 
@@ -111,7 +111,7 @@ fn print_arrivals<R: Read + Drop, W: Write>(
 }
 
 /// Tells from which slots on the dies are full. A writer that fails is passed over, and so is lack of memory.
-fn tell_full<E: Write>(alloc: Global, err: &mut E, store: &StorePlan) {
+fn report_full<E: Write>(alloc: Global, err: &mut E, store: &StorePlan) {
     let Ok(full) = full_from(alloc, store) else {
         return;
     };
@@ -133,7 +133,7 @@ fn end_arrivals<E: Write>(
     match made {
         Ok(store) => {
             if manner.fills {
-                tell_full(alloc, err, &store);
+                report_full(alloc, err, &store);
             }
             0
         }
@@ -169,7 +169,7 @@ fn print_kept<P: Read + Drop, S: Read + Drop, W: Write>(
     out: &mut W,
 ) -> Result<Option<bool>, Refusal>
     requires slots { slots ≤ MAX_SLOT }
-    ensures told { IfOk result (λ kept. IfSome kept (TellsKept (P.remaining plan) (S.remaining script) slots)) }
+    ensures said { IfOk result (λ kept. IfSome kept (SaysKept (P.remaining plan) (S.remaining script) slots)) }
 {
     let store = read_plan_from(alloc, plan)?;
     let text = script_text(alloc, script)?;
@@ -237,9 +237,9 @@ fn print_report<P: Read + Drop, S: Read + Drop, W: Write>(
     requires slots { slots ≤ MAX_SLOT }
 {
     let store = read_plan_from(alloc, plan)?;
-    let told = report(alloc, store, script, slots, life, as_csv)?;
-    write_whole(out, &told.text)?;
-    Ok(told.refused)
+    let said = report(alloc, store, script, slots, life, as_csv)?;
+    write_whole(out, &said.text)?;
+    Ok(said.refused)
 }
 
 /// Prints the picture of what the slots of a die carried.
@@ -309,8 +309,8 @@ fn print_compared<P: Read + Drop, S: Read + Drop, W: Write>(
     requires slots { measure.slots ≤ MAX_SLOT }
 {
     let store = read_plan_from(alloc, plan)?;
-    let told = compare(alloc, &store, script, measure, form)?;
-    write_whole(out, &told)?;
+    let said = compare(alloc, &store, script, measure, form)?;
+    write_whole(out, &said)?;
     Ok(())
 }
 

@@ -102,7 +102,7 @@ fn end_unrun<E: Write>(err: &mut E, fault: RunFault) -> u8
 }
 
 /// Tells how long dies went on until all was done. A writer that fails is passed over.
-fn tell_idle<E: Write>(err: &mut E, idle: &[u32]) {
+fn report_idle<E: Write>(err: &mut E, idle: &[u32]) {
     for die in 0..idle.len() {
         let slots = idle[die];
         let unit = if slots == 1 { "slot" } else { "slots" };
@@ -164,7 +164,7 @@ pub fn act_run<P: Read + Drop, S: Read + Drop, C: Read + Drop, K: Shelf, W: Writ
         Ok(ran) => ran,
         Err(fault) => return end_unrun(err, fault),
     };
-    tell_idle(err, ran.idle.as_slice());
+    report_idle(err, ran.idle.as_slice());
     let _ = end_run(err, Ok(ran.refused));
     match to {
         Some(name) => put_checkpoint(alloc, ran.dies, shelf, name, err),

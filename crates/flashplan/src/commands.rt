@@ -390,7 +390,7 @@ fn parsed<'a>(
 }
 
 /// What is reported of words that name no command, or of a number that is none or too great.
-fn told_of(alloc: Global, words: &[String]) -> Result<String, AllocError> {
+fn reported_of(alloc: Global, words: &[String]) -> Result<String, AllocError> {
     match bad_number(words) {
         Some((option, value)) => format!(in alloc;
             "{option} is {value:?}, and has to be a whole number from 0 to {MAX_SLOT}"
@@ -405,11 +405,11 @@ fn told_of(alloc: Global, words: &[String]) -> Result<String, AllocError> {
 fn command_error(alloc: Global, mut program: clap::Command<'_>, words: &[String]) -> Error
     ensures { HasKind (range_fault None) result }
 {
-    let told = match told_of(alloc, words) {
-        Ok(told) => told,
+    let said = match reported_of(alloc, words) {
+        Ok(said) => said,
         Err(error) => return Error::from(error),
     };
-    match program.error(ErrorKind::ValueValidation, told.as_str()) {
+    match program.error(ErrorKind::ValueValidation, said.as_str()) {
         Ok(error) => error,
         Err(error) => Error::from(error),
     }

@@ -22,7 +22,7 @@ Of a task that writes one in eight of the others is a trim, the rest are reads.
 The pages of task t of n tasks are t, t + n, t + 2n and so on; a task beyond the last page has page t modulo `logical`.
 With --fill the writing tasks share all pages, and each first writes its own once, in order; nothing is trimmed.
 A task that fills its pages begins in slot 0, and leaves no job out and none late until it has.
-What is written tells where it comes from: slot, task, page and place in the job, each in 8 digits.
+What is written says where it comes from: slot, task, page and place in the job, each in 8 digits.
 
 Example: flashplan arrivals plan.toml --slots 1000 > script.csv";
 
@@ -49,7 +49,7 @@ Example: flashplan compare plan.toml script.csv --slots 100000 --from 20000 --po
 /// What a run on dies in memory does with checkpoints.
 const RUN_HELP: &str =
     "Prints the report that flashrec run prints. Each die is at slot 0 at first; with --from it goes on as it was saved.
-With --to a die that isn't done with its jobs and collections behind the last slot goes on with slots in which nothing
+With --to a die that isn't done with its jobs and collections beyond the last slot goes on with slots in which nothing
 comes, as many as they take; this is reported. Ends with 3 where no checkpoint may be taken all the same: the report is
 printed then, and the file stays as it was.
 
@@ -522,7 +522,7 @@ fn compare_words<'a>(alloc: Global) -> Result<Command<'a>, AllocError>
 /// What is made of a trace.
 const IMPORT_HELP: &str =
     "A trace is fio's I/O log, version 3 (write_iolog): time in microseconds, file, action, offset, length.
-Each file is a task of die 0, and each request a job of 1 to 64 pages of 4096 bytes. Logs of several jobs go one behind
+Each file is a task of die 0, and each request a job of 1 to 64 pages of 4096 bytes. Logs of several jobs go one beyond
 the other: cat *.log > trace. What doesn't fit is refused with its line, and the status is 1.
 
 Example: flashplan import trace --slot-us 200 --plan -o plan.toml

@@ -3,7 +3,7 @@
 
 pub use flash_commands::{Command, act, read_words};
 use flash_commands::{
-    Fault, Heard, Shown, Texts, WatchedDisk, end, open, own_words, show, tell_more,
+    Fault, Heard, Shown, Texts, WatchedDisk, end, open, own_words, report_more, show,
 };
 use std::io::IsTerminal;
 use std::process::ExitCode;
@@ -48,7 +48,7 @@ fn main(rt: HostRuntime) -> ExitCode {
                     Err(refusal) => end(&mut heard, Err(Fault::Refused(refusal))),
                 };
                 if is_terminal {
-                    tell_more(&rt, &mut err, heard.lines(), texts_of(command));
+                    report_more(&rt, &mut err, heard.lines(), texts_of(command));
                 }
                 status
             }

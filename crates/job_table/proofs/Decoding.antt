@@ -12,7 +12,7 @@ use Rattle.slot_types.specs.declared.events.Op.{Op}
 use Rattle.slot_types.specs.declared.events.Op.TheVariants.{Read, Write, Trim}
 use Rattle.slot_types.specs.declared.pages.PageData.{PageData}
 use Rattle.slot_types.specs.Operations.{page_of, is_write, writes}
-use Rattle.job_table.specs.Words.{word_of, page_in, is_read_in, is_write_in, bytes_of, blank, unwritten_in, op_in, bytes_behind, ops_of}
+use Rattle.job_table.specs.Words.{word_of, page_in, is_read_in, is_write_in, bytes_of, blank, unwritten_in, op_in, bytes_after, ops_of}
 use Rattle.job_table.specs.Words.{HasBytes, has_word, is_some_write}
 
 abbrev write_word : ℕ → ℕ
@@ -23,7 +23,7 @@ write_op op = cond (is_write op) 1 0
 
 pub length-ops_of : (words : List ℕ) (bytes : List PageData) → length (ops_of words bytes) ≡ length words
 length-ops_of [] bytes = refl
-length-ops_of (word ∷ words) bytes = ap suc (length-ops_of words (bytes_behind word bytes))
+length-ops_of (word ∷ words) bytes = ap suc (length-ops_of words (bytes_after word bytes))
 
 is_write-unwritten_in : (word : ℕ) → is_write (unwritten_in word) ≡ false
 is_write-unwritten_in word =
@@ -41,13 +41,13 @@ pub count_words : (words : List ℕ) (bytes : List PageData) (n : ℕ) → write
 count_words words bytes zero = refl
 count_words [] bytes (suc n) = refl
 count_words (word ∷ words) bytes (suc n) =
-    let h = count_words words (bytes_behind word bytes) n in
+    let h = count_words words (bytes_after word bytes) n in
     let e : write_op (op_in word bytes) ≡ write_word word = ap (λ (v : Bool). cond v 1 0) (is_write-op_in word bytes) in
     omega (
       arith,
       h,
       e,
-      sum_by-cons write_op (op_in word bytes) (take n (ops_of words (bytes_behind word bytes))),
+      sum_by-cons write_op (op_in word bytes) (take n (ops_of words (bytes_after word bytes))),
       sum_by-cons write_word word (take n words),
     )
 
@@ -55,13 +55,13 @@ count_words (word ∷ words) bytes (suc n) =
 pub count_all : (words : List ℕ) (bytes : List PageData) → writes (ops_of words bytes) ≡ count_by is_write_in words
 count_all [] bytes = refl
 count_all (word ∷ words) bytes =
-    let h = count_all words (bytes_behind word bytes) in
+    let h = count_all words (bytes_after word bytes) in
     let e : write_op (op_in word bytes) ≡ write_word word = ap (λ (v : Bool). cond v 1 0) (is_write-op_in word bytes) in
     omega (
       arith,
       h,
       e,
-      sum_by-cons write_op (op_in word bytes) (ops_of words (bytes_behind word bytes)),
+      sum_by-cons write_op (op_in word bytes) (ops_of words (bytes_after word bytes)),
       sum_by-cons write_word word words,
     )
 
@@ -72,7 +72,7 @@ unwritten_at [] bytes n word e isnt = absurd cc
 unwritten_at (w ∷ words) bytes zero word e isnt =
     let same : w ≡ word = cc in
     rw same (ap (λ (v : Bool). Some (cond v (Write (page_in word) (get_or bytes 0 blank)) (unwritten_in word))) isnt)
-unwritten_at (w ∷ words) bytes (suc n) word e isnt = unwritten_at words (bytes_behind w bytes) n word e isnt
+unwritten_at (w ∷ words) bytes (suc n) word e isnt = unwritten_at words (bytes_after w bytes) n word e isnt
 
 -- .. where it is a read, and where it isn't
 pub is_read_there : (word : ℕ) → is_read_in word ≡ true → unwritten_in word ≡ Read (page_in word)
@@ -87,13 +87,13 @@ get_or-drop_one [] (suc k) = refl
 get_or-drop_one (b ∷ bytes) k = refl
 
 -- of a list of bytes whose first is after
-written_behind : (words : List ℕ) (bytes : List PageData) (n word k : ℕ)
+written_after : (words : List ℕ) (bytes : List PageData) (n word k : ℕ)
     → ((k : ℕ) → k ≡ count_by is_write_in (take n words) → slice_get (ops_of words (drop 1 bytes)) n
     ≡ Some (Write (page_in word) (get_or (drop 1 bytes) k blank)))
     → k ≡ suc (count_by is_write_in (take n words)) → slice_get (ops_of words (drop 1 bytes)) n
     ≡ Some (Write (page_in word) (get_or bytes k blank))
-written_behind words bytes n word zero rest rank = absurd (omega (arith, rank))
-written_behind words bytes n word (suc k) rest rank = rest k (omega (arith, rank))
+written_after words bytes n word zero rest rank = absurd (omega (arith, rank))
+written_after words bytes n word (suc k) rest rank = rest k (omega (arith, rank))
     ∙ ap (λ (b : PageData). Some (Write (page_in word) b)) (get_or-drop_one bytes k)
 
 -- a word that is a write: its bytes have as many before them as there are writes before it
@@ -108,7 +108,7 @@ written_at (w ∷ words) bytes zero word k e is rank =
 written_at (w ∷ words) bytes (suc n) word k e is rank =
     elim (is_write_in w) as (λ (v : Bool). cond v 1 0 + count_by is_write_in (take n words) ≡ count_by is_write_in (take (suc n) (w ∷ words)) →
     slice_get (ops_of words (cond v (drop 1 bytes) bytes)) n ≡ Some (Write (page_in word) (get_or bytes k blank))) [
-      | true ↦ λ c. written_behind words bytes n word k (λ j r. written_at words (drop 1 bytes) n word j e is r) (omega arith)
+      | true ↦ λ c. written_after words bytes n word k (λ j r. written_at words (drop 1 bytes) n word j e is r) (omega arith)
       | false ↦ λ c. written_at words bytes n word k e is (omega arith)
     ] (sym (sum_by-cons write_word w (take n words)))
 
@@ -171,28 +171,28 @@ op_trimmed page bytes =
     ap (λ (v : Bool). cond v (Write (page_in (4 * page + 2)) (get_or bytes 0 blank)) (unwritten_in (4 * page + 2))) (trim_is_no_write page)
     ∙ is_trimmed (4 * page + 2) (trim_is_no_read page) ∙ ap Trim (page_trimmed page)
 
-behind_read : (page : ℕ) (bytes : List PageData) → bytes_behind (4 * page) bytes ≡ bytes
-behind_read page bytes = ap (λ (v : Bool). cond v (drop 1 bytes) bytes) (read_is_no_write page)
+after_read : (page : ℕ) (bytes : List PageData) → bytes_after (4 * page) bytes ≡ bytes
+after_read page bytes = ap (λ (v : Bool). cond v (drop 1 bytes) bytes) (read_is_no_write page)
 
-behind_write : (page : ℕ) (b : PageData) (bytes : List PageData) → bytes_behind (4 * page + 1) (b ∷ bytes) ≡ bytes
-behind_write page b bytes = ap (λ (v : Bool). cond v bytes (b ∷ bytes)) (write_is_write page)
+after_write : (page : ℕ) (b : PageData) (bytes : List PageData) → bytes_after (4 * page + 1) (b ∷ bytes) ≡ bytes
+after_write page b bytes = ap (λ (v : Bool). cond v bytes (b ∷ bytes)) (write_is_write page)
 
-behind_trim : (page : ℕ) (bytes : List PageData) → bytes_behind (4 * page + 2) bytes ≡ bytes
-behind_trim page bytes = ap (λ (v : Bool). cond v (drop 1 bytes) bytes) (trim_is_no_write page)
+after_trim : (page : ℕ) (bytes : List PageData) → bytes_after (4 * page + 2) bytes ≡ bytes
+after_trim page bytes = ap (λ (v : Bool). cond v (drop 1 bytes) bytes) (trim_is_no_write page)
 
 words_read : (ops : List Op) → ops_of (map word_of ops) (bytes_of ops) ≡ ops
 words_read [] = refl
 words_read (Read page ∷ ops) =
-    ap (λ (o : Op). o ∷ ops_of (map word_of ops) (bytes_behind (4 * page) (bytes_of ops))) (op_read page (bytes_of ops))
-    ∙ ap (λ (bs : List PageData). Read page ∷ ops_of (map word_of ops) bs) (behind_read page (bytes_of ops))
+    ap (λ (o : Op). o ∷ ops_of (map word_of ops) (bytes_after (4 * page) (bytes_of ops))) (op_read page (bytes_of ops))
+    ∙ ap (λ (bs : List PageData). Read page ∷ ops_of (map word_of ops) bs) (after_read page (bytes_of ops))
     ∙ ap (λ (l : List Op). Read page ∷ l) (words_read ops)
 words_read (Write page b ∷ ops) =
-    ap (λ (o : Op). o ∷ ops_of (map word_of ops) (bytes_behind (4 * page + 1) (b ∷ bytes_of ops))) (op_written page b (bytes_of ops))
-    ∙ ap (λ (bs : List PageData). Write page b ∷ ops_of (map word_of ops) bs) (behind_write page b (bytes_of ops))
+    ap (λ (o : Op). o ∷ ops_of (map word_of ops) (bytes_after (4 * page + 1) (b ∷ bytes_of ops))) (op_written page b (bytes_of ops))
+    ∙ ap (λ (bs : List PageData). Write page b ∷ ops_of (map word_of ops) bs) (after_write page b (bytes_of ops))
     ∙ ap (λ (l : List Op). Write page b ∷ l) (words_read ops)
 words_read (Trim page ∷ ops) =
-    ap (λ (o : Op). o ∷ ops_of (map word_of ops) (bytes_behind (4 * page + 2) (bytes_of ops))) (op_trimmed page (bytes_of ops))
-    ∙ ap (λ (bs : List PageData). Trim page ∷ ops_of (map word_of ops) bs) (behind_trim page (bytes_of ops))
+    ap (λ (o : Op). o ∷ ops_of (map word_of ops) (bytes_after (4 * page + 2) (bytes_of ops))) (op_trimmed page (bytes_of ops))
+    ∙ ap (λ (bs : List PageData). Trim page ∷ ops_of (map word_of ops) bs) (after_trim page (bytes_of ops))
     ∙ ap (λ (l : List Op). Trim page ∷ l) (words_read ops)
 
 -- a write before the others
@@ -304,7 +304,7 @@ write_known [] bytes n word e = absurd cc
 write_known (w ∷ words) bytes zero word e =
     let same : w ≡ word = cc in
     rw same (is_write-op_in word bytes)
-write_known (w ∷ words) bytes (suc n) word e = write_known words (bytes_behind w bytes) n word e
+write_known (w ∷ words) bytes (suc n) word e = write_known words (bytes_after w bytes) n word e
 
 -- where none is beyond so many pages, each leaves room in its word
 pub have_words : (pages : ℕ) (ops : List Op) → pages ≤ 1073741824 → find (λ op. nat_le pages (page_of op)) ops ≡ None

@@ -331,7 +331,7 @@ put_set reads place bytes within = record {
         ap (λ (p : ℕ). take count (drop from (set reads p bytes))) split
         ∙ ap (take count) (drop-set-add from reads (place - from) bytes)
         ∙ take-set-le count (drop from reads) (place - from) bytes (omega arith)
-    stay from count (inr behind) = ap (take count) (drop-set-lt from reads place bytes behind)
+    stay from count (inr beyond) = ap (take count) (drop-set-lt from reads place bytes beyond)
 
 put_push : (reads : List PageData) (place : ℕ) (bytes : PageData) → place ≡ length reads → IsPut reads place bytes (reads ++ bytes ∷ [])
 put_push reads place bytes end = record {

@@ -13,4 +13,4 @@ pub mod Tables
 pub mod Decoding
 pub mod Reading
 pub mod Laying
-pub mod Behind
+pub mod Beyond

@@ -27,19 +27,19 @@ one_choice table (Some m) (Some n) head head' none none' = ap (λ (k : ℕ). Som
 nobody_done : (jobs : List JobRecord) (n : ℕ) → IsWorst jobs n → NothingDone jobs → ⊥
 nobody_done jobs n worst none = cc (worst.done, none n worst.worst worst.is_at)
 
-told_once : (jobs : List JobRecord) (w v : ℕ × ℤ) → IsWorst jobs w.0 → IsWorst jobs v.0
+reported_once : (jobs : List JobRecord) (w v : ℕ × ℤ) → IsWorst jobs w.0 → IsWorst jobs v.0
     → lateness_at jobs w.0 ≡ Some w.1 → lateness_at jobs v.0 ≡ Some v.1 → w ≡ v
-told_once jobs w v first second late late' =
+reported_once jobs w v first second late late' =
     let same : w.0 ≡ v.0 = one_worst jobs w.0 v.0 first second in
     let both : ◌≡◌ {A = Option ℤ} (Some w.1) (Some v.1) = sym late ∙ ap (lateness_at jobs) same ∙ late' in
     let as_late : w.1 ≡ v.1 = cc in
     λ i. (same i, as_late i)
 
-pub one_told : (jobs : List JobRecord) (one other : Option (ℕ × ℤ)) → IfSome one (λ w. IsWorst jobs w.0)
+pub one_reported : (jobs : List JobRecord) (one other : Option (ℕ × ℤ)) → IfSome one (λ w. IsWorst jobs w.0)
     → IfSome other (λ w. IsWorst jobs w.0) → IfSome one (λ w. lateness_at jobs w.0 ≡ Some w.1)
     → IfSome other (λ w. lateness_at jobs w.0 ≡ Some w.1) → IfNone one (NothingDone jobs) → IfNone other (NothingDone jobs) → one ≡ other
-one_told jobs None None worst worst' late late' none none' = refl
-one_told jobs (Some w) None worst worst' late late' none none' = absurd (nobody_done jobs w.0 worst none')
-one_told jobs None (Some v) worst worst' late late' none none' = absurd (nobody_done jobs v.0 worst' none)
-one_told jobs (Some w) (Some v) worst worst' late late' none none' =
-    ap (λ (k : ℕ × ℤ). Some k) (told_once jobs w v worst worst' late late')
+one_reported jobs None None worst worst' late late' none none' = refl
+one_reported jobs (Some w) None worst worst' late late' none none' = absurd (nobody_done jobs w.0 worst none')
+one_reported jobs None (Some v) worst worst' late late' none none' = absurd (nobody_done jobs v.0 worst' none)
+one_reported jobs (Some w) (Some v) worst worst' late late' none none' =
+    ap (λ (k : ℕ × ℤ). Some k) (reported_once jobs w v worst worst' late late')

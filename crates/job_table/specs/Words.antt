@@ -48,13 +48,13 @@ abbrev pub op_in : ℕ → List PageData → Op
 op_in word bytes = if is_write_in word then Write (page_in word) (slice_index_or bytes 0 blank) else unwritten_in word
 
 -- the bytes that are left after it: only a write takes some
-abbrev pub bytes_behind : ℕ → List PageData → List PageData
-bytes_behind word bytes = if is_write_in word then drop 1 bytes else bytes
+abbrev pub bytes_after : ℕ → List PageData → List PageData
+bytes_after word bytes = if is_write_in word then drop 1 bytes else bytes
 
 -- the operations that these words stand for: each write takes the next of the bytes
 abbrev pub ops_of : List ℕ → List PageData → List Op
 ops_of [] bytes = []
-ops_of (word ∷ words) bytes = op_in word bytes ∷ ops_of words (bytes_behind word bytes)
+ops_of (word ∷ words) bytes = op_in word bytes ∷ ops_of words (bytes_after word bytes)
 
 -- each write has bytes of its own, and nothing else has some
 abbrev pub HasBytes : List ℕ → List PageData → Type 0

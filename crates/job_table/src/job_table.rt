@@ -246,7 +246,7 @@ impl JobTable {
 
     /// The job or collection that would have slot `now` if these were waived, each of which would be the head once
     /// those before it were: the head after so many others. Nothing is waived.
-    pub fn head_behind(&mut self, now: u32, waived: &[Waived]) -> Option<JobNo>
+    pub fn head_after(&mut self, now: u32, waived: &[Waived]) -> Option<JobNo>
         requires running { self.old.ended ≡ false }
         requires forward { self.old.clock ≤ now }
         requires heads { WereHeads (record self.old { clock = now }) waived.now }
@@ -258,7 +258,7 @@ impl JobTable {
     {
         self.queues.release_by(&self.jobs, now);
         self.clock = now;
-        match self.queues.first_behind(waived.len()) {
+        match self.queues.first_after(waived.len()) {
             Some(number) => Some(JobNo(number)),
             None => None,
         }

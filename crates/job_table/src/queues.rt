@@ -2,7 +2,7 @@
 
 ghost use Rattle.std.specs.Prelude.{◌≡◌, ◌<◌, ◌≤◌, ◌^◌, [], length, nat_lt, if◌then◌else◌, Contains, option_map, OnOk};
 ghost use Rattle.slot_types.specs.Refusal.{FailsForMemory};
-ghost use Rattle.due_queue.specs.Queue.{behind, with_key, first_of, rest_of, IsRising};
+ghost use Rattle.due_queue.specs.Queue.{beyond, with_key, first_of, rest_of, IsRising};
 ghost use Rattle.due_queue.specs.Keys.{is_due_before, is_released_before};
 ghost use Rattle.job_table.specs.QueuedKeys.{AreQueued, AreLater};
 
@@ -132,14 +132,14 @@ impl Queues {
     }
 
     /// The number of the first released job after `count` others, if there is one. Nothing changes.
-    pub(crate) fn first_behind(&mut self, count: usize) -> Option<u32>
+    pub(crate) fn first_after(&mut self, count: usize) -> Option<u32>
         ensures first { result ≡ option_map (λ k.
-            k.number) (first_of (behind count self.old.ready)) }
+            k.number) (first_of (beyond count self.old.ready)) }
         ensures unchanged { self.new ≡ self.old }
         ensures rising { IsRising is_due_before self.old.ready }
     {
         let _length = self.ready.len();
-        self.ready.first_behind(count).map(|key| key.number)
+        self.ready.first_after(count).map(|key| key.number)
     }
 
     /// The number of the first job that waits for its release, if there is one.

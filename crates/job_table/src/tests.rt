@@ -258,7 +258,7 @@ fn a_later_job_with_an_earlier_due_preempts(rt: HostRuntime) -> Result<(), Fail>
 }
 
 #[test]
-fn equal_dues_go_by_number(rt: HostRuntime) -> Result<(), Fail> {
+fn equal_deadlines_go_by_number(rt: HostRuntime) -> Result<(), Fail> {
     const STEPS: &[Step] = &[
         // Job 0 waits for its release.
         Step::Accepts(2, 5, &[R0, R1], 0),

@@ -374,9 +374,9 @@ module _ (rows later : List JobRow) (c d : Slots) (n : ℕ)
       let i : ℕ = w.number in
       let due_i : due_of both (n + i) ≡ m + due_of later i = due-high i w.known in
       let due_k : due_of both (n + k) ≡ m + due_of later k = due-high k known in
-      let dues : due_of later i ≤ due_of later k = w.key.dues in
+      let deadlines : due_of later i ≤ due_of later k = w.key.deadlines in
       let key : KeyAtMost (due_of both (n + i)) (n + i) (due_of both (n + k)) (n + k) = record {
-        dues = omega (arith, due_i, due_k, dues);
+        deadlines = omega (arith, due_i, due_k, deadlines);
         numbers = λ e. omega (arith, w.key.numbers (omega (arith, e, due_i, due_k)));
       } in
       true-within both (n + k) (n + i) (slot_at slots (m + u)) (slot-high u ∙ ap (slot_after n) w.carries) (known-high i ∙ w.known) key

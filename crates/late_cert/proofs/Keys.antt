@@ -11,18 +11,18 @@ use Rattle.late_cert.specs.BusyInterval.{key_at_most, is_within}
 
 -- what a key at most another says of deadlines and numbers
 pub record KeyAtMost (due j due' k : ℕ) : Type 0 where
-  pub dues : due ≤ due'
+  pub deadlines : due ≤ due'
   pub numbers : due ≡ due' → j ≤ k
 
 pub key-true : (due j due' k : ℕ) → key_at_most due j due' k ≡ true → KeyAtMost due j due' k
 key-true due j due' k h =
     elim (or_cases (ltb due due') (eqb due due' && leb j k) h) [
-      | inl lt ↦ let a : due < due' = ltb-true due due' lt in record { dues = omega arith; numbers = λ e. absurd (omega arith) }
+      | inl lt ↦ let a : due < due' = ltb-true due due' lt in record { deadlines = omega arith; numbers = λ e. absurd (omega arith) }
       | inr both ↦
           let p = and_parts (eqb due due') (leb j k) both in
           let a : due ≡ due' = eqb-true due due' p.0 in
           let b : j ≤ k = leb-true j k p.1 in
-          record { dues = omega arith; numbers = λ e. b }
+          record { deadlines = omega arith; numbers = λ e. b }
     ]
 
 pub true-key : (due j due' k : ℕ) → KeyAtMost due j due' k → key_at_most due j due' k ≡ true
@@ -30,7 +30,7 @@ true-key due j due' k h =
     elim (cases_lt due due') [
       | inl lt ↦ or_left (ltb due due') (eqb due due' && leb j k) (lt-ltb due due' lt)
       | inr ge ↦
-          let a : due ≤ due' = h.dues in
+          let a : due ≤ due' = h.deadlines in
           let e : due ≡ due' = omega arith in
           or_right (ltb due due') (eqb due due' && leb j k)
           (and_from (eqb due due') (leb j k) (eq-eqb due due' e) (le-leb j k (h.numbers e)))
@@ -58,24 +58,24 @@ true-within rows j k o e known key =
 -- keys not above a key that is not above a third
 pub key-trans : (a i b j c k : ℕ) → KeyAtMost a i b j → KeyAtMost b j c k → KeyAtMost a i c k
 key-trans a i b j c k p q =
-    let d : a ≤ b = p.dues in
-    let e : b ≤ c = q.dues in
+    let d : a ≤ b = p.deadlines in
+    let e : b ≤ c = q.deadlines in
     record {
-      dues = omega arith;
+      deadlines = omega arith;
       numbers = λ s. (let x : i ≤ j = p.numbers (omega arith) in let y : j ≤ k = q.numbers (omega arith) in omega arith);
     }
 
 -- two keys not above each other are of one number
 pub key-same : (a i b j : ℕ) → KeyAtMost a i b j → KeyAtMost b j a i → i ≡ j
 key-same a i b j p q =
-    let d : a ≤ b = p.dues in
-    let e : b ≤ a = q.dues in
+    let d : a ≤ b = p.deadlines in
+    let e : b ≤ a = q.deadlines in
     let x : i ≤ j = p.numbers (omega arith) in
     let y : j ≤ i = q.numbers (omega arith) in
     omega arith
 
 pub key-refl : (a i : ℕ) → KeyAtMost a i a i
-key-refl a i = record { dues = omega arith; numbers = λ e. omega arith }
+key-refl a i = record { deadlines = omega arith; numbers = λ e. omega arith }
 
 -- a done job has a row
 pub known-in : (o : Option JobRow) → is_done_in o ≡ true → is_some o ≡ true

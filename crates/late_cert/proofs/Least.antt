@@ -13,7 +13,7 @@ use Rattle.late_cert.specs.BusyInterval.{is_within, IsBusyInterval, CarriesLeast
 use Rattle.late_cert.proofs.Counting.{slot-below-end, slot-at-end, count-le-end, is_one_of, some-named, count-jobs, sum-same}
 use Rattle.late_cert.proofs.Binds.{listed-at, binds}
 use Rattle.late_cert.proofs.Keys.{KeyAtMost, within-true, true-within, key-trans, key-same, key-refl, done-known, named-some}
-use Rattle.late_cert.proofs.Window.{count-window, stretch-is}
+use Rattle.late_cert.proofs.Window.{count-window, busy_interval-is}
 
 -- a slot that carries a number is one of the slots
 pub at-length : (c : Slots) (t k : ℕ) → slot_at c t ≡ Some k → t < length c
@@ -49,18 +49,18 @@ carried-last rows c h j done =
     (t, is ∙ s, at, at-length c t j at)
 
 -- what a slot of a busy interval carries has a key not above that of the busy interval
-pub stretch-key : (rows : List JobRow) (c : Slots) (j t k : ℕ) → is_within rows j (slot_at c t) ≡ true → slot_at c t ≡ Some k
+pub busy_interval-key : (rows : List JobRow) (c : Slots) (j t k : ℕ) → is_within rows j (slot_at c t) ≡ true → slot_at c t ≡ Some k
     → KeyAtMost (due_of rows k) k (due_of rows j) j
-stretch-key rows c j t k is e =
+busy_interval-key rows c j t k is e =
     let w = within-true rows j (slot_at c t) is in
     let P : ℕ → Type 0 = λ m. KeyAtMost (due_of rows m) m (due_of rows j) j in
     subst P (same_Some w.number k (sym w.carries ∙ e)) w.key
 
 -- the jobs of a busy interval were released in it
-pub stretch-released : (rows : List JobRow) (c : Slots) → CarriesLeastKeys rows c
+pub busy_interval-released : (rows : List JobRow) (c : Slots) → CarriesLeastKeys rows c
     → (j start n : ℕ) (jobs : List ℕ) → IsBusyInterval rows c j start n jobs
     → (t k : ℕ) → start ≤ t → t < n → slot_at c t ≡ Some k → start ≤ release_of rows k
-stretch-released rows c h j start n jobs s t k a b e =
+busy_interval-released rows c h j start n jobs s t k a b e =
     elim (cases_lt (release_of rows k) start) [
       | inl early ↦
           let u : ℕ = start - 1 in
@@ -72,7 +72,7 @@ stretch-released rows c h j start n jobs s t k a b e =
           (λ done. let lt : t < completion_of rows k = below-completion rows c h t k e done in omega arith) in
           let kept : is_within rows k (slot_at c u) ≡ true = h.least u k below (h.known t k e) released open_then in
           let w = within-true rows k (slot_at c u) kept in
-          let key : KeyAtMost (due_of rows k) k (due_of rows j) j = stretch-key rows c j t k (s.carries t a b) e in
+          let key : KeyAtMost (due_of rows k) k (due_of rows j) j = busy_interval-key rows c j t k (s.carries t a b) e in
           let within : is_within rows j (slot_at c u) ≡ true =
           true-within rows j w.number (slot_at c u) w.carries w.known
           (key-trans (due_of rows w.number) w.number (due_of rows k) k (due_of rows j) j w.key key) in
@@ -81,41 +81,41 @@ stretch-released rows c h j start n jobs s t k a b e =
     ]
 
 -- a job of a busy interval that is not done below the busy interval's last slot is the busy interval's own
-pub stretch-open : (rows : List JobRow) (c : Slots) → CarriesLeastKeys rows c → (j start n : ℕ) (jobs : List ℕ)
+pub busy_interval-open : (rows : List JobRow) (c : Slots) → CarriesLeastKeys rows c → (j start n : ℕ) (jobs : List ℕ)
     → IsBusyInterval rows c j start n jobs → (last : ℕ) → n ≡ suc last → slot_at c last ≡ Some j → last < length c
     → (t k : ℕ) → start ≤ t → t < n → slot_at c t ≡ Some k
     → (is_done rows k ≡ true → last < completion_of rows k) → k ≡ j
-stretch-open rows c h j start n jobs s last is at inside t k a b e open_then =
+busy_interval-open rows c h j start n jobs s last is at inside t k a b e open_then =
     let released : release_of rows k ≤ t = h.released t k e in
     let kept : is_within rows k (slot_at c last) ≡ true =
     h.least last k inside (h.known t k e) (omega arith) open_then in
-    let below : KeyAtMost (due_of rows j) j (due_of rows k) k = stretch-key rows c k last j kept at in
-    let above : KeyAtMost (due_of rows k) k (due_of rows j) j = stretch-key rows c j t k (s.carries t a b) e in
+    let below : KeyAtMost (due_of rows j) j (due_of rows k) k = busy_interval-key rows c k last j kept at in
+    let above : KeyAtMost (due_of rows k) k (due_of rows j) j = busy_interval-key rows c j t k (s.carries t a b) e in
     key-same (due_of rows k) k (due_of rows j) j above below
 
 -- the jobs of the busy interval of a done job are done
-pub stretch-done : (rows : List JobRow) (c : Slots) → CarriesLeastKeys rows c → (j start n : ℕ) (jobs : List ℕ)
+pub busy_interval-done : (rows : List JobRow) (c : Slots) → CarriesLeastKeys rows c → (j start n : ℕ) (jobs : List ℕ)
     → IsBusyInterval rows c j start n jobs → (last : ℕ) → n ≡ suc last → slot_at c last ≡ Some j → last < length c
     → is_done rows j ≡ true
     → (t k : ℕ) → start ≤ t → t < n → slot_at c t ≡ Some k → is_done rows k ≡ true
-stretch-done rows c h j start n jobs s last is at inside done t k a b e =
+busy_interval-done rows c h j start n jobs s last is at inside done t k a b e =
     elim (cases_Bool (is_done rows k)) [
       | inl yes_done ↦ yes_done
       | inr not_done ↦
-          let same : k ≡ j = stretch-open rows c h j start n jobs s last is at inside t k a b e
+          let same : k ≡ j = busy_interval-open rows c h j start n jobs s last is at inside t k a b e
           (λ d. absurd (both_ways (is_done rows k) not_done d)) in
           ap (is_done rows) same ∙ done
     ]
 
 -- and end in it
-pub stretch-ends : (rows : List JobRow) (c : Slots) → CarriesLeastKeys rows c → (j start n : ℕ) (jobs : List ℕ)
+pub busy_interval-ends : (rows : List JobRow) (c : Slots) → CarriesLeastKeys rows c → (j start n : ℕ) (jobs : List ℕ)
     → IsBusyInterval rows c j start n jobs → (last : ℕ) → n ≡ suc last → slot_at c last ≡ Some j → last < length c
     → completion_of rows j ≡ n
     → (t k : ℕ) → start ≤ t → t < n → slot_at c t ≡ Some k → completion_of rows k ≤ n
-stretch-ends rows c h j start n jobs s last is at inside ends t k a b e =
+busy_interval-ends rows c h j start n jobs s last is at inside ends t k a b e =
     elim (cases_lt last (completion_of rows k)) [
       | inl later ↦
-          let same : k ≡ j = stretch-open rows c h j start n jobs s last is at inside t k a b e (λ d. later) in
+          let same : k ≡ j = busy_interval-open rows c h j start n jobs s last is at inside t k a b e (λ d. later) in
           let q : completion_of rows k ≡ completion_of rows j = ap (completion_of rows) same in
           omega arith
       | inr le ↦ omega arith
@@ -126,11 +126,11 @@ listed-filled [] k h = absurd (false≢true h)
 listed-filled (j ∷ js) k h = omega arith
 
 -- the busy interval of a done job is a certificate
-pub stretch-certifies : (rows : List JobRow) (c : Slots) → CarriesLeastKeys rows c
+pub busy_interval-certifies : (rows : List JobRow) (c : Slots) → CarriesLeastKeys rows c
     → (j : ℕ) → is_done rows j ≡ true
     → (start : ℕ) (jobs : List ℕ) → IsBusyInterval rows c j start (completion_of rows j) jobs
     → IsCertificate rows start (due_of rows j) (completion_of rows j) jobs
-stretch-certifies rows c h j done start jobs s =
+busy_interval-certifies rows c h j done start jobs s =
     let n : ℕ = completion_of rows j in
     let end = carried-last rows c h j done in
     let last : ℕ = end.0 in
@@ -162,10 +162,10 @@ stretch-certifies rows c h j done start jobs s =
     (λ t a l.
     let k = listed-at jobs (slot_at c t) l in
     let q = (s.listed k.0).0 k.2 in
-    let r : start ≤ release_of rows k.0 = stretch-released rows c h j start n jobs s q.0 k.0 q.1 q.2 q.3 in
+    let r : start ≤ release_of rows k.0 = busy_interval-released rows c h j start n jobs s q.0 k.0 q.1 q.2 q.3 in
     let r' : release_of rows k.0 ≤ t = h.released t k.0 k.1 in
-    let d : is_done rows k.0 ≡ true = stretch-done rows c h j start n jobs s last is at inside done q.0 k.0 q.1 q.2 q.3 in
-    let e : completion_of rows k.0 ≤ n = stretch-ends rows c h j start n jobs s last is at inside refl q.0 k.0 q.1 q.2 q.3 in
+    let d : is_done rows k.0 ≡ true = busy_interval-done rows c h j start n jobs s last is at inside done q.0 k.0 q.1 q.2 q.3 in
+    let e : completion_of rows k.0 ≤ n = busy_interval-ends rows c h j start n jobs s last is at inside refl q.0 k.0 q.1 q.2 q.3 in
     let e' : t < completion_of rows k.0 = below-completion rows c h t k.0 k.1 d in
     (omega arith, omega arith)) in
     record {
@@ -173,12 +173,12 @@ stretch-certifies rows c h j done start jobs s =
       rising = s.rising;
       each = λ k l.
           let q = (s.listed k).0 l in
-          let d : is_done rows k ≡ true = stretch-done rows c h j start n jobs s last is at inside done q.0 k q.1 q.2 q.3 in
+          let d : is_done rows k ≡ true = busy_interval-done rows c h j start n jobs s last is at inside done q.0 k q.1 q.2 q.3 in
           record {
             done = d;
             works = h.begun k d;
-            released = stretch-released rows c h j start n jobs s q.0 k q.1 q.2 q.3;
-            due_by = (stretch-key rows c j q.0 k (s.carries q.0 q.1 q.2) q.3).dues;
+            released = busy_interval-released rows c h j start n jobs s q.0 k q.1 q.2 q.3;
+            due_by = (busy_interval-key rows c j q.0 k (s.carries q.0 q.1 q.2) q.3).deadlines;
           };
       sum = omega (arith, total, counted, window);
     }
@@ -243,7 +243,7 @@ least-late rows c h =
           let start : ℕ = start_of rows c j n in
           let jobs : List ℕ = jobs_of rows c start n in
           let cert : IsCertificate rows start (due_of rows j) n jobs =
-          stretch-certifies rows c h j done start jobs (stretch-is rows c j n h.rising) in
+          busy_interval-certifies rows c h j done start jobs (busy_interval-is rows c j n h.rising) in
           let bound = binds rows start (due_of rows j) n jobs cert f
           (record {
             works = λ k l. serves.works k (cert.each k l).done;
@@ -253,8 +253,8 @@ least-late rows c h =
     }
 
 -- what a busy interval carries was released in it and is due by its deadline
-pub stretch-carries : (rows : List JobRow) (c : Slots) → CarriesLeastKeys rows c
+pub busy_interval-carries : (rows : List JobRow) (c : Slots) → CarriesLeastKeys rows c
     → (j start n : ℕ) (jobs : List ℕ) → IsBusyInterval rows c j start n jobs
     → (t k : ℕ) → start ≤ t → t < n → slot_at c t ≡ Some k → (start ≤ release_of rows k) × (due_of rows k ≤ due_of rows j)
-stretch-carries rows c h j start n jobs s t k a b e =
-    (stretch-released rows c h j start n jobs s t k a b e, (stretch-key rows c j t k (s.carries t a b) e).dues)
+busy_interval-carries rows c h j start n jobs s t k a b e =
+    (busy_interval-released rows c h j start n jobs s t k a b e, (busy_interval-key rows c j t k (s.carries t a b) e).deadlines)

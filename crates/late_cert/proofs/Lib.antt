@@ -8,6 +8,6 @@ pub mod Keys
 pub mod Window
 pub mod Walking
 pub mod Least
-pub mod OneStretch
+pub mod OneBusyInterval
 pub mod Moments
 pub mod Joined

@@ -120,7 +120,7 @@ accepts-keeps rows rows' c j h a = record {
         | inr old ↦
             let r : release_of rows' k ≡ release_of rows k = a.releases k old in
             within-same rows rows' k (slot_at c t)
-            (λ m e m_known. (accepted-known rows rows' c j a m m_known, a.dues m m_known)) (a.dues k old)
+            (λ m e m_known. (accepted-known rows rows' c j a m m_known, a.deadlines m m_known)) (a.deadlines k old)
             (h.least t k below old (omega arith) (λ d.
             let q : completion_of rows' k ≡ completion_of rows k = a.completions k d in
             let lt : t < completion_of rows' k = open_then (a.done k ∙ d) in omega arith))
@@ -158,8 +158,8 @@ waives-keeps rows rows' c j h w = record {
       within-same rows rows' k (slot_at c t)
       (λ m e m_known.
       let m' : is_known rows' m ≡ true = carried-known rows rows' c j h w t m e in
-      (m', w.dues m m'))
-      (w.dues k known)
+      (m', w.deadlines m m'))
+      (w.deadlines k known)
       (h.least t k below p.1 (omega arith) (λ d.
       let d' : is_done rows' k ≡ true = w.done k ∙ and_from (not (eqb j k)) (is_done rows k) p.0 d in
       let q : completion_of rows' k ≡ completion_of rows k = w.completions k d' in
@@ -229,7 +229,7 @@ slot-keeps rows rows' c o h s = record {
       elim (cases_lt t (length c)) [
         | inl before ↦
             rw (slot-before c o t before)
-            (within-same rows rows' k (slot_at c t) (λ m e m_known. (s.known m ∙ m_known, s.dues m)) (s.dues k)
+            (within-same rows rows' k (slot_at c t) (λ m e m_known. (s.known m ∙ m_known, s.deadlines m)) (s.deadlines k)
             (h.least t k before old (omega arith) (λ d.
             let q : completion_of rows' k ≡ completion_of rows k = s.completions k d in
             let lt : t < completion_of rows' k = open_then (s.done k d) in omega arith)))
@@ -237,7 +237,7 @@ slot-keeps rows rows' c o h s = record {
             let is : t ≡ length c = omega arith in
             let at : slot_at (c ++ o ∷ []) t ≡ o = ap (slot_at (c ++ o ∷ [])) is ∙ slot-last c o in
             rw at
-            (within-same rows rows' k o (λ m e m_known. (s.known m ∙ m_known, s.dues m)) (s.dues k)
+            (within-same rows rows' k o (λ m e m_known. (s.known m ∙ m_known, s.deadlines m)) (s.deadlines k)
             (elim (cases_Bool (is_done rows k)) [
               | inl d ↦
                   let q : completion_of rows' k ≡ completion_of rows k = s.completions k d in

@@ -72,10 +72,10 @@ get-first zero o rest t h = absurd (omega arith)
 get-first (suc n) o rest zero h = refl
 get-first (suc n) o rest (suc t) h = get-first n o rest t (omega arith)
 
-pub get-behind : (n : ℕ) (o : Option ℕ) (rest : Slots) (t u : ℕ) → n + u ≡ t → slice_get (replicate n o ++ rest) t ≡ slice_get rest u
-get-behind zero o rest t u h = let e : t ≡ u = omega arith in rw e refl
-get-behind (suc n) o rest zero u h = absurd (omega arith)
-get-behind (suc n) o rest (suc t) u h = get-behind n o rest t u (omega arith)
+pub get-beyond : (n : ℕ) (o : Option ℕ) (rest : Slots) (t u : ℕ) → n + u ≡ t → slice_get (replicate n o ++ rest) t ≡ slice_get rest u
+get-beyond zero o rest t u h = let e : t ≡ u = omega arith in rw e refl
+get-beyond (suc n) o rest zero u h = absurd (omega arith)
+get-beyond (suc n) o rest (suc t) u h = get-beyond n o rest t u (omega arith)
 
 pub get-here : (runs : List Run) (i : ℕ) (d : Run) (t : ℕ) → i < length runs → t < (get_or runs i d).length
     → slice_get (slots_of (drop i runs)) t ≡ Some (get_or runs i d).number
@@ -86,7 +86,7 @@ get-here (q ∷ qs) (suc i) d t h lt = get-here qs i d t (omega arith) lt
 pub get-next : (runs : List Run) (i : ℕ) (d : Run) (t u : ℕ) → i < length runs → (get_or runs i d).length + u ≡ t
     → slice_get (slots_of (drop i runs)) t ≡ slice_get (slots_of (drop (suc i) runs)) u
 get-next [] i d t u h e = absurd (omega arith)
-get-next (q ∷ qs) zero d t u h e = get-behind q.length q.number (slots_of qs) t u e
+get-next (q ∷ qs) zero d t u h e = get-beyond q.length q.number (slots_of qs) t u e
 get-next (q ∷ qs) (suc i) d t u h e = get-next qs i d t u (omega arith) e
 
 pub get-more : (runs : List Run) (i : ℕ) (d : Run) (t u : ℕ) → i < length runs → (get_or runs i d).length + u ≡ t

@@ -111,9 +111,9 @@ true-carried c s (suc n) k t a b e =
     ]
 
 -- each number has its busy interval
-pub stretch-is : (rows : List JobRow) (c : Slots) (j n : ℕ) → IsStrictlyIncreasing (map (λ (row : JobRow). row.number) rows)
+pub busy_interval-is : (rows : List JobRow) (c : Slots) (j n : ℕ) → IsStrictlyIncreasing (map (λ (row : JobRow). row.number) rows)
     → IsBusyInterval rows c j (start_of rows c j n) n (jobs_of rows c (start_of rows c j n) n)
-stretch-is rows c j n rises =
+busy_interval-is rows c j n rises =
     let s : ℕ = start_of rows c j n in
     let numbers : List ℕ = map (λ (row : JobRow). row.number) rows in
     record {

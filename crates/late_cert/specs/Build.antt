@@ -34,7 +34,7 @@ pub record IsOwn (rows : List JobRow) (carried : Slots) (j : ℕ) (c : Certifica
   pub job : c.job ≡ j
   pub due : c.due ≡ due_of rows j
   pub completion : c.completion ≡ completion_of rows j
-  pub stretch : IsBusyInterval rows carried j c.start c.completion c.jobs
+  pub busy_interval : IsBusyInterval rows carried j c.start c.completion c.jobs
   pub holds : IsCertificate rows c.start c.due c.completion c.jobs
 
 -- for each row whether a slot from start on, below n, carries it

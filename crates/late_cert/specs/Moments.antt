@@ -12,7 +12,7 @@ pub record AcceptsJob (rows rows' : List JobRow) (carried : Slots) (j : ℕ) : T
   pub known : (k : ℕ) → is_known rows' k ≡ ((j == k) || is_known rows k)
   pub done : (k : ℕ) → is_done rows' k ≡ is_done rows k
   pub releases : (k : ℕ) → is_known rows k ≡ true → release_of rows' k ≡ release_of rows k
-  pub dues : (k : ℕ) → is_known rows k ≡ true → due_of rows' k ≡ due_of rows k
+  pub deadlines : (k : ℕ) → is_known rows k ≡ true → due_of rows' k ≡ due_of rows k
   pub works : (k : ℕ) → is_known rows k ≡ true → work_of rows' k ≡ work_of rows k
   pub completions : (k : ℕ) → is_done rows k ≡ true → completion_of rows' k ≡ completion_of rows k
   pub idle : work_of rows' j ≡ 0
@@ -26,7 +26,7 @@ pub record WaivesJob (rows rows' : List JobRow) (j : ℕ) : Type 0 where
   pub known : (k : ℕ) → is_known rows' k ≡ (not (j == k) && is_known rows k)
   pub done : (k : ℕ) → is_done rows' k ≡ (not (j == k) && is_done rows k)
   pub releases : (k : ℕ) → is_known rows' k ≡ true → release_of rows' k ≡ release_of rows k
-  pub dues : (k : ℕ) → is_known rows' k ≡ true → due_of rows' k ≡ due_of rows k
+  pub deadlines : (k : ℕ) → is_known rows' k ≡ true → due_of rows' k ≡ due_of rows k
   pub works : (k : ℕ) → is_known rows' k ≡ true → work_of rows' k ≡ work_of rows k
   pub completions : (k : ℕ) → is_done rows' k ≡ true → completion_of rows' k ≡ completion_of rows k
 
@@ -39,7 +39,7 @@ pub record CarriesSlot (rows rows' : List JobRow) (carried : Slots) (slot : Opti
       → is_within rows j slot ≡ true
   pub known : (k : ℕ) → is_known rows' k ≡ is_known rows k
   pub releases : (k : ℕ) → release_of rows' k ≡ release_of rows k
-  pub dues : (k : ℕ) → due_of rows' k ≡ due_of rows k
+  pub deadlines : (k : ℕ) → due_of rows' k ≡ due_of rows k
   pub works : (k : ℕ) → is_known rows k ≡ true → work_of rows' k ≡ work_of rows k + (if is_named k slot then 1 else 0)
   pub done : (k : ℕ) → is_done rows k ≡ true → is_done rows' k ≡ true
   pub finished : (k : ℕ) → is_done rows k ≡ false → is_done rows' k ≡ true

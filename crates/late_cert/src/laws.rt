@@ -29,7 +29,7 @@ pub fn certificates_bind_every_schedule()
 {}
 
 /// Where each slot carried a least key, the busy interval of a done job is a certificate.
-pub fn stretches_are_certificates()
+pub fn busy_intervals_are_certificates()
     ensures { (rows : List JobRow) (carried : Slots) → CarriesLeastKeys rows carried →
         (j : ℕ) → is_done rows j ≡ true → (start : ℕ) (jobs : List ℕ) →
         IsBusyInterval rows carried j start (completion_of rows j) jobs →
@@ -49,7 +49,7 @@ pub fn least_keys_are_least_late()
 {}
 
 /// What a busy interval carries was released in it and is due by its deadline, wherever the busy interval ends.
-pub fn stretches_carry_what_was_released_in_them()
+pub fn busy_intervals_carry_what_was_released_in_them()
     ensures { (rows : List JobRow) (carried : Slots) → CarriesLeastKeys rows carried →
         (j start end : ℕ) (jobs : List ℕ) → IsBusyInterval rows carried j start end jobs →
         (t k : ℕ) → start ≤ t → t < end → slot_at carried t ≡ Some k →

@@ -9,23 +9,23 @@
 //! certificate whether it holds. The laws say why the two agree wherever each slot carried the least key.
 #![tactic(auto)]
 
+pub mod busy_intervals;
 pub mod carried;
 pub mod certificates;
 pub mod checks;
 pub mod laws;
 mod lookups;
 pub mod rows;
-pub mod stretches;
 pub mod verdicts;
 
+pub use busy_intervals::build;
 pub use carried::Carried;
 pub use certificates::{Certificate, JobList};
 pub use checks::check;
 pub use laws::{
+    busy_intervals_are_certificates, busy_intervals_carry_what_was_released_in_them,
     certificates_bind_every_schedule, done_jobs_have_certificates, least_keys_are_joined,
-    least_keys_are_kept, least_keys_are_least_late, stretches_are_certificates,
-    stretches_carry_what_was_released_in_them,
+    least_keys_are_kept, least_keys_are_least_late,
 };
 pub use rows::{JobRow, JobRows, lateness, rows_rise};
-pub use stretches::build;
 pub use verdicts::Verdict;

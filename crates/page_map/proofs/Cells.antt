@@ -46,9 +46,9 @@ some_pages shape None cells = tt
 some_pages shape (Some cell) cells = omega (arith, (cells (place_at shape cell) refl).page)
 
 -- an entry that tells a place has a number
-pub told_cell : (shape : Shape) (word : Option ℕ) (place : Place) → place_in shape word ≡ Some place → (cell : ℕ) × (word ≡ Some cell)
-told_cell shape None place is = absurd (cc)
-told_cell shape (Some cell) place is = (cell, refl)
+pub reported_cell : (shape : Shape) (word : Option ℕ) (place : Place) → place_in shape word ≡ Some place → (cell : ℕ) × (word ≡ Some cell)
+reported_cell shape None place is = absurd (cc)
+reported_cell shape (Some cell) place is = (cell, refl)
 
 -- the place that an entry tells
 pub found : (shape : Shape) (logical : ℕ) (cells : List (Option ℕ)) (page : ℕ) (word : Option ℕ) → word ≡ get_or cells page None
@@ -60,5 +60,5 @@ found shape logical cells page word is = placed_at shape (entries_up_to logical 
 pub found_below : (shape : Shape) (logical : ℕ) (cells : List (Option ℕ)) (page : ℕ) (place : Place)
     → get_or (map (place_in shape) (entries_up_to logical cells)) page None ≡ Some place → page < length cells
 found_below shape logical cells page place is =
-    let told = told_cell shape (get_or (entries_up_to logical cells) page None) place (sym (placed_at shape (entries_up_to logical cells) page) ∙ is) in
-    laid_below logical cells page told.0 told.1
+    let said = reported_cell shape (get_or (entries_up_to logical cells) page None) place (sym (placed_at shape (entries_up_to logical cells) page) ∙ is) in
+    laid_below logical cells page said.0 said.1

@@ -264,7 +264,7 @@ in_range shape None cells = tt
 in_range shape (Some place) cells = cells place refl
 
 -- the owner that the table tells lies in the cell
-pub told : (places : List (Option Place)) (place : Place) (o : Option ℕ) → o ≡ owner_of places place
+pub said : (places : List (Option Place)) (place : Place) (o : Option ℕ) → o ≡ owner_of places place
     → IfSome o (λ page. place_of places page ≡ Some place)
-told places place None is = tt
-told places place (Some page) is = owner_lies places page place (sym is)
+said places place None is = tt
+said places place (Some page) is = owner_lies places page place (sym is)

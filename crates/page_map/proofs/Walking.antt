@@ -48,21 +48,21 @@ none_at words first finish at none from_on ends =
     ]
 
 -- the first of these words that is a number
-pub record IsFirstAt (words : List (Option ℕ)) (first finish behind : ℕ) : Type 0 where
-  pub below : first + behind < finish
-  pub owned : IsSome (get_or words (first + behind) None)
-  pub before : (at : ℕ) → first ≤ at → at < first + behind → get_or words at None ≡ None
+pub record IsFirstAt (words : List (Option ℕ)) (first finish beyond : ℕ) : Type 0 where
+  pub below : first + beyond < finish
+  pub owned : IsSome (get_or words (first + beyond) None)
+  pub before : (at : ℕ) → first ≤ at → at < first + beyond → get_or words at None ≡ None
 
-pub first_at : (words : List (Option ℕ)) (first finish behind : ℕ) → position is_some (slice_range words first finish) ≡ Some behind
-    → IsFirstAt words first finish behind
-first_at words first finish behind is =
-    let found = position-Some is_some (slice_range words first finish) behind None is in
-    let below : first + behind < finish = omega (arith, found.0, length-take (finish - first) (drop first words)) in
-    let back : first + behind - first ≡ behind = omega arith in
+pub first_at : (words : List (Option ℕ)) (first finish beyond : ℕ) → position is_some (slice_range words first finish) ≡ Some beyond
+    → IsFirstAt words first finish beyond
+first_at words first finish beyond is =
+    let found = position-Some is_some (slice_range words first finish) beyond None is in
+    let below : first + beyond < finish = omega (arith, found.0, length-take (finish - first) (drop first words)) in
+    let back : first + beyond - first ≡ beyond = omega arith in
     record {
       below = below;
-      owned = is_one (get_or words (first + behind) None)
-          (ap is_some (sym (in_range_at words first finish (first + behind) (omega arith) below)
+      owned = is_one (get_or words (first + beyond) None)
+          (ap is_some (sym (in_range_at words first finish (first + beyond) (omega arith) below)
           ∙ ap (λ (n : ℕ). get_or (slice_range words first finish) n None) back) ∙ found.1);
       before = λ at from_on less. sym (in_range_at words first finish at from_on (omega (arith, below, less)))
           ∙ is_none (get_or (slice_range words first finish) (at - first) None) (found.2 (at - first) (omega (arith, from_on, less)));

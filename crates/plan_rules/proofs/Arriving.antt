@@ -51,15 +51,15 @@ as_collection plan times end task a h is =
 -- Jobs
 
 module _ (plan : DiePlan) (times : Times) (end task : ℕ) where
-  jobs_behind : (a : TaskArrival) → (a.collects ≡ false) → a.task ≡ task → (rest : List TaskArrival)
+  jobs_after : (a : TaskArrival) → (a.collects ≡ false) → a.task ≡ task → (rest : List TaskArrival)
       → AllByRecursion (IsPlanned plan times end) rest → AllByRecursion (keeping.AreApart times a) rest
       → AllByRecursion (λ b. is_job_of task b ≡ true → a.release + (times_of times task).period ≤ b.release) rest
-  jobs_behind a kind of [] planned apart = tt
-  jobs_behind a kind of (b ∷ rest) planned apart = (
+  jobs_after a kind of [] planned apart = tt
+  jobs_after a kind of (b ∷ rest) planned apart = (
     (λ is.
         let k = as_job plan times end task b planned.0 is in
         subst (λ i. a.release + (times_of times i).period ≤ b.release) of (apart.0 kind k.0 (of ∙ sym k.1))),
-    jobs_behind a kind of rest planned.1 apart.1,
+    jobs_after a kind of rest planned.1 apart.1,
   )
 
   pub jobs_apart_in : (all : List TaskArrival) → AllByRecursion (IsPlanned plan times end) all → AllPairs (keeping.AreApart times) all
@@ -69,7 +69,7 @@ module _ (plan : DiePlan) (times : Times) (end task : ℕ) where
     (λ is.
         let k = as_job plan times end task a planned.0 is in (
           subst (λ i. a.due ≡ a.release + (times_of times i).period) k.1 k.2.due,
-          jobs_behind a k.0 k.1 rest planned.1 (recursion_from_All (keeping.AreApart times a) rest
+          jobs_after a k.0 k.1 rest planned.1 (recursion_from_All (keeping.AreApart times a) rest
               (λ i d lt. apart 0 (suc i) d (omega arith) (omega (arith, lt)))),
         )),
     jobs_apart_in rest planned.1 (λ i j d lt below. apart (suc i) (suc j) d (omega (arith, lt)) (omega (arith, below))),
@@ -135,13 +135,13 @@ module _ (plan : DiePlan) (times : Times) (end task : ℕ) where
   fewer a rest h slot at =
       omega (arith, sum_by-cons (λ b. cond (is_collection_at task slot b) 1 0) a rest, h slot at)
 
-  collections_behind : (a : TaskArrival) → a.release ≡ a.at → a.release % (times_of times task).collect_period ≡ 0 → (rest : List TaskArrival)
+  collections_after : (a : TaskArrival) → a.release ≡ a.at → a.release % (times_of times task).collect_period ≡ 0 → (rest : List TaskArrival)
       → AllByRecursion (IsPlanned plan times end) rest
       → AllByRecursion (λ b. a.at ≤ b.at) rest → AllByRecursion (λ b. is_collection_at task a.at b ≡ false) rest
       → AllByRecursion (λ b. is_collection_of task b ≡ true → a.release + (times_of times task).collect_period ≤ b.release) rest
-  collections_behind a comes multiple [] planned later others = tt
-  collections_behind a comes multiple (b ∷ rest) planned later others =
-      (here, collections_behind a comes multiple rest planned.1 later.1 others.1)
+  collections_after a comes multiple [] planned later others = tt
+  collections_after a comes multiple (b ∷ rest) planned later others =
+      (here, collections_after a comes multiple rest planned.1 later.1 others.1)
     where
       here : is_collection_of task b ≡ true → a.release + (times_of times task).collect_period ≤ b.release
       here is =
@@ -150,9 +150,9 @@ module _ (plan : DiePlan) (times : Times) (end task : ℕ) where
           ≡ 0 = subst (λ i. b.release % (times_of times i).collect_period ≡ 0) k.1 k.2.slot.multiple in
           let apart : b.at ≡ a.at → ⊥ = λ same. true≢false
           (sym (and_from (is_collection_of task b) (b.at == a.at) is (eq-eqb b.at a.at same)) ∙ others.0) in
-          let behind : a.at < b.at = elim (cases_lt a.at b.at)
+          let beyond : a.at < b.at = elim (cases_lt a.at b.at)
           [ inl less ↦ less | inr more ↦ absurd (apart (omega (arith, more, later.0))) ] in
-          next_multiple a.release b.release (times_of times task).collect_period multiple own (omega (arith, behind, comes, k.2.comes))
+          next_multiple a.release b.release (times_of times task).collect_period multiple own (omega (arith, beyond, comes, k.2.comes))
 
   pub collections_apart_in : (all : List TaskArrival) → AllByRecursion (IsPlanned plan times end) all → ComesLater all → AtMostOne all
       → windows.AreApart release_of due_of (is_collection_of task) (times_of times task).collect_period all
@@ -182,7 +182,7 @@ module _ (plan : DiePlan) (times : Times) (end task : ℕ) where
                 (arith, k.2.comes, within);
           }) in (
             due,
-            collections_behind a k.2.comes multiple rest planned.1 later.0
+            collections_after a k.2.comes multiple rest planned.1 later.0
                 (none_counted (is_collection_at task a.at) rest (omega (arith, counted, one, all))),
           )
 

@@ -184,10 +184,10 @@ module _ (task period : ℕ) where
   apart_later from now (events.Collect other release due ∷ rest) h = ((λ is. absurd (true≢false (sym is))), apart_later from now rest h)
   apart_later from now (events.Slot ∷ rest) h = apart_later from (now + 1) rest h
 
-  apart_behind : (from release due : ℕ) (ops : List Op) (rest : List Event)
+  apart_after : (from release due : ℕ) (ops : List Op) (rest : List Event)
       → apart_from task period from (events.Submit task release due ops ∷ rest) ≡ true → apart_from task period (release + period) rest
       ≡ true
-  apart_behind from release due ops rest h = (and_parts (nat_le from release) (apart_from task period (release + period) rest)
+  apart_after from release due ops rest h = (and_parts (nat_le from release) (apart_from task period (release + period) rest)
       (rw (eq-eqb task task refl) at h)).1
 
   -- what is found of a list is found of its rest
@@ -205,8 +205,8 @@ module _ (plan : DiePlan) (times : Times) (end : ℕ) where
   abbrev AreFoundApart : List Event → Type 0
   AreFoundApart all = (task : ℕ) → task < length plan.caps → (from : ℕ) × (apart_from task (times_of times task).period from all ≡ true)
 
-  found_behind : (now : ℕ) (event : Event) (rest : List Event) → AreFoundApart (event ∷ rest) → AreFoundApart rest
-  found_behind now event rest h task lt = let k = h task lt in apart_rest task (times_of times task).period k.0 event rest k.1
+  found_after : (now : ℕ) (event : Event) (rest : List Event) → AreFoundApart (event ∷ rest) → AreFoundApart rest
+  found_after now event rest h task lt = let k = h task lt in apart_rest task (times_of times task).period k.0 event rest k.1
 
   pairs_of : (now task release due : ℕ) (ops : List Op) (rest : List TaskArrival)
       → AllByRecursion (λ b. is_job_of task b ≡ true → release + (times_of times task).period ≤ b.release) rest
@@ -226,13 +226,13 @@ module _ (plan : DiePlan) (times : Times) (end : ℕ) where
       (All-from_recursion (AreApart times (job now task release due ops)) (arrivals now rest)
       (pairs_of now task release due ops (arrivals now rest)
       (apart_later task (times_of times task).period (release + (times_of times task).period) now rest
-      (apart_behind task (times_of times task).period k.0 release due ops rest k.1))))
-      (apart_says now rest planned.1 (found_behind now (events.Submit task release due ops) rest h))
+      (apart_after task (times_of times task).period k.0 release due ops rest k.1))))
+      (apart_says now rest planned.1 (found_after now (events.Submit task release due ops) rest h))
   apart_says now (events.Collect task release due ∷ rest) planned h =
       AllPairs-cons (AreApart times) (collection now task release due) (arrivals now rest)
       (λ i d lt own other same. absurd (true≢false own))
-      (apart_says now rest planned.1 (found_behind now (events.Collect task release due) rest h))
-  apart_says now (events.Slot ∷ rest) planned h = apart_says (now + 1) rest planned (found_behind now events.Slot rest h)
+      (apart_says now rest planned.1 (found_after now (events.Collect task release due) rest h))
+  apart_says now (events.Slot ∷ rest) planned h = apart_says (now + 1) rest planned (found_after now events.Slot rest h)
 
 first_pairs : {X : Type 0} (R : X → X → Type 0) (x : X) (xs : List X) → AllPairs R (x ∷ xs) → AllByRecursion (R x) xs × AllPairs R xs
 first_pairs R x xs h = (

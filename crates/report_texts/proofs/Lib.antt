@@ -13,4 +13,4 @@ pub mod RowsBack
 pub mod CertsBack
 pub mod ReportsBack
 pub mod WorkLaws
-pub mod WorkTold
+pub mod WorkReported

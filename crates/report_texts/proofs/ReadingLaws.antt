@@ -9,7 +9,7 @@ use Rattle.slot_types.specs.declared.refusals.Refusal.{Refusal}
 use Rattle.slot_types.specs.declared.refusals.Refusal.TheVariants.{ReportText}
 use Rattle.text_base.specs.Readings.{IsOutside}
 use Rattle.report_texts.specs.RecordsLeft.{Loses, Stays, hand_of, unless_cert, with_hand}
-use Rattle.report_texts.specs.ReportOf.{Reading, Reads, Tells, all_dies, broken_at, certs_for, certs_from, gathered_with, rows_from, with_die}
+use Rattle.report_texts.specs.ReportOf.{Reading, Reads, Says, all_dies, broken_at, certs_for, certs_from, gathered_with, rows_from, with_die}
 use Rattle.text_base.specs.CsvRecords.{Fields}
 use Rattle.report_texts.specs.Worst.{is_cert, worst_of}
 use Rattle.report_texts.specs.declared.gathered.Gathered.{Gathered}
@@ -112,7 +112,7 @@ pub certs-fault : {A : Type 0} (after : A → List Fields → Reading) (dies : L
     → i < length dies → old ≡ get_or dies i old
     → Reads (certs_for old (certs_from (drop (i + 1) dies)) (worst_of old.rows) line) after left new (Err e)
     → Stays whole (option_map (λ records. front_dies (take i dies) (certs_from (drop i dies) line records)) left)
-    → Tells whole (Err e)
+    → Says whole (Err e)
 certs-fault after dies i old line left new None e below at step so-far = tt
 certs-fault after dies i old line None new (Some w) e below at step so-far = absurd (cc so-far)
 certs-fault after dies i old line (Some records) new (Some w) e below at (inl out) so-far = inl out
@@ -124,7 +124,7 @@ certs-fault after dies i old line (Some records) new (Some w) e below at (inr ba
 pub certs-over : (dies : List DieReport) (i line : ℕ) (found : Bool) (own : Fields) (left : Option (List Fields)) (whole : Option Reading)
     → length dies ≤ i → found ≡ true
     → Stays whole (option_map (λ records. front_dies (take i dies) (certs_from (drop i dies) line records)) (with_hand found own left))
-    → Tells whole (Err (ReportText line))
+    → Says whole (Err (ReportText line))
 unfolding certs_from
 certs-over dies i line found own left None above at so-far = tt
 certs-over dies i line false own left (Some w) above at so-far = absurd (cc at)
@@ -137,7 +137,7 @@ certs-over dies i line true own (Some rest) (Some w) above at so-far =
 pub certs-end : (dies : List DieReport) (i line : ℕ) (found : Bool) (own : Fields) (left : Option (List Fields)) (whole : Option Reading)
     → length dies ≤ i → found ≡ false
     → Stays whole (option_map (λ records. front_dies (take i dies) (certs_from (drop i dies) line records)) (with_hand found own left))
-    → Tells whole (Ok dies)
+    → Says whole (Ok dies)
 unfolding certs_from
 certs-end dies i line found own left None above at so-far = tt
 certs-end dies i line true own left (Some w) above at so-far = absurd (cc at)
@@ -157,21 +157,21 @@ reads-then before mid after None n p x r one two = tt
 reads-then before mid after (Some records) n p x (Ok y) one two = let t = rw one.1 at two in (t.0, t.1, one.2 ∙ t.2)
 reads-then before mid after (Some records) n p x (Err e) one two = late e (one.2) (rw one.1 at two)
 
-pub tells-then : {A : Type 0} (before : List Fields → Reading) (mid : A → List Fields → Reading) (o n : Option (List Fields)) (x : A)
+pub says-then : {A : Type 0} (before : List Fields → Reading) (mid : A → List Fields → Reading) (o n : Option (List Fields)) (x : A)
     (r : Reading)
-    → Reads before mid o n (Ok x) → Tells (option_map (mid x) n) r → Tells (option_map before o) r
-tells-then before mid None n x r one told = tt
-tells-then before mid (Some records) n x (Ok report) one told = one.2 ∙ rw one.1 at told
-tells-then before mid (Some records) n x (Err e) one told = late e one.2 (rw one.1 at told)
+    → Reads before mid o n (Ok x) → Says (option_map (mid x) n) r → Says (option_map before o) r
+says-then before mid None n x r one said = tt
+says-then before mid (Some records) n x (Ok report) one said = one.2 ∙ rw one.1 at said
+says-then before mid (Some records) n x (Err e) one said = late e one.2 (rw one.1 at said)
 
-pub tells-fault : {A : Type 0} (before : List Fields → Reading) (mid : A → List Fields → Reading) (o n : Option (List Fields)) (e : Refusal)
-    → Reads before mid o n (Err e) → Tells (option_map before o) (Err e)
-tells-fault before mid None n e one = tt
-tells-fault before mid (Some records) n e one = one
+pub says-fault : {A : Type 0} (before : List Fields → Reading) (mid : A → List Fields → Reading) (o n : Option (List Fields)) (e : Refusal)
+    → Reads before mid o n (Err e) → Says (option_map before o) (Err e)
+says-fault before mid None n e one = tt
+says-fault before mid (Some records) n e one = one
 
 -- what the known records tell, the records of a known text tell
-pub tells-text : {A : Type 0} (rows : A → List Fields) (before : List Fields → Reading) (text : Option A) (left : Option (List Fields))
+pub says-text : {A : Type 0} (rows : A → List Fields) (before : List Fields → Reading) (text : Option A) (left : Option (List Fields))
     (r : Reading)
-    → Stays (option_map rows text) left → Tells (option_map before left) r → Tells (option_map (λ t. before (rows t)) text) r
-tells-text rows before None left r stays told = tt
-tells-text rows before (Some t) left r stays told = rw stays at told
+    → Stays (option_map rows text) left → Says (option_map before left) r → Says (option_map (λ t. before (rows t)) text) r
+says-text rows before None left r stays said = tt
+says-text rows before (Some t) left r stays said = rw stays at said

@@ -12,9 +12,9 @@ use Rattle.report_texts.specs.declared.reports.DieReport.{DieReport}
 use Rattle.report_texts.specs.declared.reports.ReportRow.{ReportRow}
 
 -- the records of one die after those of others
-records_behind : (f : DieReport → List (List (List ℕ))) (dies : List DieReport) (die : DieReport)
+records_after : (f : DieReport → List (List (List ℕ))) (dies : List DieReport) (die : DieReport)
     → records_text (flat_map f (dies ++ die ∷ [])) ≡ records_text (flat_map f dies) ++ records_text (f die)
-records_behind f dies die =
+records_after f dies die =
     ap records_text (flat_map-append f dies (die ∷ []) ∙ ap (λ (xs : List (List (List ℕ))). flat_map f dies ++ xs) (append-nil (f die)))
     ∙ flat_map-append (row_text default_writer) (flat_map f dies) (f die)
 
@@ -25,8 +25,8 @@ text_more dies die old new so_far added =
     let head = row_text default_writer header_fields in
     added ∙ (ap (die_added die) so_far ∙ λ i. record {
       rows = (append_assoc head (records_text (flat_map die_records dies)) (records_text (die_records die))
-          ∙ ap (λ (xs : List ℕ). head ++ xs) (sym (records_behind die_records dies die))) i;
-      certs = sym (records_behind cert_record dies die) i;
+          ∙ ap (λ (xs : List ℕ). head ++ xs) (sym (records_after die_records dies die))) i;
+      certs = sym (records_after cert_record dies die) i;
     })
 
 -- one row after others

@@ -113,7 +113,7 @@ Reads before after (Some records) new (Ok x) = (rest : List Fields) × (new ≡ 
 Reads before after (Some records) new (Err e) = IsOutside e ⊎ (before records ≡ Err e)
 
 -- a call gave the known reading of a text, if memory and the reader didn't fail
-abbrev pub Tells : Option Reading → Reading → Type 0
-Tells None result = ⊤
-Tells (Some reading) (Ok report) = reading ≡ Ok report
-Tells (Some reading) (Err e) = IsOutside e ⊎ (reading ≡ Err e)
+abbrev pub Says : Option Reading → Reading → Type 0
+Says None result = ⊤
+Says (Some reading) (Ok report) = reading ≡ Ok report
+Says (Some reading) (Err e) = IsOutside e ⊎ (reading ≡ Err e)

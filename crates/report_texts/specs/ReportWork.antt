@@ -3,7 +3,7 @@ use Rattle.std.specs.Prelude.{◌≡◌, List, map, All, Option, Result, Ok, Err
 use Rattle.late_cert.specs.Rows.{RowsRise}
 use Rattle.slot_types.specs.declared.refusals.Refusal.{Refusal}
 use Rattle.report_texts.specs.JobRows.{job_rows_of}
-use Rattle.report_texts.specs.ReportOf.{Reading, Reads, Tells}
+use Rattle.report_texts.specs.ReportOf.{Reading, Reads, Says}
 use Rattle.text_base.specs.CsvRecords.{Fields}
 use Rattle.report_texts.specs.Worst.{worst_of}
 use Rattle.report_texts.specs.declared.report_work.DieWork.{DieWork}
@@ -23,9 +23,9 @@ AllRise work = All (λ (die : DieWork). RowsRise die.rows) work
 
 -- a call gave the work of a report, or a refusal, as the known reading of a text has it, if memory and the reader
 -- didn't fail
-abbrev pub TellsWork : Option Reading → Result (List DieWork) Refusal → Type 0
-TellsWork known (Ok work) = (report : List DieReport) × (work ≡ works_of report) × Tells known (Ok report)
-TellsWork known (Err e) = Tells known (Err e)
+abbrev pub SaysWork : Option Reading → Result (List DieWork) Refusal → Type 0
+SaysWork known (Ok work) = (report : List DieReport) × (work ≡ works_of report) × Says known (Ok report)
+SaysWork known (Err e) = Says known (Err e)
 
 -- a call read on from these records: it gave the work of dies, and those that are left say after these dies what all
 -- said

@@ -4,7 +4,7 @@ ghost use Rattle.std.specs.Prelude.{◌≡◌, ◌≤◌, ℕ, List, true, IfOk,
 ghost use Rattle.csv.specs.Records.{fields_of};
 ghost use Rattle.report_texts.specs.Numbering.{AreNumbered};
 ghost use Rattle.report_texts.specs.ReportHeader.{is_report_header};
-ghost use Rattle.report_texts.specs.ReportOf.{Reading, Reads, Tells, certs_for, certs_from, no_rows, report_from, report_of, rows_from};
+ghost use Rattle.report_texts.specs.ReportOf.{Reading, Reads, Says, certs_for, certs_from, no_rows, report_from, report_of, rows_from};
 ghost use Rattle.report_texts.specs.ReportOf.{with_die};
 ghost use Rattle.report_texts.specs.RecordsLeft.{IsReady, Stays, record_line, records_fit, records_left};
 ghost use Rattle.text_base.specs.CsvRecords.{Fields};
@@ -124,7 +124,7 @@ fn take_certs<R: Read>(
 ) -> Result<Report, Refusal>
     requires ready { IsReady records.old }
     requires numbered { AreNumbered dies }
-    ensures report { Tells
+    ensures report { Says
         (option_map (certs_from dies (record_line records.old))
         (records_left R.remaining records.old)) result }
     ensures fits { OnOk result (IfSome (records_fit R.remaining records.old) (λ fits.
@@ -161,7 +161,7 @@ fn take_certs<R: Read>(
 /// comes where the reader fails or goes on beyond its bound; the records before it are judged first. NoMemory comes
 /// where memory is refused.
 pub fn read_report<R: Read + Drop>(alloc: Global, reader: R) -> Result<Report, Refusal>
-    ensures report { Tells (option_map report_of (R.remaining reader)) result }
+    ensures report { Says (option_map report_of (R.remaining reader)) result }
     ensures bound { OnOk result (IfSome (R.remaining reader) (λ text. length text ≤ 67108864)) }
     ensures numbered { IfOk result AreNumbered }
 {

@@ -3,7 +3,7 @@
 ghost use Rattle.std.specs.Prelude.{◌≡◌, ◌≤◌, ℕ, List, true, IfOk, IfSome, OnOk, length, option_map};
 ghost use Rattle.report_texts.specs.RecordsLeft.{IsReady, Stays, record_line, records_fit, records_left};
 ghost use Rattle.report_texts.specs.ReportOf.{Reading, Reads, certs_for, certs_from, no_rows, report_of, rows_from, with_die};
-ghost use Rattle.report_texts.specs.ReportWork.{AllRise, ReadsWork, TellsWork, work_of, works_of};
+ghost use Rattle.report_texts.specs.ReportWork.{AllRise, ReadsWork, SaysWork, work_of, works_of};
 ghost use Rattle.text_base.specs.CsvRecords.{Fields};
 ghost use Rattle.report_texts.specs.Worst.{worst_of};
 ghost use Rattle.report_texts.specs.declared.reports.DieReport.{DieReport};
@@ -84,7 +84,7 @@ fn take_certs<R: Read>(
     requires ready { IsReady records.old }
     requires rise { AllRise dies }
     ensures work { (ds : List DieReport) → dies ≡ works_of ds →
-        TellsWork (option_map (certs_from ds (record_line records.old))
+        SaysWork (option_map (certs_from ds (record_line records.old))
         (records_left R.remaining records.old)) result }
     ensures fits { OnOk result (IfSome (records_fit R.remaining records.old) (λ fits.
         fits ≡ true)) }
@@ -112,7 +112,7 @@ fn take_certs<R: Read>(
 /// with the same refusal, of the same record. NoMemory comes where memory is refused, of which this takes less, and
 /// ReadFault where the reader fails.
 pub fn read_work<R: Read + Drop>(alloc: Global, reader: R) -> Result<ReportWork, Refusal>
-    ensures work { TellsWork (option_map report_of (R.remaining reader)) result }
+    ensures work { SaysWork (option_map report_of (R.remaining reader)) result }
     ensures bound { OnOk result (IfSome (R.remaining reader) (λ text. length text ≤ 67108864)) }
     ensures rise { IfOk result AllRise }
 {

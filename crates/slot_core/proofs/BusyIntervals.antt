@@ -21,9 +21,9 @@ use Rattle.late_cert.specs.Bound.{is_listed}
 use Rattle.late_cert.specs.BusyInterval.{key_at_most, is_within, IsBusyInterval, start_of, is_carried, jobs_of}
 use Rattle.late_cert.specs.Build.{busy_interval_of, busy_interval_if_done}
 use Rattle.late_cert.proofs.Marks.{carried-none}
-use Rattle.late_cert.proofs.OneStretch.{same-start, same-jobs}
+use Rattle.late_cert.proofs.OneBusyInterval.{same-start, same-jobs}
 use Rattle.late_cert.proofs.Walking.{AllCarry, start-run, start-stays, carried-further}
-use Rattle.late_cert.proofs.Window.{carried-true, true-carried, stretch-is}
+use Rattle.late_cert.proofs.Window.{carried-true, true-carried, busy_interval-is}
 use Rattle.job_table.specs.declared.stages.Stage.{Stage}
 use Rattle.job_table.specs.declared.stages.Stage.TheVariants as stages
 use Rattle.job_table.specs.Jobs.{JobRecord}
@@ -257,7 +257,7 @@ numbers_are : (rows : List JobRow) → RowsRise rows → (c : Slots) (j n : ℕ)
     → ((k : ℕ) → is_listed jobs k ≡ is_listed numbers k) → jobs ≡ jobs_of rows c (start_of rows c j n) n
 numbers_are rows r c j n numbers jobs carried rises same =
     let s : ℕ = start_of rows c j n in
-    let ours : IsBusyInterval rows c j s n (jobs_of rows c s n) = stretch-is rows c j n r in
+    let ours : IsBusyInterval rows c j s n (jobs_of rows c s n) = busy_interval-is rows c j n r in
     let theirs : IsBusyInterval rows c j s n jobs = record {
       ordered = ours.ordered;
       carries = ours.carries;
@@ -338,8 +338,8 @@ pub interval_over_more : (rows : List JobRow) → RowsRise rows → (c : Slots) 
 interval_over_more rows r c j n is =
     let s : ℕ = start_of rows (take n c) j n in
     let theirs : IsBusyInterval rows c j s n (jobs_of rows (take n c) s n) = over_more rows c j n s (jobs_of rows (take n c) s n)
-    (stretch-is rows (take n c) j n r) in
-    let ours : IsBusyInterval rows c j (start_of rows c j n) n (jobs_of rows c (start_of rows c j n) n) = stretch-is rows c j n r in
+    (busy_interval-is rows (take n c) j n r) in
+    let ours : IsBusyInterval rows c j (start_of rows c j n) n (jobs_of rows c (start_of rows c j n) n) = busy_interval-is rows c j n r in
     let starts : s ≡ start_of rows c j n = same-start rows c j n s (start_of rows c j n) (jobs_of rows (take n c) s n)
     (jobs_of rows c (start_of rows c j n) n) theirs ours in
     let jobs : jobs_of rows (take n c) s n ≡ jobs_of rows c (start_of rows c j n) n = same-jobs rows c j n s (start_of rows c j n)

@@ -9,7 +9,7 @@ use Rattle.late_cert.specs.Schedule.{Slots}
 use Rattle.late_cert.specs.Rows.{RowsRise, is_done, completion_of}
 use Rattle.late_cert.specs.BusyInterval.{CarriesLeastKeys}
 use Rattle.late_cert.specs.Build.{certificate_of, busy_interval_of, busy_interval_if_done}
-use Rattle.late_cert.proofs.OneStretch.{certificate_of-done}
+use Rattle.late_cert.proofs.OneBusyInterval.{certificate_of-done}
 use Rattle.job_table.specs.Jobs.{JobRecord}
 use Rattle.job_table.specs.Worst.{IsWorst}
 use Rattle.die_log.specs.Model.Log.{Log, Job}

@@ -30,7 +30,7 @@ use Rattle.job_table.specs.Jobs.{JobRecord, with_stage}
 use Rattle.job_table.specs.Order as table
 use Rattle.job_table.specs.Table.{Table, with_change}
 use Rattle.job_table.specs.Waivers.{jobs_after_waivers}
-use Rattle.job_table.proofs.Behind.{WereHeads-push, pending_stays}
+use Rattle.job_table.proofs.Beyond.{WereHeads-push, pending_stays}
 use Rattle.job_table.proofs.Heads.{ready_pending}
 use Rattle.job_table.proofs.Waivers.{waived_push}
 use Rattle.die_log.specs.Model.Log.{Log, Job, acts, job_at, jobs, is_waived, waived_collections, work}

@@ -21,7 +21,7 @@ use Rattle.job_table.proofs.Tables.{head_undone}
 use Rattle.job_table.proofs.Worsts.{undone_worst, pushed_worst, worst_of_others, worst_alone, worst_now, worst_stays, one_worst}
 use Rattle.event_log.specs.Notes.{Note}
 use Rattle.event_log.specs.Slots.{carried_in}
-use Rattle.event_log.specs.Stretches.{stands_alone}
+use Rattle.event_log.specs.NoteRecords.{stands_alone}
 use Rattle.event_log.specs.Entries.{entries_of}
 use Rattle.die_log.specs.Model.Log.{Log, now, carried_slots}
 use Rattle.die_log.specs.Model.Start.{Start, over}
@@ -30,7 +30,7 @@ use Rattle.slot_core.specs.MarkedWorst.{completion_of, completion_at, MarksWorst
 use Rattle.slot_core.specs.declared.head_step.HeadStep.{HeadStep}
 use Rattle.slot_core.specs.HeadSteps.{after_read, table_after_step, deed_by}
 use Rattle.slot_core.proofs.Slotting.{turn_change}
-use Rattle.slot_core.proofs.Telling.{numbers_told}
+use Rattle.slot_core.proofs.Telling.{numbers_reported}
 
 -- no job yet
 pub marks_none : MarksWorst [] 0
@@ -180,8 +180,8 @@ last_alone number place true (does.Erase block) e = refl
 last_alone number place false act e = absurd (false≢true e)
 
 -- the slots of the events are those of the log that they tell
-pub slots_told : (js : List JobRecord) (notes : List Note) → length (carried_in notes) ≡ now (entries_of js notes)
-slots_told js notes = sym (ap length (numbers_told js notes)) ∙ length-map (carried_slots (entries_of js notes)) _
+pub slots_reported : (js : List JobRecord) (notes : List Note) → length (carried_in notes) ≡ now (entries_of js notes)
+slots_reported js notes = sym (ap length (numbers_reported js notes)) ∙ length-map (carried_slots (entries_of js notes)) _
 
 -- Where it is asked
 

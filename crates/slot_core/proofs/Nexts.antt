@@ -106,15 +106,15 @@ module _ (start : Start) (log : Log) (present : ℕ) (kept : Table) (failed : Bo
   numbered : AreNumbered 0 (jobs log)
   numbered = (stands_well start k.bound log k.exact).0.numbered
 
-  pub next_told : (o : Option ℕ) → IfSome o (λ n. table.IsHead t n ⊎ (table.NothingReady t × table.IsNextReleased t n))
+  pub next_reported : (o : Option ℕ) → IfSome o (λ n. table.IsHead t n ⊎ (table.NothingReady t × table.IsNextReleased t n))
       → IfSome o (IsNextCarried start.plan log)
-  next_told None h = tt
-  next_told (Some n) (inl head) = head_next start log kept.tasks kept.ended n numbered
+  next_reported None h = tt
+  next_reported (Some n) (inl head) = head_next start log kept.tasks kept.ended n numbered
       (subst (λ (u : Table). table.IsHead u n) at_present head)
-  next_told (Some n) (inr (nothing, later)) = released_next start log kept.tasks kept.ended n numbered
+  next_reported (Some n) (inr (nothing, later)) = released_next start log kept.tasks kept.ended n numbered
       (subst table.NothingReady at_present nothing) (subst (λ (u : Table). table.IsNextReleased u n) at_present later)
 
-  pub quiet_told : (o : Option ℕ) → IfNone o (table.NothingReady t × table.NothingWaiting t) → IfNone o (IsQuiet start log)
-  quiet_told (Some n) h = tt
-  quiet_told None (nothing, none) = quiet_by start log kept.tasks kept.ended (subst table.NothingReady at_present nothing)
+  pub quiet_reported : (o : Option ℕ) → IfNone o (table.NothingReady t × table.NothingWaiting t) → IfNone o (IsQuiet start log)
+  quiet_reported (Some n) h = tt
+  quiet_reported None (nothing, none) = quiet_by start log kept.tasks kept.ended (subst table.NothingReady at_present nothing)
       (subst table.NothingWaiting at_present none)

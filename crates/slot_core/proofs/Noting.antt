@@ -22,7 +22,7 @@ use Rattle.job_table.proofs.Changed.{changed_here}
 use Rattle.event_log.specs.declared.deeds.Deed.{Deed}
 use Rattle.event_log.specs.Notes.{Note}
 use Rattle.event_log.specs.Entries.{act_at, slots_in, entries_of}
-use Rattle.event_log.specs.Growth.{HasDone, Fits, AllFit, IsGrown, Grew}
+use Rattle.event_log.specs.GrownTable.{HasDone, Fits, AllFit, IsGrown, Grew}
 use Rattle.event_log.proofs.Growing.{entries_stay, all_fit_stay, carried_grown, read_grown, stage_grown, grew_change, grew_then}
 use Rattle.die_log.specs.Model.Log.{Log, now}
 use Rattle.slot_core.specs.Core.{with_entry}
@@ -32,7 +32,7 @@ use Rattle.slot_core.specs.OpEffects.{act_by}
 use Rattle.slot_core.specs.declared.head_step.HeadStep.{HeadStep}
 use Rattle.slot_core.specs.HeadSteps.{after_read, table_after_end, table_after_step, head_step_by, deed_by, DidBy, DidHeadStep}
 use Rattle.slot_core.proofs.Slotting.{turn_reply, turned, turn_change}
-use Rattle.slot_core.proofs.Telling.{get_here, now_told}
+use Rattle.slot_core.proofs.Telling.{get_here, now_reported}
 
 -- The jobs after a step
 
@@ -140,7 +140,7 @@ op_stands later n r f (asks.Read page) m next counted = read_stands later n r pa
 -- the events with one more tell the log with this step, and fit
 pub record Noted (later : List JobRecord) (notes : List Note) (log : Log) (caller present : ℕ) (ws : List Waived) (n place : ℕ)
     (turn : HeadStep) : Type 0 where
-  pub tells : entries_of later (record { caller = caller; deed = deed_by n place turn.last turn.act; waived = ws } ∷ notes)
+  pub says : entries_of later (record { caller = caller; deed = deed_by n place turn.last turn.act; waived = ws } ∷ notes)
       ≡ with_entry caller events.Slot (replies.Slot (turn_reply present ws n turn)) log
   pub fits : Fits later (deed_by n place turn.last turn.act)
 
@@ -148,61 +148,61 @@ op_noted : (later : List JobRecord) (notes : List Note) (log : Log) (caller pres
     (f : FlashState) (op : Op) (last : Bool) → Stands later n place (act_by f op)
     → entries_of later notes ≡ log → slots_in notes ≡ present
     → Noted later notes log caller present ws n place (record { act = act_by f op; last = last; given = given })
-op_noted later notes log caller present ws n place given f (asks.Read page) true st told slot = record
-    { tells = rw (st.act_is, told, slot) refl; fits = st.done }
-op_noted later notes log caller present ws n place given f (asks.Read page) false st told slot = record
-    { tells = rw (st.act_is, told, slot) refl; fits = st.done }
-op_noted later notes log caller present ws n place given f (asks.Write page bytes) true st told slot = record
-    { tells = rw (st.act_is, told, slot) refl; fits = st.done }
-op_noted later notes log caller present ws n place given f (asks.Write page bytes) false st told slot = record
-    { tells = rw (st.act_is, told, slot) refl; fits = st.done }
-op_noted later notes log caller present ws n place given f (asks.Trim page) true st told slot = record
-    { tells = rw (st.act_is, told, slot) refl; fits = st.done }
-op_noted later notes log caller present ws n place given f (asks.Trim page) false st told slot = record
-    { tells = rw (st.act_is, told, slot) refl; fits = st.done }
+op_noted later notes log caller present ws n place given f (asks.Read page) true st said slot = record
+    { says = rw (st.act_is, said, slot) refl; fits = st.done }
+op_noted later notes log caller present ws n place given f (asks.Read page) false st said slot = record
+    { says = rw (st.act_is, said, slot) refl; fits = st.done }
+op_noted later notes log caller present ws n place given f (asks.Write page bytes) true st said slot = record
+    { says = rw (st.act_is, said, slot) refl; fits = st.done }
+op_noted later notes log caller present ws n place given f (asks.Write page bytes) false st said slot = record
+    { says = rw (st.act_is, said, slot) refl; fits = st.done }
+op_noted later notes log caller present ws n place given f (asks.Trim page) true st said slot = record
+    { says = rw (st.act_is, said, slot) refl; fits = st.done }
+op_noted later notes log caller present ws n place given f (asks.Trim page) false st said slot = record
+    { says = rw (st.act_is, said, slot) refl; fits = st.done }
 
 did_noted : (later : List JobRecord) (notes : List Note) (log : Log) (caller present : ℕ) (ws : List Waived) (n place : ℕ) (did : Collected)
     → entries_of later notes ≡ log → slots_in notes ≡ present
     → Noted later notes log caller present ws n place (head_step_by did)
-did_noted later notes log caller present ws n place (acts_of.CopyRead page) told slot = record { tells = rw (told, slot) refl; fits = tt }
-did_noted later notes log caller present ws n place (acts_of.CopyProgram page) told slot = record
-    { tells = rw (told, slot) refl; fits = tt }
-did_noted later notes log caller present ws n place (acts_of.EraseSlot block) told slot = record { tells = rw (told, slot) refl; fits = tt }
-did_noted later notes log caller present ws n place (acts_of.Finished block given) told slot = record
-    { tells = rw (told, slot) refl; fits = tt }
+did_noted later notes log caller present ws n place (acts_of.CopyRead page) said slot = record { says = rw (said, slot) refl; fits = tt }
+did_noted later notes log caller present ws n place (acts_of.CopyProgram page) said slot = record
+    { says = rw (said, slot) refl; fits = tt }
+did_noted later notes log caller present ws n place (acts_of.EraseSlot block) said slot = record { says = rw (said, slot) refl; fits = tt }
+did_noted later notes log caller present ws n place (acts_of.Finished block given) said slot = record
+    { says = rw (said, slot) refl; fits = tt }
 
 turn_noted : {N : Type 0} (blocks_of : N → List device.Block) (later : List JobRecord) (notes : List Note) (log : Log) (caller present : ℕ)
     (ws : List Waived) (n : ℕ) (r : JobRecord) (v w : State N) (turn : HeadStep)
     → IsTurned later n r turn.act → DidHeadStep blocks_of v r turn w → length r.reads ≡ count_by is_read (take r.work r.ops)
     → entries_of later notes ≡ log → slots_in notes ≡ present → Noted later notes log caller present ws n r.work turn
-turn_noted blocks_of later notes log caller present ws n r v w turn m did counted told slot = by_kind r.collects did
+turn_noted blocks_of later notes log caller present ws n r v w turn m did counted said slot = by_kind r.collects did
   where
     by_kind : (b : Bool) → DidBy blocks_of v r b turn w → Noted later notes log caller present ws n r.work turn
     by_kind false d =
         let moved = subst (λ (x : HeadStep). IsTurned later n r x.act) d.turn_is m in
         subst (Noted later notes log caller present ws n r.work) (sym d.turn_is)
         (op_noted later notes log caller present ws n r.work 0 (flash_of blocks_of v) d.op (r.work + 1 == length r.ops)
-        (op_stands later n r (flash_of blocks_of v) d.op moved d.next counted) told slot)
+        (op_stands later n r (flash_of blocks_of v) d.op moved d.next counted) said slot)
     by_kind true d = subst (Noted later notes log caller present ws n r.work) (sym d.turn_is)
-        (did_noted later notes log caller present ws n r.work d.did told slot)
+        (did_noted later notes log caller present ws n r.work d.did said slot)
 
 -- as a slot finds it: js were the jobs before it, and t is the table before the step
-pub record Told (js : List JobRecord) (notes after : List Note) (log : Log) (caller : ℕ) (u : Table) (reply : SlotReply) : Type 0 where
-  pub tells : log_of u after ≡ with_entry caller events.Slot (replies.Slot reply) log
+pub record Reported (js : List JobRecord) (notes after : List Note) (log : Log) (caller : ℕ) (u : Table) (reply : SlotReply) : Type 0 where
+  pub says : log_of u after ≡ with_entry caller events.Slot (replies.Slot reply) log
   pub fits : AllFit u.jobs after
 
-pub turn_told : {N : Type 0} (blocks_of : N → List device.Block) (js : List JobRecord) (notes after : List Note) (log : Log)
+pub turn_reported : {N : Type 0} (blocks_of : N → List device.Block) (js : List JobRecord) (notes after : List Note) (log : Log)
     (caller present place : ℕ) (ws : List Waived) (t u : Table) (n : ℕ) (r : JobRecord) (v w : State N) (turn : HeadStep) (deed : Deed)
     (reply : SlotReply)
     → entries_of js notes ≡ log → AllFit js notes → Grew js t.jobs → present ≡ now log → slice_get t.jobs n ≡ Some r
     → DidHeadStep blocks_of v r turn w → length r.reads ≡ count_by is_read (take r.work r.ops) → place ≡ r.work
     → u ≡ table_after_step t n turn (present + 1) → deed ≡ deed_by n place turn.last turn.act → after
     ≡ record { caller = caller; deed = deed; waived = ws } ∷ notes → reply ≡ turn_reply present ws n turn
-    → Told js notes after log caller u reply
-turn_told blocks_of js notes after log caller present place ws t u n r v w turn deed reply told fits grew now_is at did counted place_is
+    → Reported js notes after log caller u reply
+turn_reported blocks_of js notes after log caller present place ws t u n r v w turn deed reply said fits grew now_is at did counted place_is
     table_is deed_is after_is reply_is =
     rw (after_is, deed_is, place_is, reply_is, table_is)
-    (record { tells = noted.tells; fits = (noted.fits, all_fit_stay js (table_after_step t n turn (present + 1)).jobs notes grown fits) })
+    (record { says = noted.says; fits = (noted.fits, all_fit_stay js (table_after_step t n turn (present + 1)).jobs notes grown fits) })
   where
     grown : Grew js (table_after_step t n turn (present + 1)).jobs
     grown = grew_then js t.jobs (table_after_step t n turn (present + 1)).jobs grew (turn_grew t n turn (present + 1))
@@ -210,5 +210,5 @@ turn_told blocks_of js notes after log caller present place ws t u n r v w turn 
     noted : Noted (table_after_step t n turn (present + 1)).jobs notes log caller present ws n r.work turn
     noted = turn_noted blocks_of (table_after_step t n turn (present + 1)).jobs notes log caller present ws n r v w turn
         (turned_at t n turn (present + 1) r at) did counted
-        (entries_stay js (table_after_step t n turn (present + 1)).jobs notes grown fits ∙ told) (sym (now_told js notes) ∙ ap now told
+        (entries_stay js (table_after_step t n turn (present + 1)).jobs notes grown fits ∙ said) (sym (now_reported js notes) ∙ ap now said
         ∙ sym now_is)

@@ -31,7 +31,7 @@ reserved_by true reply reserved = reserved
 reserved_by false reply reserved = reserved_after reply reserved
 
 -- so a call ends that doesn't end by chance
-record IsTold {N : Type 0} (caller : ℕ) (event : Event) (result : Result Reply Refusal) (before after : Core N) : Type 0 where
+record IsReported {N : Type 0} (caller : ℕ) (event : Event) (result : Result Reply Refusal) (before after : Core N) : Type 0 where
   result_is : result ≡ answered_by before.stopped (answer before.start before.log event)
   stopped_is : after.stopped ≡ before.stopped
   log_is : after.log ≡ log_by before.stopped caller event (answer before.start before.log event) before.log
@@ -45,7 +45,7 @@ refused_reserved : (reply : Reply) (refusal : Refusal) (reserved : ℕ) → repl
 refused_reserved reply refusal reserved is = rw is refl
 
 decided : {N : Type 0} (caller : ℕ) (event : Event) (result : Result Reply Refusal) (before after : Core N)
-    → EndsCall caller event result before after → IsByChance result ⊎ IsTold caller event result before after
+    → EndsCall caller event result before after → IsByChance result ⊎ IsReported caller event result before after
 decided {N} caller event (Ok reply) before after a = inr (record {
   result_is = rw (a.ran, a.answered) (sym (accepted_result reply a.accepted));
   stopped_is = a.runs ∙ sym a.ran;
@@ -54,7 +54,7 @@ decided {N} caller event (Ok reply) before after a = inr (record {
 })
 decided {N} caller event (Err refusal) before after ended = by ended
   where
-    by : RefusesCall event refusal before after → IsByChance (Err refusal) ⊎ IsTold caller event (Err refusal) before after
+    by : RefusesCall event refusal before after → IsByChance (Err refusal) ⊎ IsReported caller event (Err refusal) before after
     by (inl h) = inr (record {
       result_is = rw (h.ran, h.answered) refl;
       stopped_is = ap (λ (c : Core N). c.stopped) h.unchanged;
@@ -72,7 +72,7 @@ decided {N} caller event (Err refusal) before after ended = by ended
 
 alike : {N : Type 0} (caller : ℕ) (event : Event) (one other : Result Reply Refusal) (here there left right : Core N) → AreAlike here there
     → left.start ≡ here.start → right.start ≡ there.start
-    → IsTold caller event one here left → IsTold caller event other there right → (one ≡ other) × AreAlike left right
+    → IsReported caller event one here left → IsReported caller event other there right → (one ≡ other) × AreAlike left right
 alike caller event one other here there left right same starts begins a b = (
   a.result_is ∙ (rw (same.stopped_is, same.start_is, same.log_is) refl ∙ sym b.result_is),
   record {
@@ -106,7 +106,7 @@ module _ {N : Type 0} (ends : N → NandCall → Bool → N → Type 0) (failure
   one_answer caller event one other here there left right same a b =
       by (decided caller event one here left a.ended) (decided caller event other there right b.ended)
     where
-      by : IsByChance one ⊎ IsTold caller event one here left → IsByChance other ⊎ IsTold caller event other there right
+      by : IsByChance one ⊎ IsReported caller event one here left → IsByChance other ⊎ IsReported caller event other there right
           → ((one ≡ other) × AreAlike left right) ⊎ IsByChance one ⊎ IsByChance other
       by (inl chance) d = inr (inl chance)
       by (inr d) (inl chance) = inr (inr chance)

@@ -77,12 +77,12 @@ erases_are start log f k = counted f.blocks ∙ ap (map (λ (b : Block). b.erase
     counted [] = refl
     counted (b ∷ bs) = ap (λ (es : List ℕ). b.erases ∷ es) (counted bs)
 
-pub worn_told : (start : Start) (log : Log) (f : FlashState) (block : ℕ) → IsFlashOf start log f
+pub worn_reported : (start : Start) (log : Log) (f : FlashState) (block : ℕ) → IsFlashOf start log f
     → first_worn most_erases f.blocks ≡ Some block → IsFirstWorn start log block
-worn_told start log f block k is =
+worn_reported start log f block k is =
     subst (λ (es : List ℕ). position (is_worn_beyond most_erases) es ≡ Some block) (erases_are start log f k) is
 
 -- where no block is worn out, each may be erased as often as a life has slots
-pub unworn_told : (start : Start) (log : Log) (f : FlashState) → IsFlashOf start log f → first_worn most_erases f.blocks ≡ None
+pub unworn_reported : (start : Start) (log : Log) (f : FlashState) → IsFlashOf start log f → first_worn most_erases f.blocks ≡ None
     → CanBeErased (renewed_start start log)
-unworn_told start log f k none b = omega (arith, none_worn most_erases f.blocks b none, erases_is start log f.blocks b k.blocks_are)
+unworn_reported start log f k none b = omega (arith, none_worn most_erases f.blocks b none, erases_is start log f.blocks b k.blocks_are)

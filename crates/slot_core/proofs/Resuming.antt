@@ -209,36 +209,36 @@ module _ {N : Type 0} (blocks_of : N → List device.Block) (start : Start) (log
   f : IsFlashOf start log (flash_of blocks_of v)
   f = k.flash alive
 
-  blocks_told : map left_volume.counts_of (blocks_of v.device) ≡ map counts_in (cells start log).blocks
-  blocks_told = counted_again (blocks_of v.device) ∙ ap (map counts_in) f.blocks_are
+  blocks_reported : map left_volume.counts_of (blocks_of v.device) ≡ map counts_in (cells start log).blocks
+  blocks_reported = counted_again (blocks_of v.device) ∙ ap (map counts_in) f.blocks_are
 
-  pub taken_told : c ≡ checkpoint_of (renewed_start start log)
-  taken_told = taken ∙ (λ i. record {
+  pub taken_reported : c ≡ checkpoint_of (renewed_start start log)
+  taken_reported = taken ∙ (λ i. record {
     places = f.places_are i;
-    blocks = blocks_told i;
+    blocks = blocks_reported i;
     spare = (f.accounts_are i).spare;
     balances = (f.accounts_are i).balances;
   })
 
-  pub idle_told : left_volume.IsIdle (blocks_of v.device)
-  idle_told b =
+  pub idle_reported : left_volume.IsIdle (blocks_of v.device)
+  idle_reported b =
       let here : counts_of (device.block_at (blocks_of v.device) b) ≡ get_or (cells start log).blocks b free_block =
       sym (counted_at (blocks_of v.device) b) ∙ ap (λ (l : List Block). get_or l b free_block) f.blocks_are in
       ap (λ (x : Block). x.erasing) here ∙ opens.idle b
 
-  pub goes_on_told : v.pages ≡ volume.contents (blocks_of v.device) v.places
+  pub goes_on_reported : v.pages ≡ volume.contents (blocks_of v.device) v.places
       → resumed_start start.plan c (blocks_of v.device) ≡ renewed_start start log
-  goes_on_told pages =
+  goes_on_reported pages =
       let held : volume.contents (blocks_of v.device) (cells start log).places ≡ (renewed_start start log).contents =
       ap (volume.contents (blocks_of v.device)) (sym f.places_are) ∙ sym pages ∙ f.pages_are in
-      ap (λ (d : Checkpoint). resumed_start start.plan d (blocks_of v.device)) taken_told
+      ap (λ (d : Checkpoint). resumed_start start.plan d (blocks_of v.device)) taken_reported
       ∙ ap (λ (p : List PageData). start_with start.plan (checkpoint_of (renewed_start start log)) p) held
       ∙ opening_again (renewed_start start log) opens
 
-  pub fits_told : CanBeErased (renewed_start start log) → Fits start.plan c
-  fits_told left =
+  pub fits_reported : CanBeErased (renewed_start start log) → Fits start.plan c
+  fits_reported left =
       let again = opening_again (renewed_start start log) opens in
-      subst (Fits start.plan) (sym taken_told)
+      subst (Fits start.plan) (sym taken_reported)
       (opening_fits start.plan (checkpoint_of (renewed_start start log)) (renewed_start start log).contents
       (subst IsOpening (sym again) opens) (subst CanBeErased (sym again) left))
 

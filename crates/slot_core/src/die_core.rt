@@ -43,7 +43,7 @@ pub struct DieCore<N: Nand> {
 
 impl<N: Nand> Model for DieCore<N> {
     ghost use Rattle.slot_core.specs.Core.{Core};
-    ghost use Rattle.slot_core.specs.TableLog.{log_of, TellsLog};
+    ghost use Rattle.slot_core.specs.TableLog.{log_of, SaysLog};
     ghost use Rattle.slot_core.specs.ReservedSlots.{HasReservedRoom};
     ghost use Rattle.slot_core.specs.MarkedWorst.{MarksWorst};
     ghost use Rattle.slot_core.specs.Device.{flash_of};
@@ -60,7 +60,7 @@ impl<N: Nand> Model for DieCore<N> {
     } };
 
     ghost invariant = { λ c.
-        TellsLog (over c.volume.accounts.plan c.start) c.present c.table c.events.notes c.volume.failed (flash_of N.blocks c.volume)
+        SaysLog (over c.volume.accounts.plan c.start) c.present c.table c.events.notes c.volume.failed (flash_of N.blocks c.volume)
         × HasReservedRoom c.reserved c.table.jobs c.events.room c.events.waiver_room
         × MarksWorst c.table.jobs c.events.marked };
 }
@@ -169,7 +169,7 @@ impl<N: Nand> DieCore<N> {
     pub fn records(&self) -> u64
         ensures { result ≡ record_count self.now.log }
     {
-        self.events.stretches() as u64
+        self.events.records() as u64
     }
 
     /// Whether the device has failed, which stops the die.

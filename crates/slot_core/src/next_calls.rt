@@ -171,14 +171,14 @@ fn look_at_head<N: Nand>(
 fn look_ahead<N: Nand>(
     volume: &Volume<N>,
     table: &mut JobTable,
-    told: &mut WaivedList,
+    said: &mut WaivedList,
     present: u32,
     _events: &EventLog,
     _start: &LogStart,
 ) -> NextSlot
     ghost from: { Start × Log }
     requires alive { volume.now.failed ≡ false }
-    requires untold { told.old ≡ [] }
+    requires unsaid { said.old ≡ [] }
     requires few { present < MAX_SLOT }
     requires clock { table.old.clock ≤ present }
     requires kept { AgreeWithLog (over volume.now.accounts.plan from.0) from.1 present table.old
@@ -188,7 +188,7 @@ fn look_ahead<N: Nand>(
 {
     let mut spare = volume.spare();
     loop {
-        let Some(number) = table.head_behind(present, told.as_slice()) else {
+        let Some(number) = table.head_after(present, said.as_slice()) else {
             return NextSlot {
                 ran: None,
                 call: None,
@@ -204,7 +204,7 @@ fn look_ahead<N: Nand>(
                     return first_head_slot(volume, number);
                 }
                 let given = volume.given(job.task());
-                told.push_within(Waived { number, given });
+                said.push_within(Waived { number, given });
                 spare -= given;
             }
         }
@@ -244,11 +244,11 @@ impl<N: Nand> DieCore<N> {
         ) {
             return Ok(next);
         }
-        let mut told = WaivedList::new(alloc);
+        let mut said = WaivedList::new(alloc);
         let next = look_ahead(
             &self.volume,
             &mut self.table,
-            &mut told,
+            &mut said,
             self.present,
             &self.events,
             &self.start,

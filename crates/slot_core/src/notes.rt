@@ -5,7 +5,7 @@ ghost use Rattle.job_table.specs.Order.{IsHead};
 ghost use Rattle.job_table.specs.Table.{work_at, reads_next_at};
 ghost use Rattle.job_table.specs.Worst.{IsWorst};
 ghost use Rattle.event_log.specs.Slots.{carried_in};
-ghost use Rattle.event_log.specs.Stretches.{stands_alone};
+ghost use Rattle.event_log.specs.NoteRecords.{stands_alone};
 ghost use Rattle.slot_core.specs.HeadSteps.{is_read_act, table_after_step, deed_by};
 ghost use Rattle.slot_core.specs.WithinSlot.{idle_reply};
 

@@ -2,7 +2,7 @@
 
 ghost use Rattle.std.specs.Prelude.{◌≡◌, ◌+◌, ◌-◌, ◌<◌, ◌≤◌, ◌↔◌, true, false, length, slice_get, take, count_by, IfOk, IfErr};
 ghost use Rattle.std.specs.Prelude.{IfSome, IfNone, OnOk, OnErr, []};
-ghost use Rattle.event_log.specs.Growth.{AllFit};
+ghost use Rattle.event_log.specs.GrownTable.{AllFit};
 ghost use Rattle.job_table.specs.Order.{NothingReady};
 ghost use Rattle.job_table.specs.Jobs.{JobRecord, is_read};
 ghost use Rattle.job_table.specs.Table.{work_at};
@@ -33,29 +33,29 @@ use log_start::LogStart;
 use slot_types::{Event, JobNo, MAX_SLOT, Refusal, Reply, SlotReply, Waived, WaivedList};
 use std::alloc::Global;
 
-/// Waives the collections that come first and needn't begin, into `told`, and answers the head: the job or collection
+/// Waives the collections that come first and needn't begin, into `said`, and answers the head: the job or collection
 /// with the least key of those that are left. A head that is a collection which has not begun takes its victim.
 fn choose<N: Nand>(
     volume: &mut Volume<N>,
     table: &mut JobTable,
-    told: &mut WaivedList,
+    said: &mut WaivedList,
     present: u32,
 ) -> Option<JobNo>
     ghost from: { Start × Log }
     requires alive { volume.old.failed ≡ false }
-    requires within { InSlot (over volume.old.accounts.plan from.0) from.1 present told.old
+    requires within { InSlot (over volume.old.accounts.plan from.0) from.1 present said.old
         (record table.old { clock = present })
         (flash_of N.blocks volume.old) }
     requires clock { table.old.clock ≤ present }
     ensures turn { IfSome result
-        (IsHeadInSlot (over volume.new.accounts.plan from.0) from.1 present told.new table.new
+        (IsHeadInSlot (over volume.new.accounts.plan from.0) from.1 present said.new table.new
         (flash_of N.blocks volume.new)) }
     ensures idle { IfNone result
-        (InSlot (over volume.new.accounts.plan from.0) from.1 present told.new table.new
+        (InSlot (over volume.new.accounts.plan from.0) from.1 present said.new table.new
         (flash_of N.blocks volume.new)
         × NothingReady table.new) }
-    ensures closed { open_collections table.new.jobs + length told.new
-        ≤ open_collections table.old.jobs + length told.old }
+    ensures closed { open_collections table.new.jobs + length said.new
+        ≤ open_collections table.old.jobs + length said.old }
     ensures plan { volume.new.accounts.plan ≡ volume.old.accounts.plan }
     ensures alive { volume.new.failed ≡ false }
     ensures device { volume.new.device ≡ volume.old.device }
@@ -72,7 +72,7 @@ fn choose<N: Nand>(
             None => return Some(number),
             Some(given) => {
                 table.waive(number, given);
-                told.push_within(Waived { number, given });
+                said.push_within(Waived { number, given });
             }
         }
     }

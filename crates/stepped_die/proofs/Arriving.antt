@@ -35,7 +35,7 @@ use Rattle.die_log.proofs.Legal.Exact.{stands_well}
 use Rattle.die_log.proofs.Legality.{none_stands, taken_answer}
 use Rattle.die_log.proofs.Standing.Longer.{victim_stays}
 use Rattle.slot_core.specs.Core.{with_entry}
-use Rattle.stepped_die.specs.Arrivals.{WaitsBehind}
+use Rattle.stepped_die.specs.Arrivals.{WaitsAfter}
 
 -- Accounts that give alike
 
@@ -247,29 +247,29 @@ alike_self a = record { plan = refl; spare = refl; len = refl; owned = λ task. 
 
 -- the next slot is answered as it was, and needs the call that it needed
 pub arrival_leaves : (start : Start) (past : Log) (caller : ℕ) (event : Event) (number : ℕ) → IsOpening start → IsExact start past
-    → answer start past event ≡ Taken number → WaitsBehind (now past) event
+    → answer start past event ≡ Taken number → WaitsAfter (now past) event
     → (answer start (with_entry caller event (Taken number) past) events.Slot ≡ answer start past events.Slot)
     × (needed_call start (with_entry caller event (Taken number) past) ≡ needed_call start past)
-arrival_leaves start past caller (events.Submit task release due ops) number opens exact taken behind =
+arrival_leaves start past caller (events.Submit task release due ops) number opens exact taken beyond =
     let is = taken_is start past (events.Submit task release due ops) number taken in
     let stands = none_stands (refusals start past (events.Submit task release due ops)) is.0 in
     let same : number ≡ length (jobs past) = ap number_of (sym taken ∙ is.1) in
     let j : Job = record { number = number; collects = false; task = task; release = release; due = due; ops = ops } in
     let unbegun : acts number past ≡ [] = ap (λ (n : ℕ). acts n past) same ∙ no_acts start past exact in
-    let waits = late_release release (now past) behind in
+    let waits = late_release release (now past) beyond in
     let alike = admitted_alike start past task ops opens exact (within (length start.plan.caps) task stands.0)
     (enough _ (writes ops) stands.1.1.1.1.1.1.1.0) in (
       answer_same start past caller (events.Submit task release due ops) number j refl waits unbegun alike,
       needed_same start past caller (events.Submit task release due ops) number j refl waits unbegun alike,
     )
-arrival_leaves start past caller (events.Collect task release due) number opens exact taken behind =
+arrival_leaves start past caller (events.Collect task release due) number opens exact taken beyond =
     let is = taken_is start past (events.Collect task release due) number taken in
     let same : number ≡ length (jobs past) = ap number_of (sym taken ∙ is.1) in
     let j : Job = record { number = number; collects = true; task = task; release = release; due = due; ops = [] } in
     let unbegun : acts number past ≡ [] = ap (λ (n : ℕ). acts n past) same ∙ no_acts start past exact in
-    let waits = late_release release (now past) behind in
+    let waits = late_release release (now past) beyond in
     let alike = alike_self (accounts start past) in (
       answer_same start past caller (events.Collect task release due) number j refl waits unbegun alike,
       needed_same start past caller (events.Collect task release due) number j refl waits unbegun alike,
     )
-arrival_leaves start past caller events.Slot number opens exact taken behind = absurd behind
+arrival_leaves start past caller events.Slot number opens exact taken beyond = absurd beyond

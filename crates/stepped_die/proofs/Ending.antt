@@ -12,7 +12,7 @@ use Rattle.slot_types.specs.declared.replies.SlotReply.{SlotReply}
 use Rattle.slot_types.specs.declared.replies.Reply.TheVariants as replies
 use Rattle.flash_die.specs.declared.nand.NandCall.{NandCall}
 use Rattle.flash_die.specs.declared.nand.NandCall.TheVariants as needs
-use Rattle.flash_die.specs.Faulty.{Faulty, EndsAsTold, armed_device}
+use Rattle.flash_die.specs.Faulty.{Faulty, EndsAsReported, armed_device}
 use Rattle.flash_die.specs.Memory.{Memory}
 use Rattle.die_log.specs.Model.Log.{now}
 use Rattle.die_log.specs.Model.Answers.{answer, reply_if_accepted}
@@ -29,10 +29,10 @@ use Rattle.stepped_die.specs.declared.calls.Call.{Call}
 use Rattle.stepped_die.specs.declared.mirror.MirrorNand.{MirrorNand}
 use Rattle.stepped_die.specs.declared.refusals.StepRefusal.{StepRefusal}
 use Rattle.stepped_die.specs.declared.refusals.StepRefusal.TheVariants as refuses
-use Rattle.stepped_die.specs.Arrivals.{WaitsBehind}
+use Rattle.stepped_die.specs.Arrivals.{WaitsAfter}
 use Rattle.stepped_die.specs.Steps.{HasEnded, HasFailed, HoldsBack, RefusesArrival}
 use Rattle.stepped_die.specs.Stepped.{Stepped, IsPresent, IsStepped, mirror_of}
-use Rattle.stepped_die.specs.DeviceCalls.{DoesWell, IsDone, Changes, told_by}
+use Rattle.stepped_die.specs.DeviceCalls.{DoesWell, IsDone, Changes, reported_by}
 use Rattle.stepped_die.proofs.Arriving.{arrival_leaves}
 
 abbrev pub Mirror : Type 0
@@ -42,7 +42,7 @@ abbrev pub mirror_ends : MirrorNand → NandCall → Bool → MirrorNand → Typ
 mirror_ends d call well e = DoesWell d.memory call well e.memory
 
 abbrev pub ends : Mirror → NandCall → Bool → Mirror → Type 0
-ends = EndsAsTold mirror_ends
+ends = EndsAsReported mirror_ends
 
 abbrev pub failures : Mirror → ℕ
 failures f = 0 + f.failed
@@ -79,13 +79,13 @@ not_refused_here before after begun r runs passes h call =
 made_armed : (needed : Option NandCall) (before after : Mirror) → before.armed ≡ true → (needed ≡ None → ⊥)
     → IsOnlyCall ends needed true before after → ⊥
 made_armed None before after armed some m = some refl
-made_armed (Some call) before after armed some m = true≢false ((m.told armed).fails)
+made_armed (Some call) before after armed some m = true≢false ((m.said armed).fails)
 
 -- what wasn't done is a call
 pub undone_is_call : (device : Memory) (needed : Option NandCall) (call : Option Call) (ok : Bool) (bytes : PageData)
-    → call ≡ told_by device needed → ¬ IsDone call ok bytes → needed ≡ None → ⊥
+    → call ≡ reported_by device needed → ¬ IsDone call ok bytes → needed ≡ None → ⊥
 undone_is_call device needed call ok bytes is undone none =
-    undone (subst (λ (c : Option Call). IsDone c ok bytes) (sym (is ∙ ap (told_by device) none)) tt)
+    undone (subst (λ (c : Option Call). IsDone c ok bytes) (sym (is ∙ ap (reported_by device) none)) tt)
 
 pub not_carried_out : (before after : Core Mirror) (begun : Begun) (reply : SlotReply) (ok : Bool) (bytes : PageData)
     → before.device.armed ≡ true → IsPresent before begun → ¬ IsDone begun.call ok bytes
@@ -97,7 +97,7 @@ not_carried_out before after begun reply ok bytes armed h undone call =
 -- What was asked was made
 
 changes_by : (needed : Option NandCall) (before after : Mirror) → before.armed ≡ false → IsOnlyCall ends needed true before after
-    → Changes before.inner.memory (told_by before.inner.memory needed) after.inner.memory
+    → Changes before.inner.memory (reported_by before.inner.memory needed) after.inner.memory
 changes_by None before after passes m = ap (λ (d : Mirror). d.inner.memory) m
 changes_by (Some (needs.Read place)) before after passes m = ((m.free passes).inner.does, refl)
 changes_by (Some (needs.Program place bytes)) before after passes m = (m.free passes).inner.does
@@ -123,33 +123,33 @@ die_is : {T : Type 0} (r s : Refusal) → ◌≡◌ {A = Result T StepRefusal} (
 die_is r s e = cc
 
 present_stays : (before : Core Mirror) (caller : ℕ) (event : Event) (number : ℕ) (begun : Begun) (after : Core Mirror)
-    → KeepsPromises before.start before.log → HasEntered caller event number before after → WaitsBehind (now before.log) event
+    → KeepsPromises before.start before.log → HasEntered caller event number before after → WaitsAfter (now before.log) event
     → IsPresent before begun → IsPresent after begun
-present_stays before caller event number begun after keeps taken behind h =
-    let same = (arrival_leaves before.start before.log caller event number keeps.opens keeps.exact taken.answered behind).1 in
+present_stays before caller event number begun after keeps taken beyond h =
+    let same = (arrival_leaves before.start before.log caller event number keeps.opens keeps.exact taken.answered beyond).1 in
     subst (λ (c : Core Mirror). IsPresent c begun) (sym taken.logged) (record {
       slot_is = h.slot_is;
       few = h.few;
-      call_is = h.call_is ∙ ap (told_by (mirror_of before)) (sym same);
+      call_is = h.call_is ∙ ap (reported_by (mirror_of before)) (sym same);
       reserved = h.reserved;
     })
 
 begun_stays : (o : Option Begun) (before : Core Mirror) (caller : ℕ) (event : Event) (number : ℕ) (after : Core Mirror)
     → KeepsPromises before.start before.log → HasEntered caller event number before after
-    → IfSome o (λ b. WaitsBehind b.slot event) → IfSome o (IsPresent before) → IfSome o (IsPresent after)
-begun_stays None before caller event number after keeps taken behind h = tt
-begun_stays (Some b) before caller event number after keeps taken behind h =
+    → IfSome o (λ b. WaitsAfter b.slot event) → IfSome o (IsPresent before) → IfSome o (IsPresent after)
+begun_stays None before caller event number after keeps taken beyond h = tt
+begun_stays (Some b) before caller event number after keeps taken beyond h =
     present_stays before caller event number b after keeps taken
-    (subst (λ (n : ℕ). WaitsBehind n event) h.slot_is behind) h
+    (subst (λ (n : ℕ). WaitsAfter n event) h.slot_is beyond) h
 
 -- a die goes on with its slot, whatever arrives after it
 pub arrival_keeps : (die : Stepped) (caller : ℕ) (event : Event) (number : ℕ) (after : Core Mirror)
     → IsStepped die → KeepsPromises die.core.start die.core.log → HasEntered caller event number die.core after
-    → IfSome die.begun (λ b. WaitsBehind b.slot event) → IsStepped (record die { core = after })
-arrival_keeps die caller event number after h keeps taken behind = record {
+    → IfSome die.begun (λ b. WaitsAfter b.slot event) → IsStepped (record die { core = after })
+arrival_keeps die caller event number after h keeps taken beyond = record {
   passes = λ runs. ap (λ (c : Core Mirror). c.device.armed) taken.logged ∙ h.passes (sym stopped ∙ runs);
   none = λ stops. h.none (sym stopped ∙ stops);
-  present = begun_stays die.begun die.core caller event number after keeps taken behind h.present;
+  present = begun_stays die.begun die.core caller event number after keeps taken beyond h.present;
 }
   where
     stopped : after.stopped ≡ die.core.stopped
@@ -172,26 +172,26 @@ none_held before begun release held is h e =
 answer_keeps : (core : Core Mirror) (begun : Option Begun) (caller : ℕ) (event : Event) (after : Core Mirror) (r : Result ℕ Refusal)
     → IsStepped (record { core = core; begun = begun }) → KeepsPromises core.start core.log → IsArrival event
     → IsCall ends failures false caller event (reply_as replies.Taken r) core after
-    → IfSome begun (λ b. WaitsBehind b.slot event) → IsStepped (record { core = after; begun = begun })
-answer_keeps core begun caller event after (Ok number) h keeps arrives call behind =
+    → IfSome begun (λ b. WaitsAfter b.slot event) → IsStepped (record { core = after; begun = begun })
+answer_keeps core begun caller event after (Ok number) h keeps arrives call beyond =
     arrival_keeps (record { core = core; begun = begun }) caller event number after h keeps
-    (has_entered ends failures false caller event core after number arrives call) behind
-answer_keeps core begun caller event after (Err refusal) h keeps arrives call behind =
+    (has_entered ends failures false caller event core after number arrives call) beyond
+answer_keeps core begun caller event after (Err refusal) h keeps arrives call beyond =
     subst (λ (c : Core Mirror). IsStepped (record { core = c; begun = begun }))
     (sym (arrival_stays ends failures false caller event core after refusal arrives call)) h
 
 -- of either kind, where no slot holds it back
 pub arrived_keeps : (before : Stepped) (core : Core Mirror) (begun : Option Begun) (release caller : ℕ) (event : Event) (after : Core Mirror)
     (r : Result ℕ Refusal) (held : Bool) → begun ≡ before.begun → IsStepped (record { core = core; begun = begun })
-    → KeepsPromises core.start core.log → IsArrival event → ((slot : ℕ) → slot < release → WaitsBehind slot event)
+    → KeepsPromises core.start core.log → IsArrival event → ((slot : ℕ) → slot < release → WaitsAfter slot event)
     → IsCall ends failures false caller event (reply_as replies.Taken r) core after
     → (HoldsBack release before.begun → held ≡ true) → held ≡ false → IsStepped (record { core = after; begun = begun })
-arrived_keeps before core begun release caller event after r held is h keeps arrives behind call holds free =
+arrived_keeps before core begun release caller event after r held is h keeps arrives beyond call holds free =
     answer_keeps core begun caller event after r h keeps arrives call
-    (waits begun event release behind (none_held before begun release held is holds free))
+    (waits begun event release beyond (none_held before begun release held is holds free))
   where
-    waits : (o : Option Begun) (e : Event) (n : ℕ) → ((slot : ℕ) → slot < n → WaitsBehind slot e) → IfSome o (λ b. b.slot < n)
-        → IfSome o (λ b. WaitsBehind b.slot e)
+    waits : (o : Option Begun) (e : Event) (n : ℕ) → ((slot : ℕ) → slot < n → WaitsAfter slot e) → IfSome o (λ b. b.slot < n)
+        → IfSome o (λ b. WaitsAfter b.slot e)
     waits None e n w below = tt
     waits (Some b) e n w below = w b.slot below
 

@@ -290,9 +290,9 @@ own_content blocks places page (Some place) h lies =
     sym (get_or-map (content_at blocks) places page None blank h ∙ ap (content_at blocks) lies)
 
 -- what pages hold are their names
-pub names_told : (blocks : List Block) (places : List (Option Place)) → contents blocks places
+pub names_reported : (blocks : List Block) (places : List (Option Place)) → contents blocks places
     ≡ pages_named places (contents blocks places)
-names_told blocks places =
+names_reported blocks places =
     fill_by_all (page_named places (contents blocks places)) (contents blocks places) (length places) blank
     (length-map places (content_at blocks))
     (λ k h. get_or-map (content_at blocks) places k None blank h
@@ -309,7 +309,7 @@ pub goes_on_named : (start : Start) (log : Log) (c : Checkpoint) (blocks : List 
     → start_with start.plan c (pages_named c.places names) ≡ renewed_start start log
 goes_on_named start log c blocks names goes_on is =
     ap (λ (pages : List PageData). start_with start.plan c pages)
-    (ap (pages_named c.places) is ∙ sym (names_told blocks c.places))
+    (ap (pages_named c.places) is ∙ sym (names_reported blocks c.places))
     ∙ goes_on
 
 -- On a device

@@ -4,7 +4,7 @@ use Rattle.slot_types.specs.declared.events.Event.{Event}
 use Rattle.slot_types.specs.declared.events.Event.TheVariants as events
 
 -- a job or collection that is released after the present slot
-abbrev pub WaitsBehind : ℕ → Event → Type 0
-WaitsBehind present (events.Submit task release due ops) = present < release
-WaitsBehind present (events.Collect task release due) = present < release
-WaitsBehind present events.Slot = ⊥
+abbrev pub WaitsAfter : ℕ → Event → Type 0
+WaitsAfter present (events.Submit task release due ops) = present < release
+WaitsAfter present (events.Collect task release due) = present < release
+WaitsAfter present events.Slot = ⊥

@@ -21,14 +21,14 @@ pub record DoesWell (before : Memory) (call : NandCall) (well : Bool) (after : M
 
 -- what a driver is reported of a call: of a read what the cell was programmed with, of an erase whether the slot is its
 -- last
-abbrev pub told_of : Memory → NandCall → Call
-told_of device (needs.Read place) = calls.Read place (cell_at device.blocks place)
-told_of device (needs.Program place bytes) = calls.Program place bytes
-told_of device (needs.EraseSlot block) = calls.Erase block ((block_at device.blocks block).erasing + 1 == device.shape.erase_slots)
+abbrev pub reported_of : Memory → NandCall → Call
+reported_of device (needs.Read place) = calls.Read place (cell_at device.blocks place)
+reported_of device (needs.Program place bytes) = calls.Program place bytes
+reported_of device (needs.EraseSlot block) = calls.Erase block ((block_at device.blocks block).erasing + 1 == device.shape.erase_slots)
 
-abbrev pub told_by : Memory → Option NandCall → Option Call
-told_by device None = None
-told_by device (Some call) = Some (told_of device call)
+abbrev pub reported_by : Memory → Option NandCall → Option Call
+reported_by device None = None
+reported_by device (Some call) = Some (reported_of device call)
 
 -- the device did what it was asked, and a read gave the bytes that the cell was programmed with
 abbrev pub IsDone : Option Call → Bool → PageData → Type 0

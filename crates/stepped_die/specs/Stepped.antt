@@ -8,7 +8,7 @@ use Rattle.die_log.specs.Model.NeededCalls.{needed_call}
 use Rattle.slot_core.specs.Core.{Core}
 use Rattle.stepped_die.specs.declared.calls.Begun.{Begun}
 use Rattle.stepped_die.specs.declared.mirror.MirrorNand.{MirrorNand}
-use Rattle.stepped_die.specs.DeviceCalls.{told_by}
+use Rattle.stepped_die.specs.DeviceCalls.{reported_by}
 
 -- the die, over a mirror whose next call fails when it is to; and the slot that has begun
 pub record Stepped : Type 0 where
@@ -24,7 +24,7 @@ mirror_of core = core.device.inner.memory
 pub record IsPresent (core : Core (Faulty MirrorNand)) (begun : Begun) : Type 0 where
   pub slot_is : begun.slot ≡ now core.log
   pub few : now core.log < MAX_SLOT
-  pub call_is : begun.call ≡ told_by (mirror_of core) (needed_call core.start core.log)
+  pub call_is : begun.call ≡ reported_by (mirror_of core) (needed_call core.start core.log)
   pub reserved : 0 < core.reserved
 
 -- until a fault stops the die, no call of the mirror fails; a stopped die has no slot that has begun

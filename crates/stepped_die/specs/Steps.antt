@@ -20,7 +20,7 @@ use Rattle.stepped_die.specs.declared.refusals.StepRefusal.TheVariants as refuse
 use Rattle.stepped_die.specs.declared.refusals.StepRenewalRefusal.{StepRenewalRefusal}
 use Rattle.stepped_die.specs.declared.refusals.StepRenewalRefusal.TheVariants as unrenewed
 use Rattle.stepped_die.specs.Stepped.{Stepped, mirror_of}
-use Rattle.stepped_die.specs.DeviceCalls.{IsDone, Changes, told_by}
+use Rattle.stepped_die.specs.DeviceCalls.{IsDone, Changes, reported_by}
 
 -- a die on which nothing was done
 pub record IsNew (plan : DiePlan) (die : Stepped) : Type 0 where
@@ -38,7 +38,7 @@ pub record HasBegun (caller : ℕ) (begun : Begun) (before after : Stepped) : Ty
   pub caller_is : begun.caller ≡ caller
   pub slot_is : begun.slot ≡ now before.core.log
   pub runs_next : begun.runs ≡ (next_slot before.core.start before.core.log).ran
-  pub told : begun.call ≡ told_by (mirror_of before.core) (needed_call before.core.start before.core.log)
+  pub said : begun.call ≡ reported_by (mirror_of before.core) (needed_call before.core.start before.core.log)
   pub begins : after ≡ record {
     core = record before.core {
       reserved = max before.core.reserved 1;

@@ -8,7 +8,7 @@ ghost use Rattle.slot_core.specs.Calls.{HasEntered};
 ghost use Rattle.slot_core.specs.WithinSlot.{idle_reply};
 ghost use Rattle.slot_core.specs.Renewals.{MayBeRenewed, renewed_core};
 ghost use Rattle.stepped_die.specs.Steps.{HoldsBack};
-ghost use Rattle.stepped_die.specs.DeviceCalls.{IsDone, told_by};
+ghost use Rattle.stepped_die.specs.DeviceCalls.{IsDone, reported_by};
 
 use crate::calls::{Begun, Call};
 use crate::mirror::MirrorNand;
@@ -171,7 +171,7 @@ impl SteppedDie {
             Ok(()) => {}
             Err(refusal) => return Err(StepRefusal::Die(refusal)),
         }
-        let call = told_by(self.core.device(), next.call);
+        let call = reported_by(self.core.device(), next.call);
         self.begun = Some(begun_by(caller, slot, call, next.ran));
         Ok(begun_by(caller, slot, call, next.ran))
     }
@@ -270,8 +270,8 @@ impl SteppedDie {
 }
 
 /// What a driver is reported of the call that a slot needs.
-fn told_by(device: &FaultNand<MirrorNand>, call: Option<NandCall>) -> Option<Call>
-    ensures { result ≡ told_by device.now.inner.memory call }
+fn reported_by(device: &FaultNand<MirrorNand>, call: Option<NandCall>) -> Option<Call>
+    ensures { result ≡ reported_by device.now.inner.memory call }
 {
     match call {
         None => None,

@@ -52,9 +52,9 @@ use Rattle.die_log.proofs.Openings.{fresh_opens, fresh_stocked}
 -- Logs
 
 -- the event of an entry comes after those before it
-told_more : (past log : Log) (event : Event) (reply : Reply) (rest : List Event) → log ≡ with_entry 0 event reply past → events_of_log past ++ event
+reported_more : (past log : Log) (event : Event) (reply : Reply) (rest : List Event) → log ≡ with_entry 0 event reply past → events_of_log past ++ event
     ∷ rest ≡ events_of_log log ++ rest
-told_more past log event reply rest is = sym (append_assoc (events_of_log past) (event ∷ []) rest) ∙ ap (λ (l : Log). events_of_log l ++ rest) (sym is)
+reported_more past log event reply rest is = sym (append_assoc (events_of_log past) (event ∷ []) rest) ∙ ap (λ (l : Log). events_of_log l ++ rest) (sym is)
 
 accepts_exact : (plan : DiePlan) (past log : Log) (event : Event) → Accepts plan past event log → IsExact (fresh plan) past → IsExact (fresh plan) log
 accepts_exact plan past log event h exact = subst (IsExact (fresh plan)) (sym h.1) (exact, refl, h.0)
@@ -87,25 +87,25 @@ module _ (plan : DiePlan) (times : Times) (bound : MeetsBound plan) (passes : Pa
   by_memory past event rest refusal exact keeps (inr memory) = memory.1
 
   -- what became of the calls that are left
-  abbrev TakenBehind : List RowEnd → List RowEnd → Type 0
-  TakenBehind before after = (more : List RowEnd) × (after ≡ before ++ more) × AreTakenUntilMemory more
+  abbrev TakenAfter : List RowEnd → List RowEnd → Type 0
+  TakenAfter before after = (more : List RowEnd) × (after ≡ before ++ more) × AreTakenUntilMemory more
 
   taken_from : (before after : DieRun) (calls : List ScriptCall) → IsExact (fresh plan) before.log
-      → KeepsPlan plan times (events_of_log before.log ++ map event_of calls) → MakesCalls plan before calls after → TakenBehind before.ends after.ends
+      → KeepsPlan plan times (events_of_log before.log ++ map event_of calls) → MakesCalls plan before calls after → TakenAfter before.ends after.ends
   taken_from before after [] exact keeps h = ([], ap (λ (r : DieRun). r.ends) h ∙ sym (append-nil before.ends), tt)
   taken_from before after (Slot ∷ calls) exact keeps h =
       let m = taken_from h.0 after calls (accepts_exact plan before.log h.0.log events.Slot h.1.0 exact)
-      (subst (KeepsPlan plan times) (told_more before.log h.0.log events.Slot (answer (fresh plan) before.log events.Slot) (map event_of calls)
+      (subst (KeepsPlan plan times) (reported_more before.log h.0.log events.Slot (answer (fresh plan) before.log events.Slot) (map event_of calls)
       h.1.0.1) keeps) h.2 in
       (m.0, m.1 ∙ ap (λ l. l ++ m.0) h.1.1, m.2)
   taken_from before after (Row item ∷ calls) exact keeps h = by_end (λ e k. taken_from h.0 after calls e k h.2) h.1.0 h.1.1 h.1.2
     where
-      by_end : (IsExact (fresh plan) h.0.log → KeepsPlan plan times (events_of_log h.0.log ++ map event_of calls) → TakenBehind h.0.ends after.ends)
+      by_end : (IsExact (fresh plan) h.0.log → KeepsPlan plan times (events_of_log h.0.log ++ map event_of calls) → TakenAfter h.0.ends after.ends)
           → (refusal : Option Refusal) → Ends plan before.log item.event refusal h.0.log → h.0.ends ≡ before.ends ++ end_of item refusal
-          ∷ [] → TakenBehind before.ends after.ends
+          ∷ [] → TakenAfter before.ends after.ends
       by_end rest None taken ends =
           let m = rest (accepts_exact plan before.log h.0.log item.event taken exact)
-          (subst (KeepsPlan plan times) (told_more before.log h.0.log item.event (answer (fresh plan) before.log item.event) (map event_of calls)
+          (subst (KeepsPlan plan times) (reported_more before.log h.0.log item.event (answer (fresh plan) before.log item.event) (map event_of calls)
           taken.1) keeps) in
           let e : RowEnd = end_of item None in
           (e ∷ m.0, m.1 ∙ (ap (λ l. l ++ m.0) ends ∙ append_assoc before.ends (e ∷ []) m.0), inl (refl, m.2))
@@ -185,12 +185,12 @@ all_as_planned slots feed die (plan ∷ plans) (run ∷ runs) arrive bound h = (
 )
 
 -- what is written of a run of a script
-pub runs_as_planned : (text : Option (List ℕ)) (plans : List DiePlan) (slots : ℕ) (told : TextSoFar) (count : RunCount)
-    (old new : Option (List ℕ)) → All MeetsBound plans → (r : RanScript text plans slots told count)
+pub runs_as_planned : (text : Option (List ℕ)) (plans : List DiePlan) (slots : ℕ) (said : TextSoFar) (count : RunCount)
+    (old new : Option (List ℕ)) → All MeetsBound plans → (r : RanScript text plans slots said count)
     → Appends old new (report_text r.report) → RunsAsPlanned text plans slots count old new
 unfolding runs_text
-runs_as_planned text plans slots told count old new bound r written =
-    let ran : RunsText text plans slots count old new = runs_text text plans slots told count old new r written in
+runs_as_planned text plans slots said count old new bound r written =
+    let ran : RunsText text plans slots count old new = runs_text text plans slots said count old new r written in
     record {
       ran = ran;
       planned = all_as_planned slots (feed_of r.items) 0 plans r.ran.runs

@@ -36,9 +36,9 @@ module _ (slot : ℕ) where
   parts (x ∷ xs) ys later = by (nat_le x.at slot) refl (parts xs ys)
     where
       by : (b : Bool) → nat_le x.at slot ≡ b → (slot < latest_slot xs → Parts xs ys) → Parts (x ∷ xs) ys
-      by true e behind =
+      by true e beyond =
           let here : x.at ≤ slot = leb-true x.at slot e in
-          let rest = behind (omega (arith, later, here)) in
+          let rest = beyond (omega (arith, later, here)) in
           let same : latest_slot xs ≡ max x.at (latest_slot xs) = omega (arith, later, here) in record {
             now = arrived_one row_slot slot x (xs ++ ys) here
                 ∙ (ap (λ (l : List ScriptItem). x ∷ l) rest.now ∙ sym (arrived_one row_slot slot x xs here));
@@ -46,7 +46,7 @@ module _ (slot : ℕ) where
                 ∙ (rest.later ∙ ap (λ (l : List ScriptItem). l ++ ys) (sym (later_one row_slot slot x xs here)));
             last = ap latest_slot (later_one row_slot slot x xs here) ∙ (rest.last ∙ same);
           }
-      by false e behind =
+      by false e beyond =
           let past : slot < x.at = leb-false x.at slot e in record {
             now = arrived_none row_slot slot x (xs ++ ys) past ∙ sym (arrived_none row_slot slot x xs past);
             later = later_none row_slot slot x (xs ++ ys) past
@@ -69,9 +69,9 @@ module _ (slot : ℕ) where
 begun : (m slot : ℕ) (xs ys : List ScriptItem) → latest_slot xs ≤ slot → map Row xs ++ calls_from slot m ys ≡ calls_from slot m (xs ++ ys)
 begun zero slot xs ys due = sym (map-append Row xs ys)
 begun (suc m) slot xs ys due =
-    let behind = Slot ∷ calls_from (slot + 1) m (arrivals_after row_slot slot ys) in
-    sym (append_assoc (map Row xs) (map Row (arrivals_by row_slot slot ys)) behind)
-    ∙ (ap (λ (l : List ScriptCall). l ++ behind)
+    let beyond = Slot ∷ calls_from (slot + 1) m (arrivals_after row_slot slot ys) in
+    sym (append_assoc (map Row xs) (map Row (arrivals_by row_slot slot ys)) beyond)
+    ∙ (ap (λ (l : List ScriptCall). l ++ beyond)
     (sym (map-append Row xs (arrivals_by row_slot slot ys)) ∙ ap (map Row) (sym (all_now slot xs ys due)))
     ∙ ap (λ (l : List ScriptItem). map Row (arrivals_by row_slot slot (xs ++ ys)) ++ Slot ∷ calls_from (slot + 1) m l)
     (sym (none_later slot xs ys due)))

@@ -18,7 +18,7 @@ use Rattle.slot_core.specs.Calls.{RefusedBy, MayRefuse}
 use Rattle.slot_core.specs.Core.{Core}
 use Rattle.die_service.proofs.Driving.{far_joins}
 use Rattle.die_service.proofs.LastPasses.{same_plan}
-use Rattle.die_service.proofs.Transcripts.{said_log, told_accepted, all_own, by_log}
+use Rattle.die_service.proofs.Transcripts.{said_log, reported_accepted, all_own, by_log}
 use Rattle.die_service.specs.Drives.{Far}
 use Rattle.die_service.specs.Logs.{DieCall, log_of, calls_of}
 use Rattle.die_service.specs.Passes.{DieView}
@@ -32,12 +32,12 @@ use Rattle.task_script.proofs.BatchCalls.{latest_all, latest_more, calls_join}
 use Rattle.task_script.proofs.Calling.{ran_more}
 use Rattle.task_script.proofs.Counting.{counts_more}
 use Rattle.task_script.proofs.FeedRuns.{ComesTo, slots_run}
-use Rattle.task_script.proofs.Transcripts.{AreTold}
+use Rattle.task_script.proofs.Transcripts.{AreReported}
 use Rattle.task_script.specs.Batches.{HasComeTo, after_batch, batch_of, end_slot, fresh_progress, latest_slot}
 use Rattle.task_script.specs.DieRuns as run
 use Rattle.task_script.specs.DieRuns.{IsScriptRun, MakesCalls, calls_from, fresh_run, run_at}
 use Rattle.task_script.specs.RowEnds.{ends_from, lines_of}
-use Rattle.task_script.specs.RunCounts.{count_of, counted_behind}
+use Rattle.task_script.specs.RunCounts.{count_of, counted_after}
 use Rattle.task_script.specs.declared.batches.Progress.{Progress}
 use Rattle.task_script.specs.declared.run_counts.RowEnd.{RowEnd}
 use Rattle.task_script.specs.declared.run_counts.RunCount.{RunCount}
@@ -82,9 +82,9 @@ module _ (plan : DiePlan) (first p : DiePass) (first_is : first.view ≡ first_v
   taken_front k = all_front (0 ∷ []) (take k p.view.seen) (drop k p.view.seen)
       (subst (AllBy (0 ∷ [])) (sym (take-append-drop k p.view.seen)) mine)
 
-  told : AreTold plan saids
-  told = record {
-    accepted = λ before after event reply is. told_accepted (fresh plan) saids before after event reply
+  said : AreReported plan saids
+  said = record {
+    accepted = λ before after event reply is. reported_accepted (fresh plan) saids before after event reply
         (subst (IsExact (fresh plan)) log_is far.exact.exact) is;
     refused = λ before after event refused is.
         let why = far.refused before after event refused is in
@@ -189,7 +189,7 @@ module _ (plan : DiePlan) (items more : List ScriptItem) (until : ℕ) (p q : Di
     past_is = log_is plan h.first p h.first_is h.saids h.far own_before
 
     comes : ComesTo plan all h.saids h.ends (calls_from at.clock span more) 0 (lines_of more) r.saids (at.clock + span)
-    comes = slots_run plan all (told plan h.first q h.first_is all far mine) span at.clock more h.saids r.saids h.ends 0 refl r.ordered
+    comes = slots_run plan all (said plan h.first q h.first_is all far mine) span at.clock more h.saids r.saids h.ends 0 refl r.ordered
         (ap now (sym past_is) ∙ ((h.ran own_before).1 ∙ sym h.clock_is)) none_stopped due arrive
 
     ended_is : comes.ended ≡ ended
@@ -227,7 +227,7 @@ module _ (plan : DiePlan) (items more : List ScriptItem) (until : ℕ) (p q : Di
     far = far;
     ends = h.ends ++ ended;
     clock_is = omega (arith, ends_at);
-    counted = ap (λ (c : RunCount). counted_behind c ended) h.counted ∙ counts_more h.ends ended;
+    counted = ap (λ (c : RunCount). counted_after c ended) h.counted ∙ counts_more h.ends ended;
     ran = λ mine. (all_ran mine, now_is mine);
   }
 

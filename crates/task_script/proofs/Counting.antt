@@ -9,7 +9,7 @@ use Rattle.slot_types.specs.Refusal.{number_of}
 use Rattle.slot_types.specs.declared.refusals.Refusal.{Refusal}
 use Rattle.die_service.specs.declared.ends.RefusedEvent.{RefusedEvent}
 use Rattle.task_script.specs.RowEnds.{ends_from, row_end, taken_at}
-use Rattle.task_script.specs.RunCounts.{count_of, counted_with, counted_behind, first_behind, first_by, first_refused, sum_of_counts, joined_first}
+use Rattle.task_script.specs.RunCounts.{count_of, counted_with, counted_after, first_after, first_by, first_refused, sum_of_counts, joined_first}
 use Rattle.task_script.specs.RunCounts.{or_earlier, rows_in, was_accepted, was_refused}
 use Rattle.task_script.specs.declared.run_counts.RowEnd.{RowEnd}
 use Rattle.task_script.specs.declared.run_counts.RunCount.{RunCount}
@@ -17,7 +17,7 @@ use Rattle.task_script.specs.declared.run_counts.RunCount.{RunCount}
 -- Row by row
 
 pub counted_in_parts : (count : RunCount) (xs ys : List RowEnd)
-    → counted_behind count (xs ++ ys) ≡ counted_behind (counted_behind count xs) ys
+    → counted_after count (xs ++ ys) ≡ counted_after (counted_after count xs) ys
 counted_in_parts count [] ys = refl
 counted_in_parts count (x ∷ xs) ys = counted_in_parts (counted_with count x) xs ys
 
@@ -35,10 +35,10 @@ refused_more n end ends =
     sum_by-cons (λ (e : RowEnd). if was_refused e then 1 else 0) end ends in
     omega (arith, c)
 
-counted_from : (count : RunCount) (ends : List RowEnd) → counted_behind count ends ≡ record {
+counted_from : (count : RunCount) (ends : List RowEnd) → counted_after count ends ≡ record {
   accepted = count.accepted + count_by was_accepted ends;
   refused = count.refused + count_by was_refused ends;
-  first = first_behind count.first ends;
+  first = first_after count.first ends;
 }
 counted_from count [] = λ i. record {
   accepted = sym (plus_none count.accepted) i;
@@ -54,11 +54,11 @@ counted_from count (end ∷ ends) =
     ∙ λ i. record {
       accepted = accepted_more count.accepted end ends i;
       refused = refused_more count.refused end ends i;
-      first = first_behind count.first (end ∷ ends);
+      first = first_after count.first (end ∷ ends);
     }
 
 -- rows that are counted one by one are counted
-pub counted_is : (ends : List RowEnd) → counted_behind (count_of []) ends ≡ count_of ends
+pub counted_is : (ends : List RowEnd) → counted_after (count_of []) ends ≡ count_of ends
 counted_is ends = counted_from (count_of []) ends ∙ λ i. record
     { accepted = none_plus (count_by was_accepted ends) i; refused = none_plus (count_by was_refused ends) i; first = first_refused ends }
   where
@@ -86,22 +86,22 @@ taken_is place line lines (r ∷ refused) = by (r.place == place)
 pub row_more : (place line : ℕ) (lines : List ℕ) (refused later : List RefusedEvent) (refusal : Option Refusal)
     (count count2 all : RunCount) → place < length lines → line ≡ get_or lines place line
     → refusal ≡ (taken_at place refused).0 → later ≡ (taken_at place refused).1 → count2 ≡ counted_with count (row_end line refusal)
-    → counted_behind count (ends_from place (drop place lines) refused) ≡ all
-    → counted_behind count2 (ends_from (place + 1) (drop (place + 1) lines) later) ≡ all
+    → counted_after count (ends_from place (drop place lines) refused) ≡ all
+    → counted_after count2 (ends_from (place + 1) (drop (place + 1) lines) later) ≡ all
 row_more place line lines refused later refusal count count2 all below at is rest added so_far =
     let here : drop place lines ≡ line ∷ drop (place + 1) lines = drop_more lines place line below
     ∙ ap (λ (l : ℕ). l ∷ drop (place + 1) lines) (sym at) in
-    ap (λ (c : RunCount). counted_behind c (ends_from (place + 1) (drop (place + 1) lines) later)) added
-    ∙ (ap (λ (x : Option Refusal × List RefusedEvent). counted_behind (counted_with count (row_end line x.0))
+    ap (λ (c : RunCount). counted_after c (ends_from (place + 1) (drop (place + 1) lines) later)) added
+    ∙ (ap (λ (x : Option Refusal × List RefusedEvent). counted_after (counted_with count (row_end line x.0))
     (ends_from (place + 1) (drop (place + 1) lines) x.1)) (λ i. (is i, rest i))
-    ∙ (ap (counted_behind count) (sym (taken_is place line (drop (place + 1) lines) refused))
-    ∙ (ap (λ (xs : List ℕ). counted_behind count (ends_from place xs refused)) (sym here) ∙ so_far)))
+    ∙ (ap (counted_after count) (sym (taken_is place line (drop (place + 1) lines) refused))
+    ∙ (ap (λ (xs : List ℕ). counted_after count (ends_from place xs refused)) (sym here) ∙ so_far)))
 
 -- Rows after others
 
 -- rows are counted after others
-pub counts_more : (xs ys : List RowEnd) → counted_behind (count_of xs) ys ≡ count_of (xs ++ ys)
-counts_more xs ys = ap (λ (c : RunCount). counted_behind c ys) (sym (counted_is xs))
+pub counts_more : (xs ys : List RowEnd) → counted_after (count_of xs) ys ≡ count_of (xs ++ ys)
+counts_more xs ys = ap (λ (c : RunCount). counted_after c ys) (sym (counted_is xs))
     ∙ (sym (counted_in_parts (count_of []) xs ys) ∙ counted_is (xs ++ ys))
 
 earlier_joined : (line : ℕ) (refusal : Refusal) (first : Option (ℕ × ℕ)) → or_earlier line refusal first
@@ -140,10 +140,10 @@ first_joins line None f r = ap (joined_first f) (sym (none_joined r))
 first_joins line (Some refusal) f r = ap (λ (x : Option (ℕ × ℕ)). joined_first x r) (earlier_joined line refusal f)
     ∙ joined_thrice f (line, number_of refusal) r
 
-first_joined : (f : Option (ℕ × ℕ)) (ys : List RowEnd) → first_behind f ys ≡ joined_first f (first_behind None ys)
+first_joined : (f : Option (ℕ × ℕ)) (ys : List RowEnd) → first_after f ys ≡ joined_first f (first_after None ys)
 first_joined f [] = refl
 first_joined f (y ∷ ys) = first_joined (first_by y.line y.refusal f) ys
-    ∙ (first_joins y.line y.refusal f (first_behind None ys)
+    ∙ (first_joins y.line y.refusal f (first_after None ys)
     ∙ ap (joined_first f) (sym (first_joined (first_by y.line y.refusal None) ys)))
 
 -- the counts of rows and of those after them
@@ -171,9 +171,9 @@ pub one_row_more : (count count2 : RunCount) (line n place : ℕ) (refusal : Opt
 one_row_more count count2 line n place refusal added so_far =
     omega (arith, ap rows_in added, with_one count (row_end line refusal), so_far)
 
-rows_behind : (count : RunCount) (ends : List RowEnd) → rows_in (counted_behind count ends) ≡ rows_in count + length ends
-rows_behind count [] = omega arith
-rows_behind count (end ∷ ends) = omega (arith, rows_behind (counted_with count end) ends, with_one count end)
+rows_after : (count : RunCount) (ends : List RowEnd) → rows_in (counted_after count ends) ≡ rows_in count + length ends
+rows_after count [] = omega arith
+rows_after count (end ∷ ends) = omega (arith, rows_after (counted_with count end) ends, with_one count end)
 
 length-ends : (place : ℕ) (lines : List ℕ) (refused : List RefusedEvent) → length (ends_from place lines refused) ≡ length lines
 length-ends place [] refused = refl
@@ -182,5 +182,5 @@ length-ends place (line ∷ lines) refused =
 
 -- the rows of a batch are counted
 pub rows_of_batch : (count : RunCount) (lines : List ℕ) (refused : List RefusedEvent)
-    → rows_in (counted_behind count (ends_from 0 lines refused)) ≡ rows_in count + length lines
-rows_of_batch count lines refused = omega (arith, rows_behind count (ends_from 0 lines refused), length-ends 0 lines refused)
+    → rows_in (counted_after count (ends_from 0 lines refused)) ≡ rows_in count + length lines
+rows_of_batch count lines refused = omega (arith, rows_after count (ends_from 0 lines refused), length-ends 0 lines refused)

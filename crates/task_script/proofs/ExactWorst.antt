@@ -215,7 +215,7 @@ cert_of_worst plan log j c bound exact is k =
       job = omega (arith, k.own.job, number);
       due = omega (arith, k.due, (limits.each j stands).due);
       completion = omega (arith, few);
-      start = omega (arith, few, k.own.stretch.ordered);
+      start = omega (arith, few, k.own.busy_interval.ordered);
       jobs = All-from_recursion (λ n. n < 2 ^ 32) c.jobs
           (listed_all (λ n. n < 2 ^ 32) c.jobs (λ n listed. done_number plan log n bound exact (k.own.holds.each n listed).done));
     }

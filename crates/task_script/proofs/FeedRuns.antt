@@ -23,7 +23,7 @@ use Rattle.die_service.specs.Runs as feed
 use Rattle.slot_types.specs.Arrivals.{IsArrival}
 use Rattle.slot_types.specs.Arriving.{arrivals_by, arrivals_after}
 use Rattle.slot_types.proofs.Arriving.{arrived_hold, later_hold, arrived_all, arrived_and_later, arrived_map, later_map}
-use Rattle.die_service.specs.Runs.{AskedEvent, asked_event, comes_at, AreAsked, InClockOrder, with_refused, place_behind, refused_from, stop_of}
+use Rattle.die_service.specs.Runs.{AskedEvent, asked_event, comes_at, AreAsked, InClockOrder, with_refused, place_beyond, refused_from, stop_of}
 use Rattle.script_texts.specs.declared.script_rows.ScriptItem.{ScriptItem}
 use Rattle.task_script.specs.declared.run_counts.RowEnd.{RowEnd}
 use Rattle.task_script.specs.DieRuns.{ScriptCall, Row, Slot, DieRun, Accepts, Ends, MakesCalls, run_at, end_of, row_slot, calls_from}
@@ -31,7 +31,7 @@ use Rattle.task_script.specs.RowEnds.{arrival_of, arrivals_of, lines_of, row_end
 use Rattle.die_service.proofs.SlotCalls.{numbered, slot_counted, slot_refused, taken_stays}
 use Rattle.task_script.proofs.Calling.{ran_more}
 use Rattle.die_service.proofs.Transcripts.{said_log, said_accepted, said_refused}
-use Rattle.task_script.proofs.Transcripts.{AreTold}
+use Rattle.task_script.proofs.Transcripts.{AreReported}
 use Rattle.die_log.specs.Model.Start.{fresh}
 
 -- The rows that come by a slot are the events that do
@@ -72,7 +72,7 @@ noted_at place (Ok reply) more = more
 noted_at place (Err refused) more = record { place = place; refused = refused } ∷ more
 
 noted_arrival : (place : ℕ) (event : Event) (reply : Result Reply RefusedAt) (saids : List AskedEvent) → IsArrival event
-    → with_refused place event reply (refused_from (place_behind event place) saids) ≡ noted_at place reply (refused_from (place + 1) saids)
+    → with_refused place event reply (refused_from (place_beyond event place) saids) ≡ noted_at place reply (refused_from (place + 1) saids)
 noted_arrival place (events.Submit task release due ops) (Ok reply) saids h = ap (λ (n : ℕ). refused_from n saids) (omega arith)
 noted_arrival place (events.Submit task release due ops) (Err refused) saids h = ap (λ (n : ℕ). record { place = place; refused = refused }
     ∷ refused_from n saids) (omega arith)
@@ -83,42 +83,42 @@ noted_arrival place events.Slot reply saids h = absurd h
 
 -- the refused events from a place on have no place before it
 module _ (first : ℕ) where
-  abbrev AreBehind : List RefusedEvent → Type 0
-  AreBehind refused = All (λ r. first ≤ r.place) refused
+  abbrev AreAfter : List RefusedEvent → Type 0
+  AreAfter refused = All (λ r. first ≤ r.place) refused
 
-  behind_one : (place : ℕ) (refused : RefusedAt) (more : List RefusedEvent) → first ≤ place → AreBehind more
-      → AreBehind (record { place = place; refused = refused } ∷ more)
-  behind_one place refused more from rest = All-cons (λ r. first ≤ r.place) (record { place = place; refused = refused }) more from rest
+  after_one : (place : ℕ) (refused : RefusedAt) (more : List RefusedEvent) → first ≤ place → AreAfter more
+      → AreAfter (record { place = place; refused = refused } ∷ more)
+  after_one place refused more from rest = All-cons (λ r. first ≤ r.place) (record { place = place; refused = refused }) more from rest
 
-  behind_noted : (place : ℕ) (event : Event) (reply : Result Reply RefusedAt) (saids : List AskedEvent) → first ≤ place
-      → ((n : ℕ) → first ≤ n → AreBehind (refused_from n saids))
-      → AreBehind (with_refused place event reply (refused_from (place_behind event place) saids))
-  behind_noted place events.Slot reply saids from more = more place from
-  behind_noted place (events.Submit task release due ops) (Ok reply) saids from more = more (suc place) (omega arith)
-  behind_noted place (events.Submit task release due ops) (Err refused) saids from more = behind_one place refused
+  after_noted : (place : ℕ) (event : Event) (reply : Result Reply RefusedAt) (saids : List AskedEvent) → first ≤ place
+      → ((n : ℕ) → first ≤ n → AreAfter (refused_from n saids))
+      → AreAfter (with_refused place event reply (refused_from (place_beyond event place) saids))
+  after_noted place events.Slot reply saids from more = more place from
+  after_noted place (events.Submit task release due ops) (Ok reply) saids from more = more (suc place) (omega arith)
+  after_noted place (events.Submit task release due ops) (Err refused) saids from more = after_one place refused
       (refused_from (suc place) saids) from (more (suc place) (omega arith))
-  behind_noted place (events.Collect task release due) (Ok reply) saids from more = more (suc place) (omega arith)
-  behind_noted place (events.Collect task release due) (Err refused) saids from more = behind_one place refused
+  after_noted place (events.Collect task release due) (Ok reply) saids from more = more (suc place) (omega arith)
+  after_noted place (events.Collect task release due) (Err refused) saids from more = after_one place refused
       (refused_from (suc place) saids) from (more (suc place) (omega arith))
 
-  all_behind : (saids : List AskedEvent) (place : ℕ) → first ≤ place → AreBehind (refused_from place saids)
-  all_behind [] place from = All-nil (λ r. first ≤ r.place)
-  all_behind (s ∷ saids) place from = behind_noted place s.event s.reply saids from (all_behind saids)
+  all_after : (saids : List AskedEvent) (place : ℕ) → first ≤ place → AreAfter (refused_from place saids)
+  all_after [] place from = All-nil (λ r. first ≤ r.place)
+  all_after (s ∷ saids) place from = after_noted place s.event s.reply saids from (all_after saids)
 
 ends_skip : (place line : ℕ) (lines : List ℕ) (refused : List RefusedEvent) → All (λ r. place + 1 ≤ r.place) refused
     → ends_from place (line ∷ lines) refused ≡ row_end line None ∷ ends_from (place + 1) lines refused
 ends_skip place line lines [] h = refl
 ends_skip place line lines (r ∷ refused) h =
-    let behind = All-head (λ (e : RefusedEvent). place + 1 ≤ e.place) r refused h in
+    let beyond = All-head (λ (e : RefusedEvent). place + 1 ≤ e.place) r refused h in
     ap (λ (b : Bool). cond b (row_end line (Some r.refused.refusal) ∷ ends_from (place + 1) lines refused) (row_end line None
     ∷ ends_from (place + 1) lines (r ∷ refused)))
-    (ne_eqb r.place place (λ same. absurd (omega (arith, same, behind))))
+    (ne_eqb r.place place (λ same. absurd (omega (arith, same, beyond))))
 
 ends_noted : (place line : ℕ) (lines : List ℕ) (reply : Result Reply RefusedAt) (saids : List AskedEvent)
     → ends_from place (line ∷ lines) (noted_at place reply (refused_from (place + 1) saids)) ≡ row_end line (refusal_in reply)
     ∷ ends_from (place + 1) lines (refused_from (place + 1) saids)
 ends_noted place line lines (Ok reply) saids = ends_skip place line lines (refused_from (place + 1) saids)
-    (all_behind (place + 1) saids (place + 1) (omega arith))
+    (all_after (place + 1) saids (place + 1) (omega arith))
 ends_noted place line lines (Err refused) saids =
     ap (λ (b : Bool). cond b (row_end line (Some refused.refusal) ∷ ends_from (place + 1) lines (refused_from (place + 1) saids))
     (row_end line None ∷ ends_from (place + 1) lines (record { place = place; refused = refused } ∷ refused_from (place + 1) saids)))
@@ -150,45 +150,45 @@ accepts_at plan before event reply h = (
   said_accepted before event reply ∙ ap (λ (r : Reply). with_entry 0 event r (said_log before)) (sym h.0),
 )
 
-ends_at : (plan : DiePlan) (saids before after : List AskedEvent) (event : Event) (reply : Result Reply RefusedAt) → AreTold plan saids → saids
+ends_at : (plan : DiePlan) (saids before after : List AskedEvent) (event : Event) (reply : Result Reply RefusedAt) → AreReported plan saids → saids
     ≡ before ++ asked_event event reply ∷ after
     → Ends plan (said_log before) event (refusal_in reply) (said_log (before ++ asked_event event reply ∷ []))
-ends_at plan saids before after event (Ok reply) told is = accepts_at plan before event reply (told.accepted before after event reply is)
-ends_at plan saids before after event (Err refused) told is =
-    (told.refused before after event refused is, said_refused before event refused)
+ends_at plan saids before after event (Ok reply) said is = accepts_at plan before event reply (said.accepted before after event reply is)
+ends_at plan saids before after event (Err refused) said is =
+    (said.refused before after event refused is, said_refused before event refused)
 
-stays_at : (plan : DiePlan) (saids before after : List AskedEvent) (event : Event) (reply : Result Reply RefusedAt) → AreTold plan saids → saids
+stays_at : (plan : DiePlan) (saids before after : List AskedEvent) (event : Event) (reply : Result Reply RefusedAt) → AreReported plan saids → saids
     ≡ before ++ asked_event event reply ∷ after → IsArrival event
     → now (said_log (before ++ asked_event event reply ∷ [])) ≡ now (said_log before)
-stays_at plan saids before after event (Ok reply) told is h =
-    let t = told.accepted before after event reply is in
+stays_at plan saids before after event (Ok reply) said is h =
+    let t = said.accepted before after event reply is in
     ap now (said_accepted before event reply) ∙ taken_stays (fresh plan) (said_log before) event reply h t.0 t.1
-stays_at plan saids before after event (Err refused) told is h = ap now (said_refused before event refused)
+stays_at plan saids before after event (Err refused) said is h = ap now (said_refused before event refused)
 
 -- Rows one after the other
 
-behind_first : (saids before fed after : List AskedEvent) (s : AskedEvent) → saids ≡ before ++ ((s ∷ fed) ++ after) → saids ≡ (before ++ s ∷ [])
+after_first : (saids before fed after : List AskedEvent) (s : AskedEvent) → saids ≡ before ++ ((s ∷ fed) ++ after) → saids ≡ (before ++ s ∷ [])
     ++ (fed ++ after)
-behind_first saids before fed after s is = is ∙ sym (append_assoc before (s ∷ []) (fed ++ after))
+after_first saids before fed after s is = is ∙ sym (append_assoc before (s ∷ []) (fed ++ after))
 
 -- the log and the rows' ends once these were asked
 abbrev RowsRan : DiePlan → List AskedEvent → List RowEnd → List ScriptItem → List AskedEvent → Type 0
 RowsRan plan before ends items fed = MakesCalls plan (run_at (said_log before) ends) (map Row items)
     (run_at (said_log (before ++ fed)) (ends ++ ends_said items fed))
 
-rows_run : (plan : DiePlan) (saids : List AskedEvent) → AreTold plan saids
+rows_run : (plan : DiePlan) (saids : List AskedEvent) → AreReported plan saids
     → (items : List ScriptItem) (fed before after : List AskedEvent) (ends : List RowEnd) → saids ≡ before ++ (fed ++ after)
     → AreAsked (arrivals_of items) fed → RowsRan plan before ends items fed
-rows_run plan saids told [] [] before after ends is asked = λ i. run_at (said_log (append-nil before i)) (append-nil ends i)
-rows_run plan saids told [] (s ∷ fed) before after ends is asked = absurd (asked_none s fed asked)
-rows_run plan saids told (item ∷ items) [] before after ends is asked = absurd (asked_some item items asked)
-rows_run plan saids told (item ∷ items) (s ∷ fed) before after ends is asked =
+rows_run plan saids said [] [] before after ends is asked = λ i. run_at (said_log (append-nil before i)) (append-nil ends i)
+rows_run plan saids said [] (s ∷ fed) before after ends is asked = absurd (asked_none s fed asked)
+rows_run plan saids said (item ∷ items) [] before after ends is asked = absurd (asked_some item items asked)
+rows_run plan saids said (item ∷ items) (s ∷ fed) before after ends is asked =
     let more : List RowEnd = ends ++ end_of item (refusal_in s.reply) ∷ [] in
     let same = asked_first item items s fed asked in
     let ended : Ends plan (said_log before) s.event (refusal_in s.reply) (said_log (before ++ s ∷ [])) = ends_at plan saids before (fed
-    ++ after) s.event s.reply told is in
-    let rest : RowsRan plan (before ++ s ∷ []) more items fed = rows_run plan saids told items fed (before ++ s ∷ []) after more
-    (behind_first saids before fed after s is) (asked_rest item items s fed asked) in (
+    ++ after) s.event s.reply said is in
+    let rest : RowsRan plan (before ++ s ∷ []) more items fed = rows_run plan saids said items fed (before ++ s ∷ []) after more
+    (after_first saids before fed after s is) (asked_rest item items s fed asked) in (
       run_at (said_log (before ++ s ∷ [])) more,
       (
         refusal_in s.reply,
@@ -201,29 +201,29 @@ rows_run plan saids told (item ∷ items) (s ∷ fed) before after ends is asked
           (append_assoc ends (end_of item (refusal_in s.reply) ∷ []) (ends_said items fed) i)) rest,
     )
 
-rows_stay : (plan : DiePlan) (saids : List AskedEvent) → AreTold plan saids → (items : List ScriptItem) (fed before after : List AskedEvent) → saids
+rows_stay : (plan : DiePlan) (saids : List AskedEvent) → AreReported plan saids → (items : List ScriptItem) (fed before after : List AskedEvent) → saids
     ≡ before ++ (fed ++ after)
     → AreAsked (arrivals_of items) fed → All (λ item. IsArrival item.event) items → now (said_log (before ++ fed)) ≡ now (said_log before)
-rows_stay plan saids told [] [] before after is asked arrive = ap (λ (b : List AskedEvent). now (said_log b)) (append-nil before)
-rows_stay plan saids told [] (s ∷ fed) before after is asked arrive = absurd (asked_none s fed asked)
-rows_stay plan saids told (item ∷ items) [] before after is asked arrive = absurd (asked_some item items asked)
-rows_stay plan saids told (item ∷ items) (s ∷ fed) before after is asked arrive =
+rows_stay plan saids said [] [] before after is asked arrive = ap (λ (b : List AskedEvent). now (said_log b)) (append-nil before)
+rows_stay plan saids said [] (s ∷ fed) before after is asked arrive = absurd (asked_none s fed asked)
+rows_stay plan saids said (item ∷ items) [] before after is asked arrive = absurd (asked_some item items asked)
+rows_stay plan saids said (item ∷ items) (s ∷ fed) before after is asked arrive =
     let A : ScriptItem → Type 0 = λ i. IsArrival i.event in
     let here : IsArrival s.event = subst IsArrival (sym (asked_first item items s fed asked)) (All-head A item items arrive) in
     ap (λ (b : List AskedEvent). now (said_log b)) (sym (append_assoc before (s ∷ []) fed))
-    ∙ (rows_stay plan saids told items fed (before ++ s ∷ []) after (behind_first saids before fed after s is)
+    ∙ (rows_stay plan saids said items fed (before ++ s ∷ []) after (after_first saids before fed after s is)
     (asked_rest item items s fed asked) (All-tail A item items arrive)
-    ∙ stays_at plan saids before (fed ++ after) s.event s.reply told is here)
+    ∙ stays_at plan saids before (fed ++ after) s.event s.reply said is here)
 
-stop_behind : (items : List ScriptItem) (fed rest : List AskedEvent) → AreAsked (arrivals_of items) fed → All (λ item. IsArrival item.event) items
+stop_after : (items : List ScriptItem) (fed rest : List AskedEvent) → AreAsked (arrivals_of items) fed → All (λ item. IsArrival item.event) items
     → stop_of (fed ++ rest) ≡ stop_of rest
-stop_behind [] [] rest asked arrive = refl
-stop_behind [] (s ∷ fed) rest asked arrive = absurd (asked_none s fed asked)
-stop_behind (item ∷ items) [] rest asked arrive = absurd (asked_some item items asked)
-stop_behind (item ∷ items) (s ∷ fed) rest asked arrive =
+stop_after [] [] rest asked arrive = refl
+stop_after [] (s ∷ fed) rest asked arrive = absurd (asked_none s fed asked)
+stop_after (item ∷ items) [] rest asked arrive = absurd (asked_some item items asked)
+stop_after (item ∷ items) (s ∷ fed) rest asked arrive =
     let A : ScriptItem → Type 0 = λ i. IsArrival i.event in
     by s.event s.reply (subst IsArrival (sym (asked_first item items s fed asked)) (All-head A item items arrive))
-    (stop_behind items fed rest (asked_rest item items s fed asked) (All-tail A item items arrive))
+    (stop_after items fed rest (asked_rest item items s fed asked) (All-tail A item items arrive))
   where
     by : (event : Event) (reply : Result Reply RefusedAt) → IsArrival event → stop_of (fed ++ rest) ≡ stop_of rest
         → feed.stop_or event reply (stop_of (fed ++ rest)) ≡ stop_of rest
@@ -249,32 +249,32 @@ stopped_not refused e = absurd cc
 
 -- The rows that come by a slot, and what was said after them
 
-record Fed (plan : DiePlan) (saids : List AskedEvent) (clock : ℕ) (items : List ScriptItem) (before fed behind rest : List AskedEvent) : Type 0 where
+record Fed (plan : DiePlan) (saids : List AskedEvent) (clock : ℕ) (items : List ScriptItem) (before fed beyond rest : List AskedEvent) : Type 0 where
   asked : AreAsked (arrivals_of (arrivals_by row_slot clock items)) fed
   arrive : All (λ item. IsArrival item.event) (arrivals_by row_slot clock items)
-  at : saids ≡ before ++ (fed ++ behind)
-  next : saids ≡ (before ++ fed) ++ behind
+  at : saids ≡ before ++ (fed ++ beyond)
+  next : saids ≡ (before ++ fed) ++ beyond
   stays : now (said_log (before ++ fed)) ≡ clock
-  stops : stop_of rest ≡ stop_of behind
+  stops : stop_of rest ≡ stop_of beyond
 
-rows_fed : (plan : DiePlan) (saids : List AskedEvent) → AreTold plan saids
-    → (clock : ℕ) (items : List ScriptItem) (before fed behind rest : List AskedEvent)
-    → saids ≡ before ++ rest → rest ≡ fed ++ behind → AreAsked (arrivals_by comes_at clock (arrivals_of items)) fed
+rows_fed : (plan : DiePlan) (saids : List AskedEvent) → AreReported plan saids
+    → (clock : ℕ) (items : List ScriptItem) (before fed beyond rest : List AskedEvent)
+    → saids ≡ before ++ rest → rest ≡ fed ++ beyond → AreAsked (arrivals_by comes_at clock (arrivals_of items)) fed
     → now (said_log before) ≡ clock
     → All (λ item. IsArrival item.event) items
-    → Fed plan saids clock items before fed behind rest
-rows_fed plan saids told clock items before fed behind rest is split asked at_now arrive =
+    → Fed plan saids clock items before fed beyond rest
+rows_fed plan saids said clock items before fed beyond rest is split asked at_now arrive =
     let these : AreAsked (arrivals_of (arrivals_by row_slot clock items)) fed =
     subst (λ (xs : List Arrival). AreAsked xs fed) (same_arrived clock items) asked in
     let arrive_now = arrived_hold row_slot clock (λ item. IsArrival item.event) items arrive in
-    let all_is : saids ≡ before ++ (fed ++ behind) = is ∙ ap (λ (xs : List AskedEvent). before ++ xs) split in
+    let all_is : saids ≡ before ++ (fed ++ beyond) = is ∙ ap (λ (xs : List AskedEvent). before ++ xs) split in
     record {
       asked = these;
       arrive = arrive_now;
       at = all_is;
-      next = all_is ∙ sym (append_assoc before fed behind);
-      stays = rows_stay plan saids told (arrivals_by row_slot clock items) fed before behind all_is these arrive_now ∙ at_now;
-      stops = ap stop_of split ∙ stop_behind (arrivals_by row_slot clock items) fed behind these arrive_now;
+      next = all_is ∙ sym (append_assoc before fed beyond);
+      stays = rows_stay plan saids said (arrivals_by row_slot clock items) fed before beyond all_is these arrive_now ∙ at_now;
+      stops = ap stop_of split ∙ stop_after (arrivals_by row_slot clock items) fed beyond these arrive_now;
     }
 
 -- A slot that was carried out after them, and what was said after the slot
@@ -291,14 +291,14 @@ record Carried (plan : DiePlan) (saids : List AskedEvent) (left clock : ℕ) (it
   due : All (λ item. item.at ≤ clock + 1 + left) (arrivals_after row_slot clock items)
   arrive : All (λ item. IsArrival item.event) (arrivals_after row_slot clock items)
 
-slot_carried : (plan : DiePlan) (saids : List AskedEvent) → AreTold plan saids
+slot_carried : (plan : DiePlan) (saids : List AskedEvent) → AreReported plan saids
     → (left clock : ℕ) (items : List ScriptItem) (before more : List AskedEvent) (slot : SlotReply)
     → saids ≡ before ++ carried slot ∷ more → now (said_log before) ≡ clock
     → InClockOrder left (slot.slot + 1) (arrivals_after comes_at clock (arrivals_of items)) more
     → All (λ item. item.at ≤ clock + suc left) items → All (λ item. IsArrival item.event) items
     → Carried plan saids left clock items before more slot
-slot_carried plan saids told left clock items before more slot is at_now ordered due arrive =
-    let answered = told.accepted before more events.Slot (replies.Slot slot) is in
+slot_carried plan saids said left clock items before more slot is at_now ordered due arrive =
+    let answered = said.accepted before more events.Slot (replies.Slot slot) is in
     let number : slot.slot ≡ clock = numbered (fresh plan) (said_log before) slot answered.0 ∙ at_now in
     record {
       answered = answered;
@@ -311,12 +311,12 @@ slot_carried plan saids told left clock items before more slot is at_now ordered
       arrive = later_hold row_slot clock (λ item. IsArrival item.event) items arrive;
     }
 
-pub slots_run : (plan : DiePlan) (saids : List AskedEvent) → AreTold plan saids
+pub slots_run : (plan : DiePlan) (saids : List AskedEvent) → AreReported plan saids
     → (left clock : ℕ) (items : List ScriptItem) (before rest : List AskedEvent) (ends : List RowEnd) (place : ℕ)
     → saids ≡ before ++ rest → InClockOrder left clock (arrivals_of items) rest → now (said_log before) ≡ clock → stop_of rest ≡ None
     → All (λ item. item.at ≤ clock + left) items → All (λ item. IsArrival item.event) items
     → ComesTo plan saids before ends (calls_from clock left items) place (lines_of items) rest (clock + left)
-slots_run plan saids told zero clock items before rest ends place is ordered at_now none_stopped due arrive =
+slots_run plan saids said zero clock items before rest ends place is ordered at_now none_stopped due arrive =
     let in_time : All (λ item. item.at ≤ clock) items = subst (λ (n : ℕ). All (λ item. item.at ≤ n) items) (omega arith) due in
     let asked : AreAsked (arrivals_of items) rest = subst (λ (xs : List Arrival). AreAsked xs rest) (same_arrived clock items
     ∙ ap arrivals_of (arrived_all row_slot clock items in_time)) ordered in
@@ -324,25 +324,25 @@ slots_run plan saids told zero clock items before rest ends place is ordered at_
     record {
       ended = ends_said items rest;
       ran = subst (λ (xs : List AskedEvent). MakesCalls plan (run_at (said_log before) ends) (map Row items)
-          (run_at (said_log xs) (ends ++ ends_said items rest))) (sym is) (rows_run plan saids told items rest before [] ends here asked);
+          (run_at (said_log xs) (ends ++ ends_said items rest))) (sym is) (rows_run plan saids said items rest before [] ends here asked);
       slots = ap (λ (xs : List AskedEvent). now (said_log xs)) is
-          ∙ (rows_stay plan saids told items rest before [] here asked arrive ∙ (at_now ∙ omega arith));
+          ∙ (rows_stay plan saids said items rest before [] here asked arrive ∙ (at_now ∙ omega arith));
       ended_is = sym (append-nil (ends_said items rest)) ∙ (sym (ends_split items [] rest [] place asked arrive)
           ∙ λ i. ends_from place (lines_of (append-nil items i)) (refused_from place (append-nil rest i)));
     }
-slots_run plan saids told (suc left) clock items before rest ends place is (fed, behind, split, asked, inr (refused, last)) at_now
+slots_run plan saids said (suc left) clock items before rest ends place is (fed, beyond, split, asked, inr (refused, last)) at_now
     none_stopped due arrive =
-    let f = rows_fed plan saids told clock items before fed behind rest is split asked at_now arrive in
+    let f = rows_fed plan saids said clock items before fed beyond rest is split asked at_now arrive in
     absurd (stopped_not refused (sym (f.stops ∙ ap stop_of last) ∙ none_stopped))
-slots_run plan saids told (suc left) clock items before rest ends place is (fed, behind, split, asked, inl (slot, more, first, ordered))
+slots_run plan saids said (suc left) clock items before rest ends place is (fed, beyond, split, asked, inl (slot, more, first, ordered))
     at_now none_stopped due arrive =
     let now_due = arrivals_by row_slot clock items in
     let later = arrivals_after row_slot clock items in
     let tail = carried slot ∷ more in
     let rest_is : rest ≡ fed ++ tail = split ∙ ap (λ (xs : List AskedEvent). fed ++ xs) first in
-    let f = rows_fed plan saids told clock items before fed tail rest is rest_is asked at_now arrive in
-    let c = slot_carried plan saids told left clock items (before ++ fed) more slot f.next f.stays ordered due arrive in
-    let on = slots_run plan saids told left (clock + 1) later ((before ++ fed) ++ carried slot ∷ []) more (ends ++ ends_said now_due fed)
+    let f = rows_fed plan saids said clock items before fed tail rest is rest_is asked at_now arrive in
+    let c = slot_carried plan saids said left clock items (before ++ fed) more slot f.next f.stays ordered due arrive in
+    let on = slots_run plan saids said left (clock + 1) later ((before ++ fed) ++ carried slot ∷ []) more (ends ++ ends_said now_due fed)
     (place + length now_due)
     c.next c.ordered c.counted (sym f.stops ∙ none_stopped) c.due c.arrive in
     record {
@@ -350,7 +350,7 @@ slots_run plan saids told (suc left) clock items before rest ends place is (fed,
       ran = ran_more plan (run_at (said_log before) ends) (run_at (said_log (before ++ fed)) (ends ++ ends_said now_due fed))
           (run_at (said_log saids) (ends ++ (ends_said now_due fed ++ on.ended)))
           (map Row now_due) (Slot ∷ calls_from (clock + 1) left later)
-          (rows_run plan saids told now_due fed before tail ends f.at f.asked) (
+          (rows_run plan saids said now_due fed before tail ends f.at f.asked) (
             run_at (said_log ((before ++ fed) ++ carried slot ∷ [])) (ends ++ ends_said now_due fed),
             (accepts_at plan (before ++ fed) events.Slot (replies.Slot slot) c.answered, refl),
             subst (λ (es : List RowEnd). MakesCalls plan (run_at (said_log ((before ++ fed) ++ carried slot ∷ [])) (ends
@@ -365,29 +365,29 @@ slots_run plan saids told (suc left) clock items before rest ends place is (fed,
 
 -- A slot that is refused
 
-pub slots_stop : (plan : DiePlan) (saids : List AskedEvent) → AreTold plan saids
+pub slots_stop : (plan : DiePlan) (saids : List AskedEvent) → AreReported plan saids
     → (left clock : ℕ) (items : List ScriptItem) (before rest : List AskedEvent) (stop : RefusedAt)
     → saids ≡ before ++ rest → InClockOrder left clock (arrivals_of items) rest → now (said_log before) ≡ clock → stop_of rest ≡ Some stop
     → clock + left ≤ MAX_SLOT → All (λ item. item.at ≤ clock + left) items → All (λ item. IsArrival item.event) items → stop.refusal
     ≡ because.NoMemory
-slots_stop plan saids told zero clock items before rest stop is ordered at_now stopped few due arrive =
+slots_stop plan saids said zero clock items before rest stop is ordered at_now stopped few due arrive =
     let in_time : All (λ item. item.at ≤ clock) items = subst (λ (n : ℕ). All (λ item. item.at ≤ n) items) (omega arith) due in
     let asked : AreAsked (arrivals_of items) rest = subst (λ (xs : List Arrival). AreAsked xs rest) (same_arrived clock items
     ∙ ap arrivals_of (arrived_all row_slot clock items in_time)) ordered in
-    let none : stop_of rest ≡ None = ap stop_of (sym (append-nil rest)) ∙ stop_behind items rest [] asked arrive in
+    let none : stop_of rest ≡ None = ap stop_of (sym (append-nil rest)) ∙ stop_after items rest [] asked arrive in
     absurd (stopped_not stop (sym stopped ∙ none))
-slots_stop plan saids told (suc left) clock items before rest stop is (fed, behind, split, asked, inr (refused, last)) at_now stopped few
+slots_stop plan saids said (suc left) clock items before rest stop is (fed, beyond, split, asked, inr (refused, last)) at_now stopped few
     due arrive =
     let tail = asked_event events.Slot (Err refused) ∷ [] in
-    let f = rows_fed plan saids told clock items before fed tail rest is (split ∙ ap (λ (xs : List AskedEvent). fed ++ xs) last) asked at_now
+    let f = rows_fed plan saids said clock items before fed tail rest is (split ∙ ap (λ (xs : List AskedEvent). fed ++ xs) last) asked at_now
     arrive in
     ap (λ (r : RefusedAt). r.refusal) (sym (same_refused refused stop (sym f.stops ∙ stopped)))
     ∙ slot_refused (fresh plan) (said_log (before ++ fed)) refused.refusal (omega (arith, f.stays, few))
-    (told.refused (before ++ fed) [] events.Slot refused f.next)
-slots_stop plan saids told (suc left) clock items before rest stop is (fed, behind, split, asked, inl (slot, more, first, ordered)) at_now
+    (said.refused (before ++ fed) [] events.Slot refused f.next)
+slots_stop plan saids said (suc left) clock items before rest stop is (fed, beyond, split, asked, inl (slot, more, first, ordered)) at_now
     stopped few due arrive =
-    let f = rows_fed plan saids told clock items before fed (carried slot ∷ more) rest is (split ∙ ap (λ (xs : List AskedEvent). fed ++ xs) first)
+    let f = rows_fed plan saids said clock items before fed (carried slot ∷ more) rest is (split ∙ ap (λ (xs : List AskedEvent). fed ++ xs) first)
     asked at_now arrive in
-    let c = slot_carried plan saids told left clock items (before ++ fed) more slot f.next f.stays ordered due arrive in
-    slots_stop plan saids told left (clock + 1) (arrivals_after row_slot clock items) ((before ++ fed) ++ carried slot ∷ []) more stop
+    let c = slot_carried plan saids said left clock items (before ++ fed) more slot f.next f.stays ordered due arrive in
+    slots_stop plan saids said left (clock + 1) (arrivals_after row_slot clock items) ((before ++ fed) ++ carried slot ∷ []) more stop
     c.next c.ordered c.counted (sym f.stops ∙ stopped) (omega (arith, few)) c.due c.arrive

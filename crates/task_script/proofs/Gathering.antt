@@ -26,7 +26,7 @@ use Rattle.report_texts.specs.declared.reports.ReportRow.{ReportRow}
 use Rattle.task_script.proofs.BatchRuns.{closed_run, die_start}
 use Rattle.task_script.proofs.Batching.{SoFar, come_more, in_time_more, items_are}
 use Rattle.task_script.proofs.Counting.{counts_join}
-use Rattle.task_script.specs.Batches.{Closes, RanRows, HasComeTo, HaveComeTo, joined_behind, latest_slot}
+use Rattle.task_script.specs.Batches.{Closes, RanRows, HasComeTo, HaveComeTo, joined_after, latest_slot}
 use Rattle.task_script.specs.DieReports.{die_report_of, report_row_of, report_rows_of}
 use Rattle.task_script.specs.DieRuns.{DieRun, run_at}
 use Rattle.task_script.specs.Feeds.{AreInTime, AreItemsOf, HasReadRows, feed_of}
@@ -41,8 +41,8 @@ use Rattle.die_log.specs.Model.Start.{Start, fresh}
 -- Texts
 
 -- a text is that of some reports, which the reports of the dies that are left make all
-abbrev pub IsToldOf : TextSoFar → List DieReport → List DieReport → Type 0
-IsToldOf text left all = (done : List DieReport) × (text ≡ text_so_far done) × (done ++ left ≡ all)
+abbrev pub IsReportedOf : TextSoFar → List DieReport → List DieReport → Type 0
+IsReportedOf text left all = (done : List DieReport) × (text ≡ text_so_far done) × (done ++ left ≡ all)
 
 some_rows : (row : ReportRow) (rows : List ReportRow) → (length (row ∷ rows) == 0) ≡ true → ⊥
 some_rows row rows e = grind (arith, nat_tests)
@@ -69,10 +69,10 @@ no_rows [] e = refl
 no_rows (row ∷ rows) e = absurd (some_rows row rows e)
 
 -- the lines of one die more
-pub told_more : {N : Type 0} (die : ℕ) (core : Core N) (dies : List (Core N)) (old new : TextSoFar) (all : List DieReport)
-    → new ≡ die_added (die_report_of core.start core.log die) old → IsToldOf old (reports_of die (core ∷ dies)) all
-    → IsToldOf new (reports_of (die + 1) dies) all
-told_more die core dies old new all added so_far = by (length made.rows == 0) refl
+pub reported_more : {N : Type 0} (die : ℕ) (core : Core N) (dies : List (Core N)) (old new : TextSoFar) (all : List DieReport)
+    → new ≡ die_added (die_report_of core.start core.log die) old → IsReportedOf old (reports_of die (core ∷ dies)) all
+    → IsReportedOf new (reports_of (die + 1) dies) all
+reported_more die core dies old new all added so_far = by (length made.rows == 0) refl
   where
     made : DieReport
     made = die_report_of core.start core.log die
@@ -80,7 +80,7 @@ told_more die core dies old new all added so_far = by (length made.rows == 0) re
     rest : List DieReport
     rest = reports_of (die + 1) dies
 
-    by : (b : Bool) → (length made.rows == 0) ≡ b → IsToldOf new rest all
+    by : (b : Bool) → (length made.rows == 0) ≡ b → IsReportedOf new rest all
     by true e = (
       so_far.0,
       added ∙ (adds_nothing made old (no_rows made.rows e) (no_cert core.start core.log e) ∙ so_far.1),
@@ -93,8 +93,8 @@ told_more die core dies old new all added so_far = by (length made.rows == 0) re
     )
 
 -- where no die is left the text is that of all
-pub all_told : (text : TextSoFar) (left all : List DieReport) → left ≡ [] → IsToldOf text left all → text ≡ text_so_far all
-all_told text left all none so_far =
+pub all_reported : (text : TextSoFar) (left all : List DieReport) → left ≡ [] → IsReportedOf text left all → text ≡ text_so_far all
+all_reported text left all none so_far =
     so_far.1 ∙ ap text_so_far (sym (append-nil so_far.0) ∙ (ap (λ (xs : List DieReport). so_far.0 ++ xs) (sym none) ∙ so_far.2))
 
 -- the dies that are left of so many, where all have been looked at
@@ -110,7 +110,7 @@ record GatheredRuns {N : Type 0} (slots number : ℕ) (feed : ℕ → List Scrip
   pub runs : List DieRun
   pub ran : AreRuns slots feed number plans runs
   pub reported : reports_of number dies ≡ reports_from number plans runs
-  pub counted : (before : List RowEnd) → joined_behind (count_of before) progress ≡ count_of (before ++ ends_of runs)
+  pub counted : (before : List RowEnd) → joined_after (count_of before) progress ≡ count_of (before ++ ends_of runs)
 
 gathered : {N : Type 0} (slots number : ℕ) (feed : ℕ → List ScriptItem) (plans : List DiePlan) (ps : List DiePass)
     (progress : List Progress) (dies : List (Core N))
@@ -136,8 +136,8 @@ gathered slots number feed (plan ∷ plans) (p ∷ ps) (at ∷ progress) (die �
       reported = ap (λ (x : Start). with_rows (die_report_of x die.log number) (reports_of (number + 1) dies))
           (die_start plan (feed number) slots p at die h closed.0)
           ∙ ap (with_rows (die_report_of (fresh plan) die.log number)) rest.reported;
-      counted = λ before. ap (λ (c : RunCount). joined_behind (sum_of_counts (count_of before) c) progress) h.counted
-          ∙ (ap (λ (c : RunCount). joined_behind c progress) (counts_join before h.ends)
+      counted = λ before. ap (λ (c : RunCount). joined_after (sum_of_counts (count_of before) c) progress) h.counted
+          ∙ (ap (λ (c : RunCount). joined_after c progress) (counts_join before h.ends)
           ∙ (rest.counted (before ++ h.ends) ∙ ap count_of (append_assoc before h.ends (ends_of rest.runs))));
     }
 gathered slots number feed [] [] [] (die ∷ dies) in_time come closed = absurd closed
@@ -159,11 +159,11 @@ latest_within slots (item ∷ items) arrive = let rest = latest_within slots ite
 
 -- the text of the reports, and the count, of dies that ran all rows of a script and were closed
 pub ran_script : (text : Option (List ℕ)) (plans : List DiePlan) (slots : ℕ) (ps : List DiePass) (progress : List Progress)
-    (told : TextSoFar) (count : RunCount) (items : List ScriptItem)
+    (said : TextSoFar) (count : RunCount) (items : List ScriptItem)
     → AreItemsOf text (length plans) slots items → AreInTime (length plans) slots items
-    → HaveComeTo slots (feed_of items) 0 plans ps progress → Closes ps progress told count
-    → RanScript text plans slots told count
-ran_script text plans slots ps progress told count items script in_time come c =
+    → HaveComeTo slots (feed_of items) 0 plans ps progress → Closes ps progress said count
+    → RanScript text plans slots said count
+ran_script text plans slots ps progress said count items script in_time come c =
     let g = gathered slots 0 (feed_of items) plans ps progress c.dies
     (λ k below. latest_within slots (feed_of items (0 + k)) (recursion_from_All (Arrives slots) (feed_of items (0 + k))
     (in_time.arrive (0 + k) (omega (arith, below))))) come c.closed in record {
@@ -172,13 +172,13 @@ ran_script text plans slots ps progress told count items script in_time come c =
       in_time = in_time;
       report = reports_of 0 c.dies;
       ran = record { runs = g.runs; ran = g.ran; reported = g.reported; counted = c.counted ∙ g.counted [] };
-      told_is = c.told;
+      said_is = c.said;
     }
 
-unfoldable pub runs_text : (text : Option (List ℕ)) (plans : List DiePlan) (slots : ℕ) (told : TextSoFar) (count : RunCount)
-    (old new : Option (List ℕ)) (r : RanScript text plans slots told count) → Appends old new (report_text r.report)
+unfoldable pub runs_text : (text : Option (List ℕ)) (plans : List DiePlan) (slots : ℕ) (said : TextSoFar) (count : RunCount)
+    (old new : Option (List ℕ)) (r : RanScript text plans slots said count) → Appends old new (report_text r.report)
     → RunsText text plans slots count old new
-runs_text text plans slots told count old new r written = record {
+runs_text text plans slots said count old new r written = record {
   items = r.items;
   script = r.script;
   pages = r.in_time.pages;
@@ -193,9 +193,9 @@ pub script_ran : (text : Option (List ℕ)) (left new : Option Script) (plans : 
     (before after : List Progress) (rows : List (List ScriptItem))
     (s : SoFar 0 (option_map (script_of (length plans) slots) text) left plans slots ps before)
     (r : HasReadRows left new (length plans) slots rows true) → RanRows slots rows ps before qs after
-    → (told : TextSoFar) (count : RunCount) → Closes qs after told count → RanScript text plans slots told count
-script_ran text left new plans slots ps qs before after rows s r ran told count closes =
-    ran_script text plans slots qs after told count (s.items ++ r.items)
+    → (said : TextSoFar) (count : RunCount) → Closes qs after said count → RanScript text plans slots said count
+script_ran text left new plans slots ps qs before after rows s r ran said count closes =
+    ran_script text plans slots qs after said count (s.items ++ r.items)
     (items_are text left (length plans) slots s.items r.items s.read (r.all refl))
     (in_time_more (length plans) slots s.items r.items rows s.in_time r.dealt)
     (come_more slots (length plans) slots plans ps qs before after rows s.items r.items refl s.come r.dealt ran) closes

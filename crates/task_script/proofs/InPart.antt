@@ -15,15 +15,15 @@ use Rattle.task_script.proofs.AsPlanned.{runs_as_planned}
 
 -- where the writer failed, a front of the report of this run was written, and not the whole
 pub runs_in_part : {W : Type 0} (contents : W → Option (List ℕ)) (text : Option (List ℕ)) (plans : List DiePlan) (slots : ℕ)
-    (told : TextSoFar) (count : RunCount) (old new : W) (refusal : Refusal)
-    → All MeetsBound plans → (r : RanScript text plans slots told count)
+    (said : TextSoFar) (count : RunCount) (old new : W) (refusal : Refusal)
+    → All MeetsBound plans → (r : RanScript text plans slots said count)
     → (refusal ≡ NoMemory → new ≡ old) → (refusal ≡ WriteFault → AppendsPart (contents old) (contents new) (report_text r.report))
     → (refusal ≡ NoMemory) ⊎ (refusal ≡ WriteFault)
     → IsNotWhole contents (RunsSo text plans slots) old new
-runs_in_part contents text plans slots told count old new refusal bound r memory part (inl is) = inl (memory is)
-runs_in_part contents text plans slots told count old new refusal bound r memory part (inr is) =
+runs_in_part contents text plans slots said count old new refusal bound r memory part (inl is) = inl (memory is)
+runs_in_part contents text plans slots said count old new refusal bound r memory part (inr is) =
     inr (
       report_text r.report,
-      (count, runs_as_planned text plans slots told count (Some []) (Some (report_text r.report)) bound r refl),
+      (count, runs_as_planned text plans slots said count (Some []) (Some (report_text r.report)) bound r refl),
       part is,
     )

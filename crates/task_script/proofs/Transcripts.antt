@@ -11,7 +11,7 @@ use Rattle.die_service.proofs.Transcripts.{said_log}
 use Rattle.die_log.specs.Model.Start.{fresh}
 
 -- an accepted call was answered by the log of those before it, and so was a refused one
-pub record AreTold (plan : DiePlan) (saids : List AskedEvent) : Type 0 where
+pub record AreReported (plan : DiePlan) (saids : List AskedEvent) : Type 0 where
   pub accepted : (before after : List AskedEvent) (event : Event) (reply : Reply) → saids ≡ before ++ asked_event event (Ok reply) ∷ after
       → (answer (fresh plan) (said_log before) event ≡ reply) × IsAccepted reply
   pub refused : (before after : List AskedEvent) (event : Event) (refused : RefusedAt) → saids ≡ before ++ asked_event event (Err refused) ∷ after

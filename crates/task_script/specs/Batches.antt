@@ -17,7 +17,7 @@ use Rattle.report_texts.specs.TextSoFar.{TextSoFar, text_so_far}
 use Rattle.script_texts.specs.declared.script_rows.ScriptItem.{ScriptItem}
 use Rattle.task_script.specs.DieRuns.{MakesCalls, calls_of, fresh_run, run_at}
 use Rattle.task_script.specs.RowEnds.{arrivals_of, lines_of, ends_from}
-use Rattle.task_script.specs.RunCounts.{count_of, counted_behind, rows_in, sum_of_counts}
+use Rattle.task_script.specs.RunCounts.{count_of, counted_after, rows_in, sum_of_counts}
 use Rattle.task_script.specs.StoreRuns.{reports_of}
 use Rattle.task_script.specs.declared.batches.KeptRows.{KeptRows}
 use Rattle.task_script.specs.declared.batches.Progress.{Progress}
@@ -57,7 +57,7 @@ fresh_progress = record { clock = 0; count = count_of [] }
 
 -- a die's rows of a batch are counted after those before
 abbrev pub after_batch : Progress → KeptRows → DieEnd → Progress
-after_batch at kept end = record { clock = kept.end; count = counted_behind at.count (ends_from 0 kept.lines end.refused) }
+after_batch at kept end = record { clock = kept.end; count = counted_after at.count (ends_from 0 kept.lines end.refused) }
 
 abbrev pub progress_after : List Progress → List KeptRows → List DieEnd → List Progress
 progress_after (at ∷ progress) (k ∷ kept) (end ∷ ends) = after_batch at k end ∷ progress_after progress kept ends
@@ -102,17 +102,17 @@ HaveComeTo until feed die _ _ _ = ⊥
 
 -- Once all have been run
 
-abbrev pub joined_behind : RunCount → List Progress → RunCount
-joined_behind count [] = count
-joined_behind count (at ∷ progress) = joined_behind (sum_of_counts count at.count) progress
+abbrev pub joined_after : RunCount → List Progress → RunCount
+joined_after count [] = count
+joined_after count (at ∷ progress) = joined_after (sum_of_counts count at.count) progress
 
 -- the rows of all dies are counted
 abbrev pub joined_counts : List Progress → RunCount
-joined_counts progress = joined_behind (count_of []) progress
+joined_counts progress = joined_after (count_of []) progress
 
 -- the dies were closed with these passes, this is the text of their reports, and so many rows were counted
 pub record Closes (ps : List DiePass) (progress : List Progress) (text : TextSoFar) (count : RunCount) : Type 0 where
   pub dies : List (Core Memory)
   pub closed : AllZip IsClosedWith ps dies
-  pub told : text ≡ text_so_far (reports_of 0 dies)
+  pub said : text ≡ text_so_far (reports_of 0 dies)
   pub counted : count ≡ joined_counts progress

@@ -22,12 +22,12 @@ first_by line (Some refusal) first = or_earlier line refusal first
 
 -- of these rows and a refused one before them the refused one of the smallest record: its record and the refusal's
 -- number
-abbrev pub first_behind : Option (ℕ × ℕ) → List RowEnd → Option (ℕ × ℕ)
-first_behind first [] = first
-first_behind first (end ∷ ends) = first_behind (first_by end.line end.refusal first) ends
+abbrev pub first_after : Option (ℕ × ℕ) → List RowEnd → Option (ℕ × ℕ)
+first_after first [] = first
+first_after first (end ∷ ends) = first_after (first_by end.line end.refusal first) ends
 
 abbrev pub first_refused : List RowEnd → Option (ℕ × ℕ)
-first_refused ends = first_behind None ends
+first_refused ends = first_after None ends
 
 -- how many rows were accepted and refused, and the first refused one
 abbrev pub count_of : List RowEnd → RunCount
@@ -62,6 +62,6 @@ counted_with count end = record {
 }
 
 -- these rows are counted besides
-abbrev pub counted_behind : RunCount → List RowEnd → RunCount
-counted_behind count [] = count
-counted_behind count (end ∷ ends) = counted_behind (counted_with count end) ends
+abbrev pub counted_after : RunCount → List RowEnd → RunCount
+counted_after count [] = count
+counted_after count (end ∷ ends) = counted_after (counted_with count end) ends

@@ -63,10 +63,10 @@ pub record DiesHaveRun (slots : ℕ) (feed : ℕ → List ScriptItem) (plans : L
     pub counted : count ≡ count_of (ends_of runs)
 
 -- each die of the store ran all its slots with its rows of the script, and this is the text of the dies' reports
-pub record RanScript (text : Option (List ℕ)) (plans : List DiePlan) (slots : ℕ) (told : TextSoFar) (count : RunCount) : Type 0 where
+pub record RanScript (text : Option (List ℕ)) (plans : List DiePlan) (slots : ℕ) (said : TextSoFar) (count : RunCount) : Type 0 where
   pub items : List ScriptItem
   pub script : AreItemsOf text (length plans) slots items
   pub in_time : AreInTime (length plans) slots items
   pub report : List DieReport
   pub ran : DiesHaveRun slots (feed_of items) plans report count
-  pub told_is : told ≡ text_so_far report
+  pub said_is : said ≡ text_so_far report

@@ -6,7 +6,7 @@ ghost use Rattle.slot_types.specs.Refusal.{FailsForMemory};
 ghost use Rattle.task_script.specs.Batches.{RanRows, batches_of, fresh_progress, kept_of, progress_after, rows_counted, rows_kept};
 ghost use Rattle.task_script.specs.Feeds.{rows_dealt};
 ghost use Rattle.task_script.specs.RowEnds.{ends_from, taken_at};
-ghost use Rattle.task_script.specs.RunCounts.{counted_behind, rows_in};
+ghost use Rattle.task_script.specs.RunCounts.{counted_after, rows_in};
 
 use crate::rows::{DieRows, Lines};
 use crate::run_counts::{RowEnd, RunCount};
@@ -101,7 +101,7 @@ fn take_refused(refused: &[RefusedEvent], place: usize) -> (Option<Refusal>, &[R
 /// Counts the rows with these lines, by the events that were refused.
 fn add_rows(lines: &[u32], refused: &[RefusedEvent], count: &mut RunCount)
     requires few { rows_in count.old + length lines.now < 2 ^ 64 }
-    ensures { count.new ≡ counted_behind count.old (ends_from 0 lines.now refused.now) }
+    ensures { count.new ≡ counted_after count.old (ends_from 0 lines.now refused.now) }
 {
     let mut rest = refused;
     for place in 0..lines.len() {

@@ -173,13 +173,13 @@ impl Write for Full {
 }
 
 #[test]
-fn a_writer_that_fails_is_told(rt: HostRuntime) -> Result<(), Fail> {
+fn a_writer_that_fails_is_reported(rt: HostRuntime) -> Result<(), Fail> {
     let alloc = rt.alloc();
     let store = store(alloc)?;
     let mut full = Full { left: 7 };
     if store.len() <= 8 {
-        let told = write_checkpoint(alloc, &mut full, &store);
-        assert!(rt; told == Err(slot_types::Refusal::WriteFault));
+        let said = write_checkpoint(alloc, &mut full, &store);
+        assert!(rt; said == Err(slot_types::Refusal::WriteFault));
     }
     Ok(())
 }

@@ -8,7 +8,7 @@ use std::io::{ErrorKind, Read};
 use std::test::Fail;
 
 /// The refusal of the text with this in the place of that; none where it is read.
-fn told(alloc: Global, that: &str, this: &str) -> Result<Option<TextFault>, Fail> {
+fn said(alloc: Global, that: &str, this: &str) -> Result<Option<TextFault>, Fail> {
     let text = TEXT.replace(alloc, that, this)?;
     Ok(read_checkpoint(alloc, text.as_bytes()).err())
 }
@@ -54,7 +54,7 @@ fn each_fault_has_its_place(rt: HostRuntime) -> Result<(), Fail> {
     ];
     for (that, this, line, field, fault) in cases {
         let want = TextFault::Broken { line, field, fault };
-        assert_eq!(rt; told(alloc, that, this)?, Some(want), "{that} {this}");
+        assert_eq!(rt; said(alloc, that, this)?, Some(want), "{that} {this}");
     }
     Ok(())
 }
@@ -115,7 +115,7 @@ impl<'a> Read for Faulty<'a> {
 }
 
 #[test]
-fn a_reader_that_fails_is_told(rt: HostRuntime) {
+fn a_reader_that_fails_is_reported(rt: HostRuntime) {
     let alloc = rt.alloc();
     for calls in [1u32, 2, 20] {
         let reader = Faulty {

@@ -101,8 +101,8 @@ fn words_are_read_as_they_stand(rt: HostRuntime) -> Result<(), Fail> {
 #[test]
 fn a_word_that_is_no_text_ends_with_two(rt: HostRuntime) {
     for word in [b"\xff".as_slice(), b"run\xc3", b"\xed\xa0\x80"] {
-        let told = refused_words(rt.alloc(), &[b"flashrec", word]);
-        let Some((err, status)) = told else {
+        let said = refused_words(rt.alloc(), &[b"flashrec", word]);
+        let Some((err, status)) = said else {
             panic!(rt; "the words are accepted")
         };
         assert_eq!(rt; status, 2);
@@ -128,9 +128,9 @@ fn shown(alloc: Global, line: &[&[u8]], is_closed: bool) -> Option<(Vec<u8>, u8)
 }
 
 /// Whether these words are no command, and end with this status and this line.
-fn ends_with(alloc: Global, line: &[&[u8]], is_closed: bool, status: u8, told: &str) -> bool {
+fn ends_with(alloc: Global, line: &[&[u8]], is_closed: bool, status: u8, said: &str) -> bool {
     match shown(alloc, line, is_closed) {
-        Some((err, ended)) => ended == status && err.as_slice() == told.as_bytes(),
+        Some((err, ended)) => ended == status && err.as_slice() == said.as_bytes(),
         None => false,
     }
 }

@@ -47,12 +47,12 @@ fn fails_at<R: Threads + Wait + Sync>(
     if status == 0 {
         return None;
     }
-    let told = err.as_slice() == b"error 21 ReadFault\n".as_slice();
-    Some(status == 1 && out.is_empty() && told)
+    let said = err.as_slice() == b"error 21 ReadFault\n".as_slice();
+    Some(status == 1 && out.is_empty() && said)
 }
 
 #[test]
-fn a_reader_that_fails_is_told(rt: HostRuntime) {
+fn a_reader_that_fails_is_reported(rt: HostRuntime) {
     let alloc = rt.alloc();
     for (command, text) in [(PLAN_COMMAND, PLAN), (AUDIT, TWO_REPORT)] {
         let mut failed: usize = 0;

@@ -1,6 +1,6 @@
 //! What a terminal is shown beside what a command reports.
 
-use flash_commands::{Heard, Shown, Texts, Watched, line_of_record, tell_more};
+use flash_commands::{Heard, Shown, Texts, Watched, line_of_record, report_more};
 use std::cell::Cell;
 use std::fmt::Display;
 use std::io;
@@ -114,7 +114,7 @@ fn what_is_reported_is_passed_on_and_its_whole_lines_are_kept(rt: HostRuntime) -
 /// What a terminal is shown beside a report.
 fn shown_beside(rt: HostRuntime, report: &str, texts: Texts<'_>) -> Vec<u8> {
     let mut err = Vec::new(rt.alloc());
-    tell_more(&rt, &mut err, report, texts);
+    report_more(&rt, &mut err, report, texts);
     err
 }
 

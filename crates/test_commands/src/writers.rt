@@ -95,10 +95,10 @@ fn slowly<R: Threads + Wait + Sync>(
 
 /// Whether this is reported, and the output is so many bytes of a text that has more.
 fn is_cut(printed: &Printed, whole: &[u8], bytes: usize) -> bool {
-    let told = printed.err.as_slice() == b"error 22 WriteFault\n".as_slice();
+    let said = printed.err.as_slice() == b"error 22 WriteFault\n".as_slice();
     let taken = printed.out.as_slice();
     let part = taken.len() < whole.len() && whole.starts_with(taken);
-    printed.status == 1 && told && part && taken.len() == bytes
+    printed.status == 1 && said && part && taken.len() == bytes
 }
 
 /// How often a command's output fails, at each call in turn, until it is written whole; none where a fault isn't
@@ -155,7 +155,7 @@ fn a_writer_that_fails_took_a_part(rt: HostRuntime) {
 }
 
 #[test]
-fn a_refused_certificate_is_told_by_a_whole_text_alone(rt: HostRuntime) -> Result<(), Fail> {
+fn a_refused_certificate_is_reported_by_a_whole_text_alone(rt: HostRuntime) -> Result<(), Fail> {
     let alloc = rt.alloc();
     let old = "cert,0,1,,0,5,,5,0,,0 1";
     let report = TWO_REPORT.replace(alloc, old, "cert,0,1,,1,5,,5,0,,0 1")?;

@@ -1,6 +1,6 @@
 //! A worked row of a collection, on a die of 4 blocks that a history has filled.
 
-use crate::dies::plays_behind;
+use crate::dies::plays_after;
 use crate::pages::TWOS;
 use crate::plans::TIGHT;
 use crate::steps::Fact::{Collected, Done, Holds};
@@ -74,5 +74,5 @@ const A_READ_BETWEEN_ERASES: &[Step] = &[
 
 #[test]
 fn an_erase_is_suspended_by_a_read(rt: HostRuntime) -> Result<(), Fail> {
-    Ok(plays_behind(&rt, rt.alloc(), &TIGHT, HISTORY, A_READ_BETWEEN_ERASES)?)
+    Ok(plays_after(&rt, rt.alloc(), &TIGHT, HISTORY, A_READ_BETWEEN_ERASES)?)
 }

@@ -43,7 +43,7 @@ fn plays_once(
 }
 
 /// Plays a table after a history, on a new die. Where memory is scarce and is refused for the die, another one is made.
-pub(crate) fn plays_behind(
+pub(crate) fn plays_after(
     rt: &(impl Abort + Env),
     alloc: Global,
     plan: &Plan,
@@ -65,5 +65,5 @@ pub(crate) fn plays(
     plan: &Plan,
     steps: &[Step],
 ) -> Result<(), Refusal> {
-    plays_behind(rt, alloc, plan, &[], steps)
+    plays_after(rt, alloc, plan, &[], steps)
 }

@@ -2,7 +2,7 @@
 //! `test_die_plays`.
 //!
 //! `steps` has the words of a test, `plans` the dies on which tests are played, and `collections` a test. A test fails
-//! as `told` says and `failed` shows. `played` carries a step out, and `dies` a table on a new die.
+//! as `said` says and `failed` shows. `played` carries a step out, and `dies` a table on a new die.
 #![tactic(auto)]
 
 #[cfg(test)]
@@ -26,8 +26,8 @@ mod plans;
 #[cfg(test)]
 mod played;
 #[cfg(test)]
+mod said;
+#[cfg(test)]
 mod slotted;
 #[cfg(test)]
 mod steps;
-#[cfg(test)]
-mod told;

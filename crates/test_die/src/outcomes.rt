@@ -1,7 +1,7 @@
 //! What became of the jobs of a die, beside what is to have become of them.
 
 use crate::again::outcome_of;
-use crate::told::Told;
+use crate::said::Reported;
 use flash_die::Nand;
 use slot_core::{DieCore, Outcome};
 use slot_types::{PageData, Refusal};
@@ -38,12 +38,12 @@ fn is_end(got: &Result<Outcome, Refusal>, want: &End) -> bool {
 
 /// A job or a collection ended so.
 pub(crate) fn ended<N: Nand, R: Abort>(
-    told: &Told<R>,
+    said: &Reported<R>,
     die: &DieCore<N>,
     alloc: Global,
     number: u32,
     want: &End,
 ) {
-    let got = outcome_of(told.memory, die, alloc, number);
-    told.fits(is_end(&got, want), &got, want)
+    let got = outcome_of(said.memory, die, alloc, number);
+    said.fits(is_end(&got, want), &got, want)
 }

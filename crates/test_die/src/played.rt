@@ -4,9 +4,9 @@ use crate::again::{carry, certificate_of, collect, outcome_of, submit};
 use crate::certified::verdict_of;
 use crate::memory::Memory;
 use crate::outcomes::{End, ended};
+use crate::said::Reported;
 use crate::slotted::{acts, carries, waives};
 use crate::steps::{Fact, Step};
-use crate::told::Told;
 use flash_die::Nand;
 use late_cert::Verdict;
 use slot_core::DieCore;
@@ -23,7 +23,7 @@ fn numbered(answer: Result<JobNo, Refusal>) -> Result<u32, Refusal> {
 }
 
 /// Plays what stands of a die.
-fn stands<N: Nand, R: Abort>(told: &Told<R>, die: &DieCore<N>, alloc: Global, fact: &Fact) {
+fn stands<N: Nand, R: Abort>(said: &Reported<R>, die: &DieCore<N>, alloc: Global, fact: &Fact) {
     match fact {
         Fact::Done {
             job,
@@ -37,7 +37,7 @@ fn stands<N: Nand, R: Abort>(told: &Told<R>, die: &DieCore<N>, alloc: Global, fa
                 given: 0,
                 reads: *reads,
             };
-            ended(told, die, alloc, *job, &want)
+            ended(said, die, alloc, *job, &want)
         }
         Fact::Collected {
             collection,
@@ -51,29 +51,29 @@ fn stands<N: Nand, R: Abort>(told: &Told<R>, die: &DieCore<N>, alloc: Global, fa
                 given: *given,
                 reads: &[],
             };
-            ended(told, die, alloc, *collection, &want)
+            ended(said, die, alloc, *collection, &want)
         }
         Fact::Unknown { job } => {
-            told.same(
-                &outcome_of(told.memory, die, alloc, *job),
+            said.same(
+                &outcome_of(said.memory, die, alloc, *job),
                 &Err(Refusal::UnknownJob),
             )
         }
         Fact::NothingDone => {
-            told.same(&die.worst(), &None);
-            told.same(&certificate_of(told.memory, die, alloc), &Ok(None))
+            said.same(&die.worst(), &None);
+            said.same(&certificate_of(said.memory, die, alloc), &Ok(None))
         }
-        Fact::Holds => told.same(
-            &verdict_of(told.memory, die, alloc),
+        Fact::Holds => said.same(
+            &verdict_of(said.memory, die, alloc),
             &Ok(Some(Verdict::Holds)),
         ),
-        Fact::Entries { count } => told.same(&die.len(), count),
-        Fact::Now { slot } => told.same(&die.now(), slot),
+        Fact::Entries { count } => said.same(&die.len(), count),
+        Fact::Now { slot } => said.same(&die.now(), slot),
     }
 }
 
 /// Plays a step.
-fn goes<N: Nand, R: Abort>(told: &Told<R>, die: &mut DieCore<N>, alloc: Global, step: &Step) {
+fn goes<N: Nand, R: Abort>(said: &Reported<R>, die: &mut DieCore<N>, alloc: Global, step: &Step) {
     match step {
         Step::Submit {
             task,
@@ -82,22 +82,22 @@ fn goes<N: Nand, R: Abort>(told: &Told<R>, die: &mut DieCore<N>, alloc: Global, 
             ops,
             want,
         } => {
-            told.same(
-                &numbered(submit(told.memory, die, alloc, *task, *release, *due, *ops)),
+            said.same(
+                &numbered(submit(said.memory, die, alloc, *task, *release, *due, *ops)),
                 want,
             )
         }
         Step::Collect { release, due, want } => {
-            told.same(
-                &numbered(collect(told.memory, die, alloc, *release, *due)),
+            said.same(
+                &numbered(collect(said.memory, die, alloc, *release, *due)),
                 want,
             )
         }
-        Step::Carries { jobs } => carries(told, die, alloc, *jobs),
-        Step::Acts { job, acts: wanted } => acts(told, die, alloc, *job, *wanted),
-        Step::Waives { collection, given } => waives(told, die, alloc, *collection, *given),
-        Step::NoSlot { want } => told.same(&carry(told.memory, die, alloc), &Err(*want)),
-        Step::Is(fact) => stands(told, die, alloc, fact),
+        Step::Carries { jobs } => carries(said, die, alloc, *jobs),
+        Step::Acts { job, acts: wanted } => acts(said, die, alloc, *job, *wanted),
+        Step::Waives { collection, given } => waives(said, die, alloc, *collection, *given),
+        Step::NoSlot { want } => said.same(&carry(said.memory, die, alloc), &Err(*want)),
+        Step::Is(fact) => stands(said, die, alloc, fact),
     }
 }
 
@@ -111,12 +111,12 @@ pub(crate) fn play<N: Nand, R: Abort>(
     steps: &[Step],
 ) {
     for (place, step) in steps.iter().enumerate() {
-        let told = Told {
+        let said = Reported {
             rt,
             memory,
             table,
             step: place.saturating_add(1),
         };
-        goes(&told, die, alloc, step);
+        goes(&said, die, alloc, step);
     }
 }

@@ -1,7 +1,7 @@
 //! Slots of a die that carry something out, or are refused.
 
 use crate::again::carry;
-use crate::told::Told;
+use crate::said::Reported;
 use flash_die::Nand;
 use slot_core::DieCore;
 use slot_types::{Act, JobNo, Refusal, SlotReply, Waived};
@@ -21,14 +21,14 @@ fn is_of(got: &Result<SlotReply, Refusal>, want: JobNo) -> bool {
 
 /// The next slots carry these numbers out.
 pub(crate) fn carries<N: Nand, R: Abort>(
-    told: &Told<R>,
+    said: &Reported<R>,
     die: &mut DieCore<N>,
     alloc: Global,
     jobs: &[u32],
 ) {
     for job in jobs {
-        let got = carry(told.memory, die, alloc);
-        told.fits(is_of(&got, JobNo(*job)), &got, &JobNo(*job));
+        let got = carry(said.memory, die, alloc);
+        said.fits(is_of(&got, JobNo(*job)), &got, &JobNo(*job));
     }
 }
 
@@ -42,16 +42,16 @@ fn is_act(got: &Result<SlotReply, Refusal>, want: (JobNo, Act)) -> bool {
 
 /// The next slots carry out these acts of this number.
 pub(crate) fn acts<N: Nand, R: Abort>(
-    told: &Told<R>,
+    said: &Reported<R>,
     die: &mut DieCore<N>,
     alloc: Global,
     job: u32,
     acts: &[Act],
 ) {
     for act in acts {
-        let got = carry(told.memory, die, alloc);
+        let got = carry(said.memory, die, alloc);
         let want = (JobNo(job), *act);
-        told.fits(is_act(&got, want), &got, &want);
+        said.fits(is_act(&got, want), &got, &want);
     }
 }
 
@@ -65,16 +65,16 @@ fn is_waiver(got: &Result<SlotReply, Refusal>, want: Waived) -> bool {
 
 /// The present slot waives this collection alone, which gives so many pages, and is idle.
 pub(crate) fn waives<N: Nand, R: Abort>(
-    told: &Told<R>,
+    said: &Reported<R>,
     die: &mut DieCore<N>,
     alloc: Global,
     collection: u32,
     given: u32,
 ) {
-    let got = carry(told.memory, die, alloc);
+    let got = carry(said.memory, die, alloc);
     let want = Waived {
         number: JobNo(collection),
         given,
     };
-    told.fits(is_waiver(&got, want), &got, &want)
+    said.fits(is_waiver(&got, want), &got, &want)
 }

@@ -1,140 +1,140 @@
 //! Answers in words.
 
-use crate::told::Told;
+use crate::said::Reported;
 use late_cert::{Certificate, JobRow};
 use slot_core::{Outcome, RenewalRefusal, Worst};
 use slot_types::{Act, JobNo, Refusal, Reply, SlotReply};
 
 /// Tells an act as scripts write operations: what a read gave and a write wrote stands after its page.
-fn put_act(told: &mut Told, act: &Act) -> Result<(), Refusal> {
+fn put_act(said: &mut Reported, act: &Act) -> Result<(), Refusal> {
     match act {
         Act::Read { page, bytes } => {
-            told.numbered("R", *page)?;
-            told.holds(bytes)
+            said.numbered("R", *page)?;
+            said.holds(bytes)
         }
         Act::Write { page, bytes } => {
-            told.numbered("W", *page)?;
-            told.holds(bytes)
+            said.numbered("W", *page)?;
+            said.holds(bytes)
         }
-        Act::Trim { page } => told.numbered("T", *page),
-        Act::CopyRead { page } => told.numbered("copy-out", *page),
-        Act::CopyProgram { page } => told.numbered("copy-in", *page),
-        Act::Erase { block } => told.numbered("erase", *block),
+        Act::Trim { page } => said.numbered("T", *page),
+        Act::CopyRead { page } => said.numbered("copy-out", *page),
+        Act::CopyProgram { page } => said.numbered("copy-in", *page),
+        Act::Erase { block } => said.numbered("erase", *block),
     }
 }
 
 /// Tells the whole of what a slot was answered.
-pub(crate) fn put_slot(told: &mut Told, reply: &SlotReply) -> Result<(), Refusal> {
-    told.number(i64::from(reply.slot))?;
-    told.end(":")?;
+pub(crate) fn put_slot(said: &mut Reported, reply: &SlotReply) -> Result<(), Refusal> {
+    said.number(i64::from(reply.slot))?;
+    said.end(":")?;
     for waived in reply.waived.as_slice() {
-        told.counted("waived", i64::from(waived.number.0))?;
-        told.counted("given", i64::from(waived.given))?;
+        said.counted("waived", i64::from(waived.number.0))?;
+        said.counted("given", i64::from(waived.given))?;
     }
     match &reply.ran {
         Some((number, act)) => {
-            told.number(i64::from(number.0))?;
-            put_act(told, act)?;
+            said.number(i64::from(number.0))?;
+            put_act(said, act)?;
         }
-        None => told.words("idle")?,
+        None => said.words("idle")?,
     }
     match reply.finished {
-        Some(number) => told.counted("done", i64::from(number.0)),
+        Some(number) => said.counted("done", i64::from(number.0)),
         None => Ok(()),
     }
 }
 
 /// Tells the number alone that a slot carried.
-pub(crate) fn put_carried(told: &mut Told, reply: &SlotReply) -> Result<(), Refusal> {
+pub(crate) fn put_carried(said: &mut Reported, reply: &SlotReply) -> Result<(), Refusal> {
     match &reply.ran {
-        Some((number, _)) => told.number(i64::from(number.0)),
-        None => told.words("-"),
+        Some((number, _)) => said.number(i64::from(number.0)),
+        None => said.words("-"),
     }
 }
 
 /// Tells what an event of a run was answered.
-pub(crate) fn put_reply(told: &mut Told, reply: &Reply) -> Result<(), Refusal> {
+pub(crate) fn put_reply(said: &mut Reported, reply: &Reply) -> Result<(), Refusal> {
     match reply {
-        Reply::Taken(number) => told.counted("taken", i64::from(number.0)),
-        Reply::Refused(refusal) => told.refused(*refusal),
-        Reply::Slot(reply) => put_slot(told, reply),
+        Reply::Taken(number) => said.counted("taken", i64::from(number.0)),
+        Reply::Refused(refusal) => said.refused(*refusal),
+        Reply::Slot(reply) => put_slot(said, reply),
     }
 }
 
-pub(crate) fn put_outcome(told: &mut Told, outcome: &Outcome) -> Result<(), Refusal> {
+pub(crate) fn put_outcome(said: &mut Reported, outcome: &Outcome) -> Result<(), Refusal> {
     match outcome {
-        Outcome::Waiting => told.words("waiting"),
-        Outcome::Waived { given } => told.counted("waived given", i64::from(*given)),
+        Outcome::Waiting => said.words("waiting"),
+        Outcome::Waived { given } => said.counted("waived given", i64::from(*given)),
         Outcome::Done {
             completion,
             lateness,
             given,
             reads,
         } => {
-            told.counted("done", i64::from(*completion))?;
-            told.counted("late", *lateness)?;
-            told.counted("given", i64::from(*given))?;
+            said.counted("done", i64::from(*completion))?;
+            said.counted("late", *lateness)?;
+            said.counted("given", i64::from(*given))?;
             for page in reads.as_slice() {
-                told.page(page)?;
+                said.page(page)?;
             }
             Ok(())
         }
     }
 }
 
-pub(crate) fn put_worst(told: &mut Told, worst: &Option<Worst>) -> Result<(), Refusal> {
+pub(crate) fn put_worst(said: &mut Reported, worst: &Option<Worst>) -> Result<(), Refusal> {
     match worst {
         Some(worst) => {
-            told.counted("job", i64::from(worst.job.0))?;
-            told.counted("late", worst.lateness)
+            said.counted("job", i64::from(worst.job.0))?;
+            said.counted("late", worst.lateness)
         }
-        None => told.words("none"),
+        None => said.words("none"),
     }
 }
 
 pub(crate) fn put_renewal(
-    told: &mut Told,
+    said: &mut Reported,
     answer: Result<(), RenewalRefusal>,
 ) -> Result<(), Refusal> {
     match answer {
-        Ok(()) => told.words("ok"),
-        Err(RenewalRefusal::DieStopped) => told.words("stopped"),
-        Err(RenewalRefusal::NotQuiet { job }) => told.counted("waits", i64::from(job)),
-        Err(RenewalRefusal::WornOut { block }) => told.counted("worn", i64::from(block)),
+        Ok(()) => said.words("ok"),
+        Err(RenewalRefusal::DieStopped) => said.words("stopped"),
+        Err(RenewalRefusal::NotQuiet { job }) => said.counted("waits", i64::from(job)),
+        Err(RenewalRefusal::WornOut { block }) => said.counted("worn", i64::from(block)),
     }
 }
 
-fn put_numbers(told: &mut Told, numbers: &[JobNo]) -> Result<(), Refusal> {
+fn put_numbers(said: &mut Reported, numbers: &[JobNo]) -> Result<(), Refusal> {
     for number in numbers {
-        told.number(i64::from(number.0))?;
+        said.number(i64::from(number.0))?;
     }
     Ok(())
 }
 
 pub(crate) fn put_certificate(
-    told: &mut Told,
+    said: &mut Reported,
     certificate: &Option<Certificate>,
 ) -> Result<(), Refusal> {
     match certificate {
         Some(certificate) => {
-            told.counted("job", i64::from(certificate.job.0))?;
-            told.counted("start", i64::from(certificate.start))?;
-            told.counted("due", i64::from(certificate.due))?;
-            told.counted("completion", i64::from(certificate.completion))?;
-            told.words("of")?;
-            put_numbers(told, certificate.jobs.as_slice())
+            said.counted("job", i64::from(certificate.job.0))?;
+            said.counted("start", i64::from(certificate.start))?;
+            said.counted("due", i64::from(certificate.due))?;
+            said.counted("completion", i64::from(certificate.completion))?;
+            said.words("of")?;
+            put_numbers(said, certificate.jobs.as_slice())
         }
-        None => told.words("none"),
+        None => said.words("none"),
     }
 }
 
-pub(crate) fn put_row(told: &mut Told, row: &JobRow) -> Result<(), Refusal> {
-    told.counted("row", i64::from(row.number.0))?;
-    told.number(i64::from(row.release))?;
-    told.number(i64::from(row.due))?;
-    told.number(i64::from(row.work))?;
+pub(crate) fn put_row(said: &mut Reported, row: &JobRow) -> Result<(), Refusal> {
+    said.counted("row", i64::from(row.number.0))?;
+    said.number(i64::from(row.release))?;
+    said.number(i64::from(row.due))?;
+    said.number(i64::from(row.work))?;
     match row.completion {
-        Some(completion) => told.number(i64::from(completion)),
-        None => told.words("-"),
+        Some(completion) => said.number(i64::from(completion)),
+        None => said.words("-"),
     }
 }

@@ -7,7 +7,7 @@ use crate::checkpoints::checkpoint;
 use crate::events::event_in;
 use crate::fields::{Fields, UNREAD};
 use crate::next_slots::next;
-use crate::told::Told;
+use crate::said::Reported;
 use flash_die::Nand;
 use late_cert::{Carried, Verdict, build, check};
 use plan_rules::{bound, plan_test};
@@ -33,11 +33,11 @@ fn arrive<N: Nand>(
     die: &mut DieCore<N>,
     alloc: Global,
     fields: &Fields,
-    told: &mut Told,
+    said: &mut Reported,
 ) -> Result<(), Refusal> {
     let event = event_in(alloc, fields)?;
     let number = take(die, alloc, event)?;
-    told.number(i64::from(number.0))
+    said.number(i64::from(number.0))
 }
 
 /// So many equal jobs arrive: task, release, due, operations, count. The last one's number is reported.
@@ -45,11 +45,11 @@ fn jobs<N: Nand>(
     die: &mut DieCore<N>,
     alloc: Global,
     fields: &Fields,
-    told: &mut Told,
+    said: &mut Reported,
 ) -> Result<(), Refusal> {
     for _ in 0..fields.number(4)? {
-        told.clear();
-        arrive(die, alloc, fields, told)?;
+        said.clear();
+        arrive(die, alloc, fields, said)?;
     }
     Ok(())
 }
@@ -58,29 +58,33 @@ fn jobs<N: Nand>(
 fn carried<N: Nand>(
     die: &mut DieCore<N>,
     alloc: Global,
-    told: &mut Told,
+    said: &mut Reported,
 ) -> Result<SlotReply, Refusal> {
     match die.slot(alloc, 0) {
-        Err(Refusal::NoMemory) if told.asks_again() => {
-            told.met_refusal();
+        Err(Refusal::NoMemory) if said.asks_again() => {
+            said.met_refusal();
             die.slot(alloc, 0)
         }
         answer => answer,
     }
 }
 
-fn slot<N: Nand>(die: &mut DieCore<N>, alloc: Global, told: &mut Told) -> Result<(), Refusal> {
-    let reply = carried(die, alloc, told)?;
-    put_slot(told, &reply)
+fn slot<N: Nand>(die: &mut DieCore<N>, alloc: Global, said: &mut Reported) -> Result<(), Refusal> {
+    let reply = carried(die, alloc, said)?;
+    put_slot(said, &reply)
 }
 
 /// The next slot is carried out, and is never asked for again.
-fn at_once<N: Nand>(die: &mut DieCore<N>, alloc: Global, told: &mut Told) -> Result<(), Refusal> {
+fn at_once<N: Nand>(
+    die: &mut DieCore<N>,
+    alloc: Global,
+    said: &mut Reported,
+) -> Result<(), Refusal> {
     let reply = match die.slot(alloc, 0) {
         Ok(reply) => reply,
-        Err(refusal) => return told.refused(refusal),
+        Err(refusal) => return said.refused(refusal),
     };
-    put_slot(told, &reply)
+    put_slot(said, &reply)
 }
 
 /// So many slots are carried out, and the number that each carried is reported.
@@ -88,11 +92,11 @@ fn slots<N: Nand>(
     die: &mut DieCore<N>,
     alloc: Global,
     count: u32,
-    told: &mut Told,
+    said: &mut Reported,
 ) -> Result<(), Refusal> {
     for _ in 0..count {
-        let reply = carried(die, alloc, told)?;
-        put_carried(told, &reply)?;
+        let reply = carried(die, alloc, said)?;
+        put_carried(said, &reply)?;
     }
     Ok(())
 }
@@ -102,28 +106,28 @@ fn pass<N: Nand>(
     die: &mut DieCore<N>,
     alloc: Global,
     count: u32,
-    told: &mut Told,
+    said: &mut Reported,
 ) -> Result<(), Refusal> {
     for _ in 0..count {
-        carried(die, alloc, told)?;
+        carried(die, alloc, said)?;
     }
-    told.words("ok")
+    said.words("ok")
 }
 
-fn verdict<N: Nand>(die: &DieCore<N>, alloc: Global, told: &mut Told) -> Result<(), Refusal> {
+fn verdict<N: Nand>(die: &DieCore<N>, alloc: Global, said: &mut Reported) -> Result<(), Refusal> {
     let Some(certificate) = die.certificate(alloc)? else {
-        return told.words("none");
+        return said.words("none");
     };
     let rows = die.rows(alloc)?;
     match check(&rows, &certificate) {
-        Verdict::Holds => told.words("holds"),
-        _ => told.words("refused"),
+        Verdict::Holds => said.words("holds"),
+        _ => said.words("refused"),
     }
 }
 
-fn rows<N: Nand>(die: &DieCore<N>, alloc: Global, told: &mut Told) -> Result<(), Refusal> {
+fn rows<N: Nand>(die: &DieCore<N>, alloc: Global, said: &mut Reported) -> Result<(), Refusal> {
     for row in die.rows(alloc)?.as_slice() {
-        put_row(told, row)?;
+        put_row(said, row)?;
     }
     Ok(())
 }
@@ -132,15 +136,19 @@ fn outcome<N: Nand>(
     die: &DieCore<N>,
     alloc: Global,
     number: u32,
-    told: &mut Told,
+    said: &mut Reported,
 ) -> Result<(), Refusal> {
     let outcome = die.outcome(alloc, JobNo(number))?;
-    put_outcome(told, &outcome)
+    put_outcome(said, &outcome)
 }
 
-fn certificate<N: Nand>(die: &DieCore<N>, alloc: Global, told: &mut Told) -> Result<(), Refusal> {
+fn certificate<N: Nand>(
+    die: &DieCore<N>,
+    alloc: Global,
+    said: &mut Reported,
+) -> Result<(), Refusal> {
     let certificate = die.certificate(alloc)?;
-    put_certificate(told, &certificate)
+    put_certificate(said, &certificate)
 }
 
 /// Slots that carried these numbers.
@@ -157,35 +165,35 @@ fn built<N: Nand>(
     die: &DieCore<N>,
     alloc: Global,
     fields: &Fields,
-    told: &mut Told,
+    said: &mut Reported,
 ) -> Result<(), Refusal> {
     let job = JobNo(fields.number(0)?);
     let numbers = fields.numbers(alloc, 1)?;
     let carried = carried_by(alloc, numbers.as_slice())?;
     let rows = die.rows(alloc)?;
     let certificate = build(alloc, &rows, &carried, job)?;
-    put_certificate(told, &certificate)
+    put_certificate(said, &certificate)
 }
 
 /// What the test says of the die's plan.
-fn load<N: Nand>(die: &DieCore<N>, told: &mut Told) -> Result<(), Refusal> {
+fn load<N: Nand>(die: &DieCore<N>, said: &mut Reported) -> Result<(), Refusal> {
     let plan = die.plan();
     bound(plan)?;
     let load = plan_test(plan)?;
-    told.words("demand")?;
-    told.count(load.demand)?;
-    told.counted("common", i64::from(load.common))
+    said.words("demand")?;
+    said.count(load.demand)?;
+    said.counted("common", i64::from(load.common))
 }
 
 /// What is asked of a die that stays as it is, and takes no memory.
-fn tell<N: Nand>(die: &DieCore<N>, name: &str, told: &mut Told) -> Result<(), Refusal> {
+fn say<N: Nand>(die: &DieCore<N>, name: &str, said: &mut Reported) -> Result<(), Refusal> {
     match name {
-        "worst" => put_worst(told, &die.worst()),
-        "entries" => told.count(die.len()),
-        "records" => told.count(die.records()),
-        "now" => told.count(u64::from(die.now())),
-        "reserved" => told.count(u64::from(die.reserved())),
-        "load" => load(die, told),
+        "worst" => put_worst(said, &die.worst()),
+        "entries" => said.count(die.len()),
+        "records" => said.count(die.records()),
+        "now" => said.count(u64::from(die.now())),
+        "reserved" => said.count(u64::from(die.reserved())),
+        "load" => load(die, said),
         _ => Err(UNREAD),
     }
 }
@@ -195,22 +203,22 @@ fn ask<N: Nand>(
     die: &DieCore<N>,
     alloc: Global,
     fields: &Fields,
-    told: &mut Told,
+    said: &mut Reported,
 ) -> Result<(), Refusal> {
     match fields.name {
-        "outcome" => outcome(die, alloc, fields.number(0)?, told),
-        "certificate" => certificate(die, alloc, told),
-        "built" => built(die, alloc, fields, told),
-        "verdict" => verdict(die, alloc, told),
-        "rows" => rows(die, alloc, told),
-        _ => tell(die, fields.name, told),
+        "outcome" => outcome(die, alloc, fields.number(0)?, said),
+        "certificate" => certificate(die, alloc, said),
+        "built" => built(die, alloc, fields, said),
+        "verdict" => verdict(die, alloc, said),
+        "rows" => rows(die, alloc, said),
+        _ => say(die, fields.name, said),
     }
 }
 
 /// Memory for so many slots is reserved.
-fn reserve<N: Nand>(die: &mut DieCore<N>, slots: u32, told: &mut Told) -> Result<(), Refusal> {
+fn reserve<N: Nand>(die: &mut DieCore<N>, slots: u32, said: &mut Reported) -> Result<(), Refusal> {
     die.reserve(slots)?;
-    told.words("ok")
+    said.words("ok")
 }
 
 /// Carries out a call, and tells its answer.
@@ -218,19 +226,19 @@ pub(crate) fn call<N: Nand>(
     die: &mut DieCore<N>,
     alloc: Global,
     fields: &Fields,
-    told: &mut Told,
+    said: &mut Reported,
 ) -> Result<(), Refusal> {
     match fields.name {
-        "job" | "collect" => arrive(die, alloc, fields, told),
-        "jobs" => jobs(die, alloc, fields, told),
-        "slot" => slot(die, alloc, told),
-        "at-once" => at_once(die, alloc, told),
-        "slots" => slots(die, alloc, fields.number(0)?, told),
-        "pass" => pass(die, alloc, fields.number(0)?, told),
-        "reserve" => reserve(die, fields.number(0)?, told),
-        "renew" => put_renewal(told, die.renew()),
-        "next" => next(die, alloc, told),
-        "checkpoint" => checkpoint(die, alloc, told),
-        _ => ask(die, alloc, fields, told),
+        "job" | "collect" => arrive(die, alloc, fields, said),
+        "jobs" => jobs(die, alloc, fields, said),
+        "slot" => slot(die, alloc, said),
+        "at-once" => at_once(die, alloc, said),
+        "slots" => slots(die, alloc, fields.number(0)?, said),
+        "pass" => pass(die, alloc, fields.number(0)?, said),
+        "reserve" => reserve(die, fields.number(0)?, said),
+        "renew" => put_renewal(said, die.renew()),
+        "next" => next(die, alloc, said),
+        "checkpoint" => checkpoint(die, alloc, said),
+        _ => ask(die, alloc, fields, said),
     }
 }

@@ -8,7 +8,7 @@ ghost use Rattle.flash_volume.specs.Checkpoints.{IsAsLeft};
 use crate::answers::put_renewal;
 use crate::dies::plan_in;
 use crate::fields::{Fields, UNREAD};
-use crate::told::Told;
+use crate::said::Reported;
 use die_checkpoint::laws::a_fault_excludes_fitting;
 use die_checkpoint::{BlockCounts, Checkpoint, CheckpointFault};
 use flash_die::Nand;
@@ -19,60 +19,60 @@ use text_base::number;
 
 /// Tells what stands: by logical page its block and its page there; by block how many pages are programmed and how often it
 /// was erased; the spare pages, and the balances.
-fn put_stood(told: &mut Told, stood: &Checkpoint) -> Result<(), Refusal> {
-    told.words("pages")?;
+fn put_stood(said: &mut Reported, stood: &Checkpoint) -> Result<(), Refusal> {
+    said.words("pages")?;
     for place in stood.places.as_slice() {
         match place {
-            Some(place) => told.pair(place.block, place.page)?,
-            None => told.words("-")?,
+            Some(place) => said.pair(place.block, place.page)?,
+            None => said.words("-")?,
         }
     }
-    told.words("blocks")?;
+    said.words("blocks")?;
     for block in stood.blocks.as_slice() {
-        told.pair(block.filled, block.erases)?;
+        said.pair(block.filled, block.erases)?;
     }
-    told.counted("spare", i64::from(stood.spare))?;
-    told.words("balances")?;
+    said.counted("spare", i64::from(stood.spare))?;
+    said.words("balances")?;
     for balance in stood.balances.as_slice() {
-        told.number(i64::from(*balance))?;
+        said.number(i64::from(*balance))?;
     }
     Ok(())
 }
 
 /// Tells why no checkpoint is taken.
-fn put_not_taken(told: &mut Told, refusal: CheckpointRefusal) -> Result<(), Refusal> {
+fn put_not_taken(said: &mut Reported, refusal: CheckpointRefusal) -> Result<(), Refusal> {
     match refusal {
-        CheckpointRefusal::NotRenewable { why } => put_renewal(told, Err(why)),
+        CheckpointRefusal::NotRenewable { why } => put_renewal(said, Err(why)),
         CheckpointRefusal::NoMemory => Err(Refusal::NoMemory),
     }
 }
 
-fn put_fault(told: &mut Told, fault: CheckpointFault) -> Result<(), Refusal> {
+fn put_fault(said: &mut Reported, fault: CheckpointFault) -> Result<(), Refusal> {
     match fault {
-        CheckpointFault::OtherShape => told.words("other shape"),
-        CheckpointFault::BadPlan => told.words("bad plan"),
-        CheckpointFault::Overfull { block } => told.counted("overfull", i64::from(block)),
-        CheckpointFault::SecondOpen { block } => told.counted("second open", i64::from(block)),
-        CheckpointFault::WornOut { block } => told.counted("worn", i64::from(block)),
-        CheckpointFault::Unprogrammed { page } => told.counted("unprogrammed", i64::from(page)),
-        CheckpointFault::AboveCap { task } => told.counted("above cap", i64::from(task)),
+        CheckpointFault::OtherShape => said.words("other shape"),
+        CheckpointFault::BadPlan => said.words("bad plan"),
+        CheckpointFault::Overfull { block } => said.counted("overfull", i64::from(block)),
+        CheckpointFault::SecondOpen { block } => said.counted("second open", i64::from(block)),
+        CheckpointFault::WornOut { block } => said.counted("worn", i64::from(block)),
+        CheckpointFault::Unprogrammed { page } => said.counted("unprogrammed", i64::from(page)),
+        CheckpointFault::AboveCap { task } => said.counted("above cap", i64::from(task)),
         CheckpointFault::OtherSum { accounts, free } => {
-            told.words("accounts")?;
-            told.count(accounts)?;
-            told.words("free")?;
-            told.count(free)
+            said.words("accounts")?;
+            said.count(accounts)?;
+            said.words("free")?;
+            said.count(free)
         }
         CheckpointFault::NoMemory => Err(Refusal::NoMemory),
-        CheckpointFault::SharedCell { page } => told.counted("shared", i64::from(page)),
+        CheckpointFault::SharedCell { page } => said.counted("shared", i64::from(page)),
     }
 }
 
 /// Tells what became of a resumption.
-fn put_resumed(told: &mut Told, refusal: Option<ResumeRefusal>) -> Result<(), Refusal> {
+fn put_resumed(said: &mut Reported, refusal: Option<ResumeRefusal>) -> Result<(), Refusal> {
     match refusal {
-        None => told.words("ok"),
-        Some(ResumeRefusal::OtherDevice) => told.words("other device"),
-        Some(ResumeRefusal::Unfit { fault }) => put_fault(told, fault),
+        None => said.words("ok"),
+        Some(ResumeRefusal::OtherDevice) => said.words("other device"),
+        Some(ResumeRefusal::Unfit { fault }) => put_fault(said, fault),
     }
 }
 
@@ -80,11 +80,11 @@ fn put_resumed(told: &mut Told, refusal: Option<ResumeRefusal>) -> Result<(), Re
 pub(crate) fn checkpoint<N: Nand>(
     die: &mut DieCore<N>,
     alloc: Global,
-    told: &mut Told,
+    said: &mut Reported,
 ) -> Result<(), Refusal> {
     match die.checkpoint(alloc) {
-        Ok(stood) => put_stood(told, &stood),
-        Err(refusal) => put_not_taken(told, refusal),
+        Ok(stood) => put_stood(said, &stood),
+        Err(refusal) => put_not_taken(said, refusal),
     }
 }
 
@@ -202,13 +202,13 @@ fn resume_as<N: Nand>(
     stood: &Checkpoint,
     plan: DiePlan,
     own: DiePlan,
-    told: &mut Told,
+    said: &mut Reported,
 ) -> (Option<Box<DieCore<N>>>, Result<(), Refusal>)
     requires own { IsAsLeft stood.now (N.blocks (box_value die).device) (N.failures (box_value die).device) }
 {
     let die = Box::into_inner(die);
     let (die, refusal) = resumed(alloc, die.into_device(), plan, stood, own, stood);
-    (die, put_resumed(told, refusal))
+    (die, put_resumed(said, refusal))
 }
 
 /// Gives up a die, on which this stands, and tries to resume it from a checkpoint that doesn't fit. One that fits is left
@@ -220,18 +220,18 @@ fn resume_from<N: Nand>(
     plan: DiePlan,
     from: &Checkpoint,
     own: DiePlan,
-    told: &mut Told,
+    said: &mut Reported,
 ) -> (Option<Box<DieCore<N>>>, Result<(), Refusal>)
     requires own { IsAsLeft stood.now (N.blocks (box_value die).device) (N.failures (box_value die).device) }
 {
     match from.check(alloc, &plan) {
-        Ok(()) => (Some(die), told.words("fits")),
+        Ok(()) => (Some(die), said.words("fits")),
         Err(CheckpointFault::NoMemory) => (Some(die), Err(Refusal::NoMemory)),
         Err(_) => {
             a_fault_excludes_fitting();
             let die = Box::into_inner(die);
             let (die, refusal) = resumed(alloc, die.into_device(), plan, from, own, stood);
-            (die, put_resumed(told, refusal))
+            (die, put_resumed(said, refusal))
         }
     }
 }
@@ -242,7 +242,7 @@ fn resume_by<N: Nand>(
     die: Box<DieCore<N>>,
     stood: &Checkpoint,
     fields: &Fields,
-    told: &mut Told,
+    said: &mut Reported,
 ) -> (Option<Box<DieCore<N>>>, Result<(), Refusal>)
     requires own { IsAsLeft stood.now (N.blocks (box_value die).device) (N.failures (box_value die).device) }
 {
@@ -252,8 +252,8 @@ fn resume_by<N: Nand>(
     };
     let Asked { plan, from, own } = asked;
     match from {
-        None => resume_as(alloc, die, stood, plan, own, told),
-        Some(from) => resume_from(alloc, die, stood, plan, &from, own, told),
+        None => resume_as(alloc, die, stood, plan, own, said),
+        Some(from) => resume_from(alloc, die, stood, plan, &from, own, said),
     }
 }
 
@@ -263,13 +263,13 @@ pub(crate) fn resume<N: Nand>(
     alloc: Global,
     die: Box<DieCore<N>>,
     fields: &Fields,
-    told: &mut Told,
+    said: &mut Reported,
 ) -> (Option<Box<DieCore<N>>>, Result<(), Refusal>) {
     let mut die = die;
     match die.checkpoint(alloc) {
-        Ok(stood) => resume_by(alloc, die, &stood, fields, told),
+        Ok(stood) => resume_by(alloc, die, &stood, fields, said),
         Err(refusal) => {
-            let answer = put_not_taken(told, refusal);
+            let answer = put_not_taken(said, refusal);
             (Some(die), answer)
         }
     }

@@ -14,29 +14,29 @@ mod lines;
 mod memory;
 mod next_slots;
 mod plays;
+mod said;
 mod stage;
-mod told;
 
 use memory::Memory;
 use plays::{Tally, play};
+use said::Reported;
 use std::alloc::Global;
 use std::env::Env;
 use std::io::Write;
 use std::process::ExitCode;
 use std::rt::Files;
 use std::{env, fs, io};
-use told::Told;
 
 /// Plays the histories of a file. Answers how many calls were answered otherwise.
 fn play_file<R: Files, W: Write>(
     rt: &R,
     alloc: Global,
     file: &str,
-    told: &mut Told,
+    said: &mut Reported,
     out: &mut W,
 ) -> io::Result<u64> {
     let text = fs::read_to_string(&(rt, alloc), file)?;
-    let Tally { calls, wrong } = play(alloc, file, text.as_str(), told, out)?;
+    let Tally { calls, wrong } = play(alloc, file, text.as_str(), said, out)?;
     writeln!(out, "{file}: {calls} calls, {wrong} answered otherwise")?;
     Ok(wrong)
 }
@@ -48,10 +48,10 @@ fn play_all<R: Files + Env, W: Write>(
     words: &[String],
     out: &mut W,
 ) -> io::Result<u64> {
-    let mut told = Told::new(alloc, Memory::of(rt))?;
+    let mut said = Reported::new(alloc, Memory::of(rt))?;
     let mut wrong: u64 = 0;
     for file in words.iter().skip(1) {
-        let otherwise = play_file(rt, alloc, file.as_str(), &mut told, out)?;
+        let otherwise = play_file(rt, alloc, file.as_str(), &mut said, out)?;
         wrong = wrong.saturating_add(otherwise);
     }
     Ok(wrong)

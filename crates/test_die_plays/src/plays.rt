@@ -1,8 +1,8 @@
 //! Histories: paragraphs of lines, each of which begins with a new die.
 
 use crate::lines::is_answered;
+use crate::said::Reported;
 use crate::stage::Stage;
-use crate::told::Told;
 use std::alloc::Global;
 use std::io;
 use std::io::Write;
@@ -25,16 +25,16 @@ impl Tally {
 }
 
 /// Prints a line that is answered otherwise, and what is answered. The first line of a file has number 1.
-fn tell_otherwise<W: Write>(
+fn report_otherwise<W: Write>(
     out: &mut W,
     file: &str,
     place: usize,
     line: &str,
-    told: &Told,
+    said: &Reported,
 ) -> io::Result<()> {
     let number = place.saturating_add(1);
     write!(out, "{file}:{number}: {line} is answered ")?;
-    out.write_all(told.text())?;
+    out.write_all(said.text())?;
     writeln!(out)
 }
 
@@ -53,18 +53,18 @@ impl<'a> Player<'a> {
         alloc: Global,
         place: usize,
         line: &str,
-        told: &mut Told,
+        said: &mut Reported,
         out: &mut W,
     ) -> io::Result<()> {
         if line.is_empty() || line.starts_with('#') || line.starts_with("named,") {
             return Ok(());
         }
-        let is_right = is_answered(&mut self.stage, alloc, line, told);
+        let is_right = is_answered(&mut self.stage, alloc, line, said);
         self.tally.count(is_right);
         if is_right {
             return Ok(());
         }
-        tell_otherwise(out, self.file, place, line, told)
+        report_otherwise(out, self.file, place, line, said)
     }
 
     /// Plays the paragraph of this name, up to its empty line.
@@ -73,7 +73,7 @@ impl<'a> Player<'a> {
         alloc: Global,
         text: &str,
         name: &str,
-        told: &mut Told,
+        said: &mut Reported,
         out: &mut W,
     ) -> io::Result<()> {
         let mut is_in_it = false;
@@ -82,7 +82,7 @@ impl<'a> Player<'a> {
                 is_in_it = false;
             }
             if is_in_it {
-                self.line(alloc, place, line, told, out)?;
+                self.line(alloc, place, line, said, out)?;
             }
             if line.strip_prefix("named,") == Some(name) {
                 is_in_it = true;
@@ -92,12 +92,12 @@ impl<'a> Player<'a> {
     }
 }
 
-/// Plays the histories of a text. A line `behind,NAME` first plays the paragraph of that name.
+/// Plays the histories of a text. A line `beyond,NAME` first plays the paragraph of that name.
 pub(crate) fn play<W: Write>(
     alloc: Global,
     file: &str,
     text: &str,
-    told: &mut Told,
+    said: &mut Reported,
     out: &mut W,
 ) -> io::Result<Tally> {
     let mut player = Player {
@@ -107,8 +107,8 @@ pub(crate) fn play<W: Write>(
     };
     for (place, line) in text.lines().enumerate() {
         match line.strip_prefix("behind,") {
-            Some(name) => player.named(alloc, text, name, told, out)?,
-            None => player.line(alloc, place, line, told, out)?,
+            Some(name) => player.named(alloc, text, name, said, out)?,
+            None => player.line(alloc, place, line, said, out)?,
         }
     }
     Ok(player.tally)

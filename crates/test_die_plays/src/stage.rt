@@ -6,7 +6,7 @@ use crate::checkpoints::resume;
 use crate::dies::{Die, die_in};
 use crate::events::note;
 use crate::fields::{Fields, UNREAD};
-use crate::told::Told;
+use crate::said::Reported;
 use flash_die::Nand;
 use plan_rules::keeps_plan;
 use slot_core::DieCore;
@@ -28,11 +28,11 @@ fn run<N: Nand>(
     die: &mut DieCore<N>,
     alloc: Global,
     events: Items<Event>,
-    told: &mut Told,
+    said: &mut Reported,
 ) -> Result<(), Refusal> {
     let replies = die.run(alloc, events)?;
     for reply in replies.as_slice() {
-        put_reply(told, reply)?;
+        put_reply(said, reply)?;
     }
     Ok(())
 }
@@ -47,12 +47,17 @@ impl Stage {
     }
 
     /// A new die in place of the one before.
-    fn begin(&mut self, alloc: Global, fields: &Fields, told: &mut Told) -> Result<(), Refusal> {
+    fn begin(
+        &mut self,
+        alloc: Global,
+        fields: &Fields,
+        said: &mut Reported,
+    ) -> Result<(), Refusal> {
         let die = die_in(alloc, fields)?;
         self.die = Some(die);
         self.asked.clear();
         self.put.clear();
-        told.words("ok")
+        said.words("ok")
     }
 
     fn has_times(&self) -> bool {
@@ -70,47 +75,52 @@ impl Stage {
     }
 
     /// The events after the word `put` are added to the next run.
-    fn put(&mut self, alloc: Global, asked: &str, told: &mut Told) -> Result<(), Refusal> {
+    fn put(&mut self, alloc: Global, asked: &str, said: &mut Reported) -> Result<(), Refusal> {
         let Some((_, event)) = asked.split_once(',') else {
             return Err(UNREAD);
         };
         let fields = Fields::new(alloc, event)?;
         self.note(alloc, &fields)?;
         note(&mut self.put, alloc, &fields)?;
-        told.words("ok")
+        said.words("ok")
     }
 
-    fn run(&mut self, alloc: Global, told: &mut Told) -> Result<(), Refusal> {
+    fn run(&mut self, alloc: Global, said: &mut Reported) -> Result<(), Refusal> {
         let events = mem::replace(&mut self.put, Items::new(alloc));
         match &mut self.die {
-            Some(die) => run(die, alloc, events, told),
+            Some(die) => run(die, alloc, events, said),
             None => Err(UNREAD),
         }
     }
 
     /// The die is given up, and one goes on in its place.
-    fn resume(&mut self, alloc: Global, fields: &Fields, told: &mut Told) -> Result<(), Refusal> {
+    fn resume(
+        &mut self,
+        alloc: Global,
+        fields: &Fields,
+        said: &mut Reported,
+    ) -> Result<(), Refusal> {
         let Some(die) = self.die.take() else {
             return Err(UNREAD);
         };
-        let (die, answer) = resume(alloc, die, fields, told);
+        let (die, answer) = resume(alloc, die, fields, said);
         self.die = die;
         answer
     }
 
     /// Whether what the die was asked for keeps to its plan.
-    fn keeps(&self, told: &mut Told) -> Result<(), Refusal> {
+    fn keeps(&self, said: &mut Reported) -> Result<(), Refusal> {
         match &self.die {
-            Some(die) if keeps_plan(die.plan(), &self.asked) => told.words("yes"),
-            Some(_) => told.words("no"),
+            Some(die) if keeps_plan(die.plan(), &self.asked) => said.words("yes"),
+            Some(_) => said.words("no"),
             None => Err(UNREAD),
         }
     }
 
-    fn call(&mut self, alloc: Global, fields: &Fields, told: &mut Told) -> Result<(), Refusal> {
+    fn call(&mut self, alloc: Global, fields: &Fields, said: &mut Reported) -> Result<(), Refusal> {
         self.note(alloc, fields)?;
         match &mut self.die {
-            Some(die) => call(die, alloc, fields, told),
+            Some(die) => call(die, alloc, fields, said),
             None => Err(UNREAD),
         }
     }
@@ -120,16 +130,16 @@ impl Stage {
         &mut self,
         alloc: Global,
         asked: &str,
-        told: &mut Told,
+        said: &mut Reported,
     ) -> Result<(), Refusal> {
         let fields = Fields::new(alloc, asked)?;
         match fields.name {
-            "die" | "fused" | "timed" => self.begin(alloc, &fields, told),
-            "put" => self.put(alloc, asked, told),
-            "run" => self.run(alloc, told),
-            "keeps" => self.keeps(told),
-            "resume" | "resume-as" | "resume-from" => self.resume(alloc, &fields, told),
-            _ => self.call(alloc, &fields, told),
+            "die" | "fused" | "timed" => self.begin(alloc, &fields, said),
+            "put" => self.put(alloc, asked, said),
+            "run" => self.run(alloc, said),
+            "keeps" => self.keeps(said),
+            "resume" | "resume-as" | "resume-from" => self.resume(alloc, &fields, said),
+            _ => self.call(alloc, &fields, said),
         }
     }
 }

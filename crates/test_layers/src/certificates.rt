@@ -112,7 +112,7 @@ fn a_later_job_with_an_earlier_due_preempts(rt: HostRuntime) -> Result<(), Fail>
 }
 
 #[test]
-fn equal_dues_go_by_number(rt: HostRuntime) -> Result<(), Fail> {
+fn equal_deadlines_go_by_number(rt: HostRuntime) -> Result<(), Fail> {
     let slots = [1, 1, 0, 0, 1];
     assert!(rt; is_built(rt.alloc(), &ONE_DUE_BEFORE, &slots[..4], 0, (2, 5, 4), &[0])?);
     assert!(rt; built(rt.alloc(), &ONE_DUE_BEFORE, &slots[..4], 1)?.is_none());
@@ -133,7 +133,7 @@ fn two_jobs_with_one_due(rt: HostRuntime) -> Result<(), Fail> {
 // slot a key that isn't above job 1's, and no more: so with job 0 due earlier there is a certificate, and with it due
 // later none.
 #[test]
-fn a_stretch_may_end_with_a_slot_of_another_job(rt: HostRuntime) -> Result<(), Fail> {
+fn a_busy_interval_may_end_with_a_slot_of_another_job(rt: HostRuntime) -> Result<(), Fail> {
     let alloc = rt.alloc();
     let earlier = [(0, 0, 3, 1, Some(2)), (1, 0, 5, 1, Some(2))];
     let later = [(0, 0, 9, 1, Some(2)), (1, 0, 5, 1, Some(2))];
@@ -150,7 +150,7 @@ fn no_certificate_ends_beyond_the_carried_slots(rt: HostRuntime) -> Result<(), F
 }
 
 #[test]
-fn the_first_fault_is_told(rt: HostRuntime) -> Result<(), Fail> {
+fn the_first_fault_is_reported(rt: HostRuntime) -> Result<(), Fail> {
     let alloc = rt.alloc();
     let holds = verdict_on(alloc, &ONE_DUE, (0, 5, 5), &[0, 1])?;
     let empty = verdict_on(alloc, &ONE_DUE, (0, 5, 5), &[])?;
@@ -175,7 +175,7 @@ fn the_first_fault_is_told(rt: HostRuntime) -> Result<(), Fail> {
 }
 
 #[test]
-fn a_verdict_is_told_by_number_and_name(rt: HostRuntime) {
+fn a_verdict_is_reported_by_number_and_name(rt: HostRuntime) {
     assert!(rt; Verdict::Holds.number().is_none());
     assert!(rt; Verdict::EarlyRelease.number() == Some(5));
     assert_eq!(rt; Verdict::NotRising.name(), "NotRising");

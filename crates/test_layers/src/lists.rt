@@ -4,10 +4,10 @@ use slot_types::{Cause, DiePlan, Items, JobNo, Op, PageData, Refusal, Shape, Wai
 use std::test::Fail;
 
 #[test]
-fn a_refusal_is_told_by_name_numbers_and_cause(rt: HostRuntime) -> Result<(), Fail> {
+fn a_refusal_is_reported_by_name_numbers_and_cause(rt: HostRuntime) -> Result<(), Fail> {
     let alloc = rt.alloc();
     let cause = Cause::Fields;
-    let told = [
+    let said = [
         (Refusal::BadPlan, "3 BadPlan"),
         (Refusal::BadPage { page: 12 }, "8 BadPage 12"),
         (Refusal::ReleasePast { now: 5 }, "9 ReleasePast 5"),
@@ -25,7 +25,7 @@ fn a_refusal_is_told_by_name_numbers_and_cause(rt: HostRuntime) -> Result<(), Fa
         (Refusal::ReportText { line: 7 }, "20 ReportText 7"),
         (Refusal::PassesOut { out: 1 }, "24 PassesOut 1"),
     ];
-    for (refusal, want) in told {
+    for (refusal, want) in said {
         let text = format!(in alloc; "{} {refusal}", refusal.number())?;
         assert_eq!(rt; text.as_str(), want);
     }

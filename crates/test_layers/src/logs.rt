@@ -19,19 +19,19 @@ const SLOT: Deed = Deed::EraseSlot {
 };
 
 #[test]
-fn idle_slots_of_one_caller_are_one_stretch(rt: HostRuntime) -> Result<(), Fail> {
+fn idle_slots_of_one_caller_are_one_record(rt: HostRuntime) -> Result<(), Fail> {
     let mut log = EventLog::new(rt.alloc());
     for _ in 0..5_u32 {
         push(&mut log, 0, Deed::Idle)?;
     }
-    assert_eq!(rt; (log.len(), log.stretches(), log.kept()), (5, 1, 1));
+    assert_eq!(rt; (log.len(), log.records(), log.kept()), (5, 1, 1));
     push(&mut log, 1, Deed::Idle)?;
-    assert_eq!(rt; (log.len(), log.stretches(), log.kept()), (6, 2, 2));
+    assert_eq!(rt; (log.len(), log.records(), log.kept()), (6, 2, 2));
     Ok(())
 }
 
 #[test]
-fn an_erase_is_one_stretch_but_for_its_last_slot(rt: HostRuntime) -> Result<(), Fail> {
+fn an_erase_is_one_record_but_for_its_last_slot(rt: HostRuntime) -> Result<(), Fail> {
     let mut log = EventLog::new(rt.alloc());
     push(&mut log, 0, SLOT)?;
     push(&mut log, 0, SLOT)?;
@@ -43,13 +43,13 @@ fn an_erase_is_one_stretch_but_for_its_last_slot(rt: HostRuntime) -> Result<(), 
             block: 5,
         },
     )?;
-    assert_eq!(rt; (log.len(), log.stretches(), log.kept()), (3, 2, 2));
+    assert_eq!(rt; (log.len(), log.records(), log.kept()), (3, 2, 2));
     Ok(())
 }
 
 /// No log of a die has such an erase: each is of one block.
 #[test]
-fn an_erase_of_two_blocks_is_one_stretch_and_two_records(rt: HostRuntime) -> Result<(), Fail> {
+fn an_erase_of_two_blocks_counts_as_one_record_and_keeps_two(rt: HostRuntime) -> Result<(), Fail> {
     let mut log = EventLog::new(rt.alloc());
     push(&mut log, 0, SLOT)?;
     push(
@@ -60,7 +60,7 @@ fn an_erase_of_two_blocks_is_one_stretch_and_two_records(rt: HostRuntime) -> Res
             block: 6,
         },
     )?;
-    assert_eq!(rt; (log.len(), log.stretches(), log.kept()), (2, 1, 2));
+    assert_eq!(rt; (log.len(), log.records(), log.kept()), (2, 1, 2));
     Ok(())
 }
 
@@ -80,6 +80,6 @@ fn a_waiver_stands_by_itself(rt: HostRuntime) -> Result<(), Fail> {
         );
     }
     push(&mut log, 0, Deed::Idle)?;
-    assert_eq!(rt; (log.len(), log.stretches(), log.kept()), (3, 3, 3));
+    assert_eq!(rt; (log.len(), log.records(), log.kept()), (3, 3, 3));
     Ok(())
 }

@@ -77,7 +77,7 @@ impl Book for Numbers {
 
     ghost gives = { λ _ log _ number reply. Gives log number reply };
 
-    ghost tells = { λ _ log place answer. answer ≡ number_at log place };
+    ghost says = { λ _ log place answer. answer ≡ number_at log place };
 
     ghost fits = { λ _. HasNoZero };
 

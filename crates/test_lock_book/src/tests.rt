@@ -181,7 +181,7 @@ fn new_lock<R: Env>(rt: &R, alloc: Global) -> Result<(Turned<Numbers>, Pass<Numb
 }
 
 #[test]
-fn a_refused_growth_adds_nothing(rt: HostRuntime) -> Result<(), Fail> {
+fn a_refused_allocation_adds_nothing(rt: HostRuntime) -> Result<(), Fail> {
     let (lock, mut pass) = new_lock(&rt, rt.alloc())?;
     for below in 0..20u64 {
         assert!(rt;

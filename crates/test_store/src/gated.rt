@@ -43,14 +43,14 @@ const FIRST: [Course; 2] = [
 const WITHIN: [Job; 1] = [Job { release: 3, due: 9, op: Op::Read(3) }];
 
 #[rattlefmt::skip]
-const BEHIND: [Job; 1] = [Job { release: 4, due: 9, op: Op::Read(3) }];
+const AFTER: [Job; 1] = [Job { release: 4, due: 9, op: Op::Read(3) }];
 
 // A second run of the same dies: its clock begins at 0 too, and its first slot is slot 2. The event of die 0 comes once
 // the clock is 3, that of die 1 after the last slot.
 #[rattlefmt::skip]
 const SECOND: [Course; 2] = [
     Course { jobs: &WITHIN, slots: 2, refused: &[], stop: None },
-    Course { jobs: &BEHIND, slots: 2, refused: &[], stop: None },
+    Course { jobs: &AFTER, slots: 2, refused: &[], stop: None },
 ];
 
 #[rattlefmt::skip]
@@ -183,7 +183,7 @@ fn calls_round_a_fault<R: Threads + Wait + Sync + Abort>(
 }
 
 #[test]
-fn the_gate_is_not_called_behind_a_refused_slot(rt: HostRuntime) -> Result<(), Fail> {
+fn the_gate_is_not_called_after_a_refused_slot(rt: HostRuntime) -> Result<(), Fail> {
     let calls = calls_round_a_fault(&rt, rt.alloc())?;
     assert_eq!(rt; calls.as_slice(), ROUND_A_FAULT.as_slice());
     Ok(())

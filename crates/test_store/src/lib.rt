@@ -1,7 +1,7 @@
 //! A store at work: dies behind their locks, what threads see of them, and runs by workers.
 //!
 //! Read in this order: `steps` has the words of a test of calls, `plans` and `made` the stores that tests are played
-//! on, and `stores` the first tests. A test fails as `told` says. `played` carries a step out, `dies` a table on a die
+//! on, and `stores` the first tests. A test fails as `said` says. `played` carries a step out, `dies` a table on a die
 //! of a store, and `closing` tells what becomes of the store.
 //!
 //! A test of runs is a table of courses: `feeds` has the jobs of a die, `courses` how its run has to end. `runs`,
@@ -44,10 +44,10 @@ mod played;
 #[cfg(test)]
 mod runs;
 #[cfg(test)]
+mod said;
+#[cfg(test)]
 mod scarce;
 #[cfg(test)]
 mod steps;
 #[cfg(test)]
 mod stores;
-#[cfg(test)]
-mod told;

@@ -4,9 +4,9 @@ ghost use Rattle.std.specs.Prelude.{◌≡◌};
 
 use crate::again::{carry, certificate_of, outcome_of, submit};
 use crate::passes::{hands_over, lets_go, passes_on};
+use crate::said::Reported;
 use crate::scarce::grows_or_stays;
 use crate::steps::{Bounds, Fact, Step};
-use crate::told::Told;
 use die_service::{Die, DiePass};
 use flash_die::Nand;
 use late_cert::Certificate;
@@ -19,7 +19,7 @@ use std::sync::Wait;
 
 // A job is done at this completion, with this lateness.
 fn done<R: Abort>(
-    told: &Told<R>,
+    said: &Reported<R>,
     got: &Result<Outcome, Refusal>,
     want_completion: u32,
     want_lateness: i64,
@@ -34,16 +34,16 @@ fn done<R: Abort>(
         ) => { (*completion == want_completion) & (*lateness == want_lateness) }
         _ => false,
     };
-    told.fits(right, got, &(want_completion, want_lateness))
+    said.fits(right, got, &(want_completion, want_lateness))
 }
 
 // A job is done, and its first read gave this page.
-fn read<R: Abort>(told: &Told<R>, got: &Result<Outcome, Refusal>, page: PageData) {
+fn read<R: Abort>(said: &Reported<R>, got: &Result<Outcome, Refusal>, page: PageData) {
     let right = match got {
         Ok(Outcome::Done { reads, .. }) => reads.get(0) == Some(&page),
         _ => false,
     };
-    told.fits(right, got, &page)
+    said.fits(right, got, &page)
 }
 
 // Whether a certificate is of a job alone, from its start to its completion.
@@ -56,17 +56,21 @@ fn is_of(found: &Certificate, want: &Bounds) -> bool {
 }
 
 // A certificate is of a job alone, from its start to its completion.
-fn certified<R: Abort>(told: &Told<R>, got: &Result<Option<Certificate>, Refusal>, want: &Bounds) {
+fn certified<R: Abort>(
+    said: &Reported<R>,
+    got: &Result<Option<Certificate>, Refusal>,
+    want: &Bounds,
+) {
     let right = match got {
         Ok(Some(found)) => is_of(found, want),
         _ => false,
     };
-    told.fits(right, got, want)
+    said.fits(right, got, want)
 }
 
 // Plays what stands of a die.
 fn stands<N: Nand, R: Wait + Abort + Env>(
-    told: &Told<R>,
+    said: &Reported<R>,
     die: &Die<N>,
     pass: &mut DiePass<N>,
     fact: &Fact,
@@ -81,33 +85,33 @@ fn stands<N: Nand, R: Wait + Abort + Env>(
             lateness,
         } => {
             done(
-                told,
-                &outcome_of(told.rt, die, pass, *job),
+                said,
+                &outcome_of(said.rt, die, pass, *job),
                 *completion,
                 *lateness,
             )
         }
-        Fact::Read { job, page } => read(told, &outcome_of(told.rt, die, pass, *job), *page),
+        Fact::Read { job, page } => read(said, &outcome_of(said.rt, die, pass, *job), *page),
         Fact::Waiting { job } => {
-            told.same(&outcome_of(told.rt, die, pass, *job), &Ok(Outcome::Waiting))
+            said.same(&outcome_of(said.rt, die, pass, *job), &Ok(Outcome::Waiting))
         }
         Fact::Worst { job, lateness } => {
             let want = Worst {
                 job: JobNo(*job),
                 lateness: *lateness,
             };
-            told.same(&die.worst(told.rt, pass), &Some(want))
+            said.same(&die.worst(said.rt, pass), &Some(want))
         }
-        Fact::Certified(bounds) => certified(told, &certificate_of(told.rt, die, pass), bounds),
-        Fact::Entries { count } => told.same(&die.look(pass), count),
-        Fact::Now { slot } => told.same(&die.now(told.rt, pass), slot),
-        Fact::Out { passes } => told.same(&die.out(told.rt, pass), passes),
+        Fact::Certified(bounds) => certified(said, &certificate_of(said.rt, die, pass), bounds),
+        Fact::Entries { count } => said.same(&die.look(pass), count),
+        Fact::Now { slot } => said.same(&die.now(said.rt, pass), slot),
+        Fact::Out { passes } => said.same(&die.out(said.rt, pass), passes),
     }
 }
 
 // Plays a step.
 fn goes<N: Nand, R: Wait + Abort + Env>(
-    told: &Told<R>,
+    said: &Reported<R>,
     alloc: Global,
     die: &Die<N>,
     pass: &mut DiePass<N>,
@@ -123,34 +127,34 @@ fn goes<N: Nand, R: Wait + Abort + Env>(
             op,
             want,
         } => {
-            told.same(
-                &submit(told.rt, alloc, die, pass, *release, *due, *op),
+            said.same(
+                &submit(said.rt, alloc, die, pass, *release, *due, *op),
                 want,
             )
         }
-        Step::Slot { want } => told.same(&carry(told.rt, die, pass), want),
+        Step::Slot { want } => said.same(&carry(said.rt, die, pass), want),
         Step::HandOver {
             release,
             due,
             op,
             job,
-        } => { hands_over(told, alloc, die, pass, *release, *due, *op, *job) }
+        } => { hands_over(said, alloc, die, pass, *release, *due, *op, *job) }
         Step::PassOn {
             release,
             due,
             op,
             job,
-        } => { passes_on(told, alloc, die, pass, *release, *due, *op, *job) }
-        Step::LetGo => lets_go(told, die, pass),
+        } => { passes_on(said, alloc, die, pass, *release, *due, *op, *job) }
+        Step::LetGo => lets_go(said, die, pass),
         Step::Grows => {
-            let right = grows_or_stays(told.rt, alloc, die, pass);
-            told.fits(
+            let right = grows_or_stays(said.rt, alloc, die, pass);
+            said.fits(
                 right,
                 &die.look(pass),
                 &"an entry for each call that found memory",
             )
         }
-        Step::Is(fact) => stands(told, die, pass, fact),
+        Step::Is(fact) => stands(said, die, pass, fact),
     }
 }
 
@@ -167,11 +171,11 @@ pub(crate) fn play<N: Nand, R: Wait + Abort + Env>(
     ensures { pass.new.lock ≡ pass.old.lock }
 {
     for place in 0..steps.len() {
-        let told = Told {
+        let said = Reported {
             rt,
             table,
             step: place.saturating_add(1),
         };
-        goes(&told, alloc, die, pass, &steps[place]);
+        goes(&said, alloc, die, pass, &steps[place]);
     }
 }

@@ -82,7 +82,7 @@ fn grows_and_closes<R: Wait + Abort + Env>(rt: &R, alloc: Global) -> Result<bool
 // A refused allocation is reported, and leaves the store as it was. A store that couldn't be made can be made at the
 // second time.
 #[test]
-fn a_refused_growth_changes_nothing(rt: HostRuntime) {
+fn a_refused_allocation_changes_nothing(rt: HostRuntime) {
     let ended = match grows_and_closes(&rt, rt.alloc()) {
         Err(Refusal::NoMemory) if is_scarce(&rt) => grows_and_closes(&rt, rt.alloc()),
         answer => answer,

@@ -29,7 +29,7 @@ const JOINED: &[Step] = &[
 ];
 
 #[test]
-fn a_joined_pass_goes_on_behind_both(rt: HostRuntime) -> Result<(), Fail> {
+fn a_joined_pass_goes_on_after_both(rt: HostRuntime) -> Result<(), Fail> {
     let closed = End::Closed {
         dies: 1,
         entries: 4,
@@ -65,7 +65,7 @@ const NOT_JOINED: &[Step] = &[
 ];
 
 #[test]
-fn a_store_stays_open_behind_a_pass_that_was_not_joined(rt: HostRuntime) -> Result<(), Fail> {
+fn a_store_stays_open_after_a_pass_that_was_not_joined(rt: HostRuntime) -> Result<(), Fail> {
     let kept = End::Kept {
         refusal: Refusal::PassesOut { out: 1 },
         dies: 1,

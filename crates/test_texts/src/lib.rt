@@ -4,6 +4,8 @@
 #![tactic(auto)]
 
 #[cfg(test)]
+mod allocations;
+#[cfg(test)]
 mod answers;
 #[cfg(test)]
 mod audits;
@@ -11,8 +13,6 @@ mod audits;
 mod bounds;
 #[cfg(test)]
 mod faults;
-#[cfg(test)]
-mod growth;
 #[cfg(test)]
 mod interrupted;
 #[cfg(test)]

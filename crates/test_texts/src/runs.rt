@@ -62,7 +62,7 @@ fn a_failing_reader_writes_nothing(rt: HostRuntime) {
 
 /// A report of 86 bytes is written in 13 calls of seven bytes.
 #[test]
-fn a_failing_writer_is_told(rt: HostRuntime) {
+fn a_failing_writer_is_reported(rt: HostRuntime) {
     let alloc = rt.alloc();
     for calls in 1..30 {
         let mut writer = Choppy {

@@ -326,7 +326,7 @@ fn is_said(alloc: Global, plan: &str, said: Said) -> Result<bool, Fail> {
 }
 
 #[test]
-fn bounds_are_told_with_what_would_mend_them(rt: HostRuntime) -> Result<(), Fail> {
+fn bounds_are_reported_with_what_would_mend_them(rt: HostRuntime) -> Result<(), Fail> {
     for said in BOUNDS {
         assert!(rt; is_said(rt.alloc(), PLAN, said)?, "{}", said.1);
     }
@@ -334,7 +334,7 @@ fn bounds_are_told_with_what_would_mend_them(rt: HostRuntime) -> Result<(), Fail
 }
 
 #[test]
-fn numbers_out_of_their_limits_are_told(rt: HostRuntime) -> Result<(), Fail> {
+fn numbers_out_of_their_limits_are_reported(rt: HostRuntime) -> Result<(), Fail> {
     for said in LIMITS {
         assert!(rt; is_said(rt.alloc(), PLAN, said)?, "{}", said.1);
     }
@@ -345,7 +345,7 @@ fn numbers_out_of_their_limits_are_told(rt: HostRuntime) -> Result<(), Fail> {
 }
 
 #[test]
-fn loads_are_told_by_task_and_in_sum(rt: HostRuntime) -> Result<(), Fail> {
+fn loads_are_reported_by_task_and_in_sum(rt: HostRuntime) -> Result<(), Fail> {
     for said in LOADS {
         assert!(rt; is_said(rt.alloc(), TIMED, said)?, "{}", said.1);
     }
@@ -361,25 +361,25 @@ fn it_is_said_where_periods_end(rt: HostRuntime) -> Result<(), Fail> {
 }
 
 #[test]
-fn a_cap_that_is_too_low_is_told(rt: HostRuntime) -> Result<(), Fail> {
+fn a_cap_that_is_too_low_is_reported(rt: HostRuntime) -> Result<(), Fail> {
     assert!(rt; is_said(rt.alloc(), TIMED, LOW_CAP)?);
     Ok(())
 }
 
 #[test]
-fn a_demand_that_is_too_high_is_told(rt: HostRuntime) -> Result<(), Fail> {
+fn a_demand_that_is_too_high_is_reported(rt: HostRuntime) -> Result<(), Fail> {
     assert!(rt; is_said(rt.alloc(), TIMED, HIGH_DEMAND)?);
     Ok(())
 }
 
 #[test]
-fn periods_that_divide_no_hyperperiod_are_told(rt: HostRuntime) -> Result<(), Fail> {
+fn periods_that_divide_no_hyperperiod_are_reported(rt: HostRuntime) -> Result<(), Fail> {
     assert!(rt; is_said(rt.alloc(), TIMED, FAR_PERIODS)?);
     Ok(())
 }
 
 #[test]
-fn writes_beyond_what_collections_give_are_told(rt: HostRuntime) -> Result<(), Fail> {
+fn writes_beyond_what_collections_give_are_reported(rt: HostRuntime) -> Result<(), Fail> {
     assert!(rt; is_said(rt.alloc(), TIMED, MANY_WRITES)?);
     Ok(())
 }

@@ -109,17 +109,17 @@ fn a_plan_is_found_for_each_datasheet(rt: HostRuntime) -> Result<(), Fail> {
 }
 
 #[test]
-fn the_plan_of_the_recorder_is_told(rt: HostRuntime) -> Result<(), Fail> {
-    let told = match fit(rt.alloc(), RECORDER.as_bytes()) {
+fn the_plan_of_the_recorder_is_reported(rt: HostRuntime) -> Result<(), Fail> {
+    let said = match fit(rt.alloc(), RECORDER.as_bytes()) {
         Ok(text) => text.as_slice() == PLAN.as_bytes(),
         Err(_) => false,
     };
-    assert!(rt; told);
+    assert!(rt; said);
     Ok(())
 }
 
 #[test]
-fn it_is_told_why_there_is_no_plan(rt: HostRuntime) -> Result<(), Fail> {
+fn it_is_reported_why_there_is_no_plan(rt: HostRuntime) -> Result<(), Fail> {
     for (old, new, want) in NONE {
         let sheet = RECORDER.replace(rt.alloc(), old, new)?;
         let got = reason(rt.alloc(), sheet.as_str())?;

@@ -87,13 +87,13 @@ fn a_trace_becomes_a_script_and_a_plan(rt: HostRuntime) -> Result<(), Fail> {
 #[test]
 fn what_is_made_runs_and_no_row_is_refused(rt: HostRuntime) -> Result<(), Fail> {
     let plan = read_plan(rt.alloc(), PLAN.as_bytes())?;
-    let told = wear(rt.alloc(), plan, SCRIPT.as_bytes(), 31)?;
-    assert_eq!(rt; told.refused, RefusedRows::NONE);
+    let said = wear(rt.alloc(), plan, SCRIPT.as_bytes(), 31)?;
+    assert_eq!(rt; said.refused, RefusedRows::NONE);
     Ok(())
 }
 
 #[test]
-fn a_fault_is_told_with_its_line(rt: HostRuntime) -> Result<(), Fail> {
+fn a_fault_is_reported_with_its_line(rt: HostRuntime) -> Result<(), Fail> {
     for (trace, line, fault) in FAULTS {
         let got = import(rt.alloc(), trace.as_bytes(), MEASURE, Made::Script).err();
         assert_eq!(rt; got, Some(TraceFault::Line { line, fault }), "{trace}");

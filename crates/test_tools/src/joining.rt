@@ -93,7 +93,7 @@ fn is_run(
     from: Option<SavedStore>,
     script: &str,
     slots: u32,
-    told: (&str, u32, u32, &str),
+    said: (&str, u32, u32, &str),
 ) -> Result<bool, Fail> {
     let Ok(ran) = run(alloc, from, script, slots)? else {
         return Ok(false);
@@ -106,7 +106,7 @@ fn is_run(
     } = ran;
     let mut text = Vec::new(alloc);
     report.write(&mut text)?;
-    let (reported, count, slots, saved) = told;
+    let (reported, count, slots, saved) = said;
     if dies.len() != 1 {
         return Ok(false);
     }
@@ -183,19 +183,19 @@ const CHANGED: [Changed; 8] = [
 
 /// Whether this is reported of the checkpoint at noon, when it is changed so.
 fn is_refused(alloc: Global, changed: Changed) -> Result<bool, Fail> {
-    let (old, new, told) = changed;
+    let (old, new, said) = changed;
     let text = NOON.replace(alloc, old, new)?;
     let Ok(saved) = read_checkpoint(alloc, text.as_str().as_bytes()) else {
         return Ok(false);
     };
     match run(alloc, Some(saved), EVENING, 3)? {
         Ok(_) => Ok(false),
-        Err(fault) => Ok(format!(in alloc; "{fault}")?.as_str() == told),
+        Err(fault) => Ok(format!(in alloc; "{fault}")?.as_str() == said),
     }
 }
 
 #[test]
-fn a_checkpoint_that_does_not_fit_is_told_with_its_place(rt: HostRuntime) -> Result<(), Fail> {
+fn a_checkpoint_that_does_not_fit_is_reported_with_its_place(rt: HostRuntime) -> Result<(), Fail> {
     for changed in CHANGED {
         assert!(rt; is_refused(rt.alloc(), changed)?, "{}", changed.2);
     }
@@ -258,10 +258,10 @@ fn why_unsaved(alloc: Global, checkpoint: &str) -> Result<Option<String>, Fail> 
 }
 
 /// The same, where block 1 was erased so often before.
-fn is_worn(alloc: Global, erases: &str, told: &str) -> Result<bool, Fail> {
+fn is_worn(alloc: Global, erases: &str, said: &str) -> Result<bool, Fail> {
     let checkpoint = OLD.replace(alloc, "4293918717", erases)?;
     match why_unsaved(alloc, checkpoint.as_str())? {
-        Some(why) => Ok(why.as_str() == told),
+        Some(why) => Ok(why.as_str() == said),
         None => Ok(false),
     }
 }

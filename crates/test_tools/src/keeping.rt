@@ -135,7 +135,7 @@ fn assert_each(rt: &impl Abort, alloc: Global, plan: &StorePlan, each: &[Said]) 
 }
 
 #[test]
-fn what_breaks_a_plan_is_told_with_its_record(rt: HostRuntime) -> Result<(), Fail> {
+fn what_breaks_a_plan_is_reported_with_its_record(rt: HostRuntime) -> Result<(), Fail> {
     let plan = read_plan(rt.alloc(), TIMED.as_bytes())?;
     assert_eq!(rt;
         said_of(rt.alloc(), &plan, KEPT.as_bytes(), SLOTS)?.len(),
@@ -159,24 +159,24 @@ fn with_a_digit(alloc: Global, words: &mut Pcg32, script: &[u8]) -> Result<Vec<u
 }
 
 /// How many of the changed scripts keep the plan, and how many are reported with what breaks it.
-fn count_told(alloc: Global, plan: &StorePlan, script: &[u8]) -> Result<(u32, u32), Fail>
+fn count_reported(alloc: Global, plan: &StorePlan, script: &[u8]) -> Result<(u32, u32), Fail>
     requires some { 1 ≤ length plan.now }
     requires few { length plan.now ≤ 8 }
     requires bound { All MeetsBound plan.now }
 {
     let mut words = Pcg32::new(5, 3);
-    let (mut kept, mut told) = (0u32, 0u32);
+    let (mut kept, mut said) = (0u32, 0u32);
     for _ in 0..200 {
         let changed = with_a_digit(alloc, &mut words, script)?;
         match keep(alloc, &changed, plan, 200) {
             Ok(Verdict::Kept) => kept = kept.saturating_add(1),
-            Ok(Verdict::Broken(_)) => told = told.saturating_add(1),
+            Ok(Verdict::Broken(_)) => said = said.saturating_add(1),
             Ok(Verdict::Astray) => return Ok((0, 0)),
             Err(Refusal::ScriptRow { .. }) => {}
             Err(refusal) => return Err(Fail::from(refusal)),
         }
     }
-    Ok((kept, told))
+    Ok((kept, said))
 }
 
 #[test]
@@ -184,8 +184,8 @@ fn a_reason_is_found_for_each_script_that_breaks_its_plan(rt: HostRuntime) -> Re
     let alloc = rt.alloc();
     let plan = read_plan(alloc, TIMED.as_bytes())?;
     let script = arrivals(alloc, &plan, 200, Manner::all(0))?;
-    let (kept, told) = count_told(alloc, &plan, &script)?;
+    let (kept, said) = count_reported(alloc, &plan, &script)?;
     assert!(rt; kept > 20);
-    assert!(rt; told > 20);
+    assert!(rt; said > 20);
     Ok(())
 }

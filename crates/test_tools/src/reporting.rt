@@ -45,19 +45,25 @@ lateness: worst                    0          0
 lateness: mean                -14.72     -14.72
 ";
 
-fn is_told(alloc: Global, script: &str, slots: u32, life: Life, told: &str) -> Result<bool, Fail> {
+fn is_reported(
+    alloc: Global,
+    script: &str,
+    slots: u32,
+    life: Life,
+    said: &str,
+) -> Result<bool, Fail> {
     let plan = read_plan(alloc, PLAN.as_bytes())?;
     let run = report(alloc, plan, script.as_bytes(), slots.min(25), life, true)?;
     let Some(rest) = run.text.as_slice().strip_prefix(NAMES.as_bytes()) else {
         return Ok(false);
     };
-    Ok(rest == told.as_bytes())
+    Ok(rest == said.as_bytes())
 }
 
 #[test]
-fn figures_are_told_by_die_and_task(rt: HostRuntime) -> Result<(), Fail> {
-    assert!(rt; is_told(rt.alloc(), SCRIPT, 25, LIFE, FIGURES)?);
-    assert!(rt; is_told(rt.alloc(), HEADER, 3, UNKNOWN, NOTHING)?);
+fn figures_are_reported_by_die_and_task(rt: HostRuntime) -> Result<(), Fail> {
+    assert!(rt; is_reported(rt.alloc(), SCRIPT, 25, LIFE, FIGURES)?);
+    assert!(rt; is_reported(rt.alloc(), HEADER, 3, UNKNOWN, NOTHING)?);
     Ok(())
 }
 

@@ -215,13 +215,13 @@ fn assert_each(
 }
 
 #[test]
-fn an_extra_key_is_told_with_its_place(rt: HostRuntime) -> Result<(), Fail> {
+fn an_extra_key_is_reported_with_its_place(rt: HostRuntime) -> Result<(), Fail> {
     assert_each(&rt, rt.alloc(), PLAN, "ExtraKey", &EXTRA, KEYS)?;
     assert_each(&rt, rt.alloc(), TIMED, "ExtraKey", &TIMED_EXTRA, KEYS)
 }
 
 #[test]
-fn a_missing_key_is_told_with_its_place(rt: HostRuntime) -> Result<(), Fail> {
+fn a_missing_key_is_reported_with_its_place(rt: HostRuntime) -> Result<(), Fail> {
     assert_each(&rt, rt.alloc(), PLAN, "MissingKey", &MISSING, KEYS)?;
     assert_each(&rt, rt.alloc(), TIMED, "MissingKey", &TIMED_MISSING, KEYS)?;
     assert_said(
@@ -235,25 +235,25 @@ fn a_missing_key_is_told_with_its_place(rt: HostRuntime) -> Result<(), Fail> {
 }
 
 #[test]
-fn a_value_of_another_kind_is_told_with_its_place(rt: HostRuntime) -> Result<(), Fail> {
+fn a_value_of_another_kind_is_reported_with_its_place(rt: HostRuntime) -> Result<(), Fail> {
     assert_each(&rt, rt.alloc(), PLAN, "WrongKind", &KINDS, "")?;
     assert_each(&rt, rt.alloc(), TIMED, "WrongKind", &TIMED_KINDS, "")
 }
 
 #[test]
-fn a_version_that_is_not_read_is_told(rt: HostRuntime) -> Result<(), Fail> {
+fn a_version_that_is_not_read_is_reported(rt: HostRuntime) -> Result<(), Fail> {
     assert_each(&rt, rt.alloc(), PLAN, "BadVersion", &VERSIONS, "")
 }
 
 #[test]
-fn what_is_no_toml_is_told_with_its_line(rt: HostRuntime) -> Result<(), Fail> {
+fn what_is_no_toml_is_reported_with_its_line(rt: HostRuntime) -> Result<(), Fail> {
     assert_each(&rt, rt.alloc(), PLAN, "NotToml", &NO_TOML, "")?;
     let fault = "line 2, column 2: the text isn't UTF-8.";
     assert_said(&rt, rt.alloc(), b"a = 1\nb\xff = 2\n", "NotToml", fault, "")
 }
 
 #[test]
-fn a_text_that_is_too_long_is_told(rt: HostRuntime) -> Result<(), Fail> {
+fn a_text_that_is_too_long_is_reported(rt: HostRuntime) -> Result<(), Fail> {
     let long = vec![in rt.alloc(); b'#'; 1_048_577]?;
     let fault = "the text has more than 1048576 bytes.";
     assert_said(&rt, rt.alloc(), &long, "TooLong", fault, "")

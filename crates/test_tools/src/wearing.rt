@@ -57,17 +57,17 @@ block,0,3,0,,,
 ];
 
 /// Whether this is what is reported of a run of the plan.
-fn is_told(alloc: Global, worn: Worn) -> Result<bool, Fail> {
+fn is_reported(alloc: Global, worn: Worn) -> Result<bool, Fail> {
     let (script, slots, text, refused) = worn;
     let plan = read_plan(alloc, PLAN.as_bytes())?;
-    let told = wear(alloc, plan, script.as_bytes(), slots.min(MAX_SLOT))?;
-    Ok(told.text.as_slice() == text.as_bytes() && told.refused == refused)
+    let said = wear(alloc, plan, script.as_bytes(), slots.min(MAX_SLOT))?;
+    Ok(said.text.as_slice() == text.as_bytes() && said.refused == refused)
 }
 
 #[test]
-fn erases_and_programmed_pages_are_told(rt: HostRuntime) -> Result<(), Fail> {
+fn erases_and_programmed_pages_are_reported(rt: HostRuntime) -> Result<(), Fail> {
     for worn in WORN {
-        assert!(rt; is_told(rt.alloc(), worn)?, "{} slots", worn.1);
+        assert!(rt; is_reported(rt.alloc(), worn)?, "{} slots", worn.1);
     }
     Ok(())
 }

@@ -15,7 +15,7 @@ use Rattle.hex.specs.Hex.{decode_sized, is_hex_digit}
 use Rattle.hex.specs.declared.error.FromHexError.{FromHexError}
 use Rattle.slot_types.specs.declared.pages.PageData.{PageData}
 use Rattle.text_base.specs.Number.{HasDigits, number_from, number_of}
-use Rattle.text_base.specs.Words.{IsFirstWord, StartsWith, all_of, behind, words_of}
+use Rattle.text_base.specs.Words.{IsFirstWord, StartsWith, all_of, beyond, words_of}
 use Rattle.text_base.specs.Pages.{page_of, page_or}
 
 abbrev pub NoSpace : ℕ → Type 0
@@ -95,18 +95,18 @@ page-starts text page read = record {
 
 -- Words
 
-word-split : (text front : List ℕ) (rest : Option (List ℕ)) → text ≡ front ++ behind rest → All NoSpace front
+word-split : (text front : List ℕ) (rest : Option (List ℕ)) → text ≡ front ++ beyond rest → All NoSpace front
     → slice_split (λ b. b == 32) text ≡ front ∷ words_of rest
 word-split text front None parts whole = rw (parts, append-nil) (slice_split_none (λ b. b == 32) front whole)
 word-split text front (Some rest) parts whole = rw parts (slice_split_at (λ b. b == 32) front 32 rest whole refl)
 
 pub first-starts : {A : Type 0} (read : List ℕ → Option A) (text : List ℕ) (x : A) (rest : Option (List ℕ))
-    → StartsWith read text x (behind rest)
+    → StartsWith read text x (beyond rest)
     → IsFirstWord read text x (words_of rest)
 first-starts read text x rest s = record { word = s.front; parts = word-split text s.front rest s.parts s.whole; says = sym s.says }
 
 pub first-shorter : {A B : Type 0} (read : List ℕ → Option A) (text : List ℕ) (x : A) (f : B → List ℕ) (rest : Option B)
-    → StartsWith read text x (behind (option_map f rest))
+    → StartsWith read text x (beyond (option_map f rest))
     → IfSome rest (λ more. length (f more) < length text)
 first-shorter read text x f None s = tt
 first-shorter read text x f (Some more) s = omega (arith, ap length s.parts, length-append s.front (32 ∷ f more))

@@ -30,9 +30,9 @@ abbrev pub if_whole : {A : Type 0} → Bool → List A → Option (List A)
 if_whole whole items = if whole then Some items else None
 
 -- what stands after a word: nothing, or a space and more
-abbrev pub behind : Option (List ℕ) → List ℕ
-behind None = []
-behind (Some rest) = 32 ∷ rest
+abbrev pub beyond : Option (List ℕ) → List ℕ
+beyond None = []
+beyond (Some rest) = 32 ∷ rest
 
 -- a text begins with bytes that say this, no space among them, and the rest stands after them
 pub record StartsWith {A : Type 0} (read : List ℕ → Option A) (text : List ℕ) (x : A) (rest : List ℕ) : Type 0 where

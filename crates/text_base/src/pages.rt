@@ -88,7 +88,7 @@ fn greatest_value(digits: &[u8]) -> u8
 }
 
 /// What stands after a page, where the first 32 bytes of a text write one. The page isn't made.
-pub fn behind_page(text: &[u8]) -> Option<&[u8]>
+pub fn after_page(text: &[u8]) -> Option<&[u8]>
     ensures { IfSome result (λ rest. BeginsWithPage text.now rest.now) }
 {
     if text.len() < 32 || greatest_value(&text[..32]) > 15 {

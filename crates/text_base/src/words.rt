@@ -5,13 +5,13 @@ ghost use Rattle.std.specs.List.{position, slice_split};
 ghost use Rattle.slot_types.specs.Refusal.{FailsForMemory};
 ghost use Rattle.text_base.specs.Number.{number_of};
 ghost use Rattle.text_base.specs.Ops.{op_of};
-ghost use Rattle.text_base.specs.Words.{IsFirstWord, StartsWith, all_of, behind, if_whole, list_of, words_of};
+ghost use Rattle.text_base.specs.Words.{IsFirstWord, StartsWith, all_of, beyond, if_whole, list_of, words_of};
 ghost use Rattle.text_base.specs.Pages.{page_of};
 ghost use Rattle.text_base.specs.PageStarts.{BeginsWithPage, FirstIsPage};
 
 use crate::numbers::{leading_number, number};
 use crate::ops::{leading_op, op};
-use crate::pages::{behind_page, leading_page, page};
+use crate::pages::{after_page, leading_page, page};
 use slot_types::{Items, JobNo, Op, PageData, Refusal};
 use std::alloc::Global;
 
@@ -89,8 +89,8 @@ fn cut(text: &[u8]) -> (&[u8], Option<&[u8]>)
 }
 
 /// What stands after a word: nothing, or a space and more.
-fn behind(left: &[u8]) -> Option<Option<&[u8]>>
-    ensures { IfSome result (λ rest. left.now ≡ behind (option_map (λ text. text.now) rest)) }
+fn beyond(left: &[u8]) -> Option<Option<&[u8]>>
+    ensures { IfSome result (λ rest. left.now ≡ beyond (option_map (λ text. text.now) rest)) }
 {
     let Some((first, rest)) = left.split_first() else {
         return Some(None);
@@ -105,10 +105,10 @@ fn behind(left: &[u8]) -> Option<Option<&[u8]>>
 /// What the first word of a text says in one pass, and what stands after the space after it. None says nothing.
 fn quick_word<T: Word + Drop>(text: &[u8]) -> Option<(T, Option<&[u8]>)>
     ensures { IfSome result (λ found.
-        StartsWith T.word_of text.now found.0 (behind (option_map (λ text. text.now) found.1))) }
+        StartsWith T.word_of text.now found.0 (beyond (option_map (λ text. text.now) found.1))) }
 {
     let (item, left) = T::start(text)?;
-    let rest = behind(left)?;
+    let rest = beyond(left)?;
     Some((item, rest))
 }
 
@@ -190,10 +190,10 @@ pub fn list<T: Word + Drop>(alloc: Global, field: &[u8]) -> Result<Option<Items<
 /// nothing.
 fn quick_rest(text: &[u8]) -> Option<Option<&[u8]>>
     ensures { IfSome result (λ rest.
-        BeginsWithPage text.now (behind (option_map (λ text. text.now) rest))) }
+        BeginsWithPage text.now (beyond (option_map (λ text. text.now) rest))) }
 {
-    let left = behind_page(text)?;
-    behind(left)
+    let left = after_page(text)?;
+    beyond(left)
 }
 
 /// What stands after the first word of a text and the space there, if that word is a page.

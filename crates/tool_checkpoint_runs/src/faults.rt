@@ -75,7 +75,7 @@ impl Display for RunFault {
             RunFault::Text(TextFault::ReadFault) => f.write_str("ReadFault"),
             RunFault::Text(TextFault::Broken { line, field, fault }) => {
                 write!(f, "the checkpoint, record {line} field {field}: ")?;
-                f.write_str(told_record(fault))
+                f.write_str(reported_record(fault))
             }
             RunFault::OtherStore { saved, dies } => {
                 write!(
@@ -98,7 +98,7 @@ impl Display for RunFault {
 }
 
 /// What is wrong with a record.
-fn told_record(fault: &RecordFault) -> &'static str {
+fn reported_record(fault: &RecordFault) -> &'static str {
     match fault {
         RecordFault::Header => "Header: it begins with checkpoint,1",
         RecordFault::Version => "Version: 1 alone is read",

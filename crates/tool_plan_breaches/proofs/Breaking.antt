@@ -67,7 +67,7 @@ apart_at times all earlier later a b first second apart =
     subst (AreApart times a) (get_or_from_slice_get all later b a second)
     (subst (λ (x : TaskArrival). AreApart times x (get_or all later a)) (get_or_from_slice_get all earlier a a first) apart)
 
-pub breaks : (plan : DiePlan) (times : Times) (all : List Event) (told : Breach) → IsBreach plan times all told → KeepsPlan plan times all → ⊥
+pub breaks : (plan : DiePlan) (times : Times) (all : List Event) (said : Breach) → IsBreach plan times all said → KeepsPlan plan times all → ⊥
 breaks plan times all (breach.Job place rule) b keeps =
     b.broken (planned_job_holds plan times b.arrival rule
     (job_of b.arrival.collects _ _ b.job (planned_at plan times all place b.arrival keeps b.there)))

@@ -140,10 +140,10 @@ fn breaks_count(
 }
 
 /// Whether what is reported is a condition that doesn't hold of these jobs and collections.
-pub fn is_breach(plan: &DiePlan, times: &Times, end: u32, all: &[Arrived<'_>], told: Breach) -> bool
-    ensures { IsTrue result → BreaksAt plan.now times.now end (map arrival_of all.now) told }
+pub fn is_breach(plan: &DiePlan, times: &Times, end: u32, all: &[Arrived<'_>], said: Breach) -> bool
+    ensures { IsTrue result → BreaksAt plan.now times.now end (map arrival_of all.now) said }
 {
-    match told {
+    match said {
         Breach::Job { place, rule } => breaks_job(plan, times, all, place, rule),
         Breach::Collection { place, rule } => {
             breaks_collection(plan, times, end, all, place, rule)

@@ -157,7 +157,7 @@ pub fn first_breach(
     times: &Times,
     events: &[Event],
 ) -> Result<Option<Breach>, Refusal>
-    ensures told { IfOk result (λ found. IfSome found (IsBreach plan.now times.now events.now)) }
+    ensures said { IfOk result (λ found. IfSome found (IsBreach plan.now times.now events.now)) }
     ensures refused { FailsForMemory result }
 {
     let slots = slots_of(events);
@@ -175,7 +175,7 @@ pub fn first_breach(
     };
     let found = look.first(&mut seen);
     match found {
-        Some(told) if is_breach(plan, times, end, &all, told) => Ok(Some(told)),
+        Some(said) if is_breach(plan, times, end, &all, said) => Ok(Some(said)),
         _ => Ok(None),
     }
 }

@@ -10,6 +10,6 @@ ghost use Rattle.tool_plan_breaches.specs.declared.breaches.Breach.{Breach};
 
 /// Events of which a condition doesn't hold don't keep the plan.
 pub fn breaches_break_plans()
-    ensures { (plan : DiePlan) (times : Times) (events : List Event) (told : Breach) →
-        IsBreach plan times events told → ¬ KeepsPlan plan times events }
+    ensures { (plan : DiePlan) (times : Times) (events : List Event) (said : Breach) →
+        IsBreach plan times events said → ¬ KeepsPlan plan times events }
 {}

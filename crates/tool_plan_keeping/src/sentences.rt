@@ -157,14 +157,14 @@ fn second_of(lines: &[Line], task: u32, slot: u32) -> Option<Line> {
 
 /// What the sentence of a breach needs.
 #[derive(Clone, Copy)]
-struct Told<'a> {
+struct Reported<'a> {
     die: u32,
     plan: &'a DiePlan,
     lines: &'a [Line],
     slots: u32,
 }
 
-impl Told<'_> {
+impl Reported<'_> {
     /// The times of a task.
     fn own(&self, task: u32) -> TaskTimes {
         match &self.plan.times {
@@ -238,13 +238,13 @@ pub fn sentence(
     let Some(own) = plan.get(broken.die as usize) else {
         return Ok(said);
     };
-    let told = Told {
+    let said = Reported {
         die: broken.die,
         plan: own,
         lines: &lines,
         slots,
     };
-    match told.put(&mut said, broken.breach) {
+    match said.put(&mut said, broken.breach) {
         Ok(()) => Ok(said),
         Err(_) => Err(Refusal::NoMemory),
     }

@@ -5,7 +5,7 @@ ghost use Rattle.slot_types.specs.Refusal.{FailsForMemory};
 ghost use Rattle.plan_rules.specs.Bound.{MeetsBound};
 
 use crate::die_runs::{DieRun, whose};
-use crate::script_runs::{Sights, Told, run_rows};
+use crate::script_runs::{Reported, Sights, run_rows};
 use crate::{End, Kind, Level, Row, Scene, Window, Worst, lines, picture};
 use flash_die::MemoryNand;
 use script_texts::ScriptReader;
@@ -177,7 +177,7 @@ pub fn draw<R: Read + Drop>(
     slots: u32,
     die: u32,
     shown: Shown,
-) -> Result<Told, Refusal>
+) -> Result<Reported, Refusal>
     requires few { slots ≤ MAX_SLOT }
     requires bound { All MeetsBound plan }
 {
@@ -202,13 +202,13 @@ pub fn draw<R: Read + Drop>(
             if shown.worst {
                 keep_worst(alloc, run)?;
             }
-            Ok(Told {
+            Ok(Reported {
                 text: picture_of(alloc, run, shown.as_text)?,
                 refused,
                 sights,
             })
         }
-        None => Ok(Told {
+        None => Ok(Reported {
             text: Vec::new(alloc),
             refused,
             sights: Sights::NONE,

@@ -20,7 +20,7 @@ text{font:11px sans-serif;fill:#222}
 .tick{stroke:#ddd}
 .wait{stroke:#aaa;stroke-width:2}
 .gap{stroke:#8a4f9e;stroke-width:2;stroke-dasharray:3 2}
-.stretch{fill:#ffd9b3;fill-opacity:.6}
+.busy_interval{fill:#ffd9b3;fill-opacity:.6}
 .read{fill:#9fd3f5}
 .write{fill:#0b62a4}
 .trim{fill:#7a7a7a}
@@ -40,7 +40,7 @@ text{fill:#ddd}
 .late{fill:#ff8a96}
 .lane{fill:#20242b}
 .tick{stroke:#3a3f48}
-.stretch{fill:#a35a00}
+.busy_interval{fill:#a35a00}
 .write{fill:#2f8fd8}
 .end{fill:#fff}
 .spare{stroke:#eee}

@@ -28,7 +28,7 @@ pub use pictures::{Scene, Worst, picture};
 pub use refused::RefusedRows;
 pub use reports::report;
 pub use rows::{End, Row};
-pub use script_runs::{Sights, Told, wear};
+pub use script_runs::{Reported, Sights, wear};
 pub use tallies::Tally;
 pub use terminals::lines;
 pub use wear_texts::wear_text;

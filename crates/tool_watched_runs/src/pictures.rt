@@ -8,7 +8,7 @@ use crate::layouts::Layout;
 use crate::legends::{put_head, put_legend, put_styles};
 use crate::levels::put_levels;
 use crate::rows::Row;
-use crate::rulers::{put_rulers, put_stretch};
+use crate::rulers::{put_busy_interval, put_rulers};
 use crate::tallies::Tally;
 use crate::windows::{Whose, Window};
 use slot_types::Refusal;
@@ -50,7 +50,7 @@ fn put_back(
     put_styles(text)?;
     put_head(text, scene)?;
     put_legend(text)?;
-    put_stretch(text, scene, layout)?;
+    put_busy_interval(text, scene, layout)?;
     put_rulers(text, layout)?;
     put_levels(alloc, text, scene, layout)?;
     put_waits(text, scene, layout)

@@ -4,7 +4,7 @@ ghost use Rattle.std.specs.Prelude.{◌≤◌, All};
 ghost use Rattle.plan_rules.specs.Bound.{MeetsBound};
 
 use crate::die_runs::DieRun;
-use crate::script_runs::{Sights, Told, fresh_dies, run_rows};
+use crate::script_runs::{Reported, Sights, fresh_dies, run_rows};
 use flash_die::MemoryNand;
 use script_texts::ScriptReader;
 use slot_core::{DieCore, Stage};
@@ -97,7 +97,7 @@ pub fn report<R: Read + Drop>(
     slots: u32,
     life: Life,
     as_csv: bool,
-) -> Result<Told, Refusal>
+) -> Result<Reported, Refusal>
     requires few { slots ≤ MAX_SLOT }
     requires bound { All MeetsBound plan }
 {
@@ -105,7 +105,7 @@ pub fn report<R: Read + Drop>(
     let mut dies = fresh_dies(alloc, plan)?;
     let refused = run_rows(alloc, script, &mut dies, slots)?;
     let text = report_text(alloc, dies.as_slice(), life, as_csv)?;
-    Ok(Told {
+    Ok(Reported {
         text,
         refused,
         sights: Sights::NONE,

@@ -74,13 +74,13 @@ fn put_part(text: &mut Vec<u8>, worst: &Worst, band: &Band, cell: u32) -> io::Re
     let (start, completion, due) = (worst.start, worst.completion, worst.due);
     writeln!(
         text,
-        "<rect class=\"stretch\" x=\"{x}\" y=\"{y}\" width=\"{width}\" height=\"{height}\"><title>certificate of {kind} {job}: \
+        "<rect class=\"busy_interval\" x=\"{x}\" y=\"{y}\" width=\"{width}\" height=\"{height}\"><title>certificate of {kind} {job}: \
          slots {start} to {completion} carried work due by {due}</title></rect>"
     )
 }
 
 /// Draws the stripes, and shades the busy interval of the worst.
-pub fn put_stretch(text: &mut Vec<u8>, scene: &Scene<'_>, layout: &Layout) -> io::Result<()> {
+pub fn put_busy_interval(text: &mut Vec<u8>, scene: &Scene<'_>, layout: &Layout) -> io::Result<()> {
     for band in &layout.bands {
         put_stripes(text, band, layout.cell)?;
         if let Some(worst) = &scene.worst {

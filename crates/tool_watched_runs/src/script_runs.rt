@@ -22,7 +22,7 @@ pub struct Sights {
 
 /// What is reported of a run, as a text, and which rows were refused.
 #[derive(Drop)]
-pub struct Told {
+pub struct Reported {
     pub text: Vec<u8>,
     pub refused: RefusedRows,
     pub sights: Sights,
@@ -98,7 +98,7 @@ pub fn wear<R: Read + Drop>(
     plan: StorePlan,
     script: R,
     slots: u32,
-) -> Result<Told, Refusal>
+) -> Result<Reported, Refusal>
     requires few { slots ≤ MAX_SLOT }
     requires bound { All MeetsBound plan }
 {
@@ -107,7 +107,7 @@ pub fn wear<R: Read + Drop>(
     let refused = run_rows(alloc, script, &mut dies, slots)?;
     let tallies = tallies_of(alloc, dies)?;
     let text = wear_text(alloc, &tallies)?;
-    Ok(Told {
+    Ok(Reported {
         text,
         refused,
         sights: Sights::NONE,

@@ -21,9 +21,9 @@ module _ {E R A : Type 0} where
     pub about_is : v.about ≡ Some topic
     pub fit : fits topic w.seen
 
-  abbrev pub Answers : {Q S : Type 0} (fits : A → List (Entry E R) → Type 0) (tells : A → List (Entry E R) → Q → S → Type 0) → View E R A
+  abbrev pub Answers : {Q S : Type 0} (fits : A → List (Entry E R) → Type 0) (says : A → List (Entry E R) → Q → S → Type 0) → View E R A
       → Q → S → View E R A → Type 0
-  Answers fits tells v query answer w = (g : SeesMore fits v w) × tells g.topic w.seen query answer
+  Answers fits says v query answer w = (g : SeesMore fits v w) × says g.topic w.seen query answer
 
   abbrev pub Refuses : (fits : A → List (Entry E R) → Type 0) (gives : A → List (Entry E R) → ℕ → E → R → Type 0) → View E R A → E → R
       → View E R A → Type 0

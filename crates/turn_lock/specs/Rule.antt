@@ -20,7 +20,7 @@ module _ {E R A : Type 0} where
     pub fit : v.live ≡ true → fits about v.seen
     pub below : v.made ≤ count
     pub seen : GrowsWithout (numbers_of v) v.seen log
-    pub last_join : GrowsWithout v.behind v.shorter_seen v.longer_seen
+    pub last_join : GrowsWithout v.beyond v.shorter_seen v.longer_seen
     pub sole : v.sole ≡ true → (v.made ≡ count) × (length (numbers_of v) ≡ count) × (v.about ≡ Some about) × (count ≡ 0 → holder ≡ id)
     pub turn : v.turn ≡ true → (bit ≡ 1) × (holder ≡ id) × (v.seen ≡ log) × (v.made ≡ count) × (0 < count)
 

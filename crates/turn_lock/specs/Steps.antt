@@ -34,7 +34,7 @@ module _ {E R A : Type 0} where
   -- that had seen that, and that no number stands twice; what the pass has seen fits
   abbrev pub compared : {S : Type 0} → (A → List (Entry E R) → Type 0) → Step S → Me S (View E R A) → ℕ → Me S (View E R A) → Type 0
   compared fits st m r m' =
-      (m' ≡ m) × GrowsWithout m.0.behind m.0.shorter_seen m.0.longer_seen
+      (m' ≡ m) × GrowsWithout m.0.beyond m.0.shorter_seen m.0.longer_seen
       × ((p : ℕ) → times p (numbers_of m.0) ≤ 1) × (length (numbers_of m.0) ≤ 65536) × SeesFitting fits m.0
 
 module _ {E R A B : Type 0} (log : B → List (Entry E R)) (about : B → A) where

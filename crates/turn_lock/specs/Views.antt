@@ -40,7 +40,7 @@ module _ {E R A : Type 0} where
     made = 0;
     shorter_seen = [];
     longer_seen = [];
-    behind = [];
+    beyond = [];
     about = Some a;
     live = false;
     turn = false;
@@ -59,7 +59,7 @@ module _ {E R A : Type 0} where
     made = 1;
     shorter_seen = [];
     longer_seen = [];
-    behind = [];
+    beyond = [];
     about = Some a;
     live = true;
     turn = false;
@@ -75,7 +75,7 @@ module _ {E R A : Type 0} where
     made = 0;
     shorter_seen = [];
     longer_seen = [];
-    behind = [];
+    beyond = [];
     about = None;
     live = false;
     turn = false;
@@ -95,7 +95,7 @@ module _ {E R A : Type 0} where
     made = v.made + 1;
     shorter_seen = [];
     longer_seen = [];
-    behind = [];
+    beyond = [];
     about = v.about;
     live = true;
     turn = false;
@@ -103,8 +103,8 @@ module _ {E R A : Type 0} where
   }
 
   -- of two passes, the numbers of the one that has seen the shorter: of the second where they have seen as much
-  abbrev pub numbers_behind : View E R A → View E R A → List ℕ
-  numbers_behind v w = if nat_lt (length v.seen) (length w.seen) then v.number ∷ v.joined else w.number ∷ w.joined
+  abbrev pub numbers_after : View E R A → View E R A → List ℕ
+  numbers_after v w = if nat_lt (length v.seen) (length w.seen) then v.number ∷ v.joined else w.number ∷ w.joined
 
   -- the first of two passes, once the second is joined into it
   abbrev pub joined_view : View E R A → View E R A → View E R A
@@ -112,7 +112,7 @@ module _ {E R A : Type 0} where
     seen = longer v.seen w.seen;
     shorter_seen = shorter v.seen w.seen;
     longer_seen = longer v.seen w.seen;
-    behind = numbers_behind v w;
+    beyond = numbers_after v w;
     joined = v.joined ++ w.number ∷ w.joined;
     made = max v.made w.made;
     sole = false;

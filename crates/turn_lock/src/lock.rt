@@ -78,7 +78,7 @@ impl<B: Book> Turned<B> {
     pub fn ask<R: Wait>(&self, rt: &R, pass: &mut Pass<B>, query: B::Query) -> B::Answer
         requires { pass.old.lock ≡ self.now }
         ensures same { IsSamePass pass.old pass.new }
-        ensures answer { Answers B.fits B.tells pass.old.view query result pass.new.view }
+        ensures answer { Answers B.fits B.says pass.old.view query result pass.new.view }
     {
         let shared = &self.table.shared;
         let kept = take(rt, shared, &mut pass.seat, pass.free_word);

@@ -17,9 +17,9 @@ record IsLeaving (pages : ℕ) (counts firsts nexts befores : List (Option ℕ))
   next_is : next ≡ get_or nexts block None
 
 -- the one before the block is before it
-before_told : (pages : ℕ) (counts firsts nexts befores : List (Option ℕ)) (count block : ℕ) (before next : Option ℕ)
+before_reported : (pages : ℕ) (counts firsts nexts befores : List (Option ℕ)) (count block : ℕ) (before next : Option ℕ)
     → IsLeaving pages counts firsts nexts befores count block before next → IsBefore counts firsts nexts count block before
-before_told pages counts firsts nexts befores count block before next leaving =
+before_reported pages counts firsts nexts befores count block before next leaving =
     subst (λ (o : Option ℕ). IsBefore counts firsts nexts count block o) (sym leaving.before_is)
     (leaving.are.befores_are block count leaving.counted)
 
@@ -46,14 +46,14 @@ firsts_left : (pages : ℕ) (counts firsts nexts befores : List (Option ℕ)) (c
     → (leaving : IsLeaving pages counts firsts nexts befores count block before next) → c ≤ pages
     → IsBefore counts firsts nexts count block before
     → IsHighest (set counts block None) leaving.are.place c (length counts) (get_or (set_first firsts before count next) c None)
-firsts_left pages counts firsts nexts befores count block c None next leaving fits told =
+firsts_left pages counts firsts nexts befores count block c None next leaving fits said =
     let below = counted_below counts block count leaving.counted in
     let in_firsts : count < length firsts = omega (arith, leaving.are.fit block count leaving.counted, leaving.are.firsts_len) in
     elim (cases_eq c count) [
       | inl same ↦
           let read : get_or (set firsts count next) c None ≡ next = ap (λ (m : ℕ). get_or (set firsts count next) m None) same
           ∙ get_or-set_same firsts count next None in_firsts in
-          let leads : get_or firsts c None ≡ Some block = ap (λ (m : ℕ). get_or firsts m None) same ∙ told in
+          let leads : get_or firsts c None ≡ Some block = ap (λ (m : ℕ). get_or firsts m None) same ∙ said in
           subst (λ (o : Option ℕ). IsHighest (set counts block None) leaving.are.place c (length counts) o) (sym read)
           (highest_next counts leaving.are.place block c (length counts) (get_or firsts c None) next
           (places_of pages counts firsts nexts befores leaving.are) below leads (leaving.are.firsts_are c fits)
@@ -69,13 +69,13 @@ firsts_left pages counts firsts nexts befores count block c None next leaving fi
           (highest_stays counts leaving.are.place block c (length counts) (get_or firsts c None) below apart
           (leaving.are.firsts_are c fits))
     ]
-firsts_left pages counts firsts nexts befores count block c (Some p) next leaving fits told =
+firsts_left pages counts firsts nexts befores count block c (Some p) next leaving fits said =
     let below = counted_below counts block count leaving.counted in
     let apart : get_or firsts c None ≢ Some block = (λ leads.
     let there = (leaving.are.firsts_are c fits).counted block leads in
     let here = leaving.counted in
     let same : c ≡ count = cc in
-    only_first pages counts firsts nexts befores count block p leaving.are (leaving.are.fit block count leaving.counted) told.0 told.1
+    only_first pages counts firsts nexts befores count block p leaving.are (leaving.are.fit block count leaving.counted) said.0 said.1
     (ap (λ (m : ℕ). get_or firsts m None) (sym same) ∙ leads)) in
     highest_stays counts leaving.are.place block c (length counts) (get_or firsts c None) below apart (leaving.are.firsts_are c fits)
 
@@ -83,29 +83,29 @@ firsts_left pages counts firsts nexts befores count block c (Some p) next leavin
 leads_back : (pages : ℕ) (counts firsts nexts befores : List (Option ℕ)) (count block x : ℕ) (before next : Option ℕ)
     → IsLeaving pages counts firsts nexts befores count block before next → count_of counts x ≡ Some count
     → get_or nexts x None ≡ Some block → IsBefore counts firsts nexts count block before → before ≡ Some x
-leads_back pages counts firsts nexts befores count block x None next leaving counted leads told =
+leads_back pages counts firsts nexts befores count block x None next leaving counted leads said =
     absurd (only_first pages counts firsts nexts befores count block x leaving.are (leaving.are.fit block count leaving.counted) counted
-    leads told)
-leads_back pages counts firsts nexts befores count block x (Some p) next leaving counted leads told =
+    leads said)
+leads_back pages counts firsts nexts befores count block x (Some p) next leaving counted leads said =
     ap (λ (m : ℕ). Some m)
     (one_above counts leaving.are.place count p x block (get_or nexts p None) (get_or nexts x None)
-    (places_of pages counts firsts nexts befores leaving.are) told.0 counted leaving.counted (leaving.are.nexts_are p count told.0)
-    (leaving.are.nexts_are x count counted) told.1 leads)
+    (places_of pages counts firsts nexts befores leaving.are) said.0 counted leaving.counted (leaving.are.nexts_are p count said.0)
+    (leaving.are.nexts_are x count counted) said.1 leads)
 
 -- before p the block is next
-told_next : (counts firsts nexts : List (Option ℕ)) (count block p : ℕ) (before : Option ℕ) → before ≡ Some p
+reported_next : (counts firsts nexts : List (Option ℕ)) (count block p : ℕ) (before : Option ℕ) → before ≡ Some p
     → IsBefore counts firsts nexts count block before → (count_of counts p ≡ Some count) × (get_or nexts p None ≡ Some block)
-told_next counts firsts nexts count block p None is told = absurd (cc)
-told_next counts firsts nexts count block p (Some q) is told =
+reported_next counts firsts nexts count block p None is said = absurd (cc)
+reported_next counts firsts nexts count block p (Some q) is said =
     let same : q ≡ p = cc in
-    (ap (λ (m : ℕ). count_of counts m) (sym same) ∙ told.0, ap (λ (m : ℕ). get_or nexts m None) (sym same) ∙ told.1)
+    (ap (λ (m : ℕ). count_of counts m) (sym same) ∙ said.0, ap (λ (m : ℕ). get_or nexts m None) (sym same) ∙ said.1)
 
 -- and has its count
 pub before_counted : (pages : ℕ) (counts firsts nexts befores : List (Option ℕ)) (count block p : ℕ)
     → AreLinked pages counts firsts nexts befores → count_of counts block ≡ Some count → get_or befores block None ≡ Some p
     → count_of counts p ≡ Some count
 before_counted pages counts firsts nexts befores count block p are counted is =
-    (told_next counts firsts nexts count block p (get_or befores block None) is (are.befores_are block count counted)).0
+    (reported_next counts firsts nexts count block p (get_or befores block None) is (are.befores_are block count counted)).0
 
 -- the links of the blocks that stay
 nexts_left : (pages : ℕ) (counts firsts nexts befores : List (Option ℕ)) (count block x c : ℕ) (before next : Option ℕ)
@@ -113,12 +113,12 @@ nexts_left : (pages : ℕ) (counts firsts nexts befores : List (Option ℕ)) (co
     → IsHighest (set counts block None) leaving.are.place c (leaving.are.place x) (get_or (set_at nexts before next) x None)
 nexts_left pages counts firsts nexts befores count block x c before next leaving apart counted =
     let below = counted_below counts block count leaving.counted in
-    let told = before_told pages counts firsts nexts befores count block before next leaving in
+    let said = before_reported pages counts firsts nexts befores count block before next leaving in
     elim (cases_link before x) [
       | inl leads ↦
           let x_below : x < length nexts = omega (arith, counted_below counts x c counted, leaving.are.nexts_len) in
           let read : get_or (set_at nexts before next) x None ≡ next = set_at-same nexts before x next x_below leads in
-          let links = told_next counts firsts nexts count block x before leads told in
+          let links = reported_next counts firsts nexts count block x before leads said in
           let there = links.0 in
           let same : c ≡ count = cc in
           subst (λ (o : Option ℕ). IsHighest (set counts block None) leaving.are.place c (leaving.are.place x) o) (sym read)
@@ -132,7 +132,7 @@ nexts_left pages counts firsts nexts befores count block x c before next leaving
           let there = (leaving.are.nexts_are x c counted).counted block leads in
           let here = leaving.counted in
           let same : Some c ≡ Some count = cc in
-          elsewhere (leads_back pages counts firsts nexts befores count block x before next leaving (counted ∙ same) leads told)) in
+          elsewhere (leads_back pages counts firsts nexts befores count block x before next leaving (counted ∙ same) leads said)) in
           subst (λ (o : Option ℕ). IsHighest (set counts block None) leaving.are.place c (leaving.are.place x) o) (sym read)
           (highest_stays counts leaving.are.place block c (leaving.are.place x) (get_or nexts x None) below unlike
           (leaving.are.nexts_are x c counted))
@@ -143,11 +143,11 @@ before_next : (counts firsts nexts : List (Option ℕ)) (count block y : ℕ) (b
     → length nexts ≡ length counts → ((p : ℕ) → count_of counts p ≡ Some count → get_or nexts p None ≡ Some block → p ≢ block)
     → IsBefore counts firsts nexts count block before → next ≡ Some y
     → IsBefore (set counts block None) (set_first firsts before count next) (set_at nexts before next) count y before
-before_next counts firsts nexts count block y None next in_firsts len apart told is =
+before_next counts firsts nexts count block y None next in_firsts len apart said is =
     get_or-set_same firsts count next None in_firsts ∙ is
-before_next counts firsts nexts count block y (Some p) next in_firsts len apart told is = (
-  still_counted counts block p count None (apart p told.0 told.1) told.0,
-  get_or-set_same nexts p next None (omega (arith, len, counted_below counts p count told.0)) ∙ is,
+before_next counts firsts nexts count block y (Some p) next in_firsts len apart said is = (
+  still_counted counts block p count None (apart p said.0 said.1) said.0,
+  get_or-set_same nexts p next None (omega (arith, len, counted_below counts p count said.0)) ∙ is,
 )
 
 -- what is before another block is before it still
@@ -155,19 +155,19 @@ before_other : (counts firsts nexts : List (Option ℕ)) (count block c y : ℕ)
     → count_of counts block ≡ Some count
     → y ≢ block → get_or nexts block None ≢ Some y → IsBefore counts firsts nexts count block before → IsBefore counts firsts nexts c y link
     → IsBefore (set counts block None) (set_first firsts before count next) (set_at nexts before next) c y link
-before_other counts firsts nexts count block c y None next None counted apart unlike told is =
+before_other counts firsts nexts count block c y None next None counted apart unlike said is =
     elim (cases_eq c count) [
       | inl same ↦
-          let leads : get_or firsts c None ≡ Some block = ap (λ (m : ℕ). get_or firsts m None) same ∙ told in
+          let leads : get_or firsts c None ≡ Some block = ap (λ (m : ℕ). get_or firsts m None) same ∙ said in
           let both : Some y ≡ Some block = sym is ∙ leads in
           absurd (apart (cc))
       | inr other ↦ get_or-set_other firsts count c next None other ∙ is
     ]
-before_other counts firsts nexts count block c y (Some p) next None counted apart unlike told is = is
-before_other counts firsts nexts count block c y before next (Some q) counted apart unlike told is =
+before_other counts firsts nexts count block c y (Some p) next None counted apart unlike said is = is
+before_other counts firsts nexts count block c y before next (Some q) counted apart unlike said is =
     let q_apart : q ≢ block = (λ same. unlike (ap (λ (m : ℕ). get_or nexts m None) (sym same) ∙ is.1)) in
     let elsewhere : before ≢ Some q = (λ leads.
-    let links = told_next counts firsts nexts count block q before leads told in
+    let links = reported_next counts firsts nexts count block q before leads said in
     let both : Some y ≡ Some block = sym is.1 ∙ links.1 in
     apart (cc)) in
     (still_counted counts block q c None q_apart is.0, set_at-other nexts before q next elsewhere ∙ is.1)
@@ -183,7 +183,7 @@ linked_left pages counts firsts nexts befores count block before next are counte
       before_is = before_is;
       next_is = next_is;
     } in
-    let told = before_told pages counts firsts nexts befores count block before next leaving in
+    let said = before_reported pages counts firsts nexts befores count block before next leaving in
     let next_high = next_highest pages counts firsts nexts befores count block before next leaving in
     let below = counted_below counts block count counted in
     let fits = are.fit block count counted in
@@ -203,7 +203,7 @@ linked_left pages counts firsts nexts befores count block before next are counte
       apart = λ one other one_below other_below. are.apart one other (omega (arith, len, one_below)) (omega (arith, len, other_below));
       firsts_are = λ c c_fits. subst
           (λ (m : ℕ). IsHighest (set counts block None) are.place c m (get_or (set_first firsts before count next) c None)) (sym len)
-          (firsts_left pages counts firsts nexts befores count block c before next leaving c_fits told);
+          (firsts_left pages counts firsts nexts befores count block c before next leaving c_fits said);
       nexts_are = λ x c is. elim (counted_after counts block x c None below is) [
         | inl came ↦ let both = came.1 in absurd (cc)
         | inr stayed ↦ nexts_left pages counts firsts nexts befores count block x c before next leaving stayed.0 stayed.1
@@ -223,7 +223,7 @@ linked_left pages counts firsts nexts befores count block before next are counte
               (subst
               (λ (k : ℕ). IsBefore (set counts block None) (set_first firsts before count next) (set_at nexts before next) k y before) same
               (before_next counts firsts nexts count block y before next in_firsts are.nexts_len
-              (λ p p_in links e. omega (arith, (are.nexts_are p count p_in).below block links, ap are.place e)) told leads))
+              (λ p p_in links e. omega (arith, (are.nexts_are p count p_in).below block links, ap are.place e)) said leads))
           | inr elsewhere ↦
               let read : get_or (set_at befores next before) y None ≡ get_or befores y None = set_at-other befores next y before
               elsewhere in
@@ -231,7 +231,7 @@ linked_left pages counts firsts nexts befores count block before next are counte
               (λ (o : Option ℕ). IsBefore (set counts block None) (set_first firsts before count next) (set_at nexts before next) c y o)
               (sym read)
               (before_other counts firsts nexts count block c y before next (get_or befores y None) counted stayed.0
-              (λ links. elsewhere (next_is ∙ links)) told (are.befores_are y c stayed.1))
+              (λ links. elsewhere (next_is ∙ links)) said (are.befores_are y c stayed.1))
         ]
       ];
     }

@@ -44,10 +44,10 @@ pub walk_goes_on : (pages : ℕ) (counts firsts nexts befores erases : List (Opt
     → IsWalked counts erases are.place count (step + 1) (Some now) next
 walk_goes_on pages counts firsts nexts befores erases count step block now found at next are walked at_is next_is earlier =
     let here = walked.at_in block at_is in
-    let behind = are.nexts_are block count here in
+    let beyond = are.nexts_are block count here in
     record {
-      at_in = λ b is. behind.counted b (sym next_is ∙ is);
-      near_end = λ b is. omega (arith, behind.below b (sym next_is ∙ is), walked.near_end block at_is);
+      at_in = λ b is. beyond.counted b (sym next_is ∙ is);
+      near_end = λ b is. omega (arith, beyond.below b (sym next_is ∙ is), walked.near_end block at_is);
       found_in = λ b is.
           let same : now ≡ b = cc in
           elim earlier.from [
@@ -64,7 +64,7 @@ walk_goes_on pages counts firsts nexts befores erases count step block now found
                   let unlike : are.place other ≢ are.place block = (λ e. apart (are.apart other block
                   (counted_below counts other count counted)
                   (counted_below counts block count here) e)) in
-                  let further = behind.highest other counted (omega (arith, ahead.2, ap are.place block_is, unlike)) in
+                  let further = beyond.highest other counted (omega (arith, ahead.2, ap are.place block_is, unlike)) in
                   inr (further.0, next_is ∙ further.1, further.2)
             ]
       ];

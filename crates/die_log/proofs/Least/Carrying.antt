@@ -225,14 +225,14 @@ carries_head plan past caller slot ws finished j act numbered w first =
         let f = known_of plan past ws k numbered known in
         let v = waits_then plan past ws k f numbered undone (omega (arith, released, now_is past)) in
         let number : f.job.number ≡ k = number_of (jobs past) k f.job numbered f.stands in
-        let behind : key_at_most j.due j.number f.job.due f.job.number
+        let beyond : key_at_most j.due j.number f.job.due f.job.number
         ≡ true = key_is j.due j.number f.job.due f.job.number (first f.job (contained (jobs past) k f.job f.stands) v.0 v.1) in
         and_from (is_known (after_waivers_rows plan past ws) j.number)
         (key_at_most (due_of (after_waivers_rows plan past ws) j.number) j.number (due_of (after_waivers_rows plan past ws) k) k)
         (ap is_some head)
         (ap (λ (d : ℕ). key_at_most d j.number (due_of (after_waivers_rows plan past ws) k) k) (ap (number_in (λ r. r.due)) head)
         ∙ (ap (λ (d : ℕ). key_at_most j.due j.number d k) (ap (number_in (λ r. r.due)) f.row)
-        ∙ (ap (λ (n : ℕ). key_at_most j.due j.number f.job.due n) (sym number) ∙ behind)))
+        ∙ (ap (λ (n : ℕ). key_at_most j.due j.number f.job.due n) (sym number) ∙ beyond)))
 
 -- the slots with one more
 pub carried_more : (past : Log) (ran : Carried) → map (λ c. option_map (λ r. r.0) c) (carried_slots past ++ ran ∷ []) ≡ carried_numbers past

@@ -16,9 +16,9 @@ use Rattle.late_cert.specs.Rows.{row_of, is_done_in, number_in, completion_of}
 use Rattle.late_cert.specs.Rows.{is_done as is_done_row}
 use Rattle.late_cert.specs.BusyInterval.{CarriesLeastKeys, start_of, jobs_of}
 use Rattle.late_cert.specs.Build.{busy_interval_of, IsOwn}
-use Rattle.late_cert.proofs.Window.{stretch-is}
-use Rattle.late_cert.proofs.Least.{stretch-certifies}
-use Rattle.late_cert.proofs.OneStretch.{certificate_of-done}
+use Rattle.late_cert.proofs.Window.{busy_interval-is}
+use Rattle.late_cert.proofs.Least.{busy_interval-certifies}
+use Rattle.late_cert.proofs.OneBusyInterval.{certificate_of-done}
 use Rattle.die_log.specs.Model.Log.{Log, Job, jobs, work, is_waived}
 use Rattle.die_log.specs.Model.Work.{are_all, is_done, is_worse, worst, completion}
 use Rattle.die_log.specs.Model.Answers.{IsExact, reply_if_accepted, refusals}
@@ -88,14 +88,14 @@ done_with false j n w e = absurd cc
 certificate_own : (rows : List JobRow) (carried : Slots) → CarriesLeastKeys rows carried → (k : ℕ) → is_done_row rows k ≡ true
     → IsOwn rows carried k (busy_interval_of rows carried k)
 certificate_own rows carried keys k done =
-    let stretch = stretch-is rows carried k (completion_of rows k) keys.rising in record {
+    let busy_interval = busy_interval-is rows carried k (completion_of rows k) keys.rising in record {
       done = done;
       job = refl;
       due = refl;
       completion = refl;
-      stretch = stretch;
-      holds = stretch-certifies rows carried keys k done (start_of rows carried k (completion_of rows k))
-          (jobs_of rows carried (start_of rows carried k (completion_of rows k)) (completion_of rows k)) stretch;
+      busy_interval = busy_interval;
+      holds = busy_interval-certifies rows carried keys k done (start_of rows carried k (completion_of rows k))
+          (jobs_of rows carried (start_of rows carried k (completion_of rows k)) (completion_of rows k)) busy_interval;
     }
 
 -- what is done has a certificate

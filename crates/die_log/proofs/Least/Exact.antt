@@ -53,7 +53,7 @@ first_of_ready start past j head i stands is_ready_now unwaived = by_case (all_p
   where
     by_case : IsPassed (choice start past) i → goes_first i j ≡ false
     by_case (inl waived_now) = absurd (true≢false (sym waived_now ∙ unwaived))
-    by_case (inr behind) = subst (NotBefore i) head behind
+    by_case (inr beyond) = subst (NotBefore i) head beyond
 
 slot_act : (start : Start) (past : Log) (caller : ℕ) (j : Job) (o : Option Act) (act : Act) → StandsWell start past
     → Waits start.plan past (waived_collections past ++ (choice start past).waived) j → (choice start past).head ≡ Some j → o ≡ Some act

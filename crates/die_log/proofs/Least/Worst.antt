@@ -21,7 +21,7 @@ worse c d n c' d' n' =
     && (nat_lt c c' || ((c == c') && nat_lt n n')))
 
 -- the first is no worse than the second
-record Behind (c d n c' d' n' : ℕ) : Type 0 where
+record Beyond (c d n c' d' n' : ℕ) : Type 0 where
   late : c + d' ≤ c' + d
   ended : c' + d ≤ c + d' → c' ≤ c
   number : c' + d ≤ c + d' → c ≤ c' → n' ≤ n
@@ -35,8 +35,8 @@ not_worse_ended c d n c' d' n' h k = grind (arith, nat_tests)
 not_worse_number : (c d n c' d' n' : ℕ) → worse c d n c' d' n' ≡ false → c' + d ≤ c + d' → c ≤ c' → n' ≤ n
 not_worse_number c d n c' d' n' h k l = grind (arith, nat_tests)
 
-behind_if : (c d n c' d' n' : ℕ) → worse c d n c' d' n' ≡ false → Behind c d n c' d' n'
-behind_if c d n c' d' n' h = record {
+after_if : (c d n c' d' n' : ℕ) → worse c d n c' d' n' ≡ false → Beyond c d n c' d' n'
+after_if c d n c' d' n' h = record {
   late = not_worse_late c d n c' d' n' h;
   ended = not_worse_ended c d n c' d' n' h;
   number =
@@ -53,7 +53,7 @@ turned_ended c d n c' d' n' h k = grind (arith, nat_tests)
 turned_number : (c d n c' d' n' : ℕ) → worse c d n c' d' n' ≡ true → c + d' ≤ c' + d → c' ≤ c → n ≤ n'
 turned_number c d n c' d' n' h k l = grind (arith, nat_tests)
 
-turned : (c d n c' d' n' : ℕ) → worse c d n c' d' n' ≡ true → Behind c' d' n' c d n
+turned : (c d n c' d' n' : ℕ) → worse c d n c' d' n' ≡ true → Beyond c' d' n' c d n
 turned c d n c' d' n' h = record {
   late = turned_late c d n c' d' n' h;
   ended = turned_ended c d n c' d' n' h;
@@ -61,7 +61,7 @@ turned c d n c' d' n' h = record {
       c' d' n' h;
 }
 
-through : (c d n c' d' n' c'' d'' n'' : ℕ) → Behind c d n c' d' n' → Behind c' d' n' c'' d'' n'' → Behind c d n c'' d'' n''
+through : (c d n c' d' n' c'' d'' n'' : ℕ) → Beyond c d n c' d' n' → Beyond c' d' n' c'' d'' n'' → Beyond c d n c'' d'' n''
 through c d n c' d' n' c'' d'' n'' h k = record {
   late = omega (arith, h.late, k.late);
   ended = λ e. omega (arith, h.ended (omega (arith, e, h.late, k.late)), k.ended (omega (arith, e, h.late, k.late)));
@@ -74,7 +74,7 @@ through c d n c' d' n' c'' d'' n'' h k = record {
 -- Jobs of a log
 
 abbrev NoWorse : Log → Job → Job → Type 0
-NoWorse log i j = Behind (completion i.number log) i.due i.number (completion j.number log) j.due j.number
+NoWorse log i j = Beyond (completion i.number log) i.due i.number (completion j.number log) j.due j.number
 
 abbrev worst_of_two : Log → Job → Job → Job
 worst_of_two log best j = cond (is_worse log j best) j best
@@ -91,7 +91,7 @@ of_two log best j true e = (
 )
 of_two log best j false e = (
   itself log best,
-  behind_if (completion j.number log) j.due j.number (completion best.number log) best.due
+  after_if (completion j.number log) j.due j.number (completion best.number log) best.due
       best.number e,
 )
 

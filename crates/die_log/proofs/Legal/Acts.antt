@@ -18,7 +18,7 @@ use Rattle.die_log.specs.Model.Work.{is_done, least}
 use Rattle.plan_rules.specs.Accounts.{Accounts, given_of}
 use Rattle.plan_rules.specs.Accounts as moves
 use Rattle.die_log.specs.Model.Answers.{Choice, is_running, is_waivable, without, head_or_waiver, choice_by_head, choice_among, act_for, act_of_op}
-use Rattle.die_log.specs.Results.Legal.{Does, IsNextOperation, IsCollectAct, IsNextCollectAct, MayErase, changed_since, is_among, TellsContent}
+use Rattle.die_log.specs.Results.Legal.{Does, IsNextOperation, IsCollectAct, IsNextCollectAct, MayErase, changed_since, is_among, SaysContent}
 use Rattle.die_log.specs.Results.Legal.{FindsFree, IsLegalAct}
 use Rattle.die_log.specs.Invariants.SoundCells.{MayDo, MayEraseSlot}
 use Rattle.die_log.specs.Invariants.RunningCollections.{RunsOnBlock, KeepsJobsAndCells}
@@ -31,13 +31,13 @@ use Rattle.die_log.specs.Model.Start.{Start}
 -- Operations
 
 does_op : (start : Start) (past : Log) (o : Option Op) (act : Act) → act_of_op start past o ≡ Some act → MatchOption o ⊥ (λ op. Does op act)
-    × TellsContent start past act
+    × SaysContent start past act
 does_op start past None act e = absurd cc
-does_op start past (Some (asks.Read page)) act e = subst (λ (x : Act). Does (asks.Read page) x × TellsContent start past x)
+does_op start past (Some (asks.Read page)) act e = subst (λ (x : Act). Does (asks.Read page) x × SaysContent start past x)
     (same_Some _ act e) (refl, refl)
-does_op start past (Some (asks.Write page bytes)) act e = subst (λ (x : Act). Does (asks.Write page bytes) x × TellsContent start past x)
+does_op start past (Some (asks.Write page bytes)) act e = subst (λ (x : Act). Does (asks.Write page bytes) x × SaysContent start past x)
     (same_Some _ act e) ((refl, refl), tt)
-does_op start past (Some (asks.Trim page)) act e = subst (λ (x : Act). Does (asks.Trim page) x × TellsContent start past x)
+does_op start past (Some (asks.Trim page)) act e = subst (λ (x : Act). Does (asks.Trim page) x × SaysContent start past x)
     (same_Some _ act e) (refl, tt)
 
 -- Collections
@@ -75,7 +75,7 @@ erase_may start past j b block s k may = record {
 
 pub may_legal : (start : Start) (past : Log) (j : Job) (b : ℕ) (act : Act) → KeepsJobsAndCells start past → IsBegun start past j b
     → MayDo start.plan (cells start past) (acts j.number past) (λ p. changed_since j.number p past) b act
-    → IsCollectAct start past j.number b act × TellsContent start past act
+    → IsCollectAct start past j.number b act × SaysContent start past act
 may_legal start past j b (does.Read page bytes) s k may = absurd may
 may_legal start past j b (does.Write page bytes) s k may = absurd may
 may_legal start past j b (does.Trim page) s k may = absurd may
@@ -152,7 +152,7 @@ head_legal start past ws j act more s w unwaived e finds = record {
   unwaived = list_any-append (λ x. x.number == j.number) (waived_collections past) ws
       ∙ or_from (is_waived past j.number) (is_among j.number ws) (not-true (is_waived past j.number) (and_parts _ _ w.1).1) unwaived;
   next = (by_kind j.collects refl).0;
-  tells = (by_kind j.collects refl).1;
+  says = (by_kind j.collects refl).1;
   finds = finds;
 }
   where
@@ -160,7 +160,7 @@ head_legal start past ws j act more s w unwaived e finds = record {
     undone = waiting_undone start.plan past j w.1
 
     by_kind : (t : Bool) → j.collects ≡ t → MatchBool t (IsNextCollectAct start past j.number act) (IsNextOperation past j act)
-        × TellsContent start past act
+        × SaysContent start past act
     by_kind false kind = does_op start past (slice_get j.ops (work j.number past)) act (job_act start past j act kind e)
     by_kind true kind =
         let m = collection_may start past j act more s.collects w.0 kind undone e in

@@ -25,17 +25,17 @@ use Rattle.die_log.proofs.Life.Starting.{plan_same, ended_opens}
 
 -- A run's log has its events
 
-told_with : (past : Log) (caller : ℕ) (event : Event) (r : Reply) → IsAccepted r → events_of_log (with_answer caller event r past) ≡ events_of_log past ++ event ∷ []
-told_with past caller event (replies.Taken number) h = refl
-told_with past caller event (replies.Slot s) h = refl
-told_with past caller event (replies.Refused refusal) h = absurd h
+reported_with : (past : Log) (caller : ℕ) (event : Event) (r : Reply) → IsAccepted r → events_of_log (with_answer caller event r past) ≡ events_of_log past ++ event ∷ []
+reported_with past caller event (replies.Taken number) h = refl
+reported_with past caller event (replies.Slot s) h = refl
+reported_with past caller event (replies.Refused refusal) h = absurd h
 
-run_told : (start : Start) (past : Log) (calls : Calls) → AreAccepted start past calls
+run_reported : (start : Start) (past : Log) (calls : Calls) → AreAccepted start past calls
     → events_of_log (run start past calls) ≡ events_of_log past ++ events_of_calls calls
-run_told start past [] h = sym (append-nil (events_of_log past))
-run_told start past (call ∷ calls) h =
-    run_told start (after_call start past call) calls h.1
-    ∙ (ap (λ l. l ++ events_of_calls calls) (told_with past call.0 call.1 (answer start past call.1) h.0)
+run_reported start past [] h = sym (append-nil (events_of_log past))
+run_reported start past (call ∷ calls) h =
+    run_reported start (after_call start past call) calls h.1
+    ∙ (ap (λ l. l ++ events_of_calls calls) (reported_with past call.0 call.1 (answer start past call.1) h.0)
     ∙ append_assoc (events_of_log past) (call.1 ∷ []) (events_of_calls calls))
 
 -- One log
@@ -66,7 +66,7 @@ module _ (start : Start) (times : Times) (bound : IsOpening start) (passes : Pas
   pub renews : EndPeriods start.plan times (events_of_calls calls)
       → IsQuiet start (run start [] calls) × AreStocked (renewed_start start (run start [] calls)) times
   renews ends =
-      let same : events_of_log (run start [] calls) ≡ events_of_calls calls = run_told start [] calls served.accepted in
+      let same : events_of_log (run start [] calls) ≡ events_of_calls calls = run_reported start [] calls served.accepted in
       let kept : KeepsPlan start.plan times (events_of_log (run start [] calls) ++ []) =
       subst (KeepsPlan start.plan times) (sym (append-nil (events_of_log (run start [] calls)) ∙ same)) keeps in
       goes_on start times bound passes stocked (run start [] calls) [] exact_run kept

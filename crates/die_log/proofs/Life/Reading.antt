@@ -170,4 +170,4 @@ reads_as_left first opens lives h log earlier has s past number page bytes slot 
       ap (λ (p : DiePlan). p.logical) (plan_same first earlier),
       opens.pages,
     ) in
-    legal.1.tells ∙ starts_as_left first (past ∷ earlier) page within
+    legal.1.says ∙ starts_as_left first (past ∷ earlier) page within

@@ -27,14 +27,14 @@ record IsLife (first : Start) (log : Log) (earlier : Lives) : Type 0 where
   pub ended : HaveEnded first earlier
   pub exact : IsExact (start_after first earlier) log
 
-life_behind : (first : Start) (later : Lives) (log : Log) (earlier : Lives) → AreLives first (later ++ log ∷ earlier)
+life_after : (first : Start) (later : Lives) (log : Log) (earlier : Lives) → AreLives first (later ++ log ∷ earlier)
     → IsLife first log earlier
-life_behind first [] log earlier h = record { ended = h.0; exact = h.1 }
-life_behind first (l ∷ later) log earlier h = life_behind first later log earlier (ended_live first (later ++ log ∷ earlier) h.0)
+life_after first [] log earlier h = record { ended = h.0; exact = h.1 }
+life_after first (l ∷ later) log earlier h = life_after first later log earlier (ended_live first (later ++ log ∷ earlier) h.0)
 
 life_is : (first : Start) (lives : Lives) (log : Log) (earlier : Lives) → AreLives first lives → HasLife lives log earlier
     → IsLife first log earlier
-life_is first lives log earlier h has = life_behind first has.0 log earlier (subst (AreLives first) has.1 h)
+life_is first lives log earlier h has = life_after first has.0 log earlier (subst (AreLives first) has.1 h)
 
 pub life_opens : (first : Start) → IsOpening first → (lives : Lives) (log : Log) (earlier : Lives) → AreLives first lives
     → HasLife lives log earlier → IsOpening (start_after first earlier)

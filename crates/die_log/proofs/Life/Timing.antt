@@ -124,20 +124,20 @@ known_later : (numbers slots : ℕ) (o : Option JobRow) → is_some (option_map 
 known_later numbers slots None = refl
 known_later numbers slots (Some row) = refl
 
-rows_behind : (first : Start) → IsOpening first → (later : Lives) (log : Log) (earlier : Lives) → AreLives first (later ++ log ∷ earlier)
+rows_after : (first : Start) → IsOpening first → (later : Lives) (log : Log) (earlier : Lives) → AreLives first (later ++ log ∷ earlier)
     → (j : ℕ) → is_known (rows first.plan log) j ≡ true
     → row_of (rows_of_all first.plan (later ++ log ∷ earlier)) (all_jobs earlier + j)
     ≡ option_map (row_after (all_jobs earlier) (all_slots earlier)) (row_of (rows first.plan log) j)
-rows_behind first opens [] log earlier h j known =
+rows_after first opens [] log earlier h j known =
     joined-later (rows_of_all first.plan earlier) (rows first.plan log) (all_jobs earlier) (all_slots earlier) j
     (ended_keys first opens earlier h.0).1
-rows_behind first opens (l ∷ later) log earlier h j known =
+rows_after first opens (l ∷ later) log earlier h j known =
     let lives : Lives = later ++ log ∷ earlier in
-    let behind = rows_behind first opens later log earlier (ended_live first lives h.0) j known in
+    let beyond = rows_after first opens later log earlier (ended_live first lives h.0) j known in
     let stands : is_known (rows_of_all first.plan lives) (all_jobs earlier + j) ≡ true =
-    ap is_some behind ∙ (known_later (all_jobs earlier) (all_slots earlier) (row_of (rows first.plan log) j) ∙ known) in
+    ap is_some beyond ∙ (known_later (all_jobs earlier) (all_slots earlier) (row_of (rows first.plan log) j) ∙ known) in
     joined-first (rows_of_all first.plan lives) (rows first.plan l) (all_jobs lives) (all_slots lives) (all_jobs earlier + j) stands
-    ∙ behind
+    ∙ beyond
 
 pub life_rows : (first : Start) → IsOpening first → (lives : Lives) → AreLives first lives → (log : Log) (earlier : Lives)
     → HasLife lives log earlier → (j : ℕ) → is_known (rows first.plan log) j ≡ true
@@ -146,4 +146,4 @@ pub life_rows : (first : Start) → IsOpening first → (lives : Lives) → AreL
 life_rows first opens lives h log earlier has j known =
     subst (λ l. row_of (rows_of_all first.plan l) (all_jobs earlier + j)
     ≡ option_map (row_after (all_jobs earlier) (all_slots earlier)) (row_of (rows first.plan log) j)) (sym has.1)
-    (rows_behind first opens has.0 log earlier (subst (AreLives first) has.1 h) j known)
+    (rows_after first opens has.0 log earlier (subst (AreLives first) has.1 h) j known)

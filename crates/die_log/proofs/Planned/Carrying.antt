@@ -40,21 +40,21 @@ filled p (o ∷ f) (suc start) (suc end) le pass =
     )
 
 -- a slot at the end or after it is not counted below the end
-pub one_behind : (n : ℕ) (f : Slots) (end t : ℕ) → end ≤ t → slot_at f t ≡ Some n → work_in (take end f) n < work_in f n
-one_behind n [] end t le e = absurd (none-some n e)
-one_behind n (o ∷ f) zero zero le e = omega (
+pub one_after : (n : ℕ) (f : Slots) (end t : ℕ) → end ≤ t → slot_at f t ≡ Some n → work_in (take end f) n < work_in f n
+one_after n [] end t le e = absurd (none-some n e)
+one_after n (o ∷ f) zero zero le e = omega (
   arith,
   count_cons (is_named n) o f,
   one_by (is_named n o) (ap (is_named n) e
       ∙ eq-eqb n n refl),
 )
-one_behind n (o ∷ f) zero (suc t) le e = omega (arith, count_cons (is_named n) o f, one_behind n f zero t (omega arith) e)
-one_behind n (o ∷ f) (suc end) zero le e = absurd (omega (arith, le))
-one_behind n (o ∷ f) (suc end) (suc t) le e = omega (
+one_after n (o ∷ f) zero (suc t) le e = omega (arith, count_cons (is_named n) o f, one_after n f zero t (omega arith) e)
+one_after n (o ∷ f) (suc end) zero le e = absurd (omega (arith, le))
+one_after n (o ∷ f) (suc end) (suc t) le e = omega (
   arith,
   count_cons (is_named n) o f,
   count_cons (is_named n) o (take end f),
-  one_behind
+  one_after
       n f end t (omega (arith, le)) e,
 )
 

@@ -126,9 +126,9 @@ module _ (test : TaskArrival → Bool) (chosen : Job → Bool) (same_test : (a :
   apart_of (a ∷ came) (j ∷ js) (inr skipped) h = apart_of came (j ∷ js) skipped h.1
   apart_of (a ∷ came) (j ∷ js) (inl same) h = (first, apart_of came js same.1 h.1)
     where
-      behind : (test a ≡ true) → (b : TaskArrival) (i : Job) → IsOf b i → (test b ≡ true → a.release + period ≤ b.release) → chosen i ≡ true
+      beyond : (test a ≡ true) → (b : TaskArrival) (i : Job) → IsOf b i → (test b ≡ true → a.release + period ≤ b.release) → chosen i ≡ true
           → j.release + period ≤ i.release
-      behind mine b i of later is = omega (arith, later (same_test b i of is), of.release, same.0.release)
+      beyond mine b i of later is = omega (arith, later (same_test b i of is), of.release, same.0.release)
 
       first : chosen j ≡ true → (j.due ≡ j.release + period) × AllByRecursion (λ i. chosen i ≡ true → j.release + period ≤ i.release) js
       first is =
@@ -136,7 +136,7 @@ module _ (test : TaskArrival → Bool) (chosen : Job → Bool) (same_test : (a :
           let k = h.0 mine in (
             omega (arith, k.0, same.0.release, same.0.due),
             all_of (λ b. test b ≡ true → a.release + period ≤ b.release) (λ i. chosen i ≡ true → j.release + period ≤ i.release)
-                (behind mine) came js same.1 k.1,
+                (beyond mine) came js same.1 k.1,
           )
 
 -- Jobs by task

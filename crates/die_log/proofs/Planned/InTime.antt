@@ -23,8 +23,8 @@ use Rattle.late_cert.specs.BusyInterval.{is_within, IsBusyInterval, CarriesLeast
 use Rattle.late_cert.proofs.Counting.{slot-at-end}
 use Rattle.late_cert.proofs.Binds.{end-le-length}
 use Rattle.late_cert.proofs.Keys.{within-true, named-some}
-use Rattle.late_cert.proofs.Window.{stretch-is}
-use Rattle.late_cert.proofs.Least.{stretch-carries}
+use Rattle.late_cert.proofs.Window.{busy_interval-is}
+use Rattle.late_cert.proofs.Least.{busy_interval-carries}
 use Rattle.die_log.specs.Model.Log.{Log, Job, jobs, carried_slots, now, acts, work, is_waived}
 use Rattle.die_log.specs.Model.Work.{is_erase, are_all, is_done, completion}
 use Rattle.die_log.specs.Model.Answers.{IsExact}
@@ -39,7 +39,7 @@ use Rattle.die_log.proofs.Least.Certificates.{row_stands, done_unwaived}
 use Rattle.die_log.proofs.Bounds.Exact.{are_bounded, bounded_work}
 use Rattle.die_log.proofs.Planned.Entered.{IsSpaced, IsAsked, spaced, spaced_before}
 use Rattle.die_log.proofs.Planned.Asked.{most_of, is_in_window, asked_in, asked_fits}
-use Rattle.die_log.proofs.Planned.Carrying.{filled, one_behind, carries_one, count_carried, sum_by_less, work_carried}
+use Rattle.die_log.proofs.Planned.Carrying.{filled, one_after, carries_one, count_carried, sum_by_less, work_carried}
 use Rattle.die_log.specs.Model.Start.{Start}
 use Rattle.die_log.specs.Model.Opening.{IsOpening}
 
@@ -134,7 +134,7 @@ record IsLate (start : Start) (log : Log) (j : Job) : Type 0 where
   stands : Contains (jobs log) j
   unwaived : is_waived log j.number ≡ false
   due_by_now : j.due ≤ now log
-  behind : is_done start.plan log j ≡ true → j.due < completion j.number log
+  beyond : is_done start.plan log j ≡ true → j.due < completion j.number log
 
 module _ (start : Start) (times : Times) (log : Log) (bound : IsOpening start) (exact : IsExact start log) (j : Job)
     (late : IsLate start log j) where
@@ -164,8 +164,8 @@ module _ (start : Start) (times : Times) (log : Log) (bound : IsOpening start) (
   abbrev since : ℕ
   since = start_of (rows start.plan log) (carried_numbers log) j.number j.due
 
-  stretch : IsBusyInterval (rows start.plan log) (carried_numbers log) j.number since j.due (jobs_of (rows start.plan log) (carried_numbers log) since j.due)
-  stretch = stretch-is (rows start.plan log) (carried_numbers log) j.number j.due keys.rising
+  busy_interval : IsBusyInterval (rows start.plan log) (carried_numbers log) j.number since j.due (jobs_of (rows start.plan log) (carried_numbers log) since j.due)
+  busy_interval = busy_interval-is (rows start.plan log) (carried_numbers log) j.number j.due keys.rising
 
   -- from the release on the job itself waited
   from_release : since ≤ j.release
@@ -173,21 +173,21 @@ module _ (start : Start) (times : Times) (log : Log) (bound : IsOpening start) (
     | inl after ↦ (
         let before : ℕ = since - 1 in
         let is : since ≡ suc before = omega (arith, after) in
-        let ordered : since ≤ j.due = stretch.ordered in
+        let ordered : since ≤ j.due = busy_interval.ordered in
         let waits : is_within (rows start.plan log) j.number (slot_at (carried_numbers log) before) ≡ true =
         keys.least before j.number (omega (arith, is, ordered, long_enough)) (ap is_some row) (omega (arith, release_is, after, is))
         (λ done. (let done_then : is_done start.plan log j ≡ true = sym done_is
-        ∙ done in omega (arith, completion_is done_then, late.behind done_then, is, ordered))) in
-        absurd (both_ways (is_within (rows start.plan log) j.number (slot_at (carried_numbers log) before)) (stretch.least before is) waits))
+        ∙ done in omega (arith, completion_is done_then, late.beyond done_then, is, ordered))) in
+        absurd (both_ways (is_within (rows start.plan log) j.number (slot_at (carried_numbers log) before)) (busy_interval.least before is) waits))
     | inr not_after ↦ not_after
   ]
 
   -- each slot of the busy interval carried what was released in it and is due by then
   each_slot : (t : ℕ) → since ≤ t → t < j.due → carries_one (is_in_window since j.due) (jobs log) (slot_at (carried_numbers log) t) ≡ true
   each_slot t from below =
-      let w = within-true (rows start.plan log) j.number (slot_at (carried_numbers log) t) (stretch.carries t from below) in
-      let inside = stretch-carries (rows start.plan log) (carried_numbers log) keys j.number since j.due
-      (jobs_of (rows start.plan log) (carried_numbers log) since j.due) stretch t w.number from below w.carries in
+      let w = within-true (rows start.plan log) j.number (slot_at (carried_numbers log) t) (busy_interval.carries t from below) in
+      let inside = busy_interval-carries (rows start.plan log) (carried_numbers log) keys j.number since j.due
+      (jobs_of (rows start.plan log) (carried_numbers log) since j.due) busy_interval t w.number from below w.carries in
       let i = job_of_row start log w.number bound exact w.known in
       let released : since ≤ i.job.release = omega (arith, inside.0, ap (number_in (λ r. r.release)) i.row) in
       let due_by : i.job.due ≤ j.due = omega (arith, inside.1, ap (number_in (λ r. r.due)) i.row, due_is) in
@@ -211,11 +211,11 @@ module _ (start : Start) (times : Times) (log : Log) (bound : IsOpening start) (
           let ends : completion_in (carried_numbers log) j.number
           ≡ completion j.number log = omega (arith, keys.completes j.number (done_is ∙ done), completion_is done) in
           let last : ℕ = completion_in (carried_numbers log) j.number - 1 in
-          let is : completion_in (carried_numbers log) j.number ≡ suc last = omega (arith, ends, late.behind done) in
+          let is : completion_in (carried_numbers log) j.number ≡ suc last = omega (arith, ends, late.beyond done) in
           let carries = named-some j.number (slot_at (carried_numbers log) last)
           (slot-at-end (is_named j.number) (carried_numbers log) last is) in
-          let fewer : had j < work_in (carried_numbers log) j.number = one_behind j.number (carried_numbers log) j.due last
-          (omega (arith, is, ends, late.behind done)) carries in
+          let fewer : had j < work_in (carried_numbers log) j.number = one_after j.number (carried_numbers log) j.due last
+          (omega (arith, is, ends, late.beyond done)) carries in
           omega (arith, fewer, work_carried j.number log, few_slots start times log bound exact spacing j late.stands))
       | inr undone ↦ omega (arith, had_within j, fewer_slots start times log bound exact spacing j late.stands undone)
     ]
@@ -241,7 +241,7 @@ module _ (start : Start) (times : Times) (log : Log) (bound : IsOpening start) (
     too_much passes =
         let full = filled (carries_one (is_in_window since j.due) (jobs log)) (carried_numbers log) since j.due long_enough each_slot in
         let counted = count_carried (is_in_window since j.due) (jobs log) (take j.due (carried_numbers log)) in
-        let ordered : since ≤ j.due = stretch.ordered in
+        let ordered : since ≤ j.due = busy_interval.ordered in
         let own : cond (is_in_window since j.due j) (had j) 0
         < asked_in start.plan times since j.due j = if_own (is_in_window since j.due j) (had j) (most_of start.plan times j) own_window missed in
         let less = sum_by_less (λ i. cond (is_in_window since j.due i) (had i) 0) (asked_in start.plan times since j.due) (jobs log) j late.stands
@@ -287,7 +287,7 @@ in_time start times log bound exact passes spacing = record {
     | inr unwaived ↦ elim (cases_Bool (is_done start.plan log j)) [
       | inl done ↦ inl done
       | inr undone ↦ absurd (none_late start times log bound exact passes spacing j
-          (record { stands = stands; unwaived = unwaived; due_by_now = due; behind = λ done. absurd (true≢false (sym done ∙ undone)) }))
+          (record { stands = stands; unwaived = unwaived; due_by_now = due; beyond = λ done. absurd (true≢false (sym done ∙ undone)) }))
     ]
   ];
   never_late = λ j stands done. not_late (completion j.number log) j.due (elim (cases_lt j.due (completion j.number log)) [
@@ -296,7 +296,7 @@ in_time start times log bound exact passes spacing = record {
           stands = stands;
           unwaived = done_unwaived start log j bound exact stands done;
           due_by_now = omega (arith, late, ended_by_now start log j bound exact stands done);
-          behind = λ same. late;
+          beyond = λ same. late;
         }))
     | inr soon ↦ omega (arith, soon)
   ]);

@@ -95,9 +95,9 @@ entered_append [] ys a b c h k = subst (λ l. AreEntered ys l c) h k
 entered_append (x ∷ xs) ys a b c h k = (h.0, h.1, entered_append xs ys h.0 b c h.2 k)
 
 -- a log's own events leave it
-entered_told : (log : Log) → AreEntered (events_of_log log) [] log
-entered_told [] = refl
-entered_told (e ∷ past) = entered_append (events_of_log past) (e.event ∷ []) [] past (e ∷ past) (entered_told past) (
+entered_reported : (log : Log) → AreEntered (events_of_log log) [] log
+entered_reported [] = refl
+entered_reported (e ∷ past) = entered_append (events_of_log past) (e.event ∷ []) [] past (e ∷ past) (entered_reported past) (
   e
       ∷ past,
   inl (e.caller, e.reply, refl),
@@ -111,4 +111,4 @@ never_late start times bound passes moment exact rest keeps =
     let f = follows start times moment exact rest keeps in
     let r = runs_on start moment rest exact (omega (arith, keeps.few_slots, slots_append (events_of_log moment) rest, f.clock)) in
     planned_in_time start times bound passes (events_of_log moment ++ rest) keeps r.later moment (subst (IsExact start) r.is r.exact)
-    (subst (AreEntered (events_of_log moment ++ rest) []) r.is (entered_append (events_of_log moment) rest [] moment r.log (entered_told moment) r.entered))
+    (subst (AreEntered (events_of_log moment ++ rest) []) r.is (entered_append (events_of_log moment) rest [] moment r.log (entered_reported moment) r.entered))

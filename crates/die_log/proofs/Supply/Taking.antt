@@ -93,7 +93,7 @@ pub submit_supplied : (start : Start) (p q w : ℕ) (past : Log) (caller task re
     → writes ops ≤ w → hold_of start past task ≡ 0 → AreDueBy (jobs past) task (now past) → due ≡ now past + p
     → IsSupplied start p q w past task → IsSupplied start p q w
     (entry caller (events.Submit task release due ops) (reply_if_accepted start past (events.Submit task release due ops)) ∷ past) task
-submit_supplied start p q w past caller task release due ops h within has few none dues due_is s =
+submit_supplied start p q w past caller task release due ops h within has few none deadlines due_is s =
     let log : Log = entry caller (events.Submit task release due ops) (reply_if_accepted start past (events.Submit task release due ops)) ∷ past in
     let a : Accounts = accounts start past in
     let b : task < length a.balances = omega (arith, h.agree.balances_len, within) in
@@ -112,7 +112,7 @@ submit_supplied start p q w past caller task release due ops h within has few no
           (sym (same_pending start past caller task release due ops task))
           (taken p w (w * q) (slice_index start.plan.caps task) (balance_of start past task) (balance_of start log task) (writes ops)
           (collections_of (jobs past) task) (now past) next (pending_at start.plan past task)
-          (s.covered (now past) (omega arith) dues)
+          (s.covered (now past) (omega arith) deadlines)
           (omega (arith, taken_at a.balances task (writes ops) task b has, itself)) few (omega (arith, later, due_is))));
     }
 

@@ -6,7 +6,7 @@ use Rattle.die_log.specs.Model.Rows.{rows, certificate}
 use Rattle.die_log.proofs.Worked.Plans.{roomy, tight, slot}
 use Rattle.die_log.proofs.Worked.ReadSeesTheWrite as read_after_write
 use Rattle.die_log.proofs.Worked.EarlierDuePreempts as preempts
-use Rattle.die_log.proofs.Worked.EqualDues.{four, five}
+use Rattle.die_log.proofs.Worked.EqualDeadlines.{four, five}
 use Rattle.die_log.proofs.Worked.TwoJobsOneDue as one_due
 use Rattle.die_log.proofs.Worked.FillingHistory.{full}
 

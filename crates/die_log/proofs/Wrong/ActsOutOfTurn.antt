@@ -38,9 +38,9 @@ done_stands : job_at over 0 ≡ Some done
 unfolding answer
 done_stands = refl
 
-behind_its_end : IsLegal roomy (ran 1 0 (does.Read 0 blank_page) ∷ over) → ⊥
+after_its_end : IsLegal roomy (ran 1 0 (does.Read 0 blank_page) ∷ over) → ⊥
 unfolding answer
-behind_its_end h = cc ((act_of_job roomy over 1 0 (does.Read 0 blank_page) done done_stands h).undone)
+after_its_end h = cc ((act_of_job roomy over 1 0 (does.Read 0 blank_page) done done_stands h).undone)
 
 abbrev two : Log
 two = run roomy [] (submit 0 5 (Write 3 (bytes 17) ∷ Read 3 ∷ []) ∷ [])

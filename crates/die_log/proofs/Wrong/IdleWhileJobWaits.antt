@@ -38,7 +38,7 @@ read_legal = (
           undone = refl;
           unwaived = refl;
           next = refl;
-          tells = refl;
+          says = refl;
           finds =
               tt;
         },

@@ -7,12 +7,12 @@ use Rattle.die_log.specs.Results.Legal.{IsLegal}
 use Rattle.die_log.proofs.Worked.Plans.{roomy, slot}
 use Rattle.die_log.proofs.Wrong.Entries.{taken}
 
-abbrev behind : Log
-behind = run roomy [] (slot ∷ [])
+abbrev beyond : Log
+beyond = run roomy [] (slot ∷ [])
 
-not_legal : IsLegal roomy (taken 0 5 (Read 0 ∷ []) 0 ∷ behind) → ⊥
+not_legal : IsLegal roomy (taken 0 5 (Read 0 ∷ []) 0 ∷ beyond) → ⊥
 unfolding answer
 not_legal h = absurd (omega (arith, h.1.in_time.0))
 
-due_with_its_release : IsLegal roomy (taken 5 5 (Read 0 ∷ []) 0 ∷ behind) → ⊥
+due_with_its_release : IsLegal roomy (taken 5 5 (Read 0 ∷ []) 0 ∷ beyond) → ⊥
 due_with_its_release h = absurd (omega (arith, h.1.in_time.1))

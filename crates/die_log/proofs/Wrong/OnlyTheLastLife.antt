@@ -16,8 +16,8 @@ use Rattle.die_log.proofs.Wrong.StaleBytesRead.{first_byte}
 
 abbrev OfTheLastAlone : Type 0
 OfTheLastAlone = (first : Start) → IsOpening first → (lives : Lives) → AreLives first lives → (log : Log) (earlier : Lives)
-    → HasLife lives log earlier → (s : SlotReply) (past : Log) (number page : ℕ) (told : PageData) → HasSlot log s past
-    → s.ran ≡ Some (number, does.Read page told) → told ≡ last_content first (past ∷ []) page
+    → HasLife lives log earlier → (s : SlotReply) (past : Log) (number page : ℕ) (said : PageData) → HasSlot log s past
+    → s.ran ≡ Some (number, does.Read page said) → said ≡ last_content first (past ∷ []) page
 
 -- the slot of the read
 abbrev reply : SlotReply

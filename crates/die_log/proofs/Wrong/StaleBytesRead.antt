@@ -22,7 +22,7 @@ last_written = refl
 
 -- the bytes of the write before the last one, and those of a page without a write
 not_legal : IsLegal roomy (ran 2 1 (does.Read 3 (bytes 17)) ∷ rewritten) → ⊥
-not_legal h = absurd (omega (arith, ap first_byte h.1.slot.1.1.tells ∙ last_written))
+not_legal h = absurd (omega (arith, ap first_byte h.1.slot.1.1.says ∙ last_written))
 
 not_blank : IsLegal roomy (ran 2 1 (does.Read 3 blank_page) ∷ rewritten) → ⊥
-not_blank h = absurd (omega (arith, ap first_byte h.1.slot.1.1.tells ∙ last_written))
+not_blank h = absurd (omega (arith, ap first_byte h.1.slot.1.1.says ∙ last_written))

@@ -38,4 +38,4 @@ unfolding answer
 is_blank = refl
 
 not_legal : IsLegal (renewed_start roomy trimmed) (ran 0 0 (does.Read 3 (bytes 17)) ∷ asked) → ⊥
-not_legal h = absurd (omega (arith, ap first_byte h.1.slot.1.1.tells ∙ is_blank))
+not_legal h = absurd (omega (arith, ap first_byte h.1.slot.1.1.says ∙ is_blank))

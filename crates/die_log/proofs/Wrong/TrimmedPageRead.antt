@@ -19,4 +19,4 @@ unfolding answer
 is_blank = refl
 
 not_legal : IsLegal roomy (ran 2 2 (does.Read 3 (bytes 17)) ∷ asked) → ⊥
-not_legal h = absurd (omega (arith, ap first_byte h.1.slot.1.1.tells ∙ is_blank))
+not_legal h = absurd (omega (arith, ap first_byte h.1.slot.1.1.says ∙ is_blank))

@@ -126,9 +126,9 @@ AreWaivers plan past earlier a (w ∷ ws) =
 -- Slots
 
 -- a read gives the page's content
-abbrev pub TellsContent : Start → Log → Act → Type 0
-TellsContent start past (does.Read page bytes) = bytes ≡ content start past page
-TellsContent start past _ = Unit {0}
+abbrev pub SaysContent : Start → Log → Act → Type 0
+SaysContent start past (does.Read page bytes) = bytes ≡ content start past page
+SaysContent start past _ = Unit {0}
 
 -- a program finds a free page
 abbrev pub FindsFree : Start → Log → Act → Type 0
@@ -143,7 +143,7 @@ pub record IsLegalAct (start : Start) (past : Log) (waived_by_now : List Waived)
   pub undone : IsFalse (is_done start.plan past j)
   pub unwaived : IsFalse (is_among number waived_by_now)
   pub next : MatchBool j.collects (IsNextCollectAct start past number act) (IsNextOperation past j act)
-  pub tells : TellsContent start past act
+  pub says : SaysContent start past act
   pub finds : FindsFree start past act
 
 -- nothing waits that was accepted before the slot, is released, not done and not waived

@@ -1,6 +1,6 @@
 use Rattle.std.proofs.Common.{rules, ◌≡◌, true, false, sym}
 use Rattle.csv.specs.Records.{fields_of}
-use Rattle.checkpoint_texts.proofs.ReadingLaws.{fits-behind, header-fault, header-none, header-read}
+use Rattle.checkpoint_texts.proofs.ReadingLaws.{fits-beyond, header-fault, header-none, header-read}
 use Rattle.checkpoint_texts.proofs.reading.take_store.Goals as goal
 
 pub returns-then-not-branch-clause-store : goal.returns-then-not-branch-clause-store
@@ -22,4 +22,4 @@ returns-clause-store g c =
 pub returns-clause-fits : goal.returns-clause-fits
 returns-clause-fits g c =
     let found : c.in_ok-next.field-0 ≡ true = search rules in
-    fits-behind _ _ _ (rw found at c.in_ok-next.ensures.fits) c.take_dies.ensures.fits
+    fits-beyond _ _ _ (rw found at c.in_ok-next.ensures.fits) c.take_dies.ensures.fits

@@ -1,4 +1,4 @@
-use Rattle.late_cert.proofs.OneStretch.{certificate-is-some}
+use Rattle.late_cert.proofs.OneBusyInterval.{certificate-is-some}
 use Rattle.die_log.specs.Model.Lives.{rows_of_all, numbers_of_all}
 use Rattle.die_log.proofs.Life.Timing.{lives_keys, lives_least, moments_least, life_rows}
 use Rattle.die_log.proofs.lives.lives_are_least_late.Goals as goal

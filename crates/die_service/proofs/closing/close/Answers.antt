@@ -3,8 +3,8 @@ use Rattle.std.proofs.lemmas.Grind.{common_steps}
 use Rattle.std.proofs.lemmas.List.Elements.{All-from_recursion, recursion_from_All}
 use Rattle.std.specs.List.{AllZip}
 use Rattle.slot_core.specs.Core.{Core}
-use Rattle.die_service.specs.Stores.{DiePass, AreTold, HasLogOf}
-use Rattle.die_service.proofs.LastPasses.{told_length, told_locks, told_sole, sole_none_out, written, closed_each, none_stopped}
+use Rattle.die_service.specs.Stores.{DiePass, AreReported, HasLogOf}
+use Rattle.die_service.proofs.LastPasses.{reported_length, reported_locks, reported_sole, sole_none_out, written, closed_each, none_stopped}
 use Rattle.die_service.proofs.closing.close.Goals as goal
 
 pub close_each-requires-clause-own : goal.close_each-requires-clause-own
@@ -12,30 +12,30 @@ close_each-requires-clause-own g c =
     let ps = c.args.passes.items in
     let qs = c.first_out-out.new.passes in
     let zero : c.first_out-out.result ≡ 0 = omega (arith, c.if-out-gt0.false) in
-    let told : AreTold ps 0 qs = subst (λ (n : ℕ). AreTold ps n qs) zero
-    (subst (λ (xs : List DiePass). AreTold xs c.first_out-out.result qs) c.as_mut_slice.ensures.value c.first_out-out.ensures.told) in
-    let whole = written c.args.passes.len ps qs (told_length ps 0 qs told) (search rules) in
-    rw whole (told_locks ps 0 qs told ∙ (c.requires.own ∙ sym c.store.view_is))
+    let said : AreReported ps 0 qs = subst (λ (n : ℕ). AreReported ps n qs) zero
+    (subst (λ (xs : List DiePass). AreReported xs c.first_out-out.result qs) c.as_mut_slice.ensures.value c.first_out-out.ensures.said) in
+    let whole = written c.args.passes.len ps qs (reported_length ps 0 qs said) (search rules) in
+    rw whole (reported_locks ps 0 qs said ∙ (c.requires.own ∙ sym c.store.view_is))
 
 pub close_each-requires-clause-sole : goal.close_each-requires-clause-sole
 close_each-requires-clause-sole g c =
     let ps = c.args.passes.items in
     let qs = c.first_out-out.new.passes in
     let zero : c.first_out-out.result ≡ 0 = omega (arith, c.if-out-gt0.false) in
-    let told : AreTold ps 0 qs = subst (λ (n : ℕ). AreTold ps n qs) zero
-    (subst (λ (xs : List DiePass). AreTold xs c.first_out-out.result qs) c.as_mut_slice.ensures.value c.first_out-out.ensures.told) in
-    let whole = written c.args.passes.len ps qs (told_length ps 0 qs told) (search rules) in
-    All-from_recursion (λ (p : DiePass). p.view.sole ≡ true) _ (rw whole (told_sole ps qs told))
+    let said : AreReported ps 0 qs = subst (λ (n : ℕ). AreReported ps n qs) zero
+    (subst (λ (xs : List DiePass). AreReported xs c.first_out-out.result qs) c.as_mut_slice.ensures.value c.first_out-out.ensures.said) in
+    let whole = written c.args.passes.len ps qs (reported_length ps 0 qs said) (search rules) in
+    All-from_recursion (λ (p : DiePass). p.view.sole ≡ true) _ (rw whole (reported_sole ps qs said))
 
 pub returns-clause-closed : goal.returns-clause-closed
 returns-clause-closed g c =
     let ps = c.args.passes.items in
     let qs = c.first_out-out.new.passes in
     let zero : c.first_out-out.result ≡ 0 = omega (arith, c.if-out-gt0.false) in
-    let told : AreTold ps 0 qs = subst (λ (n : ℕ). AreTold ps n qs) zero
-    (subst (λ (xs : List DiePass). AreTold xs c.first_out-out.result qs) c.as_mut_slice.ensures.value c.first_out-out.ensures.told) in
-    let whole = written c.args.passes.len ps qs (told_length ps 0 qs told) (search rules) in
-    closed_each g.N.Nand.never_fails ps qs c.close_each.result.items told
+    let said : AreReported ps 0 qs = subst (λ (n : ℕ). AreReported ps n qs) zero
+    (subst (λ (xs : List DiePass). AreReported xs c.first_out-out.result qs) c.as_mut_slice.ensures.value c.first_out-out.ensures.said) in
+    let whole = written c.args.passes.len ps qs (reported_length ps 0 qs said) (search rules) in
+    closed_each g.N.Nand.never_fails ps qs c.close_each.result.items said
     (subst (λ (xs : List DiePass). AllZip (HasLogOf g.N.Nand.never_fails) xs c.close_each.result.items) whole c.close_each.ensures)
 
 pub returns-clause-runs : goal.returns-clause-runs
@@ -47,19 +47,19 @@ returns-then-out-gt0-clause-own g c =
     let ps = c.args.passes.items in
     let qs = c.first_out-out.new.passes in
     let out = c.first_out-out.result in
-    let told : AreTold ps out qs = subst (λ (xs : List DiePass). AreTold xs out qs) c.as_mut_slice.ensures.value
-    c.first_out-out.ensures.told in
-    let whole = written c.args.passes.len ps qs (told_length ps out qs told) (search rules) in
-    rw whole (told_locks ps out qs told ∙ c.requires.own)
+    let said : AreReported ps out qs = subst (λ (xs : List DiePass). AreReported xs out qs) c.as_mut_slice.ensures.value
+    c.first_out-out.ensures.said in
+    let whole = written c.args.passes.len ps qs (reported_length ps out qs said) (search rules) in
+    rw whole (reported_locks ps out qs said ∙ c.requires.own)
 
 pub returns-then-out-gt0-clause-sole : goal.returns-then-out-gt0-clause-sole
 returns-then-out-gt0-clause-sole g c = λ sole.
     let ps = c.args.passes.items in
     let qs = c.first_out-out.new.passes in
     let out = c.first_out-out.result in
-    let told : AreTold ps out qs = subst (λ (xs : List DiePass). AreTold xs out qs) c.as_mut_slice.ensures.value
-    c.first_out-out.ensures.told in
-    let zero = sole_none_out ps out qs told (recursion_from_All (λ (p : DiePass). p.view.sole ≡ true) ps sole) in
+    let said : AreReported ps out qs = subst (λ (xs : List DiePass). AreReported xs out qs) c.as_mut_slice.ensures.value
+    c.first_out-out.ensures.said in
+    let zero = sole_none_out ps out qs said (recursion_from_All (λ (p : DiePass). p.view.sole ≡ true) ps sole) in
     absurd (omega (arith, zero, c.if-out-gt0.true))
 
 pub returns-in-Err-clause-own : goal.returns-in-Err-clause-own
@@ -67,10 +67,10 @@ returns-in-Err-clause-own g c =
     let ps = c.args.passes.items in
     let qs = c.first_out-out.new.passes in
     let out = c.first_out-out.result in
-    let told : AreTold ps out qs = subst (λ (xs : List DiePass). AreTold xs out qs) c.as_mut_slice.ensures.value
-    c.first_out-out.ensures.told in
-    let whole = written c.args.passes.len ps qs (told_length ps out qs told) (search rules) in
-    rw whole (told_locks ps out qs told ∙ c.requires.own)
+    let said : AreReported ps out qs = subst (λ (xs : List DiePass). AreReported xs out qs) c.as_mut_slice.ensures.value
+    c.first_out-out.ensures.said in
+    let whole = written c.args.passes.len ps qs (reported_length ps out qs said) (search rules) in
+    rw whole (reported_locks ps out qs said ∙ c.requires.own)
 
 pub returns-then-out-gt0-clause-closed : goal.returns-then-out-gt0-clause-closed
 returns-then-out-gt0-clause-closed g c = grind (arith, common_steps)

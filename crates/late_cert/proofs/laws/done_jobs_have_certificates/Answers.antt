@@ -1,4 +1,4 @@
-use Rattle.late_cert.proofs.OneStretch.{certificate-is-some}
+use Rattle.late_cert.proofs.OneBusyInterval.{certificate-is-some}
 use Rattle.late_cert.proofs.laws.done_jobs_have_certificates.Goals as goal
 
 pub returns : goal.returns

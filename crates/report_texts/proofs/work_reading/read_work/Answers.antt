@@ -1,6 +1,6 @@
 use Rattle.report_texts.specs.ReportOf.{report_from}
 use Rattle.text_base.specs.CsvRecords.{rows_of}
-use Rattle.report_texts.proofs.WorkTold.{work-text, work-then}
+use Rattle.report_texts.proofs.WorkReported.{work-text, work-then}
 use Rattle.report_texts.proofs.work_reading.read_work.Goals as goal
 
 pub returns-clause-work : goal.returns-clause-work

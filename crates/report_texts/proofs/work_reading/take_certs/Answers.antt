@@ -5,7 +5,7 @@ use Rattle.late_cert.specs.Rows.{RowsRise}
 use Rattle.report_texts.specs.RecordsLeft.{record_line}
 use Rattle.report_texts.specs.declared.report_work.DieWork.{DieWork}
 use Rattle.report_texts.proofs.RecordLaws.{stays-then}
-use Rattle.report_texts.proofs.WorkTold.{certs-done, certs-next, certs-past, certs-stop}
+use Rattle.report_texts.proofs.WorkReported.{certs-done, certs-next, certs-past, certs-stop}
 use Rattle.report_texts.proofs.work_reading.take_certs.Goals as goal
 
 pub returns-in-Err-clause-work : goal.returns-in-Err-clause-work

@@ -4,7 +4,7 @@ use Rattle.report_texts.specs.RecordsLeft.{IsReady, Stays, record_line, records_
 use Rattle.report_texts.specs.ReportOf.{certs_from}
 use Rattle.report_texts.specs.ReportWork.{AllRise, works_of}
 use Rattle.report_texts.specs.declared.reports.DieReport.{DieReport}
-use Rattle.report_texts.proofs.WorkTold.{AreCertsRead}
+use Rattle.report_texts.proofs.WorkReported.{AreCertsRead}
 use Rattle.report_texts.proofs.work_reading.take_certs.Given as goal
 
 abbrev pub invariant-loop-i : goal.invariant-loop-i

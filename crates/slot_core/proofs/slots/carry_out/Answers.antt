@@ -11,14 +11,14 @@ use Rattle.slot_core.specs.WithinSlot.{InSlot}
 use Rattle.slot_core.proofs.Slotting.{slot_starts, idle_kept, turn_kept, turn_reads, all_waived}
 use Rattle.event_log.proofs.Growing.{all_fit_stay}
 use Rattle.slot_core.specs.TableLog.{log_of}
-use Rattle.slot_core.proofs.Telling.{few_of, slot_grew, idle_told}
-use Rattle.slot_core.proofs.Noting.{turn_told}
+use Rattle.slot_core.proofs.Telling.{few_of, slot_grew, idle_reported}
+use Rattle.slot_core.proofs.Noting.{turn_reported}
 use Rattle.job_table.specs.Table.{Table, work_of}
 use Rattle.slot_core.specs.Records.{job_records}
 use Rattle.slot_core.specs.ReservedSlots.{open_collections}
 use Rattle.slot_core.proofs.Reserving.{turn_opens_nothing}
 use Rattle.event_log.specs.Slots.{carried_in}
-use Rattle.slot_core.proofs.Marks.{marks_chosen, marks_step, last_alone, slots_told}
+use Rattle.slot_core.proofs.Marks.{marks_chosen, marks_step, last_alone, slots_reported}
 use Rattle.slot_core.proofs.Turning.{head_fits, work_fits}
 use Rattle.slot_core.proofs.Needing.{idle_makes, turn_makes, turn_fails}
 use Rattle.slot_core.proofs.slots.carry_out.Goals as goal
@@ -49,21 +49,21 @@ push_idle-requires-clause-few g c = few_of (over c.args.volume.now.accounts.plan
 pub returns-in_default-clause-logged : goal.returns-in_default-clause-logged
 returns-in_default-clause-logged g c =
     let grew = slot_grew g.from.0 c.args.volume.now.accounts.plan c.choose.new.volume.accounts.plan g.from.1 c.args.table.now.jobs
-    c.choose.new.table.jobs c.choose.new.told c.in_default.ensures.plan c.requires.1.1.1.1.1.1.1.1.0.jobs_are
+    c.choose.new.table.jobs c.choose.new.said c.in_default.ensures.plan c.requires.1.1.1.1.1.1.1.1.0.jobs_are
     c.in_default.ensures.idle.0.table.were in
     rw (
       c.push_idle.ensures.events,
       c.as_slice.ensures,
-      ap (λ (r : SlotReply). record r { waived = c.choose.new.told })
+      ap (λ (r : SlotReply). record r { waived = c.choose.new.said })
           c.requires.1.1.1.1.1.1.1.1.1.0,
     )
-    (idle_told c.args.table.now.jobs c.choose.new.table.jobs c.args.events.now.notes g.from.1 c.args.caller c.args.present c.choose.new.told
+    (idle_reported c.args.table.now.jobs c.choose.new.table.jobs c.args.events.now.notes g.from.1 c.args.caller c.args.present c.choose.new.said
     c.requires.1.1.0 c.requires.1.1.1.0 grew c.requires.1.1.1.1.1.1.1.1.0.now_is)
 
 pub returns-in_default-clause-fit : goal.returns-in_default-clause-fit
 returns-in_default-clause-fit g c =
     let grew = slot_grew g.from.0 c.args.volume.now.accounts.plan c.choose.new.volume.accounts.plan g.from.1 c.args.table.now.jobs
-    c.choose.new.table.jobs c.choose.new.told c.in_default.ensures.plan c.requires.1.1.1.1.1.1.1.1.0.jobs_are
+    c.choose.new.table.jobs c.choose.new.said c.in_default.ensures.plan c.requires.1.1.1.1.1.1.1.1.0.jobs_are
     c.in_default.ensures.idle.0.table.were in
     rw c.push_idle.ensures.events (
       tt,
@@ -73,42 +73,42 @@ returns-in_default-clause-fit g c =
 
 pub returns-in_default-clause-kept : goal.returns-in_default-clause-kept
 returns-in_default-clause-kept g c =
-    (idle_kept g.from.0 g.N.Nand.blocks g.from.1 (log_of c.choose.new.table c.push_idle.new.self.notes) c.args.present c.args.caller c.choose.new.told
+    (idle_kept g.from.0 g.N.Nand.blocks g.from.1 (log_of c.choose.new.table c.push_idle.new.self.notes) c.args.present c.args.caller c.choose.new.said
     c.choose.new.table c.choose.new.volume _
     c.in_default.ensures.idle.0 c.in_default.ensures.idle.1 c.in_default.ensures.alive
-    (ap (λ (r : SlotReply). record r { waived = c.choose.new.told }) c.requires.1.1.1.1.1.1.1.1.1.0)
+    (ap (λ (r : SlotReply). record r { waived = c.choose.new.said }) c.requires.1.1.1.1.1.1.1.1.1.0)
     (returns-in_default-clause-logged g c)).0
 
 pub returns-in_default-clause-answered : goal.returns-in_default-clause-answered
 returns-in_default-clause-answered g c =
     ap (λ (p : DiePlan). answer (over p g.from.0) g.from.1 Slot) (sym c.in_default.ensures.plan)
-    ∙ (idle_kept g.from.0 g.N.Nand.blocks g.from.1 (log_of c.choose.new.table c.push_idle.new.self.notes) c.args.present c.args.caller c.choose.new.told
+    ∙ (idle_kept g.from.0 g.N.Nand.blocks g.from.1 (log_of c.choose.new.table c.push_idle.new.self.notes) c.args.present c.args.caller c.choose.new.said
     c.choose.new.table c.choose.new.volume _
     c.in_default.ensures.idle.0 c.in_default.ensures.idle.1 c.in_default.ensures.alive
-    (ap (λ (r : SlotReply). record r { waived = c.choose.new.told }) c.requires.1.1.1.1.1.1.1.1.1.0)
+    (ap (λ (r : SlotReply). record r { waived = c.choose.new.said }) c.requires.1.1.1.1.1.1.1.1.1.0)
     (returns-in_default-clause-logged g c)).1
 
 -- A step
 
 pub take_step-turn-requires-clause-fits : goal.take_step-turn-requires-clause-fits
 take_step-turn-requires-clause-fits g c =
-    head_fits g.from.0 g.N.Nand.blocks g.from.1 c.args.present c.choose.new.told c.choose.new.table c.in-Some.number c.choose.new.volume
+    head_fits g.from.0 g.N.Nand.blocks g.from.1 c.args.present c.choose.new.said c.choose.new.table c.in-Some.number c.choose.new.volume
     c.in-Some-job.job c.in-Some.ensures.turn c.in-Some-job.ensures
 
 pub stop-requires : goal.stop-requires
 stop-requires g c =
     subst (λ (ws : List Waived). AreWaived c.choose.new.table.jobs ws) (sym c.as_slice-in-Err.ensures)
-    (all_waived (over c.choose.new.volume.accounts.plan g.from.0) g.from.1 c.args.present c.choose.new.told c.choose.new.table
+    (all_waived (over c.choose.new.volume.accounts.plan g.from.0) g.from.1 c.args.present c.choose.new.said c.choose.new.table
     (flash_of g.N.Nand.blocks c.choose.new.volume) c.in-Some.number c.in-Some.ensures.turn)
 
 pub note_step-is_worst-requires-clause-room : goal.note_step-is_worst-requires-clause-room
 note_step-is_worst-requires-clause-room g c =
-    work_fits (over c.choose.new.volume.accounts.plan g.from.0) g.from.1 c.args.present c.choose.new.told c.choose.new.table
+    work_fits (over c.choose.new.volume.accounts.plan g.from.0) g.from.1 c.args.present c.choose.new.said c.choose.new.table
     (flash_of g.N.Nand.blocks c.choose.new.volume) c.in-Some.number c.in-Some.ensures.turn
 
 pub note_step-is_worst-requires-clause-reads : goal.note_step-is_worst-requires-clause-reads
 note_step-is_worst-requires-clause-reads g c =
-    turn_reads g.from.0 g.N.Nand.blocks g.from.1 c.args.present c.choose.new.told c.choose.new.table c.in-Some.number c.choose.new.volume
+    turn_reads g.from.0 g.N.Nand.blocks g.from.1 c.args.present c.choose.new.said c.choose.new.table c.in-Some.number c.choose.new.volume
     c.take_step-turn.new.volume c.in-Some-job.job c.in-Ok.turn c.in-Some.ensures.turn c.in-Some-job.ensures c.in-Ok.ensures.did
 
 pub log_step-requires-clause-few : goal.log_step-requires-clause-few
@@ -116,55 +116,55 @@ log_step-requires-clause-few g c = few_of (over c.args.volume.now.accounts.plan 
     c.requires.1.1.0 c.requires.1.1.1.1.1.1.1.1.0.exact c.requires.1.1.1.0
 
 pub returns-in-Ok-clause-logged : goal.returns-in-Ok-clause-logged
-returns-in-Ok-clause-logged g c = (turn_told g.N.Nand.blocks c.args.table.now.jobs c.args.events.now.notes c.log_step.new.events.notes
-    g.from.1 c.args.caller c.args.present c.work_of-place.result c.choose.new.told c.choose.new.table c.note_step-is_worst.new.table c.in-Some.number
+returns-in-Ok-clause-logged g c = (turn_reported g.N.Nand.blocks c.args.table.now.jobs c.args.events.now.notes c.log_step.new.events.notes
+    g.from.1 c.args.caller c.args.present c.work_of-place.result c.choose.new.said c.choose.new.table c.note_step-is_worst.new.table c.in-Some.number
     c.in-Some-job.job c.choose.new.volume c.take_step-turn.new.volume c.in-Ok.turn c.deed_of-deed.result _
     c.requires.1.1.0 c.requires.1.1.1.0
     (slot_grew g.from.0 c.args.volume.now.accounts.plan c.choose.new.volume.accounts.plan g.from.1 c.args.table.now.jobs c.choose.new.table.jobs
-    c.choose.new.told c.in-Some.ensures.plan c.requires.1.1.1.1.1.1.1.1.0.jobs_are c.in-Some.ensures.turn.table.were)
+    c.choose.new.said c.in-Some.ensures.plan c.requires.1.1.1.1.1.1.1.1.0.jobs_are c.in-Some.ensures.turn.table.were)
     c.requires.1.1.1.1.1.1.1.1.0.now_is c.in-Some-job.ensures c.in-Ok.ensures.did
     (c.work_of-place.ensures.reads c.in-Some-job.job c.in-Some-job.ensures) (c.work_of-place.ensures.work
     ∙ ap work_of c.in-Some-job.ensures)
     c.note_step-is_worst.ensures.table c.deed_of-deed.ensures (c.log_step.ensures.events
     ∙ ap (λ (ws : List Waived). record { caller = c.args.caller; deed = c.deed_of-deed.result; waived = ws } ∷ c.args.events.now.notes)
     c.as_slice-in-Ok.ensures) (ap (λ (r : SlotReply). record r
-    { waived = c.choose.new.told; ran = Some (c.in-Some.number, c.in-Ok.turn.act); finished = c.finished-reply.result })
+    { waived = c.choose.new.said; ran = Some (c.in-Some.number, c.in-Ok.turn.act); finished = c.finished-reply.result })
     c.requires.1.1.1.1.1.1.1.1.1.0 ∙ ap (λ (o : Option ℕ). record
-    { slot = c.args.present; waived = c.choose.new.told; ran = Some (c.in-Some.number, c.in-Ok.turn.act); finished = o })
-    c.finished-reply.ensures)).tells
+    { slot = c.args.present; waived = c.choose.new.said; ran = Some (c.in-Some.number, c.in-Ok.turn.act); finished = o })
+    c.finished-reply.ensures)).says
 
 pub returns-in-Ok-clause-fit : goal.returns-in-Ok-clause-fit
-returns-in-Ok-clause-fit g c = (turn_told g.N.Nand.blocks c.args.table.now.jobs c.args.events.now.notes c.log_step.new.events.notes g.from.1
-    c.args.caller c.args.present c.work_of-place.result c.choose.new.told c.choose.new.table c.note_step-is_worst.new.table c.in-Some.number
+returns-in-Ok-clause-fit g c = (turn_reported g.N.Nand.blocks c.args.table.now.jobs c.args.events.now.notes c.log_step.new.events.notes g.from.1
+    c.args.caller c.args.present c.work_of-place.result c.choose.new.said c.choose.new.table c.note_step-is_worst.new.table c.in-Some.number
     c.in-Some-job.job c.choose.new.volume c.take_step-turn.new.volume c.in-Ok.turn c.deed_of-deed.result _
     c.requires.1.1.0 c.requires.1.1.1.0
     (slot_grew g.from.0 c.args.volume.now.accounts.plan c.choose.new.volume.accounts.plan g.from.1 c.args.table.now.jobs c.choose.new.table.jobs
-    c.choose.new.told c.in-Some.ensures.plan c.requires.1.1.1.1.1.1.1.1.0.jobs_are c.in-Some.ensures.turn.table.were)
+    c.choose.new.said c.in-Some.ensures.plan c.requires.1.1.1.1.1.1.1.1.0.jobs_are c.in-Some.ensures.turn.table.were)
     c.requires.1.1.1.1.1.1.1.1.0.now_is c.in-Some-job.ensures c.in-Ok.ensures.did
     (c.work_of-place.ensures.reads c.in-Some-job.job c.in-Some-job.ensures) (c.work_of-place.ensures.work
     ∙ ap work_of c.in-Some-job.ensures)
     c.note_step-is_worst.ensures.table c.deed_of-deed.ensures (c.log_step.ensures.events
     ∙ ap (λ (ws : List Waived). record { caller = c.args.caller; deed = c.deed_of-deed.result; waived = ws } ∷ c.args.events.now.notes)
     c.as_slice-in-Ok.ensures) (ap (λ (r : SlotReply). record r
-    { waived = c.choose.new.told; ran = Some (c.in-Some.number, c.in-Ok.turn.act); finished = c.finished-reply.result })
+    { waived = c.choose.new.said; ran = Some (c.in-Some.number, c.in-Ok.turn.act); finished = c.finished-reply.result })
     c.requires.1.1.1.1.1.1.1.1.1.0 ∙ ap (λ (o : Option ℕ). record
-    { slot = c.args.present; waived = c.choose.new.told; ran = Some (c.in-Some.number, c.in-Ok.turn.act); finished = o })
+    { slot = c.args.present; waived = c.choose.new.said; ran = Some (c.in-Some.number, c.in-Ok.turn.act); finished = o })
     c.finished-reply.ensures)).fits
 
 pub returns-in-Ok-clause-kept : goal.returns-in-Ok-clause-kept
 returns-in-Ok-clause-kept g c = (turn_kept g.from.0 g.N.Nand.blocks g.from.1 (log_of c.note_step-is_worst.new.table c.log_step.new.events.notes)
-    c.args.present c.args.caller c.choose.new.told c.choose.new.table c.note_step-is_worst.new.table c.in-Some.number c.choose.new.volume
+    c.args.present c.args.caller c.choose.new.said c.choose.new.table c.note_step-is_worst.new.table c.in-Some.number c.choose.new.volume
     c.take_step-turn.new.volume c.in-Some-job.job c.in-Ok.turn _
     c.in-Some.ensures.turn c.in-Some-job.ensures c.in-Ok.ensures.did c.in-Ok.ensures.plan c.in-Ok.ensures.fails.failed c.note_step-is_worst.ensures.table
     (ap (λ (r : SlotReply). record r {
-      waived = c.choose.new.told;
+      waived = c.choose.new.said;
       ran = Some (c.in-Some.number, c.in-Ok.turn.act);
       finished =
           c.finished-reply.result;
     }) c.requires.1.1.1.1.1.1.1.1.1.0
     ∙ ap (λ (o : Option ℕ). record {
       slot = c.args.present;
-      waived = c.choose.new.told;
+      waived = c.choose.new.said;
       ran = Some (c.in-Some.number, c.in-Ok.turn.act);
       finished = o;
     }) c.finished-reply.ensures) (returns-in-Ok-clause-logged g c)).0
@@ -173,18 +173,18 @@ pub returns-in-Ok-clause-answered : goal.returns-in-Ok-clause-answered
 returns-in-Ok-clause-answered g c =
     ap (λ (p : DiePlan). answer (over p g.from.0) g.from.1 Slot) (sym c.in-Some.ensures.plan)
     ∙ (turn_kept g.from.0 g.N.Nand.blocks g.from.1 (log_of c.note_step-is_worst.new.table c.log_step.new.events.notes) c.args.present c.args.caller
-    c.choose.new.told c.choose.new.table c.note_step-is_worst.new.table c.in-Some.number c.choose.new.volume c.take_step-turn.new.volume
+    c.choose.new.said c.choose.new.table c.note_step-is_worst.new.table c.in-Some.number c.choose.new.volume c.take_step-turn.new.volume
     c.in-Some-job.job c.in-Ok.turn _
     c.in-Some.ensures.turn c.in-Some-job.ensures c.in-Ok.ensures.did c.in-Ok.ensures.plan c.in-Ok.ensures.fails.failed c.note_step-is_worst.ensures.table
     (ap (λ (r : SlotReply). record r {
-      waived = c.choose.new.told;
+      waived = c.choose.new.said;
       ran = Some (c.in-Some.number, c.in-Ok.turn.act);
       finished =
           c.finished-reply.result;
     }) c.requires.1.1.1.1.1.1.1.1.1.0
     ∙ ap (λ (o : Option ℕ). record {
       slot = c.args.present;
-      waived = c.choose.new.told;
+      waived = c.choose.new.said;
       ran = Some (c.in-Some.number, c.in-Ok.turn.act);
       finished = o;
     }) c.finished-reply.ensures) (returns-in-Ok-clause-logged g c)).1
@@ -255,7 +255,7 @@ returns-in-Err-clause-waiver_room g c =
 pub returns-in_default-clause-marked : goal.returns-in_default-clause-marked
 returns-in_default-clause-marked g c =
     rw c.push_idle.ensures.marked (marks_chosen g.from.0 c.args.volume.now.accounts.plan c.choose.new.volume.accounts.plan g.from.1
-    c.args.table.now.jobs c.choose.new.table.jobs c.choose.new.told c.args.events.now.marked c.in_default.ensures.plan
+    c.args.table.now.jobs c.choose.new.table.jobs c.choose.new.said c.args.events.now.marked c.in_default.ensures.plan
     c.requires.1.1.1.1.1.1.1.1.0.jobs_are c.in_default.ensures.idle.0.table.were c.in_default.ensures.idle.0.table.were_pending
     c.requires.1.1.1.1.1.1.1.1.1.1)
 
@@ -267,13 +267,13 @@ log_step-requires-clause-alone g c =
 pub returns-in-Ok-clause-marked : goal.returns-in-Ok-clause-marked
 returns-in-Ok-clause-marked g c =
     let slots : length (carried_in c.log_step.new.events.notes) ≡ c.args.present + 1 =
-    slots_told c.note_step-is_worst.new.table.jobs c.log_step.new.events.notes ∙ sym (returns-in-Ok-clause-kept g c).now_is in
+    slots_reported c.note_step-is_worst.new.table.jobs c.log_step.new.events.notes ∙ sym (returns-in-Ok-clause-kept g c).now_is in
     rw (c.log_step.ensures.marked, c.note_step-is_worst.ensures.table) (marks_step c.choose.new.table c.in-Some.number c.in-Ok.turn
     (c.args.present + 1) c.args.events.now.marked (length (carried_in c.log_step.new.events.notes)) c.note_step-is_worst.result
     c.in-Some.ensures.turn.head slots
     (rw c.note_step-is_worst.ensures.table at c.note_step-is_worst.ensures.worst)
     (marks_chosen g.from.0 c.args.volume.now.accounts.plan c.choose.new.volume.accounts.plan g.from.1
-    c.args.table.now.jobs c.choose.new.table.jobs c.choose.new.told c.args.events.now.marked c.in-Some.ensures.plan
+    c.args.table.now.jobs c.choose.new.table.jobs c.choose.new.said c.args.events.now.marked c.in-Some.ensures.plan
     c.requires.1.1.1.1.1.1.1.1.0.jobs_are c.in-Some.ensures.turn.table.were c.in-Some.ensures.turn.table.were_pending
     c.requires.1.1.1.1.1.1.1.1.1.1))
 
@@ -293,17 +293,17 @@ returns-in-Err-clause-marked g c =
 
 pub returns-in_default-clause-calls : goal.returns-in_default-clause-calls
 returns-in_default-clause-calls g c = idle_makes g.from.0 g.N.Nand.blocks g.N.Nand.ends g.N.Nand.failures g.from.1 c.args.present
-    c.choose.new.told c.choose.new.table c.args.volume.now c.choose.new.volume _ c.in_default.ensures.plan c.in_default.ensures.device
+    c.choose.new.said c.choose.new.table c.args.volume.now c.choose.new.volume _ c.in_default.ensures.plan c.in_default.ensures.device
     c.in_default.ensures.idle.0 c.in_default.ensures.idle.1
 
 pub returns-in-Ok-clause-calls : goal.returns-in-Ok-clause-calls
 returns-in-Ok-clause-calls g c = turn_makes g.from.0 g.N.Nand.blocks g.N.Nand.ends g.N.Nand.failures g.from.1 c.args.present
-    c.choose.new.told c.choose.new.table c.in-Some.number c.args.volume.now c.choose.new.volume c.take_step-turn.new.volume c.in-Some-job.job _
+    c.choose.new.said c.choose.new.table c.in-Some.number c.args.volume.now c.choose.new.volume c.take_step-turn.new.volume c.in-Some-job.job _
     c.in-Some.ensures.plan c.in-Some.ensures.device c.in-Some.ensures.turn c.in-Some-job.ensures c.in-Ok.ensures.makes
     c.in-Ok.ensures.fails.by_fault.well
 
 pub returns-in-Err-clause-calls : goal.returns-in-Err-clause-calls
 returns-in-Err-clause-calls g c = turn_fails g.from.0 g.N.Nand.blocks g.N.Nand.ends g.N.Nand.failures g.from.1 c.args.present
-    c.choose.new.told c.choose.new.table c.in-Some.number c.args.volume.now c.choose.new.volume c.take_step-turn.new.volume c.in-Some-job.job
+    c.choose.new.said c.choose.new.table c.in-Some.number c.args.volume.now c.choose.new.volume c.take_step-turn.new.volume c.in-Some-job.job
     c.in-Err.refusal
     c.in-Some.ensures.plan c.in-Some.ensures.device c.in-Some.ensures.turn c.in-Some-job.ensures c.in-Err.ensures.makes

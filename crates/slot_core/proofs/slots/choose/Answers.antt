@@ -23,7 +23,7 @@ head-requires-clause-forward g c = c.loop-number.invariant.clock
 
 pub returns-in_default-clause-idle : goal.returns-in_default-clause-idle
 returns-in_default-clause-idle g c = (
-  looks_idle g.from.0 g.N.Nand.blocks g.from.1 c.args.present c.loop-number.told (record c.loop-number.table { clock = c.args.present }) c.head.new.self
+  looks_idle g.from.0 g.N.Nand.blocks g.from.1 c.args.present c.loop-number.said (record c.loop-number.table { clock = c.args.present }) c.head.new.self
       c.loop-number.volume c.loop-number.invariant.within c.head.ensures.clock,
   c.in_default.ensures.idle,
 )
@@ -42,19 +42,19 @@ begin-waived-requires-clause-alive g c = c.loop-number.invariant.alive
 
 pub begin-waived-requires-clause-task : goal.begin-waived-requires-clause-task
 begin-waived-requires-clause-task g c =
-    (looks_fit g.from.0 g.N.Nand.blocks g.from.1 c.args.present c.loop-number.told (record c.loop-number.table { clock = c.args.present })
+    (looks_fit g.from.0 g.N.Nand.blocks g.from.1 c.args.present c.loop-number.said (record c.loop-number.table { clock = c.args.present })
     c.head.new.self c.in-Some.number c.loop-number.volume c.in-Some-job.job
     c.loop-number.invariant.within c.in-Some.ensures.clock c.in-Some.ensures.head c.in-Some-job.ensures).0
 
 pub begin-waived-requires-clause-idle : goal.begin-waived-requires-clause-idle
 begin-waived-requires-clause-idle g c =
-    (looks_fit g.from.0 g.N.Nand.blocks g.from.1 c.args.present c.loop-number.told (record c.loop-number.table { clock = c.args.present })
+    (looks_fit g.from.0 g.N.Nand.blocks g.from.1 c.args.present c.loop-number.said (record c.loop-number.table { clock = c.args.present })
     c.head.new.self c.in-Some.number c.loop-number.volume c.in-Some-job.job
     c.loop-number.invariant.within c.in-Some.ensures.clock c.in-Some.ensures.head c.in-Some-job.ensures).1
 
 pub returns-in-None-waived-clause-turn : goal.returns-in-None-waived-clause-turn
 returns-in-None-waived-clause-turn g c =
-    looks_turn g.from.0 g.N.Nand.blocks g.from.1 c.args.present c.loop-number.told (record c.loop-number.table { clock = c.args.present })
+    looks_turn g.from.0 g.N.Nand.blocks g.from.1 c.args.present c.loop-number.said (record c.loop-number.table { clock = c.args.present })
     c.head.new.self c.in-Some.number c.loop-number.volume c.begin-waived.new.volume c.in-Some-job.job
     c.loop-number.invariant.within c.in-Some.ensures.clock c.in-Some.ensures.head c.in-Some-job.ensures c.in-None-waived.ensures
 
@@ -72,13 +72,13 @@ returns-in-None-waived-clause-device g c = (begin_leaves g.N.Nand.blocks c.loop-
 
 pub waive-requires-clause-running : goal.waive-requires-clause-running
 waive-requires-clause-running g c =
-    (looks_idle g.from.0 g.N.Nand.blocks g.from.1 c.args.present c.loop-number.told (record c.loop-number.table { clock = c.args.present })
+    (looks_idle g.from.0 g.N.Nand.blocks g.from.1 c.args.present c.loop-number.said (record c.loop-number.table { clock = c.args.present })
     c.head.new.self c.loop-number.volume c.loop-number.invariant.within c.head.ensures.clock).table.running
 
 pub push_within-requires : goal.push_within-requires
 push_within-requires g c = (
   omega arith,
-  looks_few g.from.0 g.N.Nand.blocks g.from.1 c.args.present c.loop-number.told (record c.loop-number.table { clock = c.args.present }) c.head.new.self
+  looks_few g.from.0 g.N.Nand.blocks g.from.1 c.args.present c.loop-number.said (record c.loop-number.table { clock = c.args.present }) c.head.new.self
       c.in-Some.number c.in-Some-waived.given c.loop-number.volume c.begin-waived.new.volume c.in-Some-job.job
       c.loop-number.invariant.within c.in-Some.ensures.clock c.in-Some.ensures.head c.in-Some-job.ensures c.in-Some-waived.ensures,
 )
@@ -88,15 +88,15 @@ loop-number-smaller g c =
     omega (
       arith,
       ap (λ (ws : List Waived). length ws) c.push_within.ensures,
-      length-append c.loop-number.told (record { number = c.in-Some.number; given = c.in-Some-waived.given } ∷ []),
-      looks_few g.from.0 g.N.Nand.blocks g.from.1 c.args.present c.loop-number.told (record c.loop-number.table { clock = c.args.present })
+      length-append c.loop-number.said (record { number = c.in-Some.number; given = c.in-Some-waived.given } ∷ []),
+      looks_few g.from.0 g.N.Nand.blocks g.from.1 c.args.present c.loop-number.said (record c.loop-number.table { clock = c.args.present })
           c.head.new.self c.in-Some.number c.in-Some-waived.given c.loop-number.volume c.begin-waived.new.volume c.in-Some-job.job
           c.loop-number.invariant.within c.in-Some.ensures.clock c.in-Some.ensures.head c.in-Some-job.ensures c.in-Some-waived.ensures,
     )
 
 pub loop-number-preserved : goal.loop-number-preserved
 loop-number-preserved g c = record {
-  within = looks_waived g.from.0 g.N.Nand.blocks g.from.1 c.args.present c.loop-number.told c.push_within.new.self
+  within = looks_waived g.from.0 g.N.Nand.blocks g.from.1 c.args.present c.loop-number.said c.push_within.new.self
       (record c.loop-number.table { clock = c.args.present }) c.head.new.self c.waive.new.self c.in-Some.number c.in-Some-waived.given
       c.loop-number.volume c.begin-waived.new.volume c.in-Some-job.job c.loop-number.invariant.within c.in-Some.ensures.clock
       c.in-Some.ensures.head c.in-Some-job.ensures c.in-Some-waived.ensures c.waive.ensures c.push_within.ensures;
@@ -108,7 +108,7 @@ loop-number-preserved g c = record {
         c.in-Some.number c.in-Some-waived.given c.loop-number.volume c.begin-waived.new.volume c.in-Some-job.job
         c.in-Some.ensures.clock c.in-Some.ensures.head c.in-Some-job.ensures c.in-Some-waived.ensures c.waive.ensures,
     ap (λ (ws : List Waived). length ws) c.push_within.ensures,
-    length-append c.loop-number.told (record { number = c.in-Some.number; given = c.in-Some-waived.given } ∷ []),
+    length-append c.loop-number.said (record { number = c.in-Some.number; given = c.in-Some-waived.given } ∷ []),
   );
   plan = (begin_leaves g.N.Nand.blocks c.loop-number.volume c.begin-waived.new.volume c.in-Some-job.job _ c.begin-waived.ensures).plan
       ∙ c.loop-number.invariant.plan;

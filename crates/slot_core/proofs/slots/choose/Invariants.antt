@@ -7,13 +7,13 @@ use Rattle.die_log.specs.Model.Start.{Start, over}
 
 abbrev pub invariant-loop-number : goal.invariant-loop-number
 invariant-loop-number g l = record {
-  within : InSlot (over l.volume.accounts.plan g.from.0) g.from.1 l.present l.told (record l.table { clock = l.present }) (flash_of g.N.Nand.blocks l.volume);
+  within : InSlot (over l.volume.accounts.plan g.from.0) g.from.1 l.present l.said (record l.table { clock = l.present }) (flash_of g.N.Nand.blocks l.volume);
   clock : l.table.clock ≤ l.present;
-  closed : open_collections l.table.jobs + length l.told ≤ open_collections l.fn.table.jobs + length l.fn.told;
+  closed : open_collections l.table.jobs + length l.said ≤ open_collections l.fn.table.jobs + length l.fn.said;
   plan : l.volume.accounts.plan ≡ l.fn.volume.accounts.plan;
   alive : l.volume.failed ≡ false;
   device : l.volume.device ≡ l.fn.volume.device;
 }
 
 abbrev pub decreases-loop-number : goal.decreases-loop-number
-decreases-loop-number g l = 16 - length l.told
+decreases-loop-number g l = 16 - length l.said

@@ -3,8 +3,8 @@ use Rattle.stepped_die.proofs.laws.arrivals_leave_the_slot.Goals as goal
 
 pub returns : goal.returns
 returns c = record {
-  answer = λ start past caller event number opens exact taken behind.
-      (arrival_leaves start past caller event number opens exact taken behind).0;
-  call = λ start past caller event number opens exact taken behind.
-      (arrival_leaves start past caller event number opens exact taken behind).1;
+  answer = λ start past caller event number opens exact taken beyond.
+      (arrival_leaves start past caller event number opens exact taken beyond).0;
+  call = λ start past caller event number opens exact taken beyond.
+      (arrival_leaves start past caller event number opens exact taken beyond).1;
 }

@@ -8,17 +8,17 @@ use Rattle.task_script.proofs.text_runs.run_text.Goals as goal
 pub returns-in-Ok-clause-ran : goal.returns-in-Ok-clause-ran
 returns-in-Ok-clause-ran g c =
     let r = c.in_ok-ran.ensures.ran in
-    runs_text _ c.args.plan.now c.args.slots _ _ _ _ r (rw (whole_is r.report _ r.told_is) at c.in-Ok.ensures.written)
+    runs_text _ c.args.plan.now c.args.slots _ _ _ _ r (rw (whole_is r.report _ r.said_is) at c.in-Ok.ensures.written)
 
 pub returns-in-Ok-clause-planned : goal.returns-in-Ok-clause-planned
 returns-in-Ok-clause-planned g c =
     let r = c.in_ok-ran.ensures.ran in
     runs_as_planned _ c.args.plan.now c.args.slots _ _ _ _ c.requires.bound r
-    (rw (whole_is r.report _ r.told_is) at c.in-Ok.ensures.written)
+    (rw (whole_is r.report _ r.said_is) at c.in-Ok.ensures.written)
 
 pub returns-in-Err-clause-part : goal.returns-in-Err-clause-part
 returns-in-Err-clause-part g c =
     let r = c.in_ok-ran.ensures.ran in
     runs_in_part g.W.Write.contents _ c.args.plan.now c.args.slots _ _ _ _ c.in-Err.refusal c.requires.bound r
-    (λ is. c.in-Err.ensures.memory (ap Err is)) (λ is. rw (whole_is r.report _ r.told_is) at (c.in-Err.ensures.part (ap Err is)))
+    (λ is. c.in-Err.ensures.memory (ap Err is)) (λ is. rw (whole_is r.report _ r.said_is) at (c.in-Err.ensures.part (ap Err is)))
     c.in-Err.ensures.refused

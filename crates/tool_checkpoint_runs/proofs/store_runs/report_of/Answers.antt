@@ -3,7 +3,7 @@ use Rattle.std.proofs.lemmas.List.{at_drop_all}
 use Rattle.flash_die.specs.Memory.{Memory}
 use Rattle.slot_core.specs.Core.{Core}
 use Rattle.task_script.specs.StoreRuns.{reports_of}
-use Rattle.task_script.proofs.Gathering.{IsToldOf, all_told, told_more}
+use Rattle.task_script.proofs.Gathering.{IsReportedOf, all_reported, reported_more}
 use Rattle.tool_checkpoint_runs.proofs.StartsMore.{first_left}
 use Rattle.tool_checkpoint_runs.proofs.store_runs.report_of.Goals as goal
 
@@ -14,9 +14,9 @@ pub loop-number-preserved : goal.loop-number-preserved
 loop-number-preserved c =
     let dies : List (Core Memory) = c.args.dies.now.items in
     let whole : vec_len c.args.dies.now ≡ length c.args.dies.now.items = search rules in
-    told_more c.loop-number.number c.index.result.now (drop (c.loop-number.number + 1) dies) c.loop-number.text c.add_die.new.text
+    reported_more c.loop-number.number c.index.result.now (drop (c.loop-number.number + 1) dies) c.loop-number.text c.add_die.new.text
     (reports_of 0 dies) c.in_ok-add_die.ensures.ok
-    (subst (λ (left : List (Core Memory)). IsToldOf c.loop-number.text (reports_of c.loop-number.number left) (reports_of 0 dies))
+    (subst (λ (left : List (Core Memory)). IsReportedOf c.loop-number.text (reports_of c.loop-number.number left) (reports_of 0 dies))
     (first_left dies c.loop-number.number c.index.result.now
     (omega (arith, whole, c.len-number-end.ensures, c.loop-number-test.true)) c.index.ensures) c.loop-number.invariant)
 
@@ -25,7 +25,7 @@ returns c =
     let dies : List (Core Memory) = c.args.dies.now.items in
     let whole : vec_len c.args.dies.now ≡ length c.args.dies.now.items = search rules in
     record {
-      text = all_told c.loop-number.text (reports_of c.loop-number.number (drop c.loop-number.number dies)) (reports_of 0 dies)
+      text = all_reported c.loop-number.text (reports_of c.loop-number.number (drop c.loop-number.number dies)) (reports_of 0 dies)
           (at_drop_all (reports_of c.loop-number.number) dies c.loop-number.number
           (omega (arith, whole, c.len-number-end.ensures, c.loop-number-test.false))) c.loop-number.invariant;
       refused = tt;

@@ -1,4 +1,4 @@
-use Rattle.due_queue.proofs.pair_heap.PairHeap.+first_behind.Given as goal
+use Rattle.due_queue.proofs.pair_heap.PairHeap.+first_after.Given as goal
 
-abbrev pub decreases-first_behind : goal.decreases-first_behind
-decreases-first_behind l = l.count
+abbrev pub decreases-first_after : goal.decreases-first_after
+decreases-first_after l = l.count

@@ -2,7 +2,7 @@ use Rattle.std.proofs.Common.{◌+◌, ◌∷◌, [], ap, sym, ◌∙◌, length
 use Rattle.event_log.specs.declared.deeds.Deed.TheVariants.{Idle}
 use Rattle.event_log.specs.Notes.{Events}
 use Rattle.event_log.specs.SoundLog.{notes_in}
-use Rattle.event_log.proofs.Pushing.{idle_goes_on, idle_push, stretches_push, joins_idle, length_of, before_later}
+use Rattle.event_log.proofs.Pushing.{idle_goes_on, idle_push, records_push, joins_idle, length_of, before_later}
 use Rattle.event_log.proofs.Marking.{goes_on_unmarked, some_caller, slots-push, still_marked}
 use Rattle.event_log.proofs.event_log.EventLog.push_idle.Goals as goal
 
@@ -86,7 +86,7 @@ invariant_of-self c =
           c.push_reserved.ensures.items,
           c.push_reserved-then-goes_on.ensures.items,
           pushed,
-          stretches_push (record { caller = c.args.caller; deed = Idle; waived = [] })
+          records_push (record { caller = c.args.caller; deed = Idle; waived = [] })
               (notes_in c.self.inside.deeds.items c.self.inside.callers.items c.self.inside.waivers.items),
           (rw newest.none at on),
         ) (omega (arith, c.self.invariant.0.count_is));

@@ -1,20 +1,20 @@
 use Rattle.std.proofs.Common.{◌+◌, ◌∷◌, [], ap, sym, ◌∙◌, length, not, arith, length-append}
 use Rattle.event_log.specs.Notes.{Events}
 use Rattle.event_log.specs.SoundLog.{notes_in}
-use Rattle.event_log.specs.Stretches.{new_stretches, kept_of}
-use Rattle.event_log.proofs.Pushing.{notes_push, stretches_push, joins_is, few_stretches, length_of, before_push, is_none_is, same_some, second_of}
+use Rattle.event_log.specs.NoteRecords.{new_records, kept_of}
+use Rattle.event_log.proofs.Pushing.{notes_push, records_push, joins_is, few_records, length_of, before_push, is_none_is, same_some, second_of}
 use Rattle.event_log.proofs.Pushing.{first_of}
 use Rattle.event_log.proofs.Marking.{goes_on_unmarked, some_caller, slots-push, still_marked}
 use Rattle.event_log.proofs.event_log.EventLog.push_reserved.Goals as goal
 
-pub stretches_with-self-inside-requires : goal.stretches_with-self-inside-requires
-stretches_with-self-inside-requires c =
+pub records_with-self-inside-requires : goal.records_with-self-inside-requires
+records_with-self-inside-requires c =
     omega (
       arith,
       c.requires.few,
       c.self.invariant.0.count_is,
       ap (λ (e : Events). length e.notes) c.self.view_is,
-      few_stretches
+      few_records
           (notes_in c.self.inside.deeds.items c.self.inside.callers.items c.self.inside.waivers.items),
     )
 
@@ -95,12 +95,12 @@ invariant_of-self c =
           c.push_reserved-2.ensures.items,
           c.note_waivers.ensures.noted,
           events,
-          c.stretches_with-self-inside.ensures,
+          c.records_with-self-inside.ensures,
           c.goes_on-goes_on.ensures,
           c.self.invariant.0.count_is,
           ← c.self.view_is,
         )
-            (sym (stretches_push (record { caller = c.args.caller; deed = c.args.deed; waived = c.args.waived.now })
+            (sym (records_push (record { caller = c.args.caller; deed = c.args.deed; waived = c.args.waived.now })
             (notes_in c.self.inside.deeds.items c.self.inside.callers.items c.self.inside.waivers.items)));
         kept_is = rw (
           c.push_reserved.ensures.items,
@@ -112,7 +112,7 @@ invariant_of-self c =
           c.self.invariant.0.kept_is,
           ← c.self.view_is,
         )
-            (ap (λ b. new_stretches b + kept_of (notes_in c.self.inside.deeds.items c.self.inside.callers.items c.self.inside.waivers.items))
+            (ap (λ b. new_records b + kept_of (notes_in c.self.inside.deeds.items c.self.inside.callers.items c.self.inside.waivers.items))
             (joins_is c.self.inside.deeds.items c.self.inside.callers.items c.self.inside.waivers.items
             (record { caller = c.args.caller; deed = c.args.deed; waived = c.args.waived.now }) c.is_last_deed-same_deed.result
             c.self.invariant.0.callers_are c.is_last_deed-same_deed.ensures.0 c.is_last_deed-same_deed.ensures.1));

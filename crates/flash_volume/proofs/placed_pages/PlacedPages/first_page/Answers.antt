@@ -28,7 +28,7 @@ returns-in-Some-owner-clause-some c =
           elim (cases_lt earlier c.index.result.now) [
             | inl passed ↦ none_before c.self.inside.map.shape.blocks c.self.inside.map.places firsts c.self.invariant c.args.block
                 c.index.result.now earlier from passed
-            | inr behind ↦ c.in-Some.ensures.some.first earlier behind before
+            | inr beyond ↦ c.in-Some.ensures.some.first earlier beyond before
           ];
     }
     )

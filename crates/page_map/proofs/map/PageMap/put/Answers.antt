@@ -37,10 +37,10 @@ came : (c : After-self) (longer : List (Option ℕ)) (word : Option ℕ) → lon
     → place_in c.self.inside.shape word ≡ Some c.args.place
     → map (place_in c.self.inside.shape) (entries_up_to c.self.inside.logical (set longer c.args.page word))
     ≡ set (places_of c.self.inside) c.args.page (Some c.args.place)
-came c longer word is tells =
+came c longer word is says =
     let m = c.self.inside in
     ap (map (place_in m.shape)) (written m.logical c.args.page (c.args.page + 1) m.places.items longer word is (of_logical c) (omega arith)
-    c.self.invariant.some_places) ∙ set-placed m.shape (cells_of m) c.args.page word (Some c.args.place) tells
+    c.self.invariant.some_places) ∙ set-placed m.shape (cells_of m) c.args.page word (Some c.args.place) says
 
 pub lay_down-requires : goal.lay_down-requires
 lay_down-requires c = record { room = omega (arith, of_logical (goal.at.lay_down-requires c).After-self, c.self.invariant.room_places) }

@@ -5,7 +5,7 @@ use Rattle.die_log.specs.Model.Answers.{IsExact}
 use Rattle.event_log.specs.Slots.{carried_in}
 use Rattle.slot_core.specs.Outcomes.{worst_of}
 use Rattle.slot_core.specs.TableLog.{log_of}
-use Rattle.slot_core.proofs.Telling.{numbers_told}
+use Rattle.slot_core.proofs.Telling.{numbers_reported}
 use Rattle.slot_core.proofs.Certifying.{ok_where, walk_rows, walk_length, walk_certifies, no_certificate, none_said, worst_said, holds_said}
 use Rattle.slot_core.proofs.Certifying.{binds_said, some_done}
 use Rattle.slot_core.proofs.die_core.DieCore.certificate.Goals as goal
@@ -40,7 +40,7 @@ returns-in-Some-clause-ok g c =
     ∙ walk_certifies (over c.self.inside.volume.accounts.plan c.self.inside.start) (log_of c.self.inside.table c.self.inside.events.notes)
     c.self.inside.table.jobs c.in-Some.worst c.before_mark.result (carried_in c.self.inside.events.notes) c.self.inside.events.marked
     c.self.invariant.0.kept.bound c.self.invariant.0.kept.exact c.self.invariant.0.kept.jobs_are c.self.invariant.2 worst_is
-    c.before_mark.ensures.slots (sym (numbers_told c.self.inside.table.jobs c.self.inside.events.notes))))
+    c.before_mark.ensures.slots (sym (numbers_reported c.self.inside.table.jobs c.self.inside.events.notes))))
 
 pub returns-in-Some-clause-none : goal.returns-in-Some-clause-none
 returns-in-Some-clause-none g c =

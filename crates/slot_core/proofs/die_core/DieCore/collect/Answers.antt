@@ -9,7 +9,7 @@ use Rattle.slot_core.proofs.Calling.{stopped_refused, log_refused, memory_refuse
 use Rattle.slot_core.proofs.Keeping.{collecting_is, may_collect, collect_answered, collect_accepts, if_ok_both, if_err_both}
 use Rattle.slot_core.specs.TableLog.{log_of}
 use Rattle.slot_core.proofs.Reserving.{collect_room}
-use Rattle.slot_core.proofs.Telling.{collect_enters, collect_logged, few_told}
+use Rattle.slot_core.proofs.Telling.{collect_enters, collect_logged, few_reported}
 use Rattle.slot_core.proofs.Marks.{marks_collect}
 use Rattle.slot_core.proofs.die_core.DieCore.collect.Goals as goal
 use Rattle.die_log.specs.Model.Start.{over}
@@ -63,7 +63,7 @@ invariant_of-self g c =
     )
 
 pub enter_collection-requires-clause-few_events : goal.enter_collection-requires-clause-few_events
-enter_collection-requires-clause-few_events g c = few_told (over c.self.inside.volume.accounts.plan c.self.inside.start) c.self.inside.table.jobs
+enter_collection-requires-clause-few_events g c = few_reported (over c.self.inside.volume.accounts.plan c.self.inside.start) c.self.inside.table.jobs
     c.self.inside.events.notes c.self.invariant.0.kept.exact c.self.invariant.0.fits
 
 pub returns : goal.returns
@@ -85,9 +85,9 @@ returns g c =
     (collect_logged c.self.inside.table c.enter_collection.new.table c.self.inside.events.notes c.enter_collection.new.events.notes
     c.args.caller c.args.task c.args.release c.args.due c.enter_collection.result
     c.self.invariant.0.fits c.enter_collection.ensures.table c.enter_collection.ensures.number c.enter_collection.ensures.logged)
-    (λ number is tells. entered g.N.Nand.ends g.N.Nand.failures g.N.Nand.never_fails c.args.caller
+    (λ number is says. entered g.N.Nand.ends g.N.Nand.failures g.N.Nand.never_fails c.args.caller
     (Collect c.args.task c.args.release c.args.due) c.args.self.now _ number tt runs
-    (record { answered = is; logged = rw (tells, ← c.self.view_is) refl })))
+    (record { answered = is; logged = rw (says, ← c.self.view_is) refl })))
     (if_err_both c.enter_collection.result _ _ _ c.enter_collection.ensures.refused stays
     (λ refusal is same. memory_refused g.N.Nand.ends g.N.Nand.failures g.N.Nand.never_fails c.args.caller
     (Collect c.args.task c.args.release c.args.due) c.args.self.now _ refusal runs (collect_accepts _ _ _ _ _ none) (λ slot. absurd cc) is

@@ -5,7 +5,7 @@ use Rattle.slot_core.specs.Core.{Core}
 use Rattle.slot_core.specs.Device.{flash_of}
 use Rattle.slot_core.specs.Renewals.{IsFirstWorn}
 use Rattle.slot_core.specs.TableLog.{log_of}
-use Rattle.slot_core.proofs.Renewing.{unworn_told, worn_told}
+use Rattle.slot_core.proofs.Renewing.{unworn_reported, worn_reported}
 use Rattle.slot_core.proofs.die_core.DieCore.may_renew.Goals as goal
 
 pub returns-in-Some-first_worn-clause-refused : goal.returns-in-Some-first_worn-clause-refused
@@ -18,7 +18,7 @@ returns-in-Some-first_worn-clause-refused g c =
       c.in_default.ensures.quiet,
       subst (λ (d : Core g.row.N.Denot). IsFirstWorn d.start d.log c.in-Some-first_worn.block)
           (c.self.view_is ∙ c.next_job.ensures.same)
-          (worn_told (over f.volume.accounts.plan f.start) (log_of f.table f.events.notes) (flash_of g.N.Nand.blocks f.volume)
+          (worn_reported (over f.volume.accounts.plan f.start) (log_of f.table f.events.notes) (flash_of g.N.Nand.blocks f.volume)
           c.in-Some-first_worn.block (c.self.invariant.0.kept.flash alive) (sym c.first_worn.ensures ∙ c.in-Some-first_worn.is)),
     )
 
@@ -32,6 +32,6 @@ returns-clause-may g c =
       runs = runs;
       quiet = c.in_default.ensures.quiet;
       unworn = subst (λ (d : Core g.row.N.Denot). CanBeErased (renewed_start d.start d.log)) (c.self.view_is ∙ c.next_job.ensures.same)
-          (unworn_told (over f.volume.accounts.plan f.start) (log_of f.table f.events.notes) (flash_of g.N.Nand.blocks f.volume)
+          (unworn_reported (over f.volume.accounts.plan f.start) (log_of f.table f.events.notes) (flash_of g.N.Nand.blocks f.volume)
           (c.self.invariant.0.kept.flash alive) (sym c.first_worn.ensures ∙ c.in_default-first_worn.is));
     }

@@ -12,7 +12,7 @@ use Rattle.slot_core.specs.TableLog.{log_of}
 use Rattle.slot_core.specs.ReservedSlots.{open_collections}
 use Rattle.slot_core.proofs.Reserving.{open_job}
 use Rattle.slot_core.proofs.Fitting.{accepted_few}
-use Rattle.slot_core.proofs.Telling.{submit_tells, few_told}
+use Rattle.slot_core.proofs.Telling.{submit_reports, few_reported}
 use Rattle.job_table.specs.Jobs.{new_job}
 use Rattle.slot_core.proofs.Marks.{marks_push}
 use Rattle.slot_core.proofs.die_core.DieCore.submit_lent.Goals as goal
@@ -50,15 +50,15 @@ invariant_of-self-in-Ok-enter_job g c =
     let made = admit_made f.volume c.admit.new.self c.args.task _ c.args.ops.now c.admit.result (c.writes.ensures ∙ ap writes c.in-Ok.ensures.ops)
     (tokens_suffice (over f.volume.accounts.plan c.self.inside.start) (log_of f.table f.events.notes) c.args.task c.args.release c.args.due c.args.ops.now
     f.volume.accounts (c.self.invariant.0.kept.flash alive).accounts_are none) c.admit.ensures.ok (c.admit.ensures.accepted alive) in
-    let tells = submit_tells f.table c.enter_job.new.table f.events.notes c.enter_job.new.events.notes c.args.caller c.in-Ok-enter_job.number
+    let says = submit_reports f.table c.enter_job.new.table f.events.notes c.enter_job.new.events.notes c.args.caller c.in-Ok-enter_job.number
     c.args.task c.args.release c.args.due c.args.ops.now table c.in-Ok-enter_job.ensures.number c.in-Ok-enter_job.ensures.logged
     c.self.invariant.0.fits in (
       record {
         kept = submit_kept c.self.inside.start g.N.Nand.blocks (log_of f.table f.events.notes) (log_of c.enter_job.new.table c.enter_job.new.events.notes)
             f.present c.args.caller c.in-Ok-enter_job.number c.args.task c.args.release c.args.due c.args.ops.now f.table c.enter_job.new.table
             f.volume c.admit.new.self
-            c.self.invariant.0.kept alive none c.in-Ok-enter_job.ensures.number table made tells.0;
-        fits = tells.1;
+            c.self.invariant.0.kept alive none c.in-Ok-enter_job.ensures.number table made says.0;
+        fits = says.1;
       },
       record {
         slots = c.in-Ok-enter_job.ensures.reserved;
@@ -86,7 +86,7 @@ enter_job-requires-clause-few_ops g c =
     c.args.ops.now none)
 
 pub enter_job-requires-clause-few_events : goal.enter_job-requires-clause-few_events
-enter_job-requires-clause-few_events g c = few_told (over c.self.inside.volume.accounts.plan c.self.inside.start) c.self.inside.table.jobs c.self.inside.events.notes
+enter_job-requires-clause-few_events g c = few_reported (over c.self.inside.volume.accounts.plan c.self.inside.start) c.self.inside.table.jobs c.self.inside.events.notes
     c.self.invariant.0.kept.exact c.self.invariant.0.fits
 
 pub returns-in-Ok-enter_job : goal.returns-in-Ok-enter_job
@@ -101,14 +101,14 @@ returns-in-Ok-enter_job g c =
     let made = admit_made f.volume c.admit.new.self c.args.task _ c.args.ops.now c.admit.result (c.writes.ensures ∙ ap writes c.in-Ok.ensures.ops)
     (tokens_suffice (over f.volume.accounts.plan c.self.inside.start) (log_of f.table f.events.notes) c.args.task c.args.release c.args.due c.args.ops.now
     f.volume.accounts (c.self.invariant.0.kept.flash alive).accounts_are none) c.admit.ensures.ok (c.admit.ensures.accepted alive) in
-    let tells = submit_tells f.table c.enter_job.new.table f.events.notes c.enter_job.new.events.notes c.args.caller c.in-Ok-enter_job.number
+    let says = submit_reports f.table c.enter_job.new.table f.events.notes c.enter_job.new.events.notes c.args.caller c.in-Ok-enter_job.number
     c.args.task c.args.release c.args.due c.args.ops.now table c.in-Ok-enter_job.ensures.number c.in-Ok-enter_job.ensures.logged
     c.self.invariant.0.fits in
     entered g.N.Nand.ends g.N.Nand.failures g.N.Nand.never_fails c.args.caller
     (Submit c.args.task c.args.release c.args.due c.args.ops.now) c.args.self.now _ c.in-Ok-enter_job.number tt (rw (← c.self.view_is) alive) (record {
       answered = rw (← c.self.view_is)
           (submit_taken _ _ f.table _ _ _ _ _ none c.self.invariant.0.kept.jobs_are c.in-Ok-enter_job.ensures.number);
-      logged = rw (tells.0, made, ← c.self.view_is) refl;
+      logged = rw (says.0, made, ← c.self.view_is) refl;
     })
 
 pub invariant_of-self : goal.invariant_of-self

@@ -30,7 +30,7 @@ returns-clause-bytes g c =
     let n = c.in_ok-n.n in
     let room = c.args.self.now.room in
     let given : List ℕ = c.read_again-2.new.buf in
-    let behind : List ℕ = drop c.min-most.result c.args.buf.now in
+    let beyond : List ℕ = drop c.min-most.result c.args.buf.now in
     let past : c.args.self.now.past ≡ None = not-some c.args.self.now.past (sym c.is_some.ensures ∙ c.if-is_some.false) in
     let few : n ≤ length given = c.in_ok-n.ensures.bound.0 in
     let size : length given ≡ length (take c.min-most.result c.args.buf.now) = c.read_again-2.auto.buf in
@@ -44,9 +44,9 @@ returns-clause-bytes g c =
       c.min-most.ensures,
       c.if-self-eq0.false,
     ) in
-    let same : take n (given ++ behind) ≡ take n given = take-append-le n given behind few in
-    let whole : All IsByte (given ++ behind) = All-from_get_or IsByte (given ++ behind) 0 (λ i lt. (c.type_inv.buf i).fits) in
-    let bytes : All IsByte (take n given) = subst (All IsByte) same (All-take IsByte n (given ++ behind) whole) in
+    let same : take n (given ++ beyond) ≡ take n given = take-append-le n given beyond few in
+    let whole : All IsByte (given ++ beyond) = All-from_get_or IsByte (given ++ beyond) 0 (λ i lt. (c.type_inv.buf i).fits) in
+    let bytes : All IsByte (take n given) = subst (All IsByte) same (All-take IsByte n (given ++ beyond) whole) in
     let taken = c.in_ok-n.ensures.bytes in
     let read = read-marked room n _ _ (take n given) taken.0 (λ zero. taken.1 zero there) (length-take-le n given few) within
     (bytes-plain (take n given) bytes) in

@@ -1,0 +1,5 @@
+use Rattle.std.proofs.Common.{◌≡◌}
+use Rattle.test_lock_book.proofs.tests.a_refused_allocation_adds_nothing.Given as goal
+
+abbrev pub invariant-loop-below : goal.invariant-loop-below
+invariant-loop-below g l = l.pass.lock ≡ l.lock
