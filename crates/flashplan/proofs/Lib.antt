@@ -1,2 +1,1 @@
-mod KindLemmas
-mod SimpleWords
+mod Audits

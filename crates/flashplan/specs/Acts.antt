@@ -1,5 +1,7 @@
 -- What a command says of a plan.
-use Rattle.std.specs.Prelude.{◌≡◌, ◌↔◌, ◌⊎◌, List, ℕ, Option, Some, None, Result, Ok, Err, IfSome, take, IsTrue, Bool, true, false, ⊤}
+use Rattle.std.specs.Prelude.{◌≡◌, ◌==◌, ◌↔◌, ◌⊎◌, List, [], ◌∷◌, ℕ, Option, Some, None, Result, Ok, Err, IfSome, take, IsTrue, Bool, true, false, ⊤}
+use Rattle.std.specs.Borrow.{Bor}
+use Rattle.std.specs.Prelude.{if◌then◌else◌}
 use Rattle.std.specs.Io.KnownBytes.{Appends}
 use Rattle.slot_types.specs.declared.plans.DiePlan.{DiePlan}
 use Rattle.slot_types.specs.declared.refusals.Refusal.{Refusal}
@@ -15,13 +17,18 @@ use Rattle.tool_plan_fit.specs.declared.faults.FitFault.{FitFault}
 use Rattle.tool_plan_fit.specs.declared.faults.FitFault.TheVariants.{NotFound}
 use Rattle.tool_plan_breaches.specs.declared.breaches.Breach.{Breach}
 use Rattle.tool_plan_keeping.specs.Verdicts.{IsBrokenScript, IsFrontOf}
+use Rattle.flash_die.specs.Fuse.{Fuse}
 use Rattle.flash_die.specs.Memory.{Memory}
+use Rattle.flash_commands.specs.Acts.{IsReportOf, RefusesAudit}
+use Rattle.flash_commands.specs.Audit.{audit_status}
+use Rattle.flash_commands.specs.Files.{FileContents}
+use Rattle.report_texts.specs.declared.reports.DieReport.{DieReport}
 use Rattle.report_texts.specs.ReportText.{report_text}
 use Rattle.slot_core.specs.Core.{Core}
 use Rattle.task_script.specs.StoreRuns.{reports_of}
 use Rattle.tool_checkpoint_runs.specs.declared.faults.RunFault.{RunFault}
-use Rattle.flashplan.specs.declared.commands.Command.{Command}
-use Rattle.flashplan.specs.declared.commands.Command.TheVariants as command
+use Rattle.tool_command_words.specs.declared.asked.Command.{Command}
+use Rattle.tool_command_words.specs.declared.asked.Command.TheVariants as command
 
 -- whether a plan is accepted, by as much of its text as is read, where the text is known: a longer one is too long
 abbrev pub SaysOf : Option (List ℕ) → Bool → Type 0
@@ -81,12 +88,37 @@ explained_status (Ok false) = 1
 explained_status (Err fault) = 1
 
 -- the report of these dies is printed: what each log says over its start
-abbrev pub PrintsReport : Option (List ℕ) → Option (List ℕ) → List (Core Memory) → Type 0
+abbrev pub PrintsReport : {N : Type 0} → Option (List ℕ) → Option (List ℕ) → List (Core N) → Type 0
 PrintsReport old new dies = Appends old new (report_text (reports_of 0 dies))
 
--- of some dies
+-- of some dies, whose devices are in memory
 abbrev pub PrintsRun : Option (List ℕ) → Option (List ℕ) → Type 0
 PrintsRun old new = (dies : List (Core Memory)) × PrintsReport old new dies
+
+-- of some dies, whose devices are in memory, and one of which fails
+abbrev pub PrintsFailing : Option (List ℕ) → Option (List ℕ) → Type 0
+PrintsFailing old new = (dies : List (Core (Fuse Memory))) × PrintsReport old new dies
+
+-- a report was read and audited, and this says whether a certificate of it is refused
+abbrev pub IsAuditOf : Option (List ℕ) → Bool → Type 0
+IsAuditOf text refused = (report : List DieReport) × IsReportOf text report × ((if refused then 3 else 0) ≡ audit_status report)
+
+-- a report was read and audited, or this says why it isn't
+abbrev pub IsAudited : Option (List ℕ) → Result Bool Refusal → Type 0
+IsAudited text (Ok refused) = IsAuditOf text refused
+IsAudited text (Err refusal) = RefusesAudit text refusal
+
+-- the status of audits, and of one more: 1 where a report isn't read, else 3 where a certificate is refused
+abbrev pub worse_of : ℕ → Result Bool Refusal → ℕ
+worse_of status (Err refusal) = 1
+worse_of status (Ok true) = if status == 1 then 1 else 3
+worse_of status (Ok false) = status
+
+-- the files of these names are audited, each in its turn, and the worst status of all, and of one before them, is this
+pub AuditsFiles : FileContents → List (Bor (List ℕ)) → ℕ → ℕ → Type 0
+AuditsFiles held [] before worst = worst ≡ before
+AuditsFiles held (name ∷ names) before worst =
+    (audited : Result Bool Refusal) × IsAudited (held name.now) audited × AuditsFiles held names (worse_of before audited) worst
 
 -- what is reported of a script: whether it keeps the plans
 abbrev pub SaysKept : Option (List ℕ) → Option (List ℕ) → ℕ → Bool → Type 0
@@ -104,7 +136,7 @@ kept_status (Err refusal) = 1
 abbrev pub IsBroken : Command → Option (List ℕ) → Option (List ℕ) → Type 0
 IsBroken (command.Keeps plan script slots) text rows = BreaksPlans text rows slots
 IsBroken (command.Fit sheet) text rows = ⊤
-IsBroken (command.Run plan script slots from to) text rows = ⊤
+IsBroken (command.Run plan script slots from to fail) text rows = ⊤
 IsBroken _ text rows = ⊥
 
 -- what was done where a command ends with 0: an explained plan is accepted; a plan that passes is printed; arrivals are printed; the plans are kept; the report of a run
@@ -114,5 +146,6 @@ IsDone (command.Explain plan from) text rows old new = SaysOf text true
 IsDone (command.Fit sheet) text rows old new = PrintsPassingPlan old new
 IsDone (command.Arrivals plan slots seed fills phases jitter load) text rows old new = PrintsArrivals text slots old new
 IsDone (command.Keeps plan script slots) text rows old new = KeepsPlans text rows slots
-IsDone (command.Run plan script slots from to) text rows old new = PrintsRun old new
+IsDone (command.Run plan script slots from to None) text rows old new = PrintsRun old new
+IsDone (command.Run plan script slots from to (Some fail)) text rows old new = PrintsFailing old new
 IsDone _ text rows old new = ⊤

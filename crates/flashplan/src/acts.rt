@@ -3,16 +3,18 @@
 ghost use Rattle.std.specs.Prelude.{◌≡◌, ◌≢◌, ◌≤◌, IfErr, IfOk, IfSome, OnOk, is_ok, if◌then◌else◌};
 ghost use Rattle.flashplan.specs.Acts.{IsBroken, IsDone, IsHostFault, IsUnwritten, PrintsArrivals, SaysOf, SaysKept, kept_status};
 ghost use Rattle.flashplan.specs.Acts.{PrintsPassingPlan, fit_status};
-ghost use Rattle.flashplan.specs.Commands.{FitsRun};
+ghost use Rattle.tool_command_words.specs.Asked.{FitsRun};
 
-use crate::checkpoint_acts::{Kept, Shelf, act_run, end_explained, print_explained_from};
-use crate::commands::Command;
+use crate::checkpoint_acts::{
+    Kept, Shelf, act_failing, act_run, end_explained, print_explained_from,
+};
 use flash_commands::{Fault, end};
 use plan_texts::{plan_text, read_plan_from};
 use slot_types::{MAX_SLOT, Refusal, StorePlan};
 use std::alloc::Global;
 use std::io::{Read, Write};
 use text_base::write_whole;
+use tool_command_words::{Command, FailingDie};
 use tool_plain_layers::Marks;
 use tool_plan_arrivals::{Fault as Unplanned, Manner, arrivals, full_from};
 use tool_plan_design::explain;
@@ -20,8 +22,7 @@ use tool_plan_fit::{FitFault, fit};
 use tool_plan_keeping::{Verdict, keep, script_text, sentence};
 use tool_run_figures::Life;
 use tool_store_compare::{CompareFault, Form, Measure, compare};
-use tool_trace_import::{Made, Measure as TraceMeasure, TraceFault, import};
-use tool_watched_runs::{RefusedRows, Shown, Sights, draw, report, wear};
+use tool_watched_runs::{FailAt, Failure, RefusedRows, Shown, Sights, draw, report, wear};
 
 /// Tells a refusal, and answers the status. Where standard output takes no more, nothing is reported. A writer that
 /// fails is passed over.
@@ -101,7 +102,8 @@ fn print_arrivals<R: Read + Drop, W: Write>(
     out: &mut W,
 ) -> Result<StorePlan, Unplanned>
     requires slots { slots ≤ MAX_SLOT }
-    ensures printed { OnOk result (PrintsArrivals (R.remaining plan) slots (W.contents out.old) (W.contents out.new)) }
+    ensures printed { OnOk result
+        (PrintsArrivals (R.remaining plan) slots (W.contents out.old) (W.contents out.new)) }
     ensures unwritten { IfErr result (IsUnwritten out.old out.new) }
 {
     let store = read_plan_from(alloc, plan)?;
@@ -159,8 +161,8 @@ fn end_unplanned<E: Write>(err: &mut E, fault: Unplanned) -> u8
     1
 }
 
-/// Prints whether a script keeps the plans of its dies, and says whether it does; none where it doesn't, and no condition
-/// was found that doesn't hold, which is a fault of this program.
+/// Prints whether a script keeps the plans of its dies, and says whether it does; none where it doesn't, and no
+/// condition was found that doesn't hold, which is a fault of this program.
 fn print_kept<P: Read + Drop, S: Read + Drop, W: Write>(
     alloc: Global,
     plan: P,
@@ -169,7 +171,8 @@ fn print_kept<P: Read + Drop, S: Read + Drop, W: Write>(
     out: &mut W,
 ) -> Result<Option<bool>, Refusal>
     requires slots { slots ≤ MAX_SLOT }
-    ensures said { IfOk result (λ kept. IfSome kept (SaysKept (P.remaining plan) (S.remaining script) slots)) }
+    ensures said { IfOk result (λ kept.
+        IfSome kept (SaysKept (P.remaining plan) (S.remaining script) slots)) }
 {
     let store = read_plan_from(alloc, plan)?;
     let text = script_text(alloc, script)?;
@@ -232,14 +235,36 @@ fn print_report<P: Read + Drop, S: Read + Drop, W: Write>(
     slots: u32,
     life: Life,
     as_csv: bool,
+    fail: Option<FailAt>,
     out: &mut W,
-) -> Result<RefusedRows, Refusal>
+) -> Result<(RefusedRows, Option<Failure>), Refusal>
     requires slots { slots ≤ MAX_SLOT }
 {
     let store = read_plan_from(alloc, plan)?;
-    let said = report(alloc, store, script, slots, life, as_csv)?;
+    let said = report(alloc, store, script, slots, life, as_csv, fail)?;
     write_whole(out, &said.text)?;
-    Ok(said.refused)
+    Ok((said.refused, said.failure))
+}
+
+/// Tells what came of a report's run, and answers the status.
+fn end_report<E: Write>(err: &mut E, ran: Result<(RefusedRows, Option<Failure>), Refusal>) -> u8
+    ensures { result ≢ 3 }
+{
+    match ran {
+        Ok((refused, failure)) => {
+            report_failure(err, failure);
+            end_run(err, Ok(refused))
+        }
+        Err(refusal) => end_refused(err, refusal),
+    }
+}
+
+/// What is reported of a run that was drawn.
+#[derive(Clone, Copy, Drop)]
+struct Drawn {
+    refused: RefusedRows,
+    sights: Sights,
+    failure: Option<Failure>,
 }
 
 /// Prints the picture of what the slots of a die carried.
@@ -250,14 +275,19 @@ fn print_drawn<P: Read + Drop, S: Read + Drop, W: Write>(
     slots: u32,
     die: u32,
     shown: Shown,
+    fail: Option<FailAt>,
     out: &mut W,
-) -> Result<(RefusedRows, Sights), Refusal>
+) -> Result<Drawn, Refusal>
     requires slots { slots ≤ MAX_SLOT }
 {
     let store = read_plan_from(alloc, plan)?;
-    let drawn = draw(alloc, store, script, slots, die, shown)?;
+    let drawn = draw(alloc, store, script, slots, die, shown, fail)?;
     write_whole(out, &drawn.text)?;
-    Ok((drawn.refused, drawn.sights))
+    Ok(Drawn {
+        refused: drawn.refused,
+        sights: drawn.sights,
+        failure: drawn.failure,
+    })
 }
 
 /// The most slots of a picture that is drawn without a warning.
@@ -282,13 +312,14 @@ fn warn_many<E: Write>(err: &mut E, slots: u32, sights: Sights) {
 }
 
 /// Tells what was drawn, and answers the status.
-fn end_drawn<E: Write>(err: &mut E, slots: u32, drawn: Result<(RefusedRows, Sights), Refusal>) -> u8
+fn end_drawn<E: Write>(err: &mut E, slots: u32, drawn: Result<Drawn, Refusal>) -> u8
     ensures { result ≢ 3 }
 {
     match drawn {
-        Ok((refused, sights)) => {
-            warn_many(err, slots, sights);
-            end_run(err, Ok(refused))
+        Ok(drawn) => {
+            warn_many(err, slots, drawn.sights);
+            report_failure(err, drawn.failure);
+            end_run(err, Ok(drawn.refused))
         }
         Err(refusal) => end_refused(err, refusal),
     }
@@ -343,33 +374,35 @@ fn end_compared<E: Write>(err: &mut E, compared: Result<(), CompareFault>) -> u8
     }
 }
 
-/// Prints the script of a trace, or its plan.
-fn print_import<R: Read + Drop, W: Write>(
-    alloc: Global,
-    trace: R,
-    measure: TraceMeasure,
-    as_plan: bool,
-    out: &mut W,
-) -> Result<(), TraceFault> {
-    let trace = script_text(alloc, trace)?;
-    let made = if as_plan { Made::Plan } else { Made::Script };
-    let text = import(alloc, &trace, measure, made)?;
-    write_whole(out, &text)?;
-    Ok(())
+/// The device that is to fail, as a run takes it.
+fn failing(fail: FailingDie) -> FailAt {
+    FailAt {
+        die: fail.die,
+        call: fail.call,
+    }
 }
 
-/// Tells why a trace isn't taken, and answers the status. A writer that fails is passed over.
-fn end_import<E: Write>(err: &mut E, imported: Result<(), TraceFault>) -> u8
-    ensures { result ≢ 3 }
-{
-    match imported {
-        Ok(()) => 0,
-        Err(TraceFault::Refused(refusal)) => end_refused(err, refusal),
-        Err(fault) => {
-            let _ = writeln!(err, "error: {fault}");
-            1
-        }
-    }
+/// The device that is to fail, if one is.
+fn failing_in(fail: Option<FailingDie>) -> Option<FailAt> {
+    Some(failing(fail?))
+}
+
+/// Tells in which slot a device failed that was to fail. A writer that fails is passed over.
+pub fn report_failure<E: Write>(err: &mut E, failure: Option<Failure>) {
+    let Some(Failure { at, slot }) = failure else {
+        return;
+    };
+    let FailAt { die, call } = at;
+    let _ = match slot {
+        Some(slot) => writeln!(
+            err,
+            "die {die} failed in slot {slot}, at call {call} of its device"
+        ),
+        None => writeln!(
+            err,
+            "die {die} didn't fail: its device had fewer than {call} calls"
+        ),
+    };
 }
 
 /// Tells the rows that were refused, if there are any, and answers the status. A writer that fails is passed over.
@@ -387,21 +420,23 @@ pub fn end_run<E: Write>(err: &mut E, ran: Result<RefusedRows, Refusal>) -> u8
     0
 }
 
-/// Carries a command out, with `plan` and `script` in place of its files, and `kept` in place of its checkpoints. Answers the status.
+/// Carries a command out, with `plan` and `script` in place of its files, and `kept` in place of its checkpoints.
+/// Answers the status.
 ///
-/// `explain` prints what [`explain`](tool_plan_design::explain) says of the plan, whole; the status is 0 where the plan is accepted,
-/// and 1 where it isn't. `fit` prints the plan that [`fit`](tool_plan_fit::fit) finds for a datasheet, or tells why it found none
-/// (status 3). `arrivals` prints the script of what the plan's tasks ask for, as
-/// [`arrivals`](tool_plan_arrivals::arrivals) makes it: its rows keep the plan of each die, so that a run of it refuses none and
-/// is never late. A plan without times that pass their test is reported as `error 3 BadPlan`; then, and where more
-/// slots are asked for than a script may have, nothing is printed, and the status is 1. `keeps` prints whether the
+/// `explain` prints what [`explain`](tool_plan_design::explain) says of the plan, whole; the status is 0 where the plan
+/// is accepted, and 1 where it isn't. `fit` prints the plan that [`fit`](tool_plan_fit::fit) finds for a datasheet, or
+/// tells why it found none (status 3). `arrivals` prints the script of what the plan's tasks ask for, as
+/// [`arrivals`](tool_plan_arrivals::arrivals) makes it: its rows keep the plan of each die, so that a run of it refuses
+/// none and is never late. A plan without times that pass their test is reported as `error 3 BadPlan`; then, and where
+/// more slots are asked for than a script may have, nothing is printed, and the status is 1. `keeps` prints whether the
 /// script keeps the plan of each die (status 0), or a condition that doesn't hold, and of which record (status 3).
 /// `wear` prints what [`wear`](tool_watched_runs::wear) tells of the run of the script, `report` what
-/// [`report`](tool_watched_runs::report) does, and `draw` what [`draw`](tool_watched_runs::draw) draws of it, each whole; the
-/// status is 0, and where rows were refused, `err` gets a line, as `refused 1 first line 6 with 6`. `compare` prints
-/// the table, the records or the picture of [`compare`](tool_store_compare::compare), whole, and `import` the script or the plan
-/// that [`import`](tool_trace_import::import) makes of a trace, which stands in the place of the plan. `run` prints the report of
-/// dies that go on from a checkpoint, and has the checkpoint of their end written, as [`act_run`] says.
+/// [`report`](tool_watched_runs::report) does, and `draw` what [`draw`](tool_watched_runs::draw) draws of it, each
+/// whole; the status is 0, and where rows were refused, `err` gets a line, as `refused 1 first line 6 with 6`.
+/// `compare` prints the table, the records or the picture of [`compare`](tool_store_compare::compare), whole. `run`
+/// prints the report of dies that go on from a checkpoint, and has the checkpoint of their end written, as [`act_run`]
+/// says. Where a device is to fail, `err` gets a line that says in which slot it did, as `die 0 failed in slot 12, at
+/// call 7 of its device`, or that it didn't; the status stays, and rows that come later for its die are refused.
 ///
 /// No more of the plan is read than 1,048,577 bytes. Where a text is refused, memory runs out, or a reader or `out`
 /// fails, that is reported in a line to `err`, as `error 21 ReadFault`, and the status is 1; where `out` fails nothing
@@ -416,7 +451,9 @@ pub fn act<P: Read + Drop, S: Read + Drop, C: Read + Drop, K: Shelf, W: Write, E
     err: &mut E,
 ) -> u8
     requires { FitsRun command }
-    ensures done { result ≡ 0 → IsDone command.entry (P.remaining plan) (S.remaining script) (W.contents out.old) (W.contents out.new) }
+    ensures done { result ≡ 0
+        → IsDone command.entry (P.remaining plan) (S.remaining script) (W.contents out.old)
+        (W.contents out.new) }
     ensures broken { result ≡ 3 → IsBroken command.entry (P.remaining plan) (S.remaining script) }
 {
     match command {
@@ -467,11 +504,13 @@ pub fn act<P: Read + Drop, S: Read + Drop, C: Read + Drop, K: Shelf, W: Write, E
             endurance,
             slot_us,
             as_csv,
+            fail,
             ..
         } => {
             let life = Life { endurance, slot_us };
-            let ran = print_report(alloc, plan, script, slots, life, as_csv, out);
-            end_run(err, ran)
+            let fail = failing_in(fail);
+            let ran = print_report(alloc, plan, script, slots, life, as_csv, fail, out);
+            end_report(err, ran)
         }
         Command::Draw {
             slots,
@@ -480,6 +519,7 @@ pub fn act<P: Read + Drop, S: Read + Drop, C: Read + Drop, K: Shelf, W: Write, E
             to,
             worst,
             as_text,
+            fail,
             ..
         } => {
             let shown = Shown {
@@ -488,7 +528,8 @@ pub fn act<P: Read + Drop, S: Read + Drop, C: Read + Drop, K: Shelf, W: Write, E
                 worst,
                 as_text,
             };
-            let drawn = print_drawn(alloc, plan, script, slots, die, shown, out);
+            let fail = failing_in(fail);
+            let drawn = print_drawn(alloc, plan, script, slots, die, shown, fail, out);
             let many = if worst || as_text {
                 0
             } else {
@@ -515,18 +556,14 @@ pub fn act<P: Read + Drop, S: Read + Drop, C: Read + Drop, K: Shelf, W: Write, E
             let compared = print_compared(alloc, plan, script, measure, form, out);
             end_compared(err, compared)
         }
-        Command::Import {
-            slot_us,
-            due,
-            as_plan,
+        Command::Run {
+            slots,
+            to,
+            fail,
             ..
-        } => {
-            let measure = TraceMeasure { slot_us, due };
-            let imported = print_import(alloc, plan, measure, as_plan, out);
-            end_import(err, imported)
-        }
-        Command::Run { slots, to, .. } => {
-            act_run(alloc, plan, script, kept, slots, to, out, err)
-        }
+        } => match fail {
+            Some(fail) => act_failing(alloc, plan, script, slots, failing(fail), out, err),
+            None => act_run(alloc, plan, script, kept, slots, to, out, err),
+        },
     }
 }

@@ -1,9 +1,9 @@
 //! Runs that go on from a checkpoint, and end with one.
 
-ghost use Rattle.std.specs.Prelude.{◌≡◌, ◌≤◌, IfOk, length};
-ghost use Rattle.flashplan.specs.Acts.{PrintsReport, PrintsRun, SaysOf, explained_status};
+ghost use Rattle.std.specs.Prelude.{◌≡◌, ◌≢◌, ◌≤◌, IfOk, OnOk, length};
+ghost use Rattle.flashplan.specs.Acts.{PrintsFailing, PrintsReport, PrintsRun, SaysOf, explained_status};
 
-use crate::acts::{end_refused, end_run};
+use crate::acts::{end_refused, end_run, report_failure};
 use checkpoint_texts::{SavedStore, TextFault, read_checkpoint};
 use plan_texts::{plan_text, read_plan_from};
 use slot_types::{MAX_SLOT, Refusal};
@@ -11,14 +11,16 @@ use std::alloc::Global;
 use std::io::{Read, Write};
 use text_base::write_whole;
 use tool_checkpoint_runs::{
-    RunFault, StoreDies, StoreRun, Unsaved, explain as explain_checkpoint, run_script, save,
+    FailingRun, RunFault, StoreDies, StoreRun, Unsaved, explain as explain_checkpoint, run_failing,
+    run_script, save,
 };
 use tool_plan_design::explain;
-use tool_watched_runs::RefusedRows;
+use tool_watched_runs::{FailAt, Failure, RefusedRows};
 
 /// Where texts are put, by the names of files.
 pub trait Shelf {
-    /// Puts a text into the file of a name, whole, in place of what it had; or else leaves that as it was, and what it had.
+    /// Puts a text into the file of a name, whole, in place of what it had; or else leaves that as it was, and what it
+    /// had.
     fn put(&self, name: &str, text: &[u8]) -> Result<(), Refusal>;
 }
 
@@ -58,6 +60,13 @@ struct PrintedRun {
     idle: Vec<u32>,
 }
 
+/// What is reported of a run in which a device failed.
+#[derive(Clone, Copy, Drop)]
+struct FailingReported {
+    refused: RefusedRows,
+    failure: Failure,
+}
+
 /// Runs a script on the dies of a plan, and prints their report, which is made whole before its first byte.
 fn print_run<P: Read + Drop, S: Read + Drop, C: Read + Drop, W: Write>(
     alloc: Global,
@@ -69,7 +78,8 @@ fn print_run<P: Read + Drop, S: Read + Drop, C: Read + Drop, W: Write>(
     out: &mut W,
 ) -> Result<PrintedRun, RunFault>
     requires slots { slots ≤ MAX_SLOT }
-    ensures printed { IfOk result (λ run. PrintsReport (W.contents out.old) (W.contents out.new) run.dies.items) }
+    ensures printed { IfOk result (λ run.
+        PrintsReport (W.contents out.old) (W.contents out.new) run.dies.items) }
     ensures few { IfOk result (λ run. length run.dies.items ≤ 8) }
 {
     let store = read_plan_from(alloc, plan)?;
@@ -115,8 +125,8 @@ fn report_idle<E: Write>(err: &mut E, idle: &[u32]) {
     }
 }
 
-/// Puts the checkpoint of dies into a file, and answers the status: 0 where it stands there, 3 where none may be taken, 1 where
-/// memory or the file fails. A writer that fails is passed over.
+/// Puts the checkpoint of dies into a file, and answers the status: 0 where it stands there, 3 where none may be taken,
+/// 1 where memory or the file fails. A writer that fails is passed over.
 fn put_checkpoint<K: Shelf, E: Write>(
     alloc: Global,
     dies: StoreDies,
@@ -143,9 +153,9 @@ fn put_checkpoint<K: Shelf, E: Write>(
     }
 }
 
-/// Runs a script on the dies of a plan, fresh or from a checkpoint, prints the report, and puts the checkpoint of the dies' end
-/// into the file `to`, if there is one. Answers the status: 0; 1 where something was refused or failed; 3 where the report is printed,
-/// and no checkpoint may be taken.
+/// Runs a script on the dies of a plan, fresh or from a checkpoint, prints the report, and puts the checkpoint of the
+/// dies' end into the file `to`, if there is one. Answers the status: 0; 1 where something was refused or failed; 3
+/// where the report is printed, and no checkpoint may be taken.
 pub fn act_run<P: Read + Drop, S: Read + Drop, C: Read + Drop, K: Shelf, W: Write, E: Write>(
     alloc: Global,
     plan: P,
@@ -169,6 +179,56 @@ pub fn act_run<P: Read + Drop, S: Read + Drop, C: Read + Drop, K: Shelf, W: Writ
     match to {
         Some(name) => put_checkpoint(alloc, ran.dies, shelf, name, err),
         None => 0,
+    }
+}
+
+/// Runs a script on fresh dies of a plan, the device of one of which fails, and prints the report, which is made whole
+/// before its first byte.
+fn print_failing<P: Read + Drop, S: Read + Drop, W: Write>(
+    alloc: Global,
+    plan: P,
+    script: S,
+    slots: u32,
+    fail: FailAt,
+    out: &mut W,
+) -> Result<FailingReported, Refusal>
+    requires slots { slots ≤ MAX_SLOT }
+    ensures printed { OnOk result (PrintsFailing (W.contents out.old) (W.contents out.new)) }
+{
+    let store = read_plan_from(alloc, plan)?;
+    let FailingRun {
+        dies,
+        report,
+        refused,
+        failure,
+    } = run_failing(alloc, store, script, slots, fail)?;
+    report.write(out)?;
+    Ok(FailingReported { refused, failure })
+}
+
+/// Runs a script on fresh dies of a plan, the device of one of which fails, prints the report of what was done until
+/// then, and tells in which slot it failed. Answers the status: 0, or 1 where something was refused. A writer of `err`
+/// that fails is passed over.
+pub fn act_failing<P: Read + Drop, S: Read + Drop, W: Write, E: Write>(
+    alloc: Global,
+    plan: P,
+    script: S,
+    slots: u32,
+    fail: FailAt,
+    out: &mut W,
+    err: &mut E,
+) -> u8
+    requires slots { slots ≤ MAX_SLOT }
+    ensures printed { result ≡ 0 → PrintsFailing (W.contents out.old) (W.contents out.new) }
+    ensures few { result ≢ 3 }
+{
+    match print_failing(alloc, plan, script, slots, fail, out) {
+        Ok(said) => {
+            report_failure(err, Some(said.failure));
+            let _ = end_run(err, Ok(said.refused));
+            0
+        }
+        Err(refusal) => end_refused(err, refusal),
     }
 }
 
@@ -202,7 +262,8 @@ fn add_checkpoint<C: Read + Drop>(
     explain_checkpoint(alloc, text, &store, &saved)
 }
 
-/// Answers the status of what is said of a checkpoint, and tells why nothing is said of it. A writer that fails is passed over.
+/// Answers the status of what is said of a checkpoint, and tells why nothing is said of it. A writer that fails is
+/// passed over.
 pub fn end_explained<E: Write>(err: &mut E, explained: Result<bool, RunFault>) -> u8
     ensures { result ≡ explained_status explained }
 {

@@ -35,8 +35,8 @@ impl<'a, R: Files> DiskShelf<'a, R> {
     }
 }
 
-/// A text goes first to a file beside the one that is meant, whose name ends with `.part`, and which then takes its name. WriteFault
-/// where that fails.
+/// A text goes first to a file beside the one that is meant, whose name ends with `.part`, and which then takes its
+/// name. WriteFault where that fails.
 impl<R: Files> Shelf for DiskShelf<'_, R> {
     fn put(&self, name: &str, text: &[u8]) -> Result<(), Refusal> {
         let part = format!(in self.alloc; "{name}.part")?;

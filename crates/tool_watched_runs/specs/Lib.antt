@@ -1,3 +1,4 @@
 pub mod Briefs
+pub mod Failing
 pub mod Wear
 pub mod WearText

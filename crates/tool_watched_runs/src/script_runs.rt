@@ -1,9 +1,12 @@
-//! Scripts that are run, row by row, on dies in memory.
+//! Scripts that are run, row by row, on dies whose devices are in memory.
 
-ghost use Rattle.std.specs.Prelude.{◌≡◌, ◌≤◌, All, length, IfOk, IfErr, OnOk};
+ghost use Rattle.std.specs.Prelude.{◌≡◌, ◌≤◌, ◌⊎◌, true, All, length, IfOk, IfErr, IfSome, OnOk};
+ghost use Rattle.std.specs.Box.{box_value};
 ghost use Rattle.plan_rules.specs.Bound.{MeetsBound};
+ghost use Rattle.die_log.specs.Model.Log.{now};
 
 use crate::die_runs::DieRun;
+use crate::failing::{FailAt, Failure, calls_of, failure_in};
 use crate::refused::RefusedRows;
 use crate::{Tally, Window, wear_text};
 use script_texts::ScriptReader;
@@ -26,6 +29,8 @@ pub struct Reported {
     pub text: Vec<u8>,
     pub refused: RefusedRows,
     pub sights: Sights,
+    /// What became of the device that was to fail; none where none was, or its die didn't run.
+    pub failure: Option<Failure>,
 }
 
 impl Sights {
@@ -36,21 +41,50 @@ impl Sights {
     };
 }
 
-/// A fresh die for each plan.
-pub fn fresh_dies(alloc: Global, plan: StorePlan) -> Result<Vec<Box<DieRun>>, Refusal>
+/// A fresh die for each plan, on a device that makes all calls well, but for one that is to fail. The only refusal is
+/// NoMemory.
+pub fn fresh_dies(
+    alloc: Global,
+    plan: StorePlan,
+    fail: Option<FailAt>,
+) -> Result<Vec<Box<DieRun>>, Refusal>
     requires { All MeetsBound plan }
 {
     let mut dies = Vec::new(alloc);
     let mut die: u32 = 0;
     for plan in plan.into_vec() {
-        let run = DieRun::boxed(alloc, die, plan, Window::new(alloc, 0, 0))?;
+        let calls = calls_of(fail, die);
+        let run = DieRun::boxed(alloc, die, plan, calls, Window::new(alloc, 0, 0))?;
         dies.push(run)?;
         die = die.saturating_add(1);
     }
     Ok(dies)
 }
 
-/// Runs the rows of a script on these dies, and then so many slots. Rows of other dies are passed over.
+/// What became of the device that was to fail; none where none was, or its die isn't one of these.
+pub fn failure_of(fail: Option<FailAt>, dies: &[Box<DieRun>]) -> Option<Failure>
+    ensures at { IfSome result (λ failure. fail ≡ Some failure.at) }
+{
+    let at = fail?;
+    let run = dies.iter().find(|run| run.die == at.die)?;
+    Some(failure_in(at, &run.core))
+}
+
+/// Carries a die to a slot, or to the one in which its device fails. The only refusal is NoMemory.
+fn carry(alloc: Global, run: &mut DieRun, slot: u32) -> Result<(), Refusal>
+    ensures start { (box_value run.new.core).start ≡ (box_value run.old.core).start }
+    ensures die { run.new.die ≡ run.old.die }
+    ensures slot { OnOk result (now (box_value run.old.core).log ≤ slot
+        → (now (box_value run.new.core).log ≡ slot) ⊎ ((box_value run.new.core).stopped ≡ true)) }
+{
+    match run.carry_to(alloc, slot) {
+        Err(_) if run.core.is_stopped() => Ok(()),
+        carried => carried,
+    }
+}
+
+/// Runs the rows of a script on these dies, and then so many slots. Rows of other dies are passed over. A die whose device
+/// failed stays at that slot, and refuses all later rows.
 pub fn run_rows<R: Read + Drop>(
     alloc: Global,
     mut script: ScriptReader<R>,
@@ -66,13 +100,13 @@ pub fn run_rows<R: Read + Drop>(
         let Some(place) = dies.iter().position(|run| run.die == die) else {
             continue;
         };
-        dies[place].carry_to(alloc, at)?;
+        carry(alloc, &mut dies[place], at)?;
         if let Some(refusal) = dies[place].ask(alloc, item.event) {
             refused.add(item.line, refusal);
         }
     }
     for place in 0..dies.len() {
-        dies[place].carry_to(alloc, slots)?;
+        carry(alloc, &mut dies[place], slots)?;
     }
     Ok(refused)
 }
@@ -103,7 +137,7 @@ pub fn wear<R: Read + Drop>(
     requires bound { All MeetsBound plan }
 {
     let script = ScriptReader::new(alloc, script, &plan, slots)?;
-    let mut dies = fresh_dies(alloc, plan)?;
+    let mut dies = fresh_dies(alloc, plan, None)?;
     let refused = run_rows(alloc, script, &mut dies, slots)?;
     let tallies = tallies_of(alloc, dies)?;
     let text = wear_text(alloc, &tallies)?;
@@ -111,5 +145,6 @@ pub fn wear<R: Read + Drop>(
         text,
         refused,
         sights: Sights::NONE,
+        failure: None,
     })
 }

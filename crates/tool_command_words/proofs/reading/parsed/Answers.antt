@@ -2,10 +2,10 @@ use Rattle.std.proofs.Common.{◌∙◌, ap, sym, subst, map, string_bytes}
 use Rattle.clap.specs.Words.{is_simple, is_simple_and_free, subcommand_of}
 use Rattle.clap.specs.Kinds.{HasKind}
 use Rattle.clap.specs.Faults.{fault_of}
-use Rattle.flashplan.specs.Syntax.{flashplan_app}
-use Rattle.flashplan.specs.Commands.{command_asked_by}
-use Rattle.flashplan.proofs.SimpleWords.{simple_words, free_words, fails_still}
-use Rattle.flashplan.proofs.commands.parsed.Goals as goal
+use Rattle.tool_command_words.specs.Syntax.{flashplan_app}
+use Rattle.tool_command_words.specs.Reading.{command_asked_by}
+use Rattle.tool_command_words.proofs.SimpleWords.{simple_words, free_words, fails_still}
+use Rattle.tool_command_words.proofs.reading.parsed.Goals as goal
 
 pub returns-in_err-matches-clause-fault : goal.returns-in_err-matches-clause-fault
 returns-in_err-matches-clause-fault c =
@@ -16,7 +16,7 @@ returns-in_err-matches-clause-fault c =
 
 pub returns-clause-ok : goal.returns-clause-ok
 returns-clause-ok c =
-    c.command_met.ensures.asked
+    c.in_ok-met.ensures.asked
     ∙ ap command_asked_by ((c.in_ok-matches.ensures.ok.2 (ap is_simple c.requires ∙ simple_words)).1
     ∙ ap (λ a. subcommand_of a (map string_bytes c.args.words.now)) c.requires)
 

@@ -1,8 +1,8 @@
 use Rattle.std.proofs.Common.{◌≡◌, ◌∙◌, ap, subst}
 use Rattle.std.specs.Prelude.{IfOk}
 use Rattle.clap.specs.Words.{App, app_of}
-use Rattle.flashplan.specs.Syntax.{with_command}
-use Rattle.flashplan.proofs.syntax.program_words.Goals as goal
+use Rattle.tool_command_words.specs.Syntax.{with_command}
+use Rattle.tool_command_words.proofs.syntax.program_words.Goals as goal
 
 with_both : (p q c d : App) → p ≡ q → c ≡ d → with_command p c ≡ with_command q d
 with_both p q c d e f = ap (λ x. with_command x c) e ∙ ap (λ (x : App). with_command q x) f
@@ -18,5 +18,6 @@ returns c =
     let drawing = c.in_ok-with_draw.ensures ∙ with_both _ _ _ _ reporting c.in_ok-draw.ensures.app in
     let comparing = c.in_ok-with_compare.ensures ∙ with_both _ _ _ _ drawing c.in_ok-compare.ensures.app in
     let importing = c.in_ok-with_import.ensures ∙ with_both _ _ _ _ comparing c.in_ok-import.ensures.app in
-    subst (λ (a : App). IfOk c.with_command-10.result (λ c'. app_of c' ≡ a)) (with_both _ _ _ _ importing c.in_ok-run.ensures.app)
-    c.with_command-10.ensures
+    let running = c.in_ok-with_run.ensures ∙ with_both _ _ _ _ importing c.in_ok-run.ensures.app in
+    subst (λ (a : App). IfOk c.with_command-11.result (λ c'. app_of c' ≡ a)) (with_both _ _ _ _ running c.in_ok-audit.ensures.app)
+    c.with_command-11.ensures

@@ -4,7 +4,7 @@ use Rattle.std.specs.Prelude.{IsErrAnd}
 use Rattle.clap.specs.Words.{is_simple, is_simple_and_free}
 use Rattle.clap.specs.Kinds.{FailsBy, HasKind, Kinds}
 use Rattle.clap.specs.declared.error.Error.{Error}
-use Rattle.flashplan.specs.Syntax.{flashplan_app}
+use Rattle.tool_command_words.specs.Syntax.{flashplan_app}
 
 pub simple_words : is_simple flashplan_app ≡ true
 simple_words = refl
