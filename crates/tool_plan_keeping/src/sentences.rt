@@ -238,13 +238,13 @@ pub fn sentence(
     let Some(own) = plan.get(broken.die as usize) else {
         return Ok(said);
     };
-    let said = Reported {
+    let reported = Reported {
         die: broken.die,
         plan: own,
         lines: &lines,
         slots,
     };
-    match said.put(&mut said, broken.breach) {
+    match reported.put(&mut said, broken.breach) {
         Ok(()) => Ok(said),
         Err(_) => Err(Refusal::NoMemory),
     }
