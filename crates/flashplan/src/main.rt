@@ -1,21 +1,17 @@
 //! The program `flashplan`.
 #![tactic(auto)]
 
-mod acts;
-mod checkpoint_acts;
-mod listed_acts;
-mod requests;
 mod whole_files;
 
 ghost use Rattle.tool_command_words.specs.Asked.{RequestFits};
 
 use flash_commands::{Heard, Shown, WatchedDisk, end, own_words, report_more, show};
-use requests::{act_asked, slots_of, texts_of};
 use std::alloc::Global;
 use std::io::{IsTerminal, Write};
 use std::process::ExitCode;
 use std::rt::{Clock, Files};
 use tool_command_words::{Asked, read_words};
+use tool_commands::{act_asked, slots_of, texts_of};
 use whole_files::DiskShelf;
 
 /// What is shown of the files that are read: on a terminal, of a script, how far it is run.

@@ -1,12 +1,12 @@
 //! Files that are written whole or not at all.
 
-use crate::checkpoint_acts::Shelf;
 use slot_types::Refusal;
 use std::alloc::Global;
 use std::fs;
 use std::fs::OpenFile;
 use std::rt::Files;
 use text_base::write_whole;
+use tool_commands::Shelf;
 
 /// The files of the system.
 #[derive(Clone, Copy)]

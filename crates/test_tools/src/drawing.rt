@@ -18,7 +18,7 @@ const PICTURE: &str = "<title>Die 0, slots 19 to 25 of 25</title>
 <rect class=\"out\" x=\"196\" y=\"77\" width=\"13\" height=\"12\"/><text x=\"214\" y=\"87\">copy: read</text>
 <rect class=\"in\" x=\"292\" y=\"77\" width=\"13\" height=\"12\"/><text x=\"310\" y=\"87\">copy: program</text>
 <rect class=\"erase\" x=\"406\" y=\"77\" width=\"13\" height=\"12\"/><text x=\"424\" y=\"87\">erase slot</text>
-<rect class=\"busy_interval\" x=\"502\" y=\"77\" width=\"13\" height=\"12\"/><text x=\"520\" y=\"87\">busy_interval of the worst</text>
+<rect class=\"busy_interval\" x=\"502\" y=\"77\" width=\"13\" height=\"12\"/><text x=\"520\" y=\"87\">busy interval of the worst</text>
 <path class=\"gap\" d=\"M684,83h16\"/><text x=\"706\" y=\"87\">suspended erase</text>
 <use href=\"#release\" x=\"822\" y=\"74\"/><text x=\"832\" y=\"87\">release</text>
 <use href=\"#due\" x=\"896\" y=\"74\"/><text x=\"906\" y=\"87\">due</text>

@@ -86,7 +86,7 @@ impl Display for LineFault {
             LineFault::Version => f.write_str("only version 3 of fio's logs is read"),
             LineFault::Fields => {
                 f.write_str(
-                    "a line is `time file action`, and of a request `offset length` behind it",
+                    "a line is `time file action`, and of a request `offset length` after it",
                 )
             }
             LineFault::Action => f.write_str(

@@ -42,7 +42,7 @@ const MOST_JOBS: usize = 65_536;
 struct Task {
     /// The most writes of a job.
     most: u32,
-    /// How many writes there are, up to the slot behind its last job.
+    /// How many writes there are, up to the slot after its last job.
     writes: u32,
     end: u32,
 }

@@ -174,6 +174,8 @@ impl DieRun {
         window: Window,
     ) -> Result<Box<DieRun>, Refusal>
         requires { MeetsBound plan }
+        ensures start { IfOk result (λ run.
+            (box_value (box_value run).core).start ≡ fresh plan) }
         ensures refused { FailsForMemory result }
     {
         let run = DieRun::new(alloc, die, plan, calls, window)?;

@@ -1,16 +1,20 @@
 //! Scripts that are run, row by row, on dies whose devices are in memory.
 
-ghost use Rattle.std.specs.Prelude.{◌≡◌, ◌≤◌, ◌⊎◌, true, All, length, IfOk, IfErr, IfSome, OnOk};
+ghost use Rattle.std.specs.Prelude.{◌≡◌, ◌<◌, ◌≤◌, ◌⊎◌, true, All, length, map, IfOk, IfErr, IfSome, OnOk};
 ghost use Rattle.std.specs.Box.{box_value};
 ghost use Rattle.plan_rules.specs.Bound.{MeetsBound};
 ghost use Rattle.die_log.specs.Model.Log.{now};
+ghost use Rattle.die_log.specs.Model.Start.{fresh};
+ghost use Rattle.tool_watched_runs.specs.Runs.{starts_of, worn_of};
+ghost use Rattle.tool_watched_runs.specs.Wear.{IsWorn, Worn};
+ghost use Rattle.tool_watched_runs.specs.WearText.{IsWearText};
 
 use crate::die_runs::DieRun;
 use crate::failing::{FailAt, Failure, calls_of, failure_in};
 use crate::refused::RefusedRows;
 use crate::{Tally, Window, wear_text};
 use script_texts::ScriptReader;
-use slot_types::{MAX_SLOT, Refusal, StorePlan};
+use slot_types::{Event, MAX_SLOT, Refusal, StorePlan};
 use std::alloc::Global;
 use std::io::Read;
 
@@ -49,6 +53,7 @@ pub fn fresh_dies(
     fail: Option<FailAt>,
 ) -> Result<Vec<Box<DieRun>>, Refusal>
     requires { All MeetsBound plan }
+    ensures { IfOk result (λ dies. starts_of dies.items ≡ map fresh plan) }
 {
     let mut dies = Vec::new(alloc);
     let mut die: u32 = 0;
@@ -83,6 +88,47 @@ fn carry(alloc: Global, run: &mut DieRun, slot: u32) -> Result<(), Refusal>
     }
 }
 
+/// Carries a die to a slot, as [`carry`] does.
+fn carry_die(
+    alloc: Global,
+    dies: &mut Vec<Box<DieRun>>,
+    place: usize,
+    slot: u32,
+) -> Result<(), Refusal>
+    requires there { place < length dies.old.items }
+    ensures starts { starts_of dies.new.items ≡ starts_of dies.old.items }
+    ensures count { length dies.new.items ≡ length dies.old.items }
+{
+    carry(alloc, &mut dies[place], slot)
+}
+
+/// Carries a die to the slot of a row, and asks for what the row says. Answers why that was refused, if it was.
+fn carry_row(
+    alloc: Global,
+    dies: &mut Vec<Box<DieRun>>,
+    place: usize,
+    at: u32,
+    event: Event,
+) -> Result<Option<Refusal>, Refusal>
+    requires there { place < length dies.old.items }
+    ensures starts { starts_of dies.new.items ≡ starts_of dies.old.items }
+    ensures count { length dies.new.items ≡ length dies.old.items }
+{
+    carry_die(alloc, dies, place, at)?;
+    Ok(dies[place].ask(alloc, event))
+}
+
+/// Carries each die to a slot, as [`carry`] does.
+fn carry_all(alloc: Global, dies: &mut Vec<Box<DieRun>>, slot: u32) -> Result<(), Refusal>
+    ensures starts { starts_of dies.new.items ≡ starts_of dies.old.items }
+    ensures count { length dies.new.items ≡ length dies.old.items }
+{
+    for place in 0..dies.len() {
+        carry_die(alloc, dies, place, slot)?;
+    }
+    Ok(())
+}
+
 /// Runs the rows of a script on these dies, and then so many slots. Rows of other dies are passed over. A die whose device
 /// failed stays at that slot, and refuses all later rows.
 pub fn run_rows<R: Read + Drop>(
@@ -90,35 +136,43 @@ pub fn run_rows<R: Read + Drop>(
     mut script: ScriptReader<R>,
     dies: &mut Vec<Box<DieRun>>,
     slots: u32,
-) -> Result<RefusedRows, Refusal> {
+) -> Result<RefusedRows, Refusal>
+    ensures starts { starts_of dies.new.items ≡ starts_of dies.old.items }
+    ensures count { length dies.new.items ≡ length dies.old.items }
+{
     let mut refused = RefusedRows::NONE;
     for _ in 0..u64::MAX {
         let Some(item) = script.next()? else {
             break;
         };
-        let (die, at) = (item.die, item.at);
+        let die = item.die;
         let Some(place) = dies.iter().position(|run| run.die == die) else {
             continue;
         };
-        carry(alloc, &mut dies[place], at)?;
-        if let Some(refusal) = dies[place].ask(alloc, item.event) {
+        if let Some(refusal) = carry_row(alloc, dies, place, item.at, item.event)? {
             refused.add(item.line, refusal);
         }
     }
-    for place in 0..dies.len() {
-        carry(alloc, &mut dies[place], slots)?;
-    }
+    carry_all(alloc, dies, slots)?;
     Ok(refused)
 }
 
 /// What a die wore, which is given up.
-fn tally_of(run: Box<DieRun>) -> Tally {
+fn tally_of(run: Box<DieRun>) -> Tally
+    ensures tally { result ≡ (box_value run).tally }
+    ensures worn { IsWorn (worn_of run) }
+{
+    run.core.promises();
     let DieRun { tally, .. } = Box::into_inner(run);
     tally
 }
 
 /// What dies wore.
-fn tallies_of(alloc: Global, dies: Vec<Box<DieRun>>) -> Result<Vec<Tally>, Refusal> {
+fn tallies_of(alloc: Global, dies: Vec<Box<DieRun>>) -> Result<Vec<Tally>, Refusal>
+    ensures tallies { IfOk result (λ tallies.
+        tallies.items ≡ map (λ die. (worn_of die).tally) dies.items) }
+    ensures worn { IfOk result (λ _. All (λ die. IsWorn (worn_of die)) dies.items) }
+{
     let mut tallies = Vec::new(alloc);
     for run in dies {
         tallies.push(tally_of(run))?;
@@ -126,7 +180,10 @@ fn tallies_of(alloc: Global, dies: Vec<Box<DieRun>>) -> Result<Vec<Tally>, Refus
     Ok(tallies)
 }
 
-/// Runs a script on a store of dies in memory, and tells what it wore.
+/// Runs a script on a store of dies in memory, and reports what it wore, as a text of records: the counts are those of
+/// the logs of dies that began fresh by these plans.
+///
+/// Refused with the first fault of the script, as [`ScriptReader`] says it; or with ReadFault or NoMemory.
 pub fn wear<R: Read + Drop>(
     alloc: Global,
     plan: StorePlan,
@@ -135,6 +192,7 @@ pub fn wear<R: Read + Drop>(
 ) -> Result<Reported, Refusal>
     requires few { slots ≤ MAX_SLOT }
     requires bound { All MeetsBound plan }
+    ensures text { IfOk result (λ reported. IsWearText plan reported.text.items) }
 {
     let script = ScriptReader::new(alloc, script, &plan, slots)?;
     let mut dies = fresh_dies(alloc, plan, None)?;

@@ -1,20 +1,18 @@
 //! Runs that go on from a checkpoint, and end with one.
 
-ghost use Rattle.std.specs.Prelude.{◌≡◌, ◌≢◌, ◌≤◌, IfOk, OnOk, length};
-ghost use Rattle.flashplan.specs.Acts.{PrintsFailing, PrintsReport, PrintsRun, SaysOf, explained_status};
+ghost use Rattle.std.specs.Prelude.{◌≡◌, ◌⊎◌, ◌≤◌, IfOk, OnErr, OnOk, is_none, length, true};
+ghost use Rattle.text_base.specs.Writing.{IsNotWhole};
+ghost use Rattle.tool_commands.specs.Acts.{Ends, EndsRun, PrintsFailing, PrintsReport, PrintsRun};
 
-use crate::acts::{end_refused, end_run, report_failure};
+use crate::endings::{end_refused, report_failure, report_refused};
 use checkpoint_texts::{SavedStore, TextFault, read_checkpoint};
-use plan_texts::{plan_text, read_plan_from};
+use plan_texts::read_plan_from;
 use slot_types::{MAX_SLOT, Refusal};
 use std::alloc::Global;
 use std::io::{Read, Write};
-use text_base::write_whole;
 use tool_checkpoint_runs::{
-    FailingRun, RunFault, StoreDies, StoreRun, Unsaved, explain as explain_checkpoint, run_failing,
-    run_script, save,
+    FailingRun, RunFault, StoreDies, StoreRun, Unsaved, run_failing, run_script, save,
 };
-use tool_plan_design::explain;
 use tool_watched_runs::{FailAt, Failure, RefusedRows};
 
 /// Where texts are put, by the names of files.
@@ -32,7 +30,7 @@ pub struct Kept<'a, C, K> {
 }
 
 /// What was saved of dies, in a text.
-fn saved_in<C: Read + Drop>(alloc: Global, text: C) -> Result<SavedStore, RunFault> {
+pub fn saved_in<C: Read + Drop>(alloc: Global, text: C) -> Result<SavedStore, RunFault> {
     match read_checkpoint(alloc, text) {
         Ok(saved) => Ok(saved),
         Err(TextFault::NoMemory) => Err(RunFault::Refused(Refusal::NoMemory)),
@@ -80,6 +78,7 @@ fn print_run<P: Read + Drop, S: Read + Drop, C: Read + Drop, W: Write>(
     requires slots { slots ≤ MAX_SLOT }
     ensures printed { IfOk result (λ run.
         PrintsReport (W.contents out.old) (W.contents out.new) run.dies.items) }
+    ensures part { OnErr result (IsNotWhole W.contents PrintsRun out.old out.new) }
     ensures few { IfOk result (λ run. length run.dies.items ≤ 8) }
 {
     let store = read_plan_from(alloc, plan)?;
@@ -98,8 +97,8 @@ fn print_run<P: Read + Drop, S: Read + Drop, C: Read + Drop, W: Write>(
     })
 }
 
-/// Tells why there is no run, and answers the status. A writer that fails is passed over.
-fn end_unrun<E: Write>(err: &mut E, fault: RunFault) -> u8
+/// Reports why there is no run, and answers the status. A writer that fails is passed over.
+pub fn end_unrun<E: Write>(err: &mut E, fault: RunFault) -> u8
     ensures { result ≡ 1 }
 {
     match fault {
@@ -111,7 +110,7 @@ fn end_unrun<E: Write>(err: &mut E, fault: RunFault) -> u8
     }
 }
 
-/// Tells how long dies went on until all was done. A writer that fails is passed over.
+/// Reports how long dies went on until all was done. A writer that fails is passed over.
 fn report_idle<E: Write>(err: &mut E, idle: &[u32]) {
     for die in 0..idle.len() {
         let slots = idle[die];
@@ -135,6 +134,7 @@ fn put_checkpoint<K: Shelf, E: Write>(
     err: &mut E,
 ) -> u8
     requires few { length dies.items ≤ 8 }
+    ensures { (result ≡ 0) ⊎ ((result ≡ 1) ⊎ (result ≡ 3)) }
 {
     let text = match save(alloc, dies) {
         Ok(text) => text,
@@ -154,8 +154,9 @@ fn put_checkpoint<K: Shelf, E: Write>(
 }
 
 /// Runs a script on the dies of a plan, fresh or from a checkpoint, prints the report, and puts the checkpoint of the
-/// dies' end into the file `to`, if there is one. Answers the status: 0; 1 where something was refused or failed; 3
-/// where the report is printed, and no checkpoint may be taken.
+/// dies' end into the file `to`, if there is one. Answers the status: 0; 1 where something was refused, which is reported,
+/// and nothing was written, or not the whole; where the report is printed, and there is such a file, 1 where it can't be
+/// written, or memory runs out, and 3 where no checkpoint may be taken.
 pub fn act_run<P: Read + Drop, S: Read + Drop, C: Read + Drop, K: Shelf, W: Write, E: Write>(
     alloc: Global,
     plan: P,
@@ -167,7 +168,7 @@ pub fn act_run<P: Read + Drop, S: Read + Drop, C: Read + Drop, K: Shelf, W: Writ
     err: &mut E,
 ) -> u8
     requires slots { slots ≤ MAX_SLOT }
-    ensures printed { result ≡ 0 → PrintsRun (W.contents out.old) (W.contents out.new) }
+    ensures { EndsRun W.contents (is_none to) out.old out.new result }
 {
     let Kept { from, shelf } = kept;
     let ran = match print_run(alloc, plan, script, from, slots, to.is_some(), out) {
@@ -175,7 +176,7 @@ pub fn act_run<P: Read + Drop, S: Read + Drop, C: Read + Drop, K: Shelf, W: Writ
         Err(fault) => return end_unrun(err, fault),
     };
     report_idle(err, ran.idle.as_slice());
-    let _ = end_run(err, Ok(ran.refused));
+    report_refused(err, ran.refused);
     match to {
         Some(name) => put_checkpoint(alloc, ran.dies, shelf, name, err),
         None => 0,
@@ -194,6 +195,7 @@ fn print_failing<P: Read + Drop, S: Read + Drop, W: Write>(
 ) -> Result<FailingReported, Refusal>
     requires slots { slots ≤ MAX_SLOT }
     ensures printed { OnOk result (PrintsFailing (W.contents out.old) (W.contents out.new)) }
+    ensures part { OnErr result (IsNotWhole W.contents PrintsFailing out.old out.new) }
 {
     let store = read_plan_from(alloc, plan)?;
     let FailingRun {
@@ -207,8 +209,8 @@ fn print_failing<P: Read + Drop, S: Read + Drop, W: Write>(
 }
 
 /// Runs a script on fresh dies of a plan, the device of one of which fails, prints the report of what was done until
-/// then, and tells in which slot it failed. Answers the status: 0, or 1 where something was refused. A writer of `err`
-/// that fails is passed over.
+/// then, and reports in which slot it failed. Answers the status: 0, or 1 where something was refused, which is reported:
+/// nothing was written then, or not the whole.
 pub fn act_failing<P: Read + Drop, S: Read + Drop, W: Write, E: Write>(
     alloc: Global,
     plan: P,
@@ -219,57 +221,14 @@ pub fn act_failing<P: Read + Drop, S: Read + Drop, W: Write, E: Write>(
     err: &mut E,
 ) -> u8
     requires slots { slots ≤ MAX_SLOT }
-    ensures printed { result ≡ 0 → PrintsFailing (W.contents out.old) (W.contents out.new) }
-    ensures few { result ≢ 3 }
+    ensures { Ends W.contents PrintsFailing out.old out.new result }
 {
     match print_failing(alloc, plan, script, slots, fail, out) {
-        Ok(said) => {
-            report_failure(err, Some(said.failure));
-            let _ = end_run(err, Ok(said.refused));
+        Ok(reported) => {
+            report_failure(err, Some(reported.failure));
+            report_refused(err, reported.refused);
             0
         }
         Err(refusal) => end_refused(err, refusal),
-    }
-}
-
-/// Prints what is said of a plan, and, where it is accepted, of a checkpoint of its dies. Says whether it is accepted.
-pub fn print_explained_from<P: Read + Drop, C: Read + Drop, W: Write>(
-    alloc: Global,
-    plan: P,
-    from: C,
-    out: &mut W,
-) -> Result<bool, RunFault>
-    ensures said { IfOk result (SaysOf (P.remaining plan)) }
-{
-    let text = plan_text(alloc, plan)?;
-    let mut explained = explain(alloc, &text)?;
-    if explained.is_accepted {
-        add_checkpoint(alloc, &text, from, &mut explained.text)?;
-    }
-    write_whole(out, &explained.text)?;
-    Ok(explained.is_accepted)
-}
-
-/// Adds what is said of a checkpoint of the dies of a plan.
-fn add_checkpoint<C: Read + Drop>(
-    alloc: Global,
-    plan: &[u8],
-    from: C,
-    text: &mut Vec<u8>,
-) -> Result<(), RunFault> {
-    let store = read_plan_from(alloc, plan)?;
-    let saved = saved_in(alloc, from)?;
-    explain_checkpoint(alloc, text, &store, &saved)
-}
-
-/// Answers the status of what is said of a checkpoint, and tells why nothing is said of it. A writer that fails is
-/// passed over.
-pub fn end_explained<E: Write>(err: &mut E, explained: Result<bool, RunFault>) -> u8
-    ensures { result ≡ explained_status explained }
-{
-    match explained {
-        Ok(true) => 0,
-        Ok(false) => 1,
-        Err(fault) => end_unrun(err, fault),
     }
 }

@@ -5,7 +5,7 @@ use Rattle.std.specs.Borrow.{Bor}
 use Rattle.slot_types.specs.declared.refusals.Refusal.{Refusal}
 use Rattle.flash_commands.specs.Acts.{PrintsAudit}
 use Rattle.flash_commands.specs.Files.{FileContents, GivesFile}
-use Rattle.flashplan.specs.Acts.{AuditsFiles, IsAuditOf, IsAudited, worse_of}
+use Rattle.tool_commands.specs.Acts.{AuditsFiles, IsAuditOf, IsAudited, worse_of}
 
 pub audit_of_printed : (text old new : Option (List ℕ)) (refused : Bool) → PrintsAudit text old new (if refused then 3 else 0)
     → IsAuditOf text refused

@@ -1,6 +1,6 @@
 use Rattle.report_texts.proofs.TextParts.{whole_is}
 use Rattle.task_script.specs.StoreRuns.{reports_of}
-use Rattle.flashplan.proofs.checkpoint_acts.print_failing.Goals as goal
+use Rattle.tool_commands.proofs.checkpoint_acts.print_failing.Goals as goal
 
 pub returns : goal.returns
 returns g c = record {

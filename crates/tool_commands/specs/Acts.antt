@@ -1,5 +1,5 @@
--- What a command says of a plan.
-use Rattle.std.specs.Prelude.{◌≡◌, ◌==◌, ◌↔◌, ◌⊎◌, List, [], ◌∷◌, ℕ, Option, Some, None, Result, Ok, Err, IfSome, take, IsTrue, Bool, true, false, ⊤}
+-- What a command prints, and its status; and what it leaves where it is refused.
+use Rattle.std.specs.Prelude.{◌≡◌, ◌==◌, ◌↔◌, ◌⊎◌, List, [], ◌∷◌, ℕ, Option, Some, None, Result, Ok, Err, IfSome, take, IsTrue, Bool, true, false, ⊤, is_none}
 use Rattle.std.specs.Borrow.{Bor}
 use Rattle.std.specs.Prelude.{if◌then◌else◌}
 use Rattle.std.specs.Io.KnownBytes.{Appends}
@@ -8,9 +8,10 @@ use Rattle.slot_types.specs.declared.refusals.Refusal.{Refusal}
 use Rattle.slot_types.specs.declared.refusals.Refusal.TheVariants.{WriteFault}
 use Rattle.plan_texts.specs.PlanReading.{IsStoreOf}
 use Rattle.text_base.specs.Readings.{IsOutside}
+use Rattle.text_base.specs.Writing.{IsNotWhole}
+use Rattle.tool_watched_runs.specs.WearText.{IsWearText}
+use Rattle.tool_commands.specs.declared.keeping.TheConstants.{KEPT}
 use Rattle.tool_plan_arrivals.specs.PlannedScripts.{IsPlannedScript}
-use Rattle.tool_plan_arrivals.specs.declared.faults.Fault.{Fault as Unplanned}
-use Rattle.tool_plan_arrivals.specs.declared.faults.Fault.TheVariants.{Refused}
 use Rattle.tool_plan_design.specs.AcceptedPlans.{IsAccepted}
 use Rattle.tool_plan_fit.specs.Fits.{IsPassingPlan}
 use Rattle.tool_plan_fit.specs.declared.faults.FitFault.{FitFault}
@@ -38,6 +39,14 @@ SaysOf text is_accepted = IfSome text (λ bytes. IsTrue is_accepted ↔ IsAccept
 abbrev pub IsHostFault : Refusal → Type 0
 IsHostFault refusal = IsOutside refusal ⊎ (refusal ≡ WriteFault)
 
+-- some text is printed whole
+abbrev pub PrintsText : Option (List ℕ) → Option (List ℕ) → Type 0
+PrintsText old new = (text : List ℕ) × Appends old new text
+
+-- what is said of a plan is printed, and whether it is accepted
+abbrev pub Explains : Option (List ℕ) → Bool → Option (List ℕ) → Option (List ℕ) → Type 0
+Explains plan is_accepted old new = SaysOf plan is_accepted × PrintsText old new
+
 -- the script of a plan's arrivals is printed: its rows keep the plans of the store that was read, with times that pass
 -- their test, so that its runs go as planned
 pub record PrintsArrivals (plan : Option (List ℕ)) (slots : ℕ) (old new : Option (List ℕ)) : Type 0 where
@@ -59,10 +68,6 @@ fit_status (Ok found) = 0
 fit_status (Err (NotFound reason)) = 3
 fit_status (Err _) = 1
 
--- a fault other than the writer's own leaves the writer as it was
-abbrev pub IsUnwritten : {W : Type 0} → W → W → Unplanned → Type 0
-IsUnwritten old new fault = (fault ≡ Refused WriteFault → ⊥) → new ≡ old
-
 -- the rows of the script that was read keep the plans of the store that was read
 pub record KeepsPlans (plan script : Option (List ℕ)) (slots : ℕ) : Type 0 where
   pub store : List DiePlan
@@ -80,6 +85,24 @@ pub record BreaksPlans (plan script : Option (List ℕ)) (slots : ℕ) : Type 0 
   pub die : ℕ
   pub breach : Breach
   pub broken : IsBrokenScript store slots text die breach
+
+-- what dies wore is printed that began fresh by the plans of the store that was read
+pub record PrintsWear (plan : Option (List ℕ)) (old new : Option (List ℕ)) : Type 0 where
+  pub store : List DiePlan
+  pub read : IsStoreOf plan store
+  pub text : List ℕ
+  pub worn : IsWearText store text
+  pub written : Appends old new text
+
+-- whether a script keeps the plans of its dies is printed: that it does, or what breaks one
+abbrev pub PrintsKept : Option (List ℕ) → Option (List ℕ) → ℕ → Bool → Option (List ℕ) → Option (List ℕ) → Type 0
+PrintsKept plan script slots true old new = KeepsPlans plan script slots × Appends old new KEPT.now
+PrintsKept plan script slots false old new = BreaksPlans plan script slots × PrintsText old new
+
+-- no plan was found for a datasheet
+abbrev pub IsUnfound : Result (Unit {0}) FitFault → Type 0
+IsUnfound (Err (NotFound reason)) = ⊤
+IsUnfound _ = ⊥
 
 -- the status of what is said of a plan and of a checkpoint
 abbrev pub explained_status : Result Bool RunFault → ℕ
@@ -120,11 +143,6 @@ AuditsFiles held [] before worst = worst ≡ before
 AuditsFiles held (name ∷ names) before worst =
     (audited : Result Bool Refusal) × IsAudited (held name.now) audited × AuditsFiles held names (worse_of before audited) worst
 
--- what is reported of a script: whether it keeps the plans
-abbrev pub SaysKept : Option (List ℕ) → Option (List ℕ) → ℕ → Bool → Type 0
-SaysKept plan script slots true = KeepsPlans plan script slots
-SaysKept plan script slots false = BreaksPlans plan script slots
-
 -- the status of what is reported of a script
 abbrev pub kept_status : Result (Option Bool) Refusal → ℕ
 kept_status (Ok (Some true)) = 0
@@ -132,20 +150,58 @@ kept_status (Ok (Some false)) = 3
 kept_status (Ok None) = 1
 kept_status (Err refusal) = 1
 
--- what is so where a command ends with 3: the plans aren't kept, or no plan was found for a datasheet, or no checkpoint may be taken; no other command does
-abbrev pub IsBroken : Command → Option (List ℕ) → Option (List ℕ) → Type 0
-IsBroken (command.Keeps plan script slots) text rows = BreaksPlans text rows slots
-IsBroken (command.Fit sheet) text rows = ⊤
-IsBroken (command.Run plan script slots from to fail) text rows = ⊤
-IsBroken _ text rows = ⊥
+-- the status of an explained plan, by whether it is accepted; and of a script, by whether it keeps its plans
+abbrev pub accepted_status : Bool → ℕ
+accepted_status is_accepted = if is_accepted then 0 else 1
 
--- what was done where a command ends with 0: an explained plan is accepted; a plan that passes is printed; arrivals are printed; the plans are kept; the report of a run
--- is printed
-abbrev pub IsDone : Command → Option (List ℕ) → Option (List ℕ) → Option (List ℕ) → Option (List ℕ) → Type 0
-IsDone (command.Explain plan from) text rows old new = SaysOf text true
-IsDone (command.Fit sheet) text rows old new = PrintsPassingPlan old new
-IsDone (command.Arrivals plan slots seed fills phases jitter load) text rows old new = PrintsArrivals text slots old new
-IsDone (command.Keeps plan script slots) text rows old new = KeepsPlans text rows slots
-IsDone (command.Run plan script slots from to None) text rows old new = PrintsRun old new
-IsDone (command.Run plan script slots from to (Some fail)) text rows old new = PrintsFailing old new
-IsDone _ text rows old new = ⊤
+abbrev pub verdict_status : Bool → ℕ
+verdict_status keeps = if keeps then 0 else 3
+
+-- this is printed of a yes, or of a no
+abbrev pub Says : (Bool → Option (List ℕ) → Option (List ℕ) → Type 0) → Option (List ℕ) → Option (List ℕ) → Type 0
+Says prints old new = (yes : Bool) × prints yes old new
+
+-- it was refused, with status 1, and nothing was written, or the writer failed before it had the whole of what is printed so
+abbrev pub IsRefused : {W : Type 0} → (W → Option (List ℕ)) → (Option (List ℕ) → Option (List ℕ) → Type 0) → W → W → ℕ → Type 0
+IsRefused contents prints old new status = IsNotWhole contents prints old new × (status ≡ 1)
+
+-- it is printed so, with status 0, or refused
+abbrev pub Ends : {W : Type 0} → (W → Option (List ℕ)) → (Option (List ℕ) → Option (List ℕ) → Type 0) → W → W → ℕ → Type 0
+Ends contents prints old new status = (prints (contents old) (contents new) × (status ≡ 0)) ⊎ IsRefused contents prints old new status
+
+-- it is printed so of a yes or of a no, with the status of that, or refused
+abbrev pub EndsSaying : {W : Type 0} → (W → Option (List ℕ)) → (Bool → Option (List ℕ) → Option (List ℕ) → Type 0) → (Bool → ℕ) → W → W → ℕ
+    → Type 0
+EndsSaying contents prints status_of old new status =
+    ((yes : Bool) × prints yes (contents old) (contents new) × (status ≡ status_of yes)) ⊎ IsRefused contents (Says prints) old new status
+
+-- a plan that passes is printed, or refused; or none was found, and nothing written
+abbrev pub EndsFit : {W : Type 0} → (W → Option (List ℕ)) → W → W → ℕ → Type 0
+EndsFit contents old new status = Ends contents PrintsPassingPlan old new status ⊎ ((new ≡ old) × (status ≡ 3))
+
+-- the status of a run whose report is printed: where a checkpoint of its end is wanted, that may fail, or none may be taken
+abbrev pub IsRunStatus : Bool → ℕ → Type 0
+IsRunStatus alone status = (status ≡ 0) ⊎ ((alone ≡ false) × ((status ≡ 1) ⊎ (status ≡ 3)))
+
+-- the report of a run is printed, alone or with a checkpoint, or it is refused
+abbrev pub EndsRun : {W : Type 0} → (W → Option (List ℕ)) → Bool → W → W → ℕ → Type 0
+EndsRun contents alone old new status =
+    (PrintsRun (contents old) (contents new) × IsRunStatus alone status) ⊎ IsRefused contents PrintsRun old new status
+
+-- how a command ends
+abbrev pub EndsSo : {W : Type 0} → (W → Option (List ℕ)) → Command → Option (List ℕ) → Option (List ℕ) → W → W → ℕ → Type 0
+EndsSo contents (command.Explain plan from) text rows old new status = EndsSaying contents (Explains text) accepted_status old new status
+EndsSo contents (command.Fit sheet) text rows old new status = EndsFit contents old new status
+EndsSo contents (command.Arrivals plan slots seed fills phases jitter load) text rows old new status =
+    Ends contents (PrintsArrivals text slots) old new status
+EndsSo contents (command.Keeps plan script slots) text rows old new status =
+    EndsSaying contents (PrintsKept text rows slots) verdict_status old new status
+EndsSo contents (command.Wear plan script slots) text rows old new status = Ends contents (PrintsWear text) old new status
+EndsSo contents (command.Report plan script slots endurance slot_us as_csv fail) text rows old new status =
+    Ends contents PrintsText old new status
+EndsSo contents (command.Draw plan script slots die first end worst as_text fail) text rows old new status =
+    Ends contents PrintsText old new status
+EndsSo contents (command.Compare plan script slots first pool as_csv draws die task) text rows old new status =
+    Ends contents PrintsText old new status
+EndsSo contents (command.Run plan script slots from to None) text rows old new status = EndsRun contents (is_none to) old new status
+EndsSo contents (command.Run plan script slots from to (Some fail)) text rows old new status = Ends contents PrintsFailing old new status

@@ -1,11 +1,12 @@
 //! Commands on several files of a kind.
 
-ghost use Rattle.std.specs.Prelude.{◌≡◌, ◌≢◌, IfErr, IfOk};
+ghost use Rattle.std.specs.Prelude.{◌≡◌, ◌≢◌, ◌⊎◌, IfErr, IfOk};
 ghost use Rattle.flash_commands.specs.Acts.{RefusesAudit};
-ghost use Rattle.flashplan.specs.Acts.{AuditsFiles, IsAuditOf, IsAudited, worse_of};
+ghost use Rattle.tool_commands.specs.Acts.{AuditsFiles, Ends, IsAuditOf, IsAudited, PrintsText, worse_of};
+ghost use Rattle.text_base.specs.Writing.{IsNotWhole};
 ghost use Rattle.slot_types.specs.Refusal.{FailsForMemory};
 
-use crate::acts::end_refused;
+use crate::endings::end_refused;
 use flash_commands::Folder;
 use flash_commands::acts::print_audit;
 use slot_types::Refusal;
@@ -87,6 +88,8 @@ pub fn act_audits<D: Folder, W: Write, E: Write>(
     err: &mut E,
 ) -> u8
     ensures worst { result ≢ 1 → AuditsFiles (D.held folder.now) names.now 0 result }
+    ensures printed { PrintsText (W.contents out.old) (W.contents out.new)
+        ⊎ (IsNotWhole W.contents PrintsText out.old out.new × (result ≡ 1)) }
 {
     let mut text = Vec::new(alloc);
     let mut status = 0;
@@ -135,8 +138,8 @@ fn imported<D: Folder>(
 }
 
 /// Prints the script of traces, a die each, or their plan, as [`import`](tool_trace_import::import) makes it, whole.
-/// Answers the status, and tells why traces aren't taken; of several, which one is at fault. A writer of `err` that
-/// fails is passed over.
+/// Answers the status: 0, or 1 where something was refused, which is reported, of several traces with the name of the
+/// one at fault: nothing was written then, or not the whole.
 pub fn act_imports<D: Folder, W: Write, E: Write>(
     alloc: Global,
     folder: &D,
@@ -146,7 +149,7 @@ pub fn act_imports<D: Folder, W: Write, E: Write>(
     out: &mut W,
     err: &mut E,
 ) -> u8
-    ensures { result ≢ 3 }
+    ensures { Ends W.contents PrintsText out.old out.new result }
 {
     let made = if as_plan { Made::Plan } else { Made::Script };
     match imported(alloc, folder, names, measure, made) {

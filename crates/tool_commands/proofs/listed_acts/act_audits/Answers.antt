@@ -1,7 +1,7 @@
 use Rattle.std.proofs.Common.{arith, refl, subst, sym}
 use Rattle.std.proofs.lemmas.List.{drop_all, drop_more}
-use Rattle.flashplan.specs.Acts.{AuditsFiles}
-use Rattle.flashplan.proofs.listed_acts.act_audits.Goals as goal
+use Rattle.tool_commands.specs.Acts.{AuditsFiles}
+use Rattle.tool_commands.proofs.listed_acts.act_audits.Goals as goal
 
 pub loop-name-preserved : goal.loop-name-preserved
 loop-name-preserved g c = λ worst rest. c.loop-name.invariant worst (

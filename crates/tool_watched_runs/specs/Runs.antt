@@ -1,0 +1,17 @@
+-- Dies that run.
+use Rattle.std.specs.Prelude.{List, map, Box, box_value}
+use Rattle.die_log.specs.Model.Start.{Start}
+use Rattle.tool_watched_runs.specs.Wear.{Worn}
+use Rattle.tool_watched_runs.specs.declared.die_runs.DieRun.{DieRun}
+
+-- where the logs of dies start
+abbrev pub starts_of : List (Box DieRun) → List Start
+starts_of dies = map (λ (run : Box DieRun). (box_value (box_value run).core).start) dies
+
+-- what a die that runs wore so far
+abbrev pub worn_of : Box DieRun → Worn
+worn_of run = record {
+  start = (box_value (box_value run).core).start;
+  log = (box_value (box_value run).core).log;
+  tally = (box_value run).tally;
+}
