@@ -40,7 +40,7 @@ fn carry_out<R: Files + Clock + Eprint, W: Write, E: Write + Drop>(
     let shelf = DiskShelf::new(rt, alloc);
     let status = act_asked(alloc, &folder, &shelf, asked, out, &mut heard);
     if is_terminal {
-        report_more(rt, more, heard.lines(), texts_of(&asked.request));
+        report_more(rt, more, heard.lines(), texts_of(asked));
     }
     status
 }

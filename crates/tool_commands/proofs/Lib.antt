@@ -1,1 +1,3 @@
 mod Audits
+mod Endings
+mod Opened

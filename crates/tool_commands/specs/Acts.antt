@@ -27,7 +27,6 @@ use Rattle.report_texts.specs.declared.reports.DieReport.{DieReport}
 use Rattle.report_texts.specs.ReportText.{report_text}
 use Rattle.slot_core.specs.Core.{Core}
 use Rattle.task_script.specs.StoreRuns.{reports_of}
-use Rattle.tool_checkpoint_runs.specs.declared.faults.RunFault.{RunFault}
 use Rattle.tool_command_words.specs.declared.asked.Command.{Command}
 use Rattle.tool_command_words.specs.declared.asked.Command.TheVariants as command
 
@@ -104,8 +103,8 @@ abbrev pub IsUnfound : Result (Unit {0}) FitFault → Type 0
 IsUnfound (Err (NotFound reason)) = ⊤
 IsUnfound _ = ⊥
 
--- the status of what is said of a plan and of a checkpoint
-abbrev pub explained_status : Result Bool RunFault → ℕ
+-- the status of what is said of a plan, or of why nothing is
+abbrev pub explained_status : {E : Type 0} → Result Bool E → ℕ
 explained_status (Ok true) = 0
 explained_status (Ok false) = 1
 explained_status (Err fault) = 1

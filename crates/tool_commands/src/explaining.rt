@@ -65,8 +65,19 @@ fn print_explained_from<P: Read + Drop, C: Read + Drop, W: Write>(
     Ok(explained.is_accepted)
 }
 
-/// Answers the status of what is said of a plan, and reports why nothing is said of it. A writer that fails is passed
-/// over.
+/// Answers the status of what is said of a plan, and reports why nothing is. A writer that fails is passed over.
+fn end_said<E: Write>(err: &mut E, said: Result<bool, Refusal>) -> u8
+    ensures { result ≡ explained_status said }
+{
+    match said {
+        Ok(true) => 0,
+        Ok(false) => 1,
+        Err(refusal) => end_refused(err, refusal),
+    }
+}
+
+/// Answers the status of what is said of a plan and of a checkpoint, and reports why nothing is. A writer that fails is
+/// passed over.
 fn end_explained<E: Write>(err: &mut E, explained: Result<bool, RunFault>) -> u8
     ensures { result ≡ explained_status explained }
 {
@@ -80,6 +91,7 @@ fn end_explained<E: Write>(err: &mut E, explained: Result<bool, RunFault>) -> u8
 /// Prints what is said of a plan, and of a checkpoint of its dies if there is one, whole. Answers the status: 0 where the
 /// plan is accepted, and 1 where it isn't, or where something was refused, which is reported; nothing was written then,
 /// or not the whole.
+#[tactic(auto, using(crate::proofs::Endings::ends_explained))]
 pub fn act_explain<P: Read + Drop, C: Read + Drop, W: Write, E: Write>(
     alloc: Global,
     plan: P,
@@ -95,10 +107,9 @@ pub fn act_explain<P: Read + Drop, C: Read + Drop, W: Write, E: Write>(
             let explained = print_explained_from(alloc, plan, from, out);
             end_explained(err, explained)
         }
-        None => match print_explained(alloc, plan, out) {
-            Ok(true) => 0,
-            Ok(false) => 1,
-            Err(refusal) => end_refused(err, refusal),
-        },
+        None => {
+            let said = print_explained(alloc, plan, out);
+            end_said(err, said)
+        }
     }
 }

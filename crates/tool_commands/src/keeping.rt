@@ -21,7 +21,7 @@ const TIMES_WANTED: &str =
     "keeps wants a plan with times (version 2) that is accepted: flashplan explain says more";
 
 /// What is printed of a script that keeps the plans of its dies.
-const KEPT: &[u8] = b"the script keeps the plan of each die\n";
+pub const KEPT: &[u8] = b"the script keeps the plan of each die\n";
 
 /// Prints whether a script keeps the plans of its dies, and says whether it does; none where it doesn't, and no
 /// condition was found that doesn't hold, which is a fault of this program.
@@ -82,6 +82,7 @@ fn end_kept<E: Write>(err: &mut E, kept: Result<Option<bool>, Refusal>) -> u8
 /// Prints whether a script keeps the plans of its dies, whole, or what breaks one. Answers the status: 0 where it keeps
 /// them, 3 where it doesn't, 1 where something was refused, which is reported: nothing was written then, or not the
 /// whole.
+#[tactic(auto, using(crate::proofs::Endings::ends_kept))]
 pub fn act_keeps<P: Read + Drop, S: Read + Drop, W: Write, E: Write>(
     alloc: Global,
     plan: P,

@@ -1,6 +1,8 @@
 //! Requests that are carried out on the files that they name.
 
-ghost use Rattle.tool_command_words.specs.Asked.{FitsRun, RequestFits};
+ghost use Rattle.std.specs.Prelude.{◌≡◌, IfErr, IfOk};
+ghost use Rattle.tool_command_words.specs.Asked.{FitsRun, RequestFits, name_of};
+ghost use Rattle.tool_commands.specs.Files.{EndsOnFiles, IsOpened, plan_name, script_name};
 
 use crate::acts::act;
 use crate::checkpoint_acts::{Kept, Shelf};
@@ -14,7 +16,10 @@ use tool_command_words::{Asked, Command, ListCommand, Request};
 use tool_trace_import::Measure;
 
 /// The files of a command: the first one, the script, and the checkpoint.
-fn files_of<'a>(command: Command<'a>) -> (&'a str, Option<&'a str>, Option<&'a str>) {
+fn files_of<'a>(command: Command<'a>) -> (&'a str, Option<&'a str>, Option<&'a str>)
+    ensures plan { result.0.now ≡ plan_name command.entry }
+    ensures script { name_of result.1 ≡ script_name command.entry }
+{
     match command {
         Command::Explain { plan, from } => (plan, None, from),
         Command::Fit { sheet: plan } | Command::Arrivals { plan, .. } => (plan, None, None),
@@ -32,8 +37,25 @@ fn files_of<'a>(command: Command<'a>) -> (&'a str, Option<&'a str>, Option<&'a s
     }
 }
 
-/// The files of a request, by what they have, which a terminal is shown where one is at fault.
-pub fn texts_of<'a>(request: &'a Request<'a>) -> Texts<'a> {
+/// The file that gets what is printed; none where that is standard output.
+fn output_of<'a>(asked: &Asked<'a>) -> Option<&'a str> {
+    if asked.output == "-" {
+        None
+    } else {
+        Some(asked.output)
+    }
+}
+
+/// The files of what is asked for, by what they have, which a terminal is shown where one is at fault.
+pub fn texts_of<'a>(asked: &'a Asked<'a>) -> Texts<'a> {
+    Texts {
+        output: output_of(asked),
+        ..files_read(&asked.request)
+    }
+}
+
+/// The files of a request that are read, by what they have.
+fn files_read<'a>(request: &'a Request<'a>) -> Texts<'a> {
     match request {
         Request::One(Command::Fit { sheet }) => Texts {
             sheet: Some(*sheet),
@@ -74,15 +96,20 @@ pub fn slots_of(request: &Request<'_>) -> Option<u32> {
     }
 }
 
-/// Opens a file that needn't be named.
-fn open_named<D: Folder>(folder: &D, name: Option<&str>) -> Result<Option<D::Reader>, Refusal> {
+/// Opens a file that needn't be named. The only refusal is ReadFault.
+fn open_named<D: Folder>(folder: &D, name: Option<&str>) -> Result<Option<D::Reader>, Refusal>
+    ensures opened { IfOk result
+        (IsOpened D.Reader.remaining (D.held folder.now) (name_of name.entry)) }
+    ensures refused { IfErr result (λ refusal. refusal ≡ Refusal.ReadFault) }
+{
     match name {
         Some(name) => Ok(Some(folder.open(name)?)),
         None => Ok(None),
     }
 }
 
-/// Carries out a command on the files that it names, which are opened before any of them is read.
+/// Carries out a command on the files that it names, which are opened before any of them is read. ReadFault, and nothing
+/// is written, where one can't be opened, or standard input stands for two.
 fn act_on_files<D: Folder, K: Shelf, W: Write, E: Write>(
     alloc: Global,
     folder: &D,
@@ -92,6 +119,10 @@ fn act_on_files<D: Folder, K: Shelf, W: Write, E: Write>(
     err: &mut E,
 ) -> Result<u8, Refusal>
     requires { FitsRun command }
+    ensures ended { IfOk result
+        (EndsOnFiles W.contents (D.held folder.now) command.entry out.old out.new) }
+    ensures refused { IfErr result (λ refusal. refusal ≡ Refusal.ReadFault) }
+    ensures unwritten { IfErr result (λ _. out.new ≡ out.old) }
 {
     let (plan, script, from) = files_of(command);
     if inputs_in(&[Some(plan), script, from]) > 1 {
@@ -107,7 +138,8 @@ fn act_on_files<D: Folder, K: Shelf, W: Write, E: Write>(
     }
 }
 
-/// Carries out a command on several files, each of which is opened at its turn.
+/// Carries out a command on several files, each of which is opened at its turn. ReadFault, and nothing is written, where
+/// standard input stands for two.
 fn act_on_list<D: Folder, W: Write, E: Write>(
     alloc: Global,
     folder: &D,
@@ -115,7 +147,10 @@ fn act_on_list<D: Folder, W: Write, E: Write>(
     names: &[&str],
     out: &mut W,
     err: &mut E,
-) -> Result<u8, Refusal> {
+) -> Result<u8, Refusal>
+    ensures refused { IfErr result (λ refusal. refusal ≡ Refusal.ReadFault) }
+    ensures unwritten { IfErr result (λ _. out.new ≡ out.old) }
+{
     if inputs_among(names) > 1 {
         return Err(Refusal::ReadFault);
     }
@@ -132,7 +167,8 @@ fn act_on_list<D: Folder, W: Write, E: Write>(
     })
 }
 
-/// Carries out what is asked for. ReadFault where a file can't be opened, or standard input stands for two.
+/// Carries out what is asked for. ReadFault, and nothing is written, where a file can't be opened, or standard input
+/// stands for two.
 fn act_on<D: Folder, K: Shelf, W: Write, E: Write>(
     alloc: Global,
     folder: &D,
@@ -142,6 +178,8 @@ fn act_on<D: Folder, K: Shelf, W: Write, E: Write>(
     err: &mut E,
 ) -> Result<u8, Refusal>
     requires { RequestFits request.now }
+    ensures refused { IfErr result (λ refusal. refusal ≡ Refusal.ReadFault) }
+    ensures unwritten { IfErr result (λ _. out.new ≡ out.old) }
 {
     match request {
         Request::One(command) => act_on_files(alloc, folder, shelf, *command, out, err),

@@ -1,12 +1,13 @@
 //! Scripts that are run, row by row, on dies whose devices are in memory.
 
-ghost use Rattle.std.specs.Prelude.{◌≡◌, ◌<◌, ◌≤◌, ◌⊎◌, true, All, length, map, IfOk, IfErr, IfSome, OnOk};
+ghost use Rattle.std.specs.Prelude.{◌≡◌, ◌<◌, ◌≤◌, ◌⊎◌, ◌++◌, ◌∷◌, [], true, All, length, map, IfOk, IfErr, IfSome, OnOk};
 ghost use Rattle.std.specs.Box.{box_value};
 ghost use Rattle.plan_rules.specs.Bound.{MeetsBound};
 ghost use Rattle.die_log.specs.Model.Log.{now};
 ghost use Rattle.die_log.specs.Model.Start.{fresh};
-ghost use Rattle.tool_watched_runs.specs.Runs.{starts_of, worn_of};
-ghost use Rattle.tool_watched_runs.specs.Wear.{IsWorn, Worn};
+ghost use Rattle.slot_types.specs.Refusal.{FailsForMemory};
+ghost use Rattle.tool_watched_runs.specs.Runs.{start_of, starts_of, worn_of};
+ghost use Rattle.tool_watched_runs.specs.Wear.{IsWorn};
 ghost use Rattle.tool_watched_runs.specs.WearText.{IsWearText};
 
 use crate::die_runs::DieRun;
@@ -45,6 +46,15 @@ impl Sights {
     };
 }
 
+/// Adds a die. The only refusal is NoMemory.
+fn push_run(dies: &mut Vec<Box<DieRun>>, run: Box<DieRun>) -> Result<(), Refusal>
+    ensures ok { OnOk result (dies.new.items ≡ dies.old.items ++ run ∷ []) }
+    ensures refused { FailsForMemory result }
+{
+    dies.push(run)?;
+    Ok(())
+}
+
 /// A fresh die for each plan, on a device that makes all calls well, but for one that is to fail. The only refusal is
 /// NoMemory.
 pub fn fresh_dies(
@@ -60,7 +70,7 @@ pub fn fresh_dies(
     for plan in plan.into_vec() {
         let calls = calls_of(fail, die);
         let run = DieRun::boxed(alloc, die, plan, calls, Window::new(alloc, 0, 0))?;
-        dies.push(run)?;
+        push_run(&mut dies, run)?;
         die = die.saturating_add(1);
     }
     Ok(dies)
@@ -75,17 +85,26 @@ pub fn failure_of(fail: Option<FailAt>, dies: &[Box<DieRun>]) -> Option<Failure>
     Some(failure_in(at, &run.core))
 }
 
-/// Carries a die to a slot, or to the one in which its device fails. The only refusal is NoMemory.
-fn carry(alloc: Global, run: &mut DieRun, slot: u32) -> Result<(), Refusal>
-    ensures start { (box_value run.new.core).start ≡ (box_value run.old.core).start }
-    ensures die { run.new.die ≡ run.old.die }
-    ensures slot { OnOk result (now (box_value run.old.core).log ≤ slot
-        → (now (box_value run.new.core).log ≡ slot) ⊎ ((box_value run.new.core).stopped ≡ true)) }
+/// Carries a die to a slot, or to the one in which its device fails. The only refusal is NoMemory. It is lent with its
+/// box, as the list has it.
+fn carry(alloc: Global, run: &mut Box<DieRun>, slot: u32) -> Result<(), Refusal>
+    ensures start { start_of run.new ≡ start_of run.old }
+    ensures die { (box_value run.new).die ≡ (box_value run.old).die }
+    ensures slot { OnOk result (now (box_value (box_value run.old).core).log ≤ slot
+        → (now (box_value (box_value run.new).core).log ≡ slot)
+        ⊎ ((box_value (box_value run.new).core).stopped ≡ true)) }
 {
     match run.carry_to(alloc, slot) {
         Err(_) if run.core.is_stopped() => Ok(()),
         carried => carried,
     }
+}
+
+/// Asks a die for what a row says, and answers why it was refused, if it was.
+fn ask(alloc: Global, run: &mut Box<DieRun>, event: Event) -> Option<Refusal>
+    ensures start { start_of run.new ≡ start_of run.old }
+{
+    run.ask(alloc, event)
 }
 
 /// Carries a die to a slot, as [`carry`] does.
@@ -114,8 +133,9 @@ fn carry_row(
     ensures starts { starts_of dies.new.items ≡ starts_of dies.old.items }
     ensures count { length dies.new.items ≡ length dies.old.items }
 {
-    carry_die(alloc, dies, place, at)?;
-    Ok(dies[place].ask(alloc, event))
+    let run = &mut dies[place];
+    carry(alloc, run, at)?;
+    Ok(ask(alloc, run, event))
 }
 
 /// Carries each die to a slot, as [`carry`] does.
@@ -167,6 +187,15 @@ fn tally_of(run: Box<DieRun>) -> Tally
     tally
 }
 
+/// Adds what a die wore. The only refusal is NoMemory.
+fn push_tally(tallies: &mut Vec<Tally>, tally: Tally) -> Result<(), Refusal>
+    ensures ok { OnOk result (tallies.new.items ≡ tallies.old.items ++ tally ∷ []) }
+    ensures refused { FailsForMemory result }
+{
+    tallies.push(tally)?;
+    Ok(())
+}
+
 /// What dies wore.
 fn tallies_of(alloc: Global, dies: Vec<Box<DieRun>>) -> Result<Vec<Tally>, Refusal>
     ensures tallies { IfOk result (λ tallies.
@@ -175,7 +204,7 @@ fn tallies_of(alloc: Global, dies: Vec<Box<DieRun>>) -> Result<Vec<Tally>, Refus
 {
     let mut tallies = Vec::new(alloc);
     for run in dies {
-        tallies.push(tally_of(run))?;
+        push_tally(&mut tallies, tally_of(run))?;
     }
     Ok(tallies)
 }
