@@ -1,5 +1,5 @@
-//! Plays tables of command lines: carries each out on the files of the folder, as `flashrec` does, and compares what it
-//! prints, what it tells of a refusal, and its status, with what is wanted.
+//! Plays tables of command lines: carries each out on the files of the folder, as `flashrec` and `flashplan` do, and
+//! compares what it prints, what it reports of a refusal, and its status, with what is wanted.
 //!
 //! `examples TABLE ..` prints each play that ended otherwise, and how many there were; it ends with 1 where one did.
 //! README.md has what a table's lines are.
@@ -8,6 +8,8 @@
 mod changes;
 mod folders;
 mod plays;
+mod programs;
+mod shelves;
 mod tables;
 
 use std::alloc::Global;

@@ -1,59 +1,11 @@
-//! A command line that is carried out, and what is wanted of it.
+//! What is wanted of a command line.
 
 use crate::changes::meant;
-use flash_commands::{Fault, Folder, act, end, open, read_words};
-use std::alloc::{AllocError, Global};
+use crate::programs::Ended;
+use std::alloc::Global;
 use std::io::Write;
 use std::rt::Files;
-use std::sync::Wait;
-use std::thread::Threads;
 use std::{fs, io};
-
-/// What a command line printed, what it told, and its status.
-#[derive(Drop)]
-pub(crate) struct Ended {
-    out: Vec<u8>,
-    err: Vec<u8>,
-    status: u8,
-}
-
-/// The words of a line.
-fn words_in(alloc: Global, line: &str) -> Result<Vec<String>, AllocError> {
-    let mut words = Vec::new(alloc);
-    for word in line.split(' ') {
-        words.push(String::from_str(alloc, word)?)?;
-    }
-    Ok(words)
-}
-
-/// Shows what clap answers in place of a command, on the stream that it is for, and answers the status.
-fn show<W: Write, E: Write>(out: &mut W, err: &mut E, error: clap::Error) -> io::Result<u8> {
-    if error.use_stderr() {
-        write!(err, "{error}")?;
-        return Ok(Fault::Words(error).status());
-    }
-    write!(out, "{error}")?;
-    Ok(0)
-}
-
-/// Carries out a command line on the files of a folder.
-pub(crate) fn carry_out<R: Threads + Wait + Sync, D: Folder>(
-    rt: &R,
-    alloc: Global,
-    folder: &D,
-    line: &str,
-) -> io::Result<Ended> {
-    let words = words_in(alloc, line)?;
-    let (mut out, mut err) = (Vec::new(alloc), Vec::new(alloc));
-    let status = match read_words(alloc, words.as_slice()) {
-        Ok(command) => match open(folder, command) {
-            Ok((first, second)) => act(rt, alloc, command, first, second, &mut out, &mut err),
-            Err(refusal) => end(&mut err, Err(Fault::Refused(refusal))),
-        },
-        Err(error) => show(&mut out, &mut err, error)?,
-    };
-    Ok(Ended { out, err, status })
-}
 
 /// What is wanted of a play: a status, a text on standard output and one on standard error.
 #[derive(Clone, Copy, Drop)]

@@ -2,7 +2,8 @@
 
 use crate::changes::changed;
 use crate::folders::Changed;
-use crate::plays::{Wanted, carry_out, wanted_in};
+use crate::plays::{Wanted, wanted_in};
+use crate::programs::carry_out;
 use std::alloc::Global;
 use std::io::Write;
 use std::rt::Files;

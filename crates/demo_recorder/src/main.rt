@@ -1,8 +1,10 @@
 //! A recorder of its own: a device that counts and wears out, two tasks and a timer on threads of their own, six lives
-//! of each die with a shutdown in between, and what became of all that.
+//! of each die with a shutdown in between, and what became of all that. `demo_recorder REPORT` also writes the last life
+//! as a report.
 #![tactic(auto)]
 
 mod dies;
+mod last_report;
 mod lives;
 mod nand;
 mod plan;
@@ -16,6 +18,7 @@ ghost use Rattle.std.specs.Prelude.{◌≡◌, map, All, IfOk};
 ghost use Rattle.die_service.specs.Stores.{IsAtStart};
 
 use crate::dies::run_dies;
+use crate::last_report::write_report;
 use crate::lives::{closed, renewed, reopened};
 use crate::plan::{Device, new_store};
 use crate::report::{print_life, print_wear, written};
@@ -23,9 +26,13 @@ use crate::shutdown::restart_each;
 use crate::stops::Stop;
 use die_service::{DiePass, Store};
 use slot_core::DieCore;
+use slot_types::Refusal;
 use std::alloc::Global;
+use std::env;
+use std::env::Env;
 use std::io::Write;
 use std::process::ExitCode;
+use std::rt::Files;
 use std::sync::Wait;
 use std::thread::Threads;
 
@@ -81,18 +88,31 @@ fn live_on<R: Threads + Wait + Sync, W: Write>(
     live(rt, alloc, out, store, passes, life)
 }
 
-/// Makes the store, lets its dies live, and prints how worn they are.
-fn record<R: Threads + Wait + Sync, W: Write>(
+/// The words after the program's name.
+fn words_after<R: Env>(rt: &R, alloc: Global) -> Result<Vec<String>, Refusal> {
+    match env::args(&(rt, alloc)).and_then(|words| Ok(words.skip(1).collect(alloc)?)) {
+        Ok(words) => Ok(words),
+        Err(_) => Err(Refusal::ReadFault),
+    }
+}
+
+/// Makes the store, lets its dies live, prints how worn they are, and writes the report of the last life into the file
+/// that is named, if one is.
+fn record<R: Env + Files + Threads + Wait + Sync, W: Write>(
     rt: &R,
     alloc: Global,
     out: &mut W,
 ) -> Result<(), Stop> {
+    let words = words_after(rt, alloc)?;
     let (store, passes) = new_store(alloc)?;
     let mut dies = live(rt, alloc, out, store, passes, 1)?;
     for life in 2..=LIVES {
         dies = live_on(rt, alloc, out, dies, life)?;
     }
     written(print_wear(out, dies.as_slice()))?;
+    if let Some(name) = words.first() {
+        write_report(rt, alloc, name.as_str(), dies.as_slice())?;
+    }
     Ok(())
 }
 

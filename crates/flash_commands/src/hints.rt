@@ -18,6 +18,8 @@ pub struct Texts<'a> {
     /// Reports whose refusals are reported each with its name in front, as `monday.csv: error 20 ReportText 3`.
     pub reports: &'a [&'a str],
     pub traces: &'a [&'a str],
+    /// The file that gets what a command prints.
+    pub output: Option<&'a str>,
 }
 
 impl Texts<'_> {
@@ -30,6 +32,7 @@ impl Texts<'_> {
         report: None,
         reports: &[],
         traces: &[],
+        output: None,
     };
 }
 
@@ -131,9 +134,27 @@ fn report_plan<W: Write>(err: &mut W, plan: Option<&str>) {
     }
 }
 
+/// Tells of a datasheet what says its form. A writer that fails is passed over.
+fn report_sheet<W: Write>(err: &mut W, sheet: Option<&str>) {
+    if let Some(sheet) = sheet {
+        let shown = shown_name(sheet);
+        let _ = writeln!(err, "{shown}: {FORM}");
+    }
+}
+
+/// Tells which file couldn't be written. A writer that fails is passed over.
+fn report_output<W: Write>(err: &mut W, output: Option<&str>) {
+    if let Some(output) = output {
+        let _ = writeln!(
+            err,
+            "{output}: it stays as it was, since {output}.part beside it can't be written, or not take its name"
+        );
+    }
+}
+
 /// Tells where a trace's line is, and what to do. A writer that fails is passed over.
-fn report_trace<W: Write>(err: &mut W, traces: &[&str], line: &str) {
-    if let (Some(trace), Some(number)) = (traces.first(), line.strip_suffix(':')) {
+fn report_trace<W: Write>(err: &mut W, trace: Option<&str>, line: &str) {
+    if let (Some(trace), Some(number)) = (trace, line.strip_suffix(':')) {
         let shown = shown_name(trace);
         let _ = writeln!(
             err,
@@ -143,8 +164,8 @@ fn report_trace<W: Write>(err: &mut W, traces: &[&str], line: &str) {
 }
 
 /// The first words of a line; empty where there are fewer.
-fn words_in(line: &str) -> [&str; 6] {
-    let mut words = [""; 6];
+fn words_in(line: &str) -> [&str; 7] {
+    let mut words = [""; 7];
     let mut count: usize = 0;
     for word in line.split_ascii_whitespace() {
         if let Some(place) = words.get_mut(count) {
@@ -162,13 +183,19 @@ fn report_line<R: Files, W: Write>(files: &R, err: &mut W, line: &str, texts: Te
         ["error", "19", _, record, ..] => report_record(files, err, texts.script, record, FORM),
         ["error", "20", _, record, ..] => report_record(files, err, texts.report, record, FORM),
         ["error", "21", ..] => report_files(files, err, texts),
-        ["refused", _, "first", "line", record, _] => {
+        ["error", "22", _, "", ..] => report_output(err, texts.output),
+        ["refused", _, "first", "line", record, ..] => {
             report_record(files, err, texts.script, record, REFUSALS);
         }
-        ["error:", "the", "checkpoint,", "record", record, _] => {
-            report_record(files, err, texts.checkpoint, record, FORM);
+        ["error:", "the", "checkpoint,", "record", record, ..]
+        | ["error:", "the", "checkpoint,", "die", _, "record", record] => {
+            let number = record.strip_suffix(':').unwrap_or(record);
+            report_record(files, err, texts.checkpoint, number, FORM);
         }
-        ["error:", "line", line, ..] => report_trace(err, texts.traces, line),
+        ["error:", "the", "datasheet", ..] | ["error:", "[[task]]", ..] => {
+            report_sheet(err, texts.sheet);
+        }
+        ["error:", "line", line, ..] => report_trace(err, texts.traces.first().copied(), line),
         _ => {}
     }
 }
@@ -178,12 +205,27 @@ fn of_report<'a>(line: &'a str, report: &str) -> Option<&'a str> {
     line.strip_prefix(report)?.strip_prefix(": ")
 }
 
+/// Tells more of a line that reported what is wrong in one of several traces, as `error: a.log: line 3: ..`.
+fn report_named_trace<W: Write>(err: &mut W, line: &str, trace: &str) {
+    let Some(named) = line.strip_prefix("error: ") else {
+        return;
+    };
+    if let Some(of_it) = of_report(named, trace)
+        && let ["line", number, ..] = words_in(of_it)
+    {
+        report_trace(err, Some(trace), number);
+    }
+}
+
 /// Tells more of what was reported of a command, line by line: of each refusal the file, the place in it, and what to
 /// do; of files that can't be opened why. It is meant for a terminal, which has shown the report. Files are opened once
 /// more, but for pipes, and read up to the place. A writer that fails is passed over.
 pub fn report_more<R: Files, W: Write>(files: &R, err: &mut W, said: &str, texts: Texts<'_>) {
     for line in said.lines() {
         report_line(files, err, line, texts);
+        for trace in texts.traces {
+            report_named_trace(err, line, trace);
+        }
         for name in texts.reports {
             if let Some(of_it) = of_report(line, name) {
                 let report = Some(*name);

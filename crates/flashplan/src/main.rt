@@ -1,160 +1,65 @@
 //! The program `flashplan`.
 #![tactic(auto)]
 
-mod acts;
-mod checkpoint_acts;
-mod commands;
-mod number_faults;
-mod syntax;
 mod whole_files;
 
-ghost use Rattle.flashplan.specs.Commands.{FitsRun};
+ghost use Rattle.tool_command_words.specs.Asked.{RequestFits};
 
-use acts::act;
-use checkpoint_acts::{Kept, Shelf};
-use commands::{Asked, Command, read_words};
-use flash_commands::{Disk, Fault, Folder, end, show, words_of};
-use slot_types::Refusal;
+use flash_commands::{Heard, Shown, WatchedDisk, end, own_words, report_more, show};
 use std::alloc::Global;
-use std::env::Env;
-use std::fs::Files;
-use std::io;
-use std::io::Write;
+use std::io::{IsTerminal, Write};
 use std::process::ExitCode;
+use std::rt::{Clock, Files};
+use tool_command_words::{Asked, read_words};
+use tool_commands::{act_asked, slots_of, texts_of};
 use whole_files::DiskShelf;
 
-/// The file of a name: `-` is standard input.
-fn file_of(name: &str) -> &str {
-    if name == "-" { "/dev/stdin" } else { name }
-}
-
-/// Whether two files of a command are standard input, which is read once.
-fn are_both_input(names: &[Option<&str>]) -> bool {
-    let mut inputs: u32 = 0;
-    for name in names {
-        if *name == Some("-") {
-            inputs = inputs.saturating_add(1);
-        }
-    }
-    inputs > 1
-}
-
-/// Opens a file that needn't be named.
-fn open_named<D: Folder>(folder: &D, name: Option<&str>) -> Result<Option<D::Reader>, Refusal> {
-    match name {
-        Some(name) => Ok(Some(folder.open(file_of(name))?)),
-        None => Ok(None),
+/// What is shown of the files that are read: on a terminal, of a script, how far it is run.
+fn shown_of(asked: &Asked<'_>, is_terminal: bool) -> Shown {
+    match slots_of(&asked.request) {
+        Some(all) if is_terminal && !asked.quiet => Shown::Slots { all },
+        _ => Shown::Nothing,
     }
 }
 
-/// Carries out a command on the files that it names, which are opened before any of them is read.
-fn act_on<D: Folder, K: Shelf, W: Write, E: Write>(
+/// Carries out what is asked for on the files of the system, and answers the status. `more` gets, where that is a
+/// terminal, what it is shown beside what `err` gets.
+fn carry_out<R: Files + Clock + Eprint, W: Write, E: Write + Drop>(
+    rt: &R,
     alloc: Global,
-    folder: &D,
-    shelf: &K,
-    command: Command<'_>,
+    asked: &Asked<'_>,
+    is_terminal: bool,
     out: &mut W,
-    err: &mut E,
-) -> Result<u8, Refusal>
-    requires { FitsRun command }
+    err: E,
+    more: &mut E,
+) -> u8
+    requires { RequestFits asked.now.request }
 {
-    let (plan, script, from) = match command {
-        Command::Explain { plan, from } => (plan, None, from),
-        Command::Fit { sheet: plan }
-        | Command::Arrivals { plan, .. }
-        | Command::Import { trace: plan, .. } => (plan, None, None),
-        Command::Keeps { plan, script, .. }
-        | Command::Wear { plan, script, .. }
-        | Command::Report { plan, script, .. }
-        | Command::Draw { plan, script, .. }
-        | Command::Compare { plan, script, .. } => (plan, Some(script), None),
-        Command::Run {
-            plan,
-            script,
-            from,
-            ..
-        } => (plan, Some(script), from),
-    };
-    if are_both_input(&[Some(plan), script, from]) {
-        return Err(Refusal::ReadFault);
+    let mut heard = Heard::new(err, is_terminal);
+    let folder = WatchedDisk::new(rt, shown_of(asked, is_terminal));
+    let shelf = DiskShelf::new(rt, alloc);
+    let status = act_asked(alloc, &folder, &shelf, asked, out, &mut heard);
+    if is_terminal {
+        report_more(rt, more, heard.lines(), texts_of(asked));
     }
-    let plan = folder.open(file_of(plan))?;
-    let script = open_named(folder, script)?;
-    let from = open_named(folder, from)?;
-    let kept = Kept { from, shelf };
-    match script {
-        Some(script) => Ok(act(alloc, command, plan, script, kept, out, err)),
-        None => Ok(act(alloc, command, plan, io::empty(), kept, out, err)),
-    }
-}
-
-/// Carries out a command whose text goes to a file: whole, where one is made, which a refusal doesn't. Answers the status.
-/// WriteFault, and nothing is done, where the file is also to get a checkpoint.
-fn act_to_file<F: Files, E: Write>(
-    alloc: Global,
-    files: &F,
-    asked: Asked<'_>,
-    err: &mut E,
-) -> Result<u8, Refusal>
-    requires { FitsRun asked.command }
-{
-    if let Command::Run { to: Some(to), .. } = asked.command
-        && to == asked.output
-    {
-        return Err(Refusal::WriteFault);
-    }
-    let shelf = DiskShelf::new(files, alloc);
-    let mut text = Vec::new(alloc);
-    let status = act_on(
-        alloc,
-        &Disk::new(files),
-        &shelf,
-        asked.command,
-        &mut text,
-        err,
-    )?;
-    if !text.is_empty() {
-        shelf.put(asked.output, &text)?;
-    }
-    Ok(status)
-}
-
-/// The words of the command line, under the program's own name, however it was started.
-fn own_words<R: Env>(rt: &R, alloc: Global) -> Result<Vec<String>, Fault> {
-    let mut words = words_of(rt, alloc)?;
-    if let Some(name) = words.first_mut() {
-        match "flashplan".to_string(alloc) {
-            Ok(own) => *name = own,
-            Err(_) => return Err(Fault::Refused(Refusal::NoMemory)),
-        }
-    }
-    Ok(words)
+    status
 }
 
 fn main(rt: HostRuntime) -> ExitCode {
     let alloc = rt.alloc();
     let (mut out, mut err) = (rt.stdout(), rt.stderr());
-    let status = match own_words(&rt, alloc) {
+    let is_terminal = err.is_terminal();
+    let status = match own_words(&rt, alloc, "flashplan") {
         Ok(words) => match read_words(alloc, words.as_slice()) {
-            Ok(asked) => {
-                let acted = if asked.output == "-" {
-                    let shelf = DiskShelf::new(&rt, alloc);
-                    act_on(
-                        alloc,
-                        &Disk::new(&rt),
-                        &shelf,
-                        asked.command,
-                        &mut out,
-                        &mut err,
-                    )
-                } else {
-                    act_to_file(alloc, &rt, asked, &mut err)
-                };
-                match acted {
-                    Ok(status) => status,
-                    Err(refusal) => end(&mut err, Err(Fault::Refused(refusal))),
-                }
-            }
+            Ok(asked) => carry_out(
+                &rt,
+                alloc,
+                &asked,
+                is_terminal,
+                &mut out,
+                rt.stderr(),
+                &mut err,
+            ),
             Err(error) => show(&rt, &mut err, error),
         },
         Err(fault) => end(&mut err, Err(fault)),

@@ -1,12 +1,12 @@
 //! Files that are written whole or not at all.
 
-use crate::checkpoint_acts::Shelf;
 use slot_types::Refusal;
 use std::alloc::Global;
 use std::fs;
 use std::fs::OpenFile;
 use std::rt::Files;
 use text_base::write_whole;
+use tool_commands::Shelf;
 
 /// The files of the system.
 #[derive(Clone, Copy)]
@@ -35,8 +35,8 @@ impl<'a, R: Files> DiskShelf<'a, R> {
     }
 }
 
-/// A text goes first to a file beside the one that is meant, whose name ends with `.part`, and which then takes its name. WriteFault
-/// where that fails.
+/// A text goes first to a file beside the one that is meant, whose name ends with `.part`, and which then takes its
+/// name. WriteFault where that fails.
 impl<R: Files> Shelf for DiskShelf<'_, R> {
     fn put(&self, name: &str, text: &[u8]) -> Result<(), Refusal> {
         let part = format!(in self.alloc; "{name}.part")?;

@@ -151,3 +151,47 @@ fn a_refusal_is_followed_by_the_file_the_place_and_what_to_do(rt: HostRuntime) {
         assert!(rt; got.as_slice() == wanted.as_bytes(), "{report}");
     }
 }
+
+const DESIGN: Texts<'static> = Texts {
+    sheet: Some("/nowhere/d.toml"),
+    checkpoint: Some("/nowhere/c.csv"),
+    traces: &["/nowhere/a.log", "/nowhere/b.log"],
+    output: Some("/nowhere/o.csv"),
+    ..Texts::NONE
+};
+
+#[test]
+fn a_fault_of_a_designers_text_is_followed_by_the_file_and_what_to_do(rt: HostRuntime) {
+    let table = [
+        (
+            "error: the datasheet isn't TOML\n",
+            "/nowhere/d.toml: docs/TEXTS.md has the form\n",
+        ),
+        (
+            "error: [[task]] 2: `reads` and `writes` have to sum to 1 to 64\n",
+            "/nowhere/d.toml: docs/TEXTS.md has the form\n",
+        ),
+        (
+            "error: the checkpoint, record 5 field 2: Number\n",
+            "/nowhere/c.csv, record 5: docs/TEXTS.md has the form\n",
+        ),
+        (
+            "error: the checkpoint, die 0, record 2: Unprogrammed\n",
+            "/nowhere/c.csv, record 2: docs/TEXTS.md has the form\n",
+        ),
+        (
+            "error: /nowhere/b.log: line 3: only version 3 of fio's logs is read\n",
+            "/nowhere/b.log, line 3: flashplan import --help has the form\n",
+        ),
+        (
+            "error 22 WriteFault\n",
+            "/nowhere/o.csv: it stays as it was, since /nowhere/o.csv.part beside it can't be written, \
+or not take its name\n",
+        ),
+        ("error 22 WriteFault: \"noon.csv\"\n", ""),
+    ];
+    for (report, wanted) in table {
+        let got = shown_beside(rt, report, DESIGN);
+        assert!(rt; got.as_slice() == wanted.as_bytes(), "{report}");
+    }
+}

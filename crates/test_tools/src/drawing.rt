@@ -18,7 +18,7 @@ const PICTURE: &str = "<title>Die 0, slots 19 to 25 of 25</title>
 <rect class=\"out\" x=\"196\" y=\"77\" width=\"13\" height=\"12\"/><text x=\"214\" y=\"87\">copy: read</text>
 <rect class=\"in\" x=\"292\" y=\"77\" width=\"13\" height=\"12\"/><text x=\"310\" y=\"87\">copy: program</text>
 <rect class=\"erase\" x=\"406\" y=\"77\" width=\"13\" height=\"12\"/><text x=\"424\" y=\"87\">erase slot</text>
-<rect class=\"busy_interval\" x=\"502\" y=\"77\" width=\"13\" height=\"12\"/><text x=\"520\" y=\"87\">busy_interval of the worst</text>
+<rect class=\"busy_interval\" x=\"502\" y=\"77\" width=\"13\" height=\"12\"/><text x=\"520\" y=\"87\">busy interval of the worst</text>
 <path class=\"gap\" d=\"M684,83h16\"/><text x=\"706\" y=\"87\">suspended erase</text>
 <use href=\"#release\" x=\"822\" y=\"74\"/><text x=\"832\" y=\"87\">release</text>
 <use href=\"#due\" x=\"896\" y=\"74\"/><text x=\"906\" y=\"87\">due</text>
@@ -60,7 +60,7 @@ const PICTURE: &str = "<title>Die 0, slots 19 to 25 of 25</title>
 /// Whether this is the end of what is drawn of the slots of a run.
 fn is_drawn(alloc: Global, shown: Shown, picture: &str) -> Result<bool, Fail> {
     let plan = read_plan(alloc, PLAN.as_bytes())?;
-    let said = draw(alloc, plan, SCRIPT.as_bytes(), 25, 0, shown)?;
+    let said = draw(alloc, plan, SCRIPT.as_bytes(), 25, 0, shown, None)?;
     Ok(said.text.as_slice().ends_with(picture.as_bytes()))
 }
 
@@ -96,7 +96,7 @@ fn what_each_slot_carried_is_written_as_lines(rt: HostRuntime) -> Result<(), Fai
         as_text: true,
     };
     let plan = read_plan(rt.alloc(), PLAN.as_bytes())?;
-    let said = draw(rt.alloc(), plan, SCRIPT.as_bytes(), 25, 0, shown)?;
+    let said = draw(rt.alloc(), plan, SCRIPT.as_bytes(), 25, 0, shown, None)?;
     let text = String::from_utf8(said.text)?;
     assert_eq!(rt; text.as_str(), LINES);
     Ok(())
@@ -123,7 +123,7 @@ fn what_waits_past_its_deadline_is_marked(rt: HostRuntime) -> Result<(), Fail> {
         as_text: true,
     };
     let plan = read_plan(rt.alloc(), PLAN.as_bytes())?;
-    let said = draw(rt.alloc(), plan, LATE.as_bytes(), 6, 0, shown)?;
+    let said = draw(rt.alloc(), plan, LATE.as_bytes(), 6, 0, shown, None)?;
     let text = String::from_utf8(said.text)?;
     assert!(rt; text.as_str().ends_with(LATE_LINES));
     Ok(())
@@ -139,7 +139,7 @@ fn the_worst_is_drawn(rt: HostRuntime) -> Result<(), Fail> {
         worst: true,
         as_text: false,
     };
-    let said = draw(rt.alloc(), plan, SCRIPT.as_bytes(), 25, 0, shown)?;
+    let said = draw(rt.alloc(), plan, SCRIPT.as_bytes(), 25, 0, shown, None)?;
     let text = String::from_utf8(said.text)?;
     assert!(rt;
         text.as_str()

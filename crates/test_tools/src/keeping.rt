@@ -38,7 +38,7 @@ const JOBS: [Said; 8] = [
     (
         "0,0,0,job,0,10,R0 W1",
         "0,0,0,job,0,9,R0 W1",
-        "die 0 record 3 slot 0 task 0 breaks its plan: due is 9, and has to be 10, a period behind its release\n",
+        "die 0 record 3 slot 0 task 0 breaks its plan: due is 9, and has to be 10, a period after its release\n",
     ),
     (
         "10,20,R0",
@@ -68,7 +68,7 @@ const JOBS: [Said; 8] = [
     (
         "10,0,0,job,10,20",
         "9,0,0,job,9,19",
-        "die 0 record 4 slot 9 task 0 breaks its plan: release is 9, and has to be at least 10, a period behind that of record 3\n",
+        "die 0 record 4 slot 9 task 0 breaks its plan: release is 9, and has to be at least 10, a period after that of record 3\n",
     ),
 ];
 
@@ -97,7 +97,7 @@ const COLLECTIONS: [Said; 6] = [
     (
         "collect,0,20,",
         "collect,0,21,",
-        "die 0 record 2 slot 0 task 0 breaks its plan: due is 21, and has to be 20, a collect period behind its release\n",
+        "die 0 record 2 slot 0 task 0 breaks its plan: due is 21, and has to be 20, a collect period after its release\n",
     ),
     (
         "0,0,0,collect,0,20,",

@@ -11,6 +11,8 @@ mod drawing;
 #[cfg(test)]
 mod explaining;
 #[cfg(test)]
+mod failing;
+#[cfg(test)]
 mod fitting;
 #[cfg(test)]
 mod importing;

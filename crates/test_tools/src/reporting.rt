@@ -53,7 +53,15 @@ fn is_reported(
     said: &str,
 ) -> Result<bool, Fail> {
     let plan = read_plan(alloc, PLAN.as_bytes())?;
-    let run = report(alloc, plan, script.as_bytes(), slots.min(25), life, true)?;
+    let run = report(
+        alloc,
+        plan,
+        script.as_bytes(),
+        slots.min(25),
+        life,
+        true,
+        None,
+    )?;
     let Some(rest) = run.text.as_slice().strip_prefix(NAMES.as_bytes()) else {
         return Ok(false);
     };
@@ -71,7 +79,7 @@ fn figures_are_reported_by_die_and_task(rt: HostRuntime) -> Result<(), Fail> {
 fn a_table_has_a_column_for_each_task(rt: HostRuntime) -> Result<(), Fail> {
     let alloc = rt.alloc();
     let plan = read_plan(alloc, PLAN.as_bytes())?;
-    let run = report(alloc, plan, SCRIPT.as_bytes(), 25, LIFE, false)?;
+    let run = report(alloc, plan, SCRIPT.as_bytes(), 25, LIFE, false, None)?;
     assert!(rt; run.text.as_slice().starts_with(FRONT.as_bytes()));
     Ok(())
 }

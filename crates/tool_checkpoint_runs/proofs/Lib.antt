@@ -1,3 +1,4 @@
 pub mod LeftDevices
 pub mod GoingOn
 pub mod StartsMore
+pub mod CallsMore

@@ -84,7 +84,8 @@ pub fn device_of(alloc: Global, plan: &DiePlan, die: &SavedDie) -> Result<Memory
     requires bytes { HaveBytes die.now.pages }
     ensures device { IfOk result (λ device. device ≡ saved_device plan.now.shape die.now) }
     ensures left { IfOk result (λ device. IsAsLeft (checkpoint_of die.now) device.blocks 0) }
-    ensures holds { IfOk result (λ device. contents device.blocks (checkpoint_of die.now).places ≡ map held_by die.now.pages) }
+    ensures holds { IfOk result (λ device.
+        contents device.blocks (checkpoint_of die.now).places ≡ map held_by die.now.pages) }
     ensures refused { FailsForMemory result }
 {
     let cells = cells_in(alloc, plan.shape, die)?;

@@ -3,15 +3,18 @@
 ghost use Rattle.std.specs.Prelude.{◌≡◌, ◌++◌, ◌∷◌, [], OnOk};
 ghost use Rattle.slot_types.specs.Refusal.{FailsForMemory};
 
-use flash_die::MemoryNand;
+use flash_die::{MemoryNand, Nand};
 use slot_core::DieCore;
 use slot_types::Refusal;
 
+/// The dies of a store, by number.
+pub type DiesOn<N> = Vec<DieCore<N>>;
+
 /// The dies of a store in memory, by number.
-pub type StoreDies = Vec<DieCore<MemoryNand>>;
+pub type StoreDies = DiesOn<MemoryNand>;
 
 /// Adds a die. The only refusal is NoMemory.
-pub fn push_die(dies: &mut StoreDies, die: DieCore<MemoryNand>) -> Result<(), Refusal>
+pub fn push_die<N: Nand>(dies: &mut DiesOn<N>, die: DieCore<N>) -> Result<(), Refusal>
     ensures ok { OnOk result (dies.new.items ≡ dies.old.items ++ die ∷ []) }
     ensures refused { FailsForMemory result }
 {

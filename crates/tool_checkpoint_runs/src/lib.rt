@@ -4,6 +4,7 @@
 mod devices;
 mod dies;
 mod explained;
+mod failing_runs;
 mod faults;
 mod lines;
 mod rows;
@@ -14,8 +15,9 @@ mod stocks;
 mod store_runs;
 mod texts;
 
-pub use dies::StoreDies;
+pub use dies::{DiesOn, StoreDies};
 pub use explained::explain;
+pub use failing_runs::{FailingRun, run_failing};
 pub use faults::{RunFault, Unsaved};
 pub use store_runs::{StoreRun, run_script};
 pub use texts::save;

@@ -1,10 +1,11 @@
 //! The rows of a script on the dies of a store, one after the other.
 
-ghost use Rattle.std.specs.Prelude.{◌≡◌, ◌<◌, length};
+ghost use Rattle.std.specs.Prelude.{◌≡◌, ◌<◌, ◌≤◌, ◌⊎◌, true, OnOk, length};
+ghost use Rattle.die_log.specs.Model.Log.{now};
 ghost use Rattle.tool_checkpoint_runs.specs.Runs.{starts_of};
 
-use crate::dies::StoreDies;
-use flash_die::MemoryNand;
+use crate::dies::DiesOn;
+use flash_die::Nand;
 use script_texts::ScriptReader;
 use slot_core::DieCore;
 use slot_types::{Event, Refusal};
@@ -12,19 +13,25 @@ use std::alloc::Global;
 use std::io::Read;
 use tool_watched_runs::RefusedRows;
 
-/// Carries out slots until this one is the present one. The only refusal is NoMemory: within a die's life a slot of a device
-/// in memory is refused for nothing else.
-pub fn carry_to(alloc: Global, die: &mut DieCore<MemoryNand>, slot: u32) -> Result<(), Refusal>
+/// Carries out slots until this one is the present one, or the device has failed, which stops the die in its slot. The
+/// only refusal is NoMemory.
+pub fn carry_to<N: Nand>(alloc: Global, die: &mut DieCore<N>, slot: u32) -> Result<(), Refusal>
     ensures start { die.new.start ≡ die.old.start }
+    ensures slot { OnOk result (now die.old.log ≤ slot
+        → (now die.new.log ≡ slot) ⊎ (die.new.stopped ≡ true)) }
 {
     for _present in die.now()..slot {
-        die.note_slot(alloc, 0)?;
+        match die.note_slot(alloc, 0) {
+            Ok(_) => {}
+            Err(_) if die.is_stopped() => return Ok(()),
+            Err(refusal) => return Err(refusal),
+        }
     }
     Ok(())
 }
 
 /// Asks for what a row says, and answers why it was refused, if it was.
-fn ask(alloc: Global, die: &mut DieCore<MemoryNand>, event: Event) -> Option<Refusal>
+fn ask<N: Nand>(alloc: Global, die: &mut DieCore<N>, event: Event) -> Option<Refusal>
     ensures start { die.new.start ≡ die.old.start }
 {
     let taken = match event {
@@ -42,9 +49,9 @@ fn ask(alloc: Global, die: &mut DieCore<MemoryNand>, event: Event) -> Option<Ref
 }
 
 /// Carries a die to the slot of a row, and asks for what the row says.
-fn carry_row(
+fn carry_row<N: Nand>(
     alloc: Global,
-    dies: &mut StoreDies,
+    dies: &mut DiesOn<N>,
     place: usize,
     at: u32,
     event: Event,
@@ -59,7 +66,12 @@ fn carry_row(
 }
 
 /// Carries a die to a slot.
-fn carry_die(alloc: Global, dies: &mut StoreDies, place: usize, slot: u32) -> Result<(), Refusal>
+fn carry_die<N: Nand>(
+    alloc: Global,
+    dies: &mut DiesOn<N>,
+    place: usize,
+    slot: u32,
+) -> Result<(), Refusal>
     requires there { place < length dies.old.items }
     ensures starts { starts_of dies.new.items ≡ starts_of dies.old.items }
     ensures count { length dies.new.items ≡ length dies.old.items }
@@ -68,7 +80,7 @@ fn carry_die(alloc: Global, dies: &mut StoreDies, place: usize, slot: u32) -> Re
 }
 
 /// Carries each die to a slot.
-fn carry_all(alloc: Global, dies: &mut StoreDies, slot: u32) -> Result<(), Refusal>
+fn carry_all<N: Nand>(alloc: Global, dies: &mut DiesOn<N>, slot: u32) -> Result<(), Refusal>
     ensures starts { starts_of dies.new.items ≡ starts_of dies.old.items }
     ensures count { length dies.new.items ≡ length dies.old.items }
 {
@@ -79,10 +91,10 @@ fn carry_all(alloc: Global, dies: &mut StoreDies, slot: u32) -> Result<(), Refus
 }
 
 /// Runs the rows of a script, each on its die before the slot of its `at`. A row that is refused is no event, and is counted.
-fn carry_rows<R: Read + Drop>(
+fn carry_rows<R: Read + Drop, N: Nand>(
     alloc: Global,
     mut script: ScriptReader<R>,
-    dies: &mut StoreDies,
+    dies: &mut DiesOn<N>,
 ) -> Result<RefusedRows, Refusal>
     ensures starts { starts_of dies.new.items ≡ starts_of dies.old.items }
     ensures count { length dies.new.items ≡ length dies.old.items }
@@ -105,10 +117,10 @@ fn carry_rows<R: Read + Drop>(
 
 /// Runs the rows of a script, each on its die before the slot of its `at`, and then so many slots of each die. A row that is
 /// refused is no event, and is counted.
-pub fn run_rows<R: Read + Drop>(
+pub fn run_rows<R: Read + Drop, N: Nand>(
     alloc: Global,
     script: ScriptReader<R>,
-    dies: &mut StoreDies,
+    dies: &mut DiesOn<N>,
     slots: u32,
 ) -> Result<RefusedRows, Refusal>
     ensures starts { starts_of dies.new.items ≡ starts_of dies.old.items }

@@ -66,7 +66,8 @@ fn saved_of(alloc: Global, device: &MemoryNand, taken: Checkpoint) -> Result<Sav
 pub fn save_die(alloc: Global, mut die: DieCore<MemoryNand>) -> Result<SavedDie, CheckpointRefusal>
     ensures saved { IfOk result (λ saved. saved ≡ saved_end die) }
     ensures fits { IfOk result (λ saved. Fits die.start.plan (checkpoint_of saved)) }
-    ensures goes_on { IfOk result (λ saved. saved_start die.start.plan saved ≡ renewed_start die.start die.log) }
+    ensures goes_on { IfOk result (λ saved.
+        saved_start die.start.plan saved ≡ renewed_start die.start die.log) }
     ensures refused { IfErr result (RefusesCheckpoint die) }
 {
     let taken = die.checkpoint(alloc)?;

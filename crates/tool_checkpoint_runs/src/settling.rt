@@ -1,4 +1,4 @@
-//! Slots behind the last one of a run, until all is done.
+//! Slots after the last one of a run, until all is done.
 
 ghost use Rattle.std.specs.Prelude.{◌≡◌, ◌<◌, length};
 ghost use Rattle.tool_checkpoint_runs.specs.Runs.{starts_of};

@@ -7,12 +7,13 @@ ghost use Rattle.report_texts.specs.TextSoFar.{text_so_far};
 ghost use Rattle.task_script.specs.StoreRuns.{reports_of};
 ghost use Rattle.tool_checkpoint_runs.specs.Runs.{starts_by, starts_of};
 
-use crate::dies::StoreDies;
+use crate::dies::{DiesOn, StoreDies};
 use crate::faults::RunFault;
 use crate::rows::run_rows;
 use crate::settling::settle;
 use crate::starts::{fresh_store, saved_store};
 use checkpoint_texts::SavedStore;
+use flash_die::Nand;
 use report_texts::ReportText;
 use script_texts::ScriptReader;
 use slot_types::{MAX_SLOT, Refusal, StorePlan};
@@ -45,7 +46,7 @@ fn dies_of(alloc: Global, plan: StorePlan, from: Option<SavedStore>) -> Result<S
 }
 
 /// The report of dies, by number: what each log says over its start. The only refusal is NoMemory.
-fn report_of(alloc: Global, dies: &StoreDies) -> Result<ReportText, Refusal>
+pub(crate) fn report_of<N: Nand>(alloc: Global, dies: &DiesOn<N>) -> Result<ReportText, Refusal>
     requires { length dies.now.items ≤ 8 }
     ensures text { IfOk result (λ text. text ≡ text_so_far (reports_of 0 dies.now.items)) }
     ensures refused { FailsForMemory result }

@@ -66,7 +66,7 @@ fn put_job(
     match rule {
         JobRule::Task => put_task(text, plan),
         JobRule::Release => put_release(text, line),
-        JobRule::Due => put_due(text, line, own.period, "a period behind its release"),
+        JobRule::Due => put_due(text, line, own.period, "a period after its release"),
         JobRule::LastDue => put_last_due(text, u64::from(line.due)),
         JobRule::SomeOps | JobRule::FewOps => {
             put_count(text, line.ops as u64, "operations", 1, own.work)
@@ -115,7 +115,7 @@ fn put_collection(
         CollectionRule::Release => put_release(text, line),
         CollectionRule::Multiple => put_multiple(text, line, period),
         CollectionRule::BeforeEnd => put_end(text, line, slots),
-        CollectionRule::Due => put_due(text, line, period, "a collect period behind its release"),
+        CollectionRule::Due => put_due(text, line, period, "a collect period after its release"),
         CollectionRule::LastDue => put_last_due(
             text,
             u64::from(line.release).saturating_add(u64::from(period)),
@@ -129,7 +129,7 @@ fn put_period(text: &mut Vec<u8>, own: TaskTimes, first: &Line, second: &Line) -
     let (release, record) = (second.release, first.record);
     writeln!(
         text,
-        "release is {release}, and has to be at least {from}, a period behind that of record {record}"
+        "release is {release}, and has to be at least {from}, a period after that of record {record}"
     )
 }
 
@@ -238,13 +238,13 @@ pub fn sentence(
     let Some(own) = plan.get(broken.die as usize) else {
         return Ok(said);
     };
-    let said = Reported {
+    let reported = Reported {
         die: broken.die,
         plan: own,
         lines: &lines,
         slots,
     };
-    match said.put(&mut said, broken.breach) {
+    match reported.put(&mut said, broken.breach) {
         Ok(()) => Ok(said),
         Err(_) => Err(Refusal::NoMemory),
     }

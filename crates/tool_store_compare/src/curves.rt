@@ -18,7 +18,7 @@ const PARTS: u64 = 1024;
 /// A decade in parts of a doubling, times 1,000.
 const DECADE_PARTS: u64 = 3_401_654;
 
-/// One, in numbers with 31 binary digits behind the point.
+/// One, in numbers with 31 binary digits after the point.
 const ONE: u64 = 1 << 31;
 
 /// Which lateness an axis shows: from `low`, 0 at most, to `high`, above it.

@@ -1,4 +1,4 @@
-//! Why a trace isn't taken.
+//! Why traces aren't taken.
 
 use slot_types::Refusal;
 use std::alloc::AllocError;
@@ -34,10 +34,38 @@ pub enum TraceFault {
     NotText,
     /// Of a line, the first being 1.
     Line { line: u32, fault: LineFault },
-    /// It has no request.
+    /// It has no request, or there is no trace.
     Empty,
-    /// A die would need more than 1,024 blocks.
+    /// A die would need more than 1,024 blocks: this trace has most pages.
     Blocks { blocks: u64 },
+    /// It is the ninth: a store has 8 dies.
+    Dies,
+}
+
+/// Why traces aren't taken.
+#[derive(Clone, Copy, PartialEq, Eq, Debug, Drop)]
+pub struct ImportFault {
+    /// Which trace is at fault, the first being 0, as its die; 0 where none is.
+    pub die: u32,
+    pub fault: TraceFault,
+}
+
+impl From<Refusal> for ImportFault {
+    fn from(refusal: Refusal) -> ImportFault {
+        ImportFault {
+            die: 0,
+            fault: TraceFault::Refused(refusal),
+        }
+    }
+}
+
+impl From<AllocError> for ImportFault {
+    fn from(_error: AllocError) -> ImportFault {
+        ImportFault {
+            die: 0,
+            fault: TraceFault::Refused(Refusal::NoMemory),
+        }
+    }
 }
 
 impl From<Refusal> for TraceFault {
@@ -58,7 +86,7 @@ impl Display for LineFault {
             LineFault::Version => f.write_str("only version 3 of fio's logs is read"),
             LineFault::Fields => {
                 f.write_str(
-                    "a line is `time file action`, and of a request `offset length` behind it",
+                    "a line is `time file action`, and of a request `offset length` after it",
                 )
             }
             LineFault::Action => f.write_str(
@@ -91,6 +119,7 @@ impl Display for TraceFault {
                 f,
                 "its pages need a die of {blocks} blocks, and one has 1024 at most"
             ),
+            TraceFault::Dies => f.write_str("it is a ninth trace, and a store has 1 to 8 dies"),
         }
     }
 }

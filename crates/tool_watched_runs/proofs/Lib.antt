@@ -1,2 +1,4 @@
 pub mod Slots
 pub mod Counting
+mod Starts
+mod WornDies

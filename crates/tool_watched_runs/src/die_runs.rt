@@ -1,4 +1,4 @@
-//! A die in memory that runs the rows of a script, and what is noted of it.
+//! A die that runs the rows of a script, and what is noted of it.
 
 ghost use Rattle.std.specs.Prelude.{◌≡◌, ◌+◌, ◌≤◌, [], IfOk, OnOk};
 ghost use Rattle.std.specs.Box.{box_value};
@@ -8,20 +8,21 @@ ghost use Rattle.die_log.specs.Model.Start.{fresh};
 ghost use Rattle.die_log.specs.Model.Log.{now};
 ghost use Rattle.tool_watched_runs.specs.Wear.{IsWearOf};
 
+use crate::failing::RunNand;
 use crate::{Level, Tally, Waiver, Whose, Window};
-use flash_die::MemoryNand;
+use flash_die::{FuseNand, MemoryNand};
 use slot_core::{DieCore, Stage};
 use slot_types::{DiePlan, Event, JobNo, Op, Refusal, SlotReply};
 use std::alloc::Global;
 use tool_run_figures::DieCounts;
 
-/// A die in memory, what its slots wore, and what was done in a window of them.
+/// A die, what its slots wore, and what was done in a window of them.
 #[derive(Drop)]
 pub struct DieRun {
     /// Its number in the store.
     pub die: u32,
     /// In a box, since a die is large to move.
-    pub core: Box<DieCore<MemoryNand>>,
+    pub core: Box<DieCore<RunNand>>,
     pub tally: Tally,
     pub counts: DieCounts,
     pub window: Window,
@@ -29,7 +30,7 @@ pub struct DieRun {
 }
 
 /// A job or a collection of a die.
-pub fn whose(core: &DieCore<MemoryNand>, job: JobNo) -> Whose {
+pub fn whose(core: &DieCore<RunNand>, job: JobNo) -> Whose {
     match core.job(job) {
         Ok(head) => Whose {
             job: job.0,
@@ -45,7 +46,7 @@ pub fn whose(core: &DieCore<MemoryNand>, job: JobNo) -> Whose {
 }
 
 /// Notes in a window what was done in a slot. The only refusal is NoMemory.
-fn note(window: &mut Window, core: &DieCore<MemoryNand>, reply: &SlotReply) -> Result<(), Refusal>
+fn note(window: &mut Window, core: &DieCore<RunNand>, reply: &SlotReply) -> Result<(), Refusal>
     ensures { FailsForMemory result }
 {
     if !window.has(reply.slot) {
@@ -65,7 +66,7 @@ fn note(window: &mut Window, core: &DieCore<MemoryNand>, reply: &SlotReply) -> R
 }
 
 /// Counts what was done in a slot.
-fn count(counts: &mut DieCounts, core: &DieCore<MemoryNand>, reply: &SlotReply) {
+fn count(counts: &mut DieCounts, core: &DieCore<RunNand>, reply: &SlotReply) {
     for waived in reply.waived.as_slice() {
         let task = whose(core, waived.number).task;
         counts.note_waived(task, waived.given, reply.slot);
@@ -104,7 +105,7 @@ fn note_levels(window: &mut Window, counts: &DieCounts, slot: u32) -> Result<(),
 }
 
 /// The pages that a done collection gave its task; none of a job.
-fn given_by(core: &DieCore<MemoryNand>, finished: Option<JobNo>) -> Option<u32> {
+fn given_by(core: &DieCore<RunNand>, finished: Option<JobNo>) -> Option<u32> {
     let record = core.job_record(finished?)?;
     match record.stage() {
         Stage::Done { given, .. } if record.collects() => Some(given),
@@ -130,11 +131,19 @@ fn asked_of(event: &Event) -> (u32, u32, bool) {
 }
 
 impl DieRun {
-    /// A fresh die of a plan, of which a window is looked at. The only refusal is NoMemory.
-    pub fn new(alloc: Global, die: u32, plan: DiePlan, window: Window) -> Result<DieRun, Refusal>
+    /// A fresh die of a plan, of which a window is looked at, on a device in memory that makes so many calls well and
+    /// fails from then on. The only refusal is NoMemory.
+    pub fn new(
+        alloc: Global,
+        die: u32,
+        plan: DiePlan,
+        calls: u64,
+        window: Window,
+    ) -> Result<DieRun, Refusal>
         requires { MeetsBound plan }
         ensures start { IfOk result (λ run. (box_value run.core).start ≡ fresh plan) }
         ensures log { IfOk result (λ run. (box_value run.core).log ≡ []) }
+        ensures calls { IfOk result (λ run. (box_value run.core).device.left ≡ calls) }
         ensures die { IfOk result (λ run. run.die ≡ die) }
         ensures refused { FailsForMemory result }
     {
@@ -144,7 +153,7 @@ impl DieRun {
             Ok(nand) => nand,
             Err(_) => return Err(Refusal::NoMemory),
         };
-        match DieCore::boxed(alloc, plan, nand) {
+        match DieCore::boxed(alloc, plan, FuseNand::new(nand, calls)) {
             Ok(core) => Ok(DieRun {
                 die,
                 core,
@@ -161,12 +170,15 @@ impl DieRun {
         alloc: Global,
         die: u32,
         plan: DiePlan,
+        calls: u64,
         window: Window,
     ) -> Result<Box<DieRun>, Refusal>
         requires { MeetsBound plan }
+        ensures start { IfOk result (λ run.
+            (box_value (box_value run).core).start ≡ fresh plan) }
         ensures refused { FailsForMemory result }
     {
-        let run = DieRun::new(alloc, die, plan, window)?;
+        let run = DieRun::new(alloc, die, plan, calls, window)?;
         Ok(Box::new(alloc, run)?)
     }
 
@@ -174,7 +186,8 @@ impl DieRun {
     fn step(&mut self, alloc: Global) -> Result<(), Refusal>
         ensures start { (box_value self.new.core).start ≡ (box_value self.old.core).start }
         ensures die { self.new.die ≡ self.old.die }
-        ensures slot { OnOk result (now (box_value self.new.core).log ≡ now (box_value self.old.core).log + 1) }
+        ensures slot { OnOk result (now (box_value self.new.core).log
+            ≡ now (box_value self.old.core).log + 1) }
     {
         let reply = self.core.slot(alloc, 0)?;
         // So many slots fit a number.
@@ -185,11 +198,13 @@ impl DieRun {
         note(&mut self.window, &self.core, &reply)
     }
 
-    /// Carries out slots until this one is the present one. The only refusal is NoMemory.
+    /// Carries out slots until this one is the present one. The refusals are NoMemory; DeviceFault, where the device
+    /// fails in the slot that is then the present one; and DieStopped, where it failed before.
     pub fn carry_to(&mut self, alloc: Global, slot: u32) -> Result<(), Refusal>
         ensures start { (box_value self.new.core).start ≡ (box_value self.old.core).start }
         ensures die { self.new.die ≡ self.old.die }
-        ensures slot { OnOk result (now (box_value self.old.core).log ≤ slot → now (box_value self.new.core).log ≡ slot) }
+        ensures slot { OnOk result (now (box_value self.old.core).log ≤ slot
+            → now (box_value self.new.core).log ≡ slot) }
     {
         for _present in self.core.now()..slot {
             self.step(alloc)?;

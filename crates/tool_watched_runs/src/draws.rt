@@ -1,13 +1,14 @@
 //! Runs that are drawn.
 
-ghost use Rattle.std.specs.Prelude.{◌≤◌, All, length, IfOk, OnOk};
+ghost use Rattle.std.specs.Prelude.{◌≡◌, ◌≤◌, All, length, IfOk, OnOk};
 ghost use Rattle.slot_types.specs.Refusal.{FailsForMemory};
 ghost use Rattle.plan_rules.specs.Bound.{MeetsBound};
+ghost use Rattle.tool_watched_runs.specs.Failing.{IsBeyond};
 
 use crate::die_runs::{DieRun, whose};
-use crate::script_runs::{Reported, Sights, run_rows};
+use crate::failing::{FailAt, RunNand, calls_of, check_failing};
+use crate::script_runs::{Reported, Sights, failure_of, run_rows};
 use crate::{End, Kind, Level, Row, Scene, Window, Worst, lines, picture};
-use flash_die::MemoryNand;
 use script_texts::ScriptReader;
 use slot_core::{DieCore, Outcome};
 use slot_types::{JobNo, MAX_JOBS, MAX_SLOT, Refusal, StorePlan};
@@ -15,7 +16,7 @@ use std::alloc::Global;
 use std::io::Read;
 
 /// What became of a job. The only refusal is NoMemory.
-fn end_of(alloc: Global, core: &DieCore<MemoryNand>, job: JobNo) -> Result<End, Refusal>
+fn end_of(alloc: Global, core: &DieCore<RunNand>, job: JobNo) -> Result<End, Refusal>
     ensures { FailsForMemory result }
 {
     match core.outcome(alloc, job) {
@@ -52,7 +53,7 @@ fn rows_in(alloc: Global, run: &DieRun) -> Result<Vec<Row>, Refusal>
 
 /// The worst of a die, with the busy interval of its certificate, where something is done. The only refusal is
 /// NoMemory.
-fn worst_of(alloc: Global, core: &DieCore<MemoryNand>) -> Result<Option<Worst>, Refusal>
+fn worst_of(alloc: Global, core: &DieCore<RunNand>) -> Result<Option<Worst>, Refusal>
     ensures { FailsForMemory result }
 {
     match core.certificate(alloc)? {
@@ -168,8 +169,12 @@ fn keep_worst(alloc: Global, run: &mut DieRun) -> Result<(), Refusal>
     Ok(())
 }
 
-/// Runs a script on a die of a store, and draws what its slots carried: those that are asked for, or the busy interval of the worst;
-/// as SVG, or as lines for a terminal.
+/// Runs a script on a die of a store, and draws what its slots carried: those that are asked for, or the busy interval
+/// of the worst; as SVG, or as lines for a terminal. One device may be to fail: where it is that of this die, the die
+/// stays in that slot, and refuses all later rows.
+///
+/// Refused with UnknownDie where the die whose device is to fail isn't there, or the one that is drawn; with the first
+/// fault of the script, as [`ScriptReader`] tells it; or with ReadFault or NoMemory.
 pub fn draw<R: Read + Drop>(
     alloc: Global,
     plan: StorePlan,
@@ -177,10 +182,13 @@ pub fn draw<R: Read + Drop>(
     slots: u32,
     die: u32,
     shown: Shown,
+    fail: Option<FailAt>,
 ) -> Result<Reported, Refusal>
     requires few { slots ≤ MAX_SLOT }
     requires bound { All MeetsBound plan }
+    ensures unknown { IsBeyond fail (length plan) → result ≡ Err Refusal.UnknownDie }
 {
+    check_failing(fail, plan.len())?;
     let script = ScriptReader::new(alloc, script, &plan, slots)?;
     if die as usize >= plan.len() {
         return Err(Refusal::UnknownDie);
@@ -192,10 +200,12 @@ pub fn draw<R: Read + Drop>(
     };
     let window = Window::new(alloc, from.min(to), to);
     let mut plans = plan.into_vec();
-    let run = DieRun::boxed(alloc, die, plans.swap_remove(die as usize), window)?;
+    let calls = calls_of(fail, die);
+    let run = DieRun::boxed(alloc, die, plans.swap_remove(die as usize), calls, window)?;
     let mut dies = Vec::new(alloc);
     dies.push(run)?;
     let refused = run_rows(alloc, script, &mut dies, slots)?;
+    let failure = failure_of(fail, dies.as_slice());
     match dies.first_mut() {
         Some(run) => {
             let sights = sights_of(alloc, run)?;
@@ -206,12 +216,14 @@ pub fn draw<R: Read + Drop>(
                 text: picture_of(alloc, run, shown.as_text)?,
                 refused,
                 sights,
+                failure,
             })
         }
         None => Ok(Reported {
             text: Vec::new(alloc),
             refused,
             sights: Sights::NONE,
+            failure,
         }),
     }
 }

@@ -150,7 +150,7 @@ fn put_kinds(text: &mut Vec<u8>) -> io::Result<u64> {
 /// Adds what the colours and the marks mean.
 pub fn put_legend(text: &mut Vec<u8>) -> io::Result<()> {
     let kinds = put_kinds(text)?;
-    put_sample(text, kinds, "stretch", "stretch of the worst")?;
+    put_sample(text, kinds, "busy_interval", "busy interval of the worst")?;
     writeln!(
         text,
         "<path class=\"gap\" d=\"M684,83h16\"/><text x=\"706\" y=\"87\">suspended erase</text>"

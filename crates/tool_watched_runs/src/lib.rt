@@ -6,6 +6,7 @@ mod briefs;
 mod cells;
 mod die_runs;
 mod draws;
+mod failing;
 mod kinds;
 mod lanes;
 mod layouts;
@@ -24,6 +25,7 @@ mod windows;
 
 pub use briefs::{ActBrief, Kind, brief_of};
 pub use draws::{Shown, draw};
+pub use failing::{FailAt, Failure, RunNand, calls_of, check_failing, failure_in};
 pub use pictures::{Scene, Worst, picture};
 pub use refused::RefusedRows;
 pub use reports::report;

@@ -1,11 +1,12 @@
 //! Runs whose figures are printed.
 
-ghost use Rattle.std.specs.Prelude.{◌≤◌, All};
+ghost use Rattle.std.specs.Prelude.{◌≡◌, ◌≤◌, All, length};
 ghost use Rattle.plan_rules.specs.Bound.{MeetsBound};
+ghost use Rattle.tool_watched_runs.specs.Failing.{IsBeyond};
 
 use crate::die_runs::DieRun;
-use crate::script_runs::{Reported, Sights, fresh_dies, run_rows};
-use flash_die::MemoryNand;
+use crate::failing::{FailAt, RunNand, check_failing};
+use crate::script_runs::{Reported, Sights, failure_of, fresh_dies, run_rows};
 use script_texts::ScriptReader;
 use slot_core::{DieCore, Stage};
 use slot_types::{JobNo, MAX_JOBS, MAX_SLOT, Refusal, StorePlan};
@@ -17,7 +18,7 @@ use tool_run_figures::{
 };
 
 /// What became of the jobs and collections of a die, by their numbers. The only refusal is NoMemory.
-fn ends_of(alloc: Global, core: &DieCore<MemoryNand>) -> Result<Vec<JobEnd>, Refusal> {
+fn ends_of(alloc: Global, core: &DieCore<RunNand>) -> Result<Vec<JobEnd>, Refusal> {
     let mut ends = Vec::new(alloc);
     for number in 0..MAX_JOBS {
         let Some(job) = core.job_record(JobNo(number)) else {
@@ -89,7 +90,11 @@ fn report_text(
 }
 
 /// Runs a script on a store of dies in memory, and tells what it came to, by die and task: as a table for eyes, or as
-/// CSV. With an endurance and the length of a slot above 0, it tells when a block will be worn out.
+/// CSV. With an endurance and the length of a slot above 0, it tells when a block will be worn out. One device may be to
+/// fail: its die stays in that slot, and refuses all later rows.
+///
+/// Refused with UnknownDie where there is no such die; with the first fault of the script, as [`ScriptReader`] tells it;
+/// or with ReadFault or NoMemory.
 pub fn report<R: Read + Drop>(
     alloc: Global,
     plan: StorePlan,
@@ -97,17 +102,21 @@ pub fn report<R: Read + Drop>(
     slots: u32,
     life: Life,
     as_csv: bool,
+    fail: Option<FailAt>,
 ) -> Result<Reported, Refusal>
     requires few { slots ≤ MAX_SLOT }
     requires bound { All MeetsBound plan }
+    ensures unknown { IsBeyond fail (length plan) → result ≡ Err Refusal.UnknownDie }
 {
+    check_failing(fail, plan.len())?;
     let script = ScriptReader::new(alloc, script, &plan, slots)?;
-    let mut dies = fresh_dies(alloc, plan)?;
+    let mut dies = fresh_dies(alloc, plan, fail)?;
     let refused = run_rows(alloc, script, &mut dies, slots)?;
     let text = report_text(alloc, dies.as_slice(), life, as_csv)?;
     Ok(Reported {
         text,
         refused,
         sights: Sights::NONE,
+        failure: failure_of(fail, dies.as_slice()),
     })
 }

@@ -1,13 +1,21 @@
-//! Scripts that are run, row by row, on dies in memory.
+//! Scripts that are run, row by row, on dies whose devices are in memory.
 
-ghost use Rattle.std.specs.Prelude.{◌≡◌, ◌≤◌, All, length, IfOk, IfErr, OnOk};
+ghost use Rattle.std.specs.Prelude.{◌≡◌, ◌<◌, ◌≤◌, ◌⊎◌, ◌++◌, ◌∷◌, [], true, All, length, map, IfOk, IfErr, IfSome, OnOk};
+ghost use Rattle.std.specs.Box.{box_value};
 ghost use Rattle.plan_rules.specs.Bound.{MeetsBound};
+ghost use Rattle.die_log.specs.Model.Log.{now};
+ghost use Rattle.die_log.specs.Model.Start.{fresh};
+ghost use Rattle.slot_types.specs.Refusal.{FailsForMemory};
+ghost use Rattle.tool_watched_runs.specs.Runs.{start_of, starts_of, worn_of};
+ghost use Rattle.tool_watched_runs.specs.Wear.{IsWorn};
+ghost use Rattle.tool_watched_runs.specs.WearText.{IsWearText};
 
 use crate::die_runs::DieRun;
+use crate::failing::{FailAt, Failure, calls_of, failure_in};
 use crate::refused::RefusedRows;
 use crate::{Tally, Window, wear_text};
 use script_texts::ScriptReader;
-use slot_types::{MAX_SLOT, Refusal, StorePlan};
+use slot_types::{Event, MAX_SLOT, Refusal, StorePlan};
 use std::alloc::Global;
 use std::io::Read;
 
@@ -26,6 +34,8 @@ pub struct Reported {
     pub text: Vec<u8>,
     pub refused: RefusedRows,
     pub sights: Sights,
+    /// What became of the device that was to fail; none where none was, or its die didn't run.
+    pub failure: Option<Failure>,
 }
 
 impl Sights {
@@ -36,63 +46,173 @@ impl Sights {
     };
 }
 
-/// A fresh die for each plan.
-pub fn fresh_dies(alloc: Global, plan: StorePlan) -> Result<Vec<Box<DieRun>>, Refusal>
+/// Adds a die. The only refusal is NoMemory.
+fn push_run(dies: &mut Vec<Box<DieRun>>, run: Box<DieRun>) -> Result<(), Refusal>
+    ensures ok { OnOk result (dies.new.items ≡ dies.old.items ++ run ∷ []) }
+    ensures refused { FailsForMemory result }
+{
+    dies.push(run)?;
+    Ok(())
+}
+
+/// A fresh die for each plan, on a device that makes all calls well, but for one that is to fail. The only refusal is
+/// NoMemory.
+pub fn fresh_dies(
+    alloc: Global,
+    plan: StorePlan,
+    fail: Option<FailAt>,
+) -> Result<Vec<Box<DieRun>>, Refusal>
     requires { All MeetsBound plan }
+    ensures { IfOk result (λ dies. starts_of dies.items ≡ map fresh plan) }
 {
     let mut dies = Vec::new(alloc);
     let mut die: u32 = 0;
     for plan in plan.into_vec() {
-        let run = DieRun::boxed(alloc, die, plan, Window::new(alloc, 0, 0))?;
-        dies.push(run)?;
+        let calls = calls_of(fail, die);
+        let run = DieRun::boxed(alloc, die, plan, calls, Window::new(alloc, 0, 0))?;
+        push_run(&mut dies, run)?;
         die = die.saturating_add(1);
     }
     Ok(dies)
 }
 
-/// Runs the rows of a script on these dies, and then so many slots. Rows of other dies are passed over.
+/// What became of the device that was to fail; none where none was, or its die isn't one of these.
+pub fn failure_of(fail: Option<FailAt>, dies: &[Box<DieRun>]) -> Option<Failure>
+    ensures at { IfSome result (λ failure. fail ≡ Some failure.at) }
+{
+    let at = fail?;
+    let run = dies.iter().find(|run| run.die == at.die)?;
+    Some(failure_in(at, &run.core))
+}
+
+/// Carries a die to a slot, or to the one in which its device fails. The only refusal is NoMemory. It is lent with its
+/// box, as the list has it.
+fn carry(alloc: Global, run: &mut Box<DieRun>, slot: u32) -> Result<(), Refusal>
+    ensures start { start_of run.new ≡ start_of run.old }
+    ensures die { (box_value run.new).die ≡ (box_value run.old).die }
+    ensures slot { OnOk result (now (box_value (box_value run.old).core).log ≤ slot
+        → (now (box_value (box_value run.new).core).log ≡ slot)
+        ⊎ ((box_value (box_value run.new).core).stopped ≡ true)) }
+{
+    match run.carry_to(alloc, slot) {
+        Err(_) if run.core.is_stopped() => Ok(()),
+        carried => carried,
+    }
+}
+
+/// Asks a die for what a row says, and answers why it was refused, if it was.
+fn ask(alloc: Global, run: &mut Box<DieRun>, event: Event) -> Option<Refusal>
+    ensures start { start_of run.new ≡ start_of run.old }
+{
+    run.ask(alloc, event)
+}
+
+/// Carries a die to a slot, as [`carry`] does.
+fn carry_die(
+    alloc: Global,
+    dies: &mut Vec<Box<DieRun>>,
+    place: usize,
+    slot: u32,
+) -> Result<(), Refusal>
+    requires there { place < length dies.old.items }
+    ensures starts { starts_of dies.new.items ≡ starts_of dies.old.items }
+    ensures count { length dies.new.items ≡ length dies.old.items }
+{
+    carry(alloc, &mut dies[place], slot)
+}
+
+/// Carries a die to the slot of a row, and asks for what the row says. Answers why that was refused, if it was.
+fn carry_row(
+    alloc: Global,
+    dies: &mut Vec<Box<DieRun>>,
+    place: usize,
+    at: u32,
+    event: Event,
+) -> Result<Option<Refusal>, Refusal>
+    requires there { place < length dies.old.items }
+    ensures starts { starts_of dies.new.items ≡ starts_of dies.old.items }
+    ensures count { length dies.new.items ≡ length dies.old.items }
+{
+    let run = &mut dies[place];
+    carry(alloc, run, at)?;
+    Ok(ask(alloc, run, event))
+}
+
+/// Carries each die to a slot, as [`carry`] does.
+fn carry_all(alloc: Global, dies: &mut Vec<Box<DieRun>>, slot: u32) -> Result<(), Refusal>
+    ensures starts { starts_of dies.new.items ≡ starts_of dies.old.items }
+    ensures count { length dies.new.items ≡ length dies.old.items }
+{
+    for place in 0..dies.len() {
+        carry_die(alloc, dies, place, slot)?;
+    }
+    Ok(())
+}
+
+/// Runs the rows of a script on these dies, and then so many slots. Rows of other dies are passed over. A die whose device
+/// failed stays at that slot, and refuses all later rows.
 pub fn run_rows<R: Read + Drop>(
     alloc: Global,
     mut script: ScriptReader<R>,
     dies: &mut Vec<Box<DieRun>>,
     slots: u32,
-) -> Result<RefusedRows, Refusal> {
+) -> Result<RefusedRows, Refusal>
+    ensures starts { starts_of dies.new.items ≡ starts_of dies.old.items }
+    ensures count { length dies.new.items ≡ length dies.old.items }
+{
     let mut refused = RefusedRows::NONE;
     for _ in 0..u64::MAX {
         let Some(item) = script.next()? else {
             break;
         };
-        let (die, at) = (item.die, item.at);
+        let die = item.die;
         let Some(place) = dies.iter().position(|run| run.die == die) else {
             continue;
         };
-        dies[place].carry_to(alloc, at)?;
-        if let Some(refusal) = dies[place].ask(alloc, item.event) {
+        if let Some(refusal) = carry_row(alloc, dies, place, item.at, item.event)? {
             refused.add(item.line, refusal);
         }
     }
-    for place in 0..dies.len() {
-        dies[place].carry_to(alloc, slots)?;
-    }
+    carry_all(alloc, dies, slots)?;
     Ok(refused)
 }
 
 /// What a die wore, which is given up.
-fn tally_of(run: Box<DieRun>) -> Tally {
+fn tally_of(run: Box<DieRun>) -> Tally
+    ensures tally { result ≡ (box_value run).tally }
+    ensures worn { IsWorn (worn_of run) }
+{
+    run.core.promises();
     let DieRun { tally, .. } = Box::into_inner(run);
     tally
 }
 
+/// Adds what a die wore. The only refusal is NoMemory.
+fn push_tally(tallies: &mut Vec<Tally>, tally: Tally) -> Result<(), Refusal>
+    ensures ok { OnOk result (tallies.new.items ≡ tallies.old.items ++ tally ∷ []) }
+    ensures refused { FailsForMemory result }
+{
+    tallies.push(tally)?;
+    Ok(())
+}
+
 /// What dies wore.
-fn tallies_of(alloc: Global, dies: Vec<Box<DieRun>>) -> Result<Vec<Tally>, Refusal> {
+fn tallies_of(alloc: Global, dies: Vec<Box<DieRun>>) -> Result<Vec<Tally>, Refusal>
+    ensures tallies { IfOk result (λ tallies.
+        tallies.items ≡ map (λ die. (worn_of die).tally) dies.items) }
+    ensures worn { IfOk result (λ _. All (λ die. IsWorn (worn_of die)) dies.items) }
+{
     let mut tallies = Vec::new(alloc);
     for run in dies {
-        tallies.push(tally_of(run))?;
+        push_tally(&mut tallies, tally_of(run))?;
     }
     Ok(tallies)
 }
 
-/// Runs a script on a store of dies in memory, and tells what it wore.
+/// Runs a script on a store of dies in memory, and reports what it wore, as a text of records: the counts are those of
+/// the logs of dies that began fresh by these plans.
+///
+/// Refused with the first fault of the script, as [`ScriptReader`] says it; or with ReadFault or NoMemory.
 pub fn wear<R: Read + Drop>(
     alloc: Global,
     plan: StorePlan,
@@ -101,9 +221,10 @@ pub fn wear<R: Read + Drop>(
 ) -> Result<Reported, Refusal>
     requires few { slots ≤ MAX_SLOT }
     requires bound { All MeetsBound plan }
+    ensures text { IfOk result (λ reported. IsWearText plan reported.text.items) }
 {
     let script = ScriptReader::new(alloc, script, &plan, slots)?;
-    let mut dies = fresh_dies(alloc, plan)?;
+    let mut dies = fresh_dies(alloc, plan, None)?;
     let refused = run_rows(alloc, script, &mut dies, slots)?;
     let tallies = tallies_of(alloc, dies)?;
     let text = wear_text(alloc, &tallies)?;
@@ -111,5 +232,6 @@ pub fn wear<R: Read + Drop>(
         text,
         refused,
         sights: Sights::NONE,
+        failure: None,
     })
 }

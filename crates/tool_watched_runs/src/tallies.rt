@@ -40,8 +40,10 @@ impl Tally {
     /// Adds an erase of a block.
     fn add_erase(&mut self, block: u32)
         requires room { self.old.erased < 4294967295 }
-        requires block_room { block < length self.old.erases.items → get_or self.old.erases.items block 0 < 4294967295 }
-        ensures by_block { self.new.erases.items ≡ slice_set self.old.erases.items block (get_or self.old.erases.items block 0 + 1) }
+        requires block_room { block < length self.old.erases.items
+            → get_or self.old.erases.items block 0 < 4294967295 }
+        ensures by_block { self.new.erases.items
+            ≡ slice_set self.old.erases.items block (get_or self.old.erases.items block 0 + 1) }
         ensures erased { self.new.erased ≡ self.old.erased + 1 }
         ensures written { self.new.written ≡ self.old.written }
         ensures copied { self.new.copied ≡ self.old.copied }
@@ -56,8 +58,10 @@ impl Tally {
     /// Adds what was done in a slot. The counts are those of a log with fewer than 4,294,967,295 slots, and then of the log with
     /// this slot.
     pub fn note(&mut self, reply: &SlotReply)
-        requires { (blocks : ℕ) × (past : Log) × IsWearOf blocks past self.old × (now past < 4294967295) }
-        ensures { (blocks : ℕ) (past : Log) → IsWearOf blocks past self.old → IsWearOf blocks (slot_entry reply.now ∷ past) self.new }
+        requires { (blocks : ℕ) × (past : Log) × IsWearOf blocks past self.old
+            × (now past < 4294967295) }
+        ensures { (blocks : ℕ) (past : Log) → IsWearOf blocks past self.old
+            → IsWearOf blocks (slot_entry reply.now ∷ past) self.new }
     {
         let Some((_, act)) = reply.ran else {
             return;

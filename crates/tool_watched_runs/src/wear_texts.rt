@@ -30,7 +30,8 @@ fn put_amplification(text: &mut Vec<u8>, written: u32, copied: u32) -> io::Resul
 
 /// Adds the counts of a die's record.
 fn put_counts(text: &mut Vec<u8>, die: usize, tally: &Tally) -> io::Result<()>
-    ensures { OnOk result (text.new.items ≡ text.old.items ++ die_counts die tally.now.erased tally.now.written tally.now.copied) }
+    ensures { OnOk result (text.new.items
+        ≡ text.old.items ++ die_counts die tally.now.erased tally.now.written tally.now.copied) }
 {
     let (erased, written, copied) = (tally.erased, tally.written, tally.copied);
     write!(text, "die,{die},,{erased},{written},{copied},")

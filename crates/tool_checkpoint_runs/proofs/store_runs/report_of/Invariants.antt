@@ -4,4 +4,4 @@ use Rattle.task_script.proofs.Gathering.{IsReportedOf}
 use Rattle.tool_checkpoint_runs.proofs.store_runs.report_of.Given as goal
 
 abbrev pub invariant-loop-number : goal.invariant-loop-number
-invariant-loop-number l = IsReportedOf l.text (reports_of l.number (drop l.number l.dies.items)) (reports_of 0 l.dies.items)
+invariant-loop-number g l = IsReportedOf l.text (reports_of l.number (drop l.number l.dies.items)) (reports_of 0 l.dies.items)

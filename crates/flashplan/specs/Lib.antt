@@ -1,3 +1,0 @@
-pub mod Syntax
-pub mod Commands
-pub mod Acts

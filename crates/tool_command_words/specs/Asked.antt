@@ -1,0 +1,68 @@
+-- What is asked for, with the names of files as texts.
+use Rattle.std.specs.Prelude.{ℕ, ◌≤◌, ⊤, Bool, List, map, Option, option_map}
+use Rattle.std.specs.Borrow.{Bor}
+use Rattle.tool_command_words.specs.declared.asked.FailingDie.{FailingDie}
+use Rattle.clap.specs.Words.{Text}
+use Rattle.tool_command_words.specs.declared.asked.Asked.{Asked}
+use Rattle.tool_command_words.specs.declared.asked.Command.{Command}
+use Rattle.tool_command_words.specs.declared.asked.Command.TheVariants as command
+use Rattle.tool_command_words.specs.declared.asked.ListCommand.{ListCommand}
+use Rattle.tool_command_words.specs.declared.asked.Request.{Request}
+use Rattle.tool_command_words.specs.declared.asked.Request.TheVariants as request
+
+-- a command, with the names of its files as texts
+pub data CommandText : Type 0 where
+  Explain : (plan : Text) (from : Option Text) → CommandText
+  Fit : (sheet : Text) → CommandText
+  Arrivals : (plan : Text) (slots seed : ℕ) (fills phases : Bool) (jitter load : ℕ) → CommandText
+  Keeps : (plan script : Text) (slots : ℕ) → CommandText
+  Wear : (plan script : Text) (slots : ℕ) → CommandText
+  Report : (plan script : Text) (slots endurance slot_us : ℕ) (as_csv : Bool) (fail : Option FailingDie) → CommandText
+  Draw : (plan script : Text) (slots die first end : ℕ) (worst as_text : Bool) (fail : Option FailingDie) → CommandText
+  Compare : (plan script : Text) (slots first pool : ℕ) (as_csv draws : Bool) (die task : ℕ) → CommandText
+  Run : (plan script : Text) (slots : ℕ) (from to : Option Text) (fail : Option FailingDie) → CommandText
+
+-- what is asked for: a command on the files that it names, or one on several files of a kind
+pub data RequestText : Type 0 where
+  One : (command : CommandText) → RequestText
+  Listed : (command : ListCommand) (files : List Text) → RequestText
+
+-- the name of a file, if one is named
+abbrev pub name_of : Option (Bor Text) → Option Text
+name_of name = option_map (λ (s : Bor Text). s.now) name
+
+abbrev pub text_of_command : Command → CommandText
+text_of_command (command.Explain plan from) = Explain plan.now (name_of from)
+text_of_command (command.Fit sheet) = Fit sheet.now
+text_of_command (command.Arrivals plan slots seed fills phases jitter load) = Arrivals plan.now slots seed fills phases jitter load
+text_of_command (command.Keeps plan script slots) = Keeps plan.now script.now slots
+text_of_command (command.Wear plan script slots) = Wear plan.now script.now slots
+text_of_command (command.Report plan script slots endurance slot_us as_csv fail) = Report plan.now script.now slots endurance slot_us as_csv fail
+text_of_command (command.Draw plan script slots die first end worst as_text fail) =
+    Draw plan.now script.now slots die first end worst as_text fail
+text_of_command (command.Compare plan script slots first pool as_csv draws die task) =
+    Compare plan.now script.now slots first pool as_csv draws die task
+text_of_command (command.Run plan script slots from to fail) = Run plan.now script.now slots (name_of from) (name_of to) fail
+
+abbrev pub text_of_request : Request → RequestText
+text_of_request (request.One command) = One (text_of_command command)
+text_of_request (request.Listed command files) = Listed command (map (λ (s : Bor Text). s.now) files.items)
+
+-- a run has at most 1,048,576 slots
+abbrev pub FitsRun : Command → Type 0
+FitsRun (command.Arrivals plan slots seed fills phases jitter load) = slots ≤ 1048576
+FitsRun (command.Keeps plan script slots) = slots ≤ 1048576
+FitsRun (command.Wear plan script slots) = slots ≤ 1048576
+FitsRun (command.Report plan script slots endurance slot_us as_csv fail) = slots ≤ 1048576
+FitsRun (command.Draw plan script slots die first end worst as_text fail) = slots ≤ 1048576
+FitsRun (command.Compare plan script slots first pool as_csv draws die task) = slots ≤ 1048576
+FitsRun (command.Run plan script slots from to fail) = slots ≤ 1048576
+FitsRun _ = ⊤
+
+abbrev pub RequestFits : Request → Type 0
+RequestFits (request.One command) = FitsRun command
+RequestFits (request.Listed command files) = ⊤
+
+-- what is asked for, the name of the file that is written, and whether no progress is shown
+abbrev pub text_of_asked : Asked → RequestText × (Text × Bool)
+text_of_asked asked = (text_of_request asked.request, (asked.output.now, asked.quiet))

@@ -1,0 +1,126 @@
+-- What a command asks for that clap met.
+use Rattle.std.specs.Prelude.{◌&&◌, ◌||◌, List, codes, Option, Some, None, is_some, option_map, if◌then◌else◌}
+use Rattle.std.specs.Str.{bytes_eq}
+use Rattle.clap.specs.Words.{Row, Text, all_of, first_of}
+use Rattle.tool_command_words.specs.Asked.{CommandText, Explain, Fit, Arrivals, Keeps, Wear, Report, Draw, Compare, Run, RequestText, One, Listed}
+use Rattle.tool_command_words.specs.Values.{◌>>=◌, fail_of, number_upto}
+use Rattle.tool_command_words.specs.declared.asked.ListCommand.{ListCommand}
+use Rattle.tool_command_words.specs.declared.asked.ListCommand.TheVariants as listed
+
+abbrev pub explain_of : List Row → Option CommandText
+explain_of rows = do
+  plan ← first_of (codes "PLAN") rows
+  Some (Explain plan (first_of (codes "from") rows))
+
+abbrev pub fit_of : List Row → Option CommandText
+fit_of rows = do
+  sheet ← first_of (codes "DATASHEET") rows
+  Some (Fit sheet)
+
+abbrev pub arrivals_of : List Row → Option CommandText
+arrivals_of rows = do
+  plan ← first_of (codes "PLAN") rows
+  slots ← first_of (codes "slots") rows >>= number_upto
+  seed ← first_of (codes "seed") rows >>= number_upto
+  fills ← first_of (codes "fill") rows
+  phases ← first_of (codes "phases") rows
+  jitter ← first_of (codes "jitter") rows >>= number_upto
+  load ← first_of (codes "load") rows >>= number_upto
+  Some (Arrivals plan slots seed (bytes_eq fills (codes "true")) (bytes_eq phases (codes "true")) jitter load)
+
+abbrev pub keeps_of : List Row → Option CommandText
+keeps_of rows = do
+  plan ← first_of (codes "PLAN") rows
+  script ← first_of (codes "SCRIPT") rows
+  slots ← first_of (codes "slots") rows >>= number_upto
+  Some (Keeps plan script slots)
+
+abbrev pub wear_of : List Row → Option CommandText
+wear_of rows = do
+  plan ← first_of (codes "PLAN") rows
+  script ← first_of (codes "SCRIPT") rows
+  slots ← first_of (codes "slots") rows >>= number_upto
+  Some (Wear plan script slots)
+
+abbrev pub report_of : List Row → Option CommandText
+report_of rows = do
+  plan ← first_of (codes "PLAN") rows
+  script ← first_of (codes "SCRIPT") rows
+  slots ← first_of (codes "slots") rows >>= number_upto
+  endurance ← first_of (codes "endurance") rows >>= number_upto
+  slot_us ← first_of (codes "slot-us") rows >>= number_upto
+  as_csv ← first_of (codes "csv") rows
+  fail ← fail_of rows
+  Some (Report plan script slots endurance slot_us (bytes_eq as_csv (codes "true")) fail)
+
+abbrev pub draw_of : List Row → Option CommandText
+draw_of rows = do
+  plan ← first_of (codes "PLAN") rows
+  script ← first_of (codes "SCRIPT") rows
+  slots ← first_of (codes "slots") rows >>= number_upto
+  die ← first_of (codes "die") rows >>= number_upto
+  first ← first_of (codes "from") rows >>= number_upto
+  end ← first_of (codes "to") rows >>= number_upto
+  worst ← first_of (codes "worst") rows
+  as_text ← first_of (codes "text") rows
+  fail ← fail_of rows
+  Some (Draw plan script slots die first end (bytes_eq worst (codes "true")) (bytes_eq as_text (codes "true")) fail)
+
+abbrev pub compare_of : List Row → Option CommandText
+compare_of rows = do
+  plan ← first_of (codes "PLAN") rows
+  script ← first_of (codes "SCRIPT") rows
+  slots ← first_of (codes "slots") rows >>= number_upto
+  first ← first_of (codes "from") rows >>= number_upto
+  pool ← first_of (codes "pool") rows >>= number_upto
+  as_csv ← first_of (codes "csv") rows
+  draws ← first_of (codes "draw") rows
+  die ← first_of (codes "die") rows >>= number_upto
+  task ← first_of (codes "task") rows >>= number_upto
+  Some (Compare plan script slots first pool (bytes_eq as_csv (codes "true")) (bytes_eq draws (codes "true")) die task)
+
+abbrev pub run_of : List Row → Option CommandText
+run_of rows = do
+  plan ← first_of (codes "PLAN") rows
+  script ← first_of (codes "SCRIPT") rows
+  slots ← first_of (codes "slots") rows >>= number_upto
+  fail ← fail_of rows
+  if is_some fail && (is_some (first_of (codes "from") rows) || is_some (first_of (codes "to") rows)) then None
+      else Some (Run plan script slots (first_of (codes "from") rows) (first_of (codes "to") rows) fail)
+
+abbrev pub command_named : Text → List Row → Option CommandText
+command_named name rows =
+    if bytes_eq name (codes "explain") then explain_of rows
+    else if bytes_eq name (codes "fit") then fit_of rows
+    else if bytes_eq name (codes "arrivals") then arrivals_of rows
+    else if bytes_eq name (codes "keeps") then keeps_of rows
+    else if bytes_eq name (codes "wear") then wear_of rows
+    else if bytes_eq name (codes "report") then report_of rows
+    else if bytes_eq name (codes "draw") then draw_of rows
+    else if bytes_eq name (codes "compare") then compare_of rows
+    else if bytes_eq name (codes "run") then run_of rows
+    else None
+
+abbrev pub audit_of : List Row → Option RequestText
+audit_of rows = do
+  files ← all_of (codes "REPORT") rows
+  Some (Listed listed.Audit files)
+
+abbrev pub import_in : List Row → Option ListCommand
+import_in rows = do
+  slot_us ← first_of (codes "slot-us") rows >>= number_upto
+  due ← first_of (codes "due") rows >>= number_upto
+  as_plan ← first_of (codes "plan") rows
+  Some (listed.Import slot_us due (bytes_eq as_plan (codes "true")))
+
+abbrev pub import_of : List Row → Option RequestText
+import_of rows = do
+  command ← import_in rows
+  files ← all_of (codes "TRACE") rows
+  Some (Listed command files)
+
+abbrev pub request_named : Text → List Row → Option RequestText
+request_named name rows =
+    if bytes_eq name (codes "audit") then audit_of rows
+    else if bytes_eq name (codes "import") then import_of rows
+    else option_map One (command_named name rows)

@@ -1,0 +1,139 @@
+-- The words that the program takes, as clap reads them.
+use Rattle.std.specs.Prelude.{codes, Bool, true, Some}
+use Rattle.clap.specs.declared.builder.action.ArgAction.TheVariants.{Append}
+use Rattle.clap.specs.Words.{App, Rule, Text, new_app, with_rule, with_subcommand}
+use Rattle.clap.specs.declared.builder.command.Command.{Command}
+use Rattle.clap.specs.declared.builder.command.Command.TheViews.{out-Command}
+use Rattle.command_arguments.specs.Arguments.{default_rule, flag_rule, needed_rule, option_rule, required_rule, slots_rule}
+
+-- a number, which is 0 where it isn't there
+abbrev pub count_rule : Text → Rule
+count_rule id = default_rule id (codes "0")
+
+-- `--die D`, which is 0 where it isn't there
+abbrev pub die_rule : Rule
+die_rule = count_rule (codes "die")
+
+-- `--from A`, which is 0 where it isn't there
+abbrev pub from_rule : Rule
+from_rule = count_rule (codes "from")
+
+-- `--to B`, which is the greatest number of slots where it isn't there
+abbrev pub to_rule : Rule
+to_rule = default_rule (codes "to") (codes "1048576")
+
+-- `--due D`, which is 20 where it isn't there
+abbrev pub due_rule : Rule
+due_rule = default_rule (codes "due") (codes "20")
+
+-- `--load L`, which is 100 where it isn't there
+abbrev pub load_rule : Rule
+load_rule = default_rule (codes "load") (codes "100")
+
+-- `--pool A`, which is 4 where it isn't there
+abbrev pub pool_rule : Rule
+pool_rule = default_rule (codes "pool") (codes "4")
+
+-- `-o FILE` of each command, which is `-`, standard output, where it isn't there
+abbrev pub output_rule : Rule
+output_rule = record (default_rule (codes "output") (codes "-")) { short = Some 111 }
+
+-- a program with one more command, which may write to a file, and be quiet
+abbrev pub with_command : App → App → App
+with_command program command = with_subcommand program (with_rule (with_rule command output_rule) (flag_rule (codes "quiet"))).top
+
+-- one file or more
+abbrev pub list_rule : Text → Rule
+list_rule id = record (required_rule id) { action = Some Append }
+
+-- `--fail-at DIE:K`
+abbrev pub fail_rule : Rule
+fail_rule = option_rule (codes "fail-at")
+
+abbrev pub explain_app : App
+explain_app = with_rule (with_rule (new_app (codes "explain")) (required_rule (codes "PLAN"))) (option_rule (codes "from"))
+
+abbrev pub fit_app : App
+fit_app = with_rule (new_app (codes "fit")) (required_rule (codes "DATASHEET"))
+
+abbrev pub arrivals_run_app : App
+arrivals_run_app = with_rule (with_rule (new_app (codes "arrivals")) (required_rule (codes "PLAN"))) slots_rule
+
+abbrev pub arrivals_drawn_app : App
+arrivals_drawn_app = with_rule (with_rule arrivals_run_app (count_rule (codes "seed"))) (flag_rule (codes "fill"))
+
+abbrev pub arrivals_app : App
+arrivals_app = with_rule (with_rule (with_rule arrivals_drawn_app (flag_rule (codes "phases"))) (count_rule (codes "jitter"))) load_rule
+
+abbrev pub import_trace_app : App
+import_trace_app = with_rule (with_rule (new_app (codes "import")) (list_rule (codes "TRACE"))) (needed_rule (codes "slot-us"))
+
+abbrev pub import_app : App
+import_app = with_rule (with_rule import_trace_app due_rule) (flag_rule (codes "plan"))
+
+abbrev pub wear_files_app : App
+wear_files_app = with_rule (with_rule (new_app (codes "wear")) (required_rule (codes "PLAN"))) (required_rule (codes "SCRIPT"))
+
+abbrev pub wear_app : App
+wear_app = with_rule wear_files_app slots_rule
+
+abbrev pub keeps_files_app : App
+keeps_files_app = with_rule (with_rule (new_app (codes "keeps")) (required_rule (codes "PLAN"))) (required_rule (codes "SCRIPT"))
+
+abbrev pub keeps_app : App
+keeps_app = with_rule keeps_files_app slots_rule
+
+abbrev pub report_files_app : App
+report_files_app = with_rule (with_rule (new_app (codes "report")) (required_rule (codes "PLAN"))) (required_rule (codes "SCRIPT"))
+
+abbrev pub report_run_app : App
+report_run_app = with_rule (with_rule report_files_app slots_rule) (flag_rule (codes "csv"))
+
+abbrev pub report_app : App
+report_app = with_rule (with_rule (with_rule report_run_app (count_rule (codes "endurance"))) (count_rule (codes "slot-us"))) fail_rule
+
+abbrev pub draw_files_app : App
+draw_files_app = with_rule (with_rule (new_app (codes "draw")) (required_rule (codes "PLAN"))) (required_rule (codes "SCRIPT"))
+
+abbrev pub draw_run_app : App
+draw_run_app = with_rule (with_rule draw_files_app slots_rule) die_rule
+
+abbrev pub draw_window_app : App
+draw_window_app = with_rule (with_rule draw_run_app from_rule) to_rule
+
+abbrev pub draw_app : App
+draw_app = with_rule (with_rule (with_rule draw_window_app (flag_rule (codes "worst"))) (flag_rule (codes "text"))) fail_rule
+
+abbrev pub compare_files_app : App
+compare_files_app = with_rule (with_rule (new_app (codes "compare")) (required_rule (codes "PLAN"))) (required_rule (codes "SCRIPT"))
+
+abbrev pub compare_run_app : App
+compare_run_app = with_rule (with_rule (with_rule compare_files_app slots_rule) from_rule) pool_rule
+
+abbrev pub compare_forms_app : App
+compare_forms_app = with_rule (with_rule compare_run_app (flag_rule (codes "csv"))) (flag_rule (codes "draw"))
+
+abbrev pub compare_app : App
+compare_app = with_rule (with_rule compare_forms_app die_rule) (count_rule (codes "task"))
+
+abbrev pub run_files_app : App
+run_files_app = with_rule (with_rule (new_app (codes "run")) (required_rule (codes "PLAN"))) (required_rule (codes "SCRIPT"))
+
+abbrev pub run_app : App
+run_app = with_rule (with_rule (with_rule (with_rule run_files_app slots_rule) (option_rule (codes "from"))) (option_rule (codes "to"))) fail_rule
+
+abbrev pub audit_app : App
+audit_app = with_rule (new_app (codes "audit")) (list_rule (codes "REPORT"))
+
+-- the program alone, which has a version
+abbrev pub named_app : App
+named_app = let app = new_app (codes "flashplan") in record app { top = record app.top { has_version = true } }
+
+-- the program's command line
+abbrev pub flashplan_app : App
+flashplan_app = with_command (with_command (with_command (with_command (with_command (with_command (with_command (with_command (with_command (with_command (with_command
+    named_app explain_app) fit_app) arrivals_app) keeps_app) wear_app) report_app) draw_app) compare_app) import_app) run_app) audit_app
+
+-- whether a command has an argument that is global
+abbrev pub has_globals : Command → Bool
+has_globals c = (out-Command c).has_globals

@@ -1,0 +1,146 @@
+//! What may be asked for.
+
+/// From which call on the device of which die is to fail.
+#[derive(Clone, Copy, PartialEq, Eq, Debug, Drop)]
+pub struct FailingDie {
+    /// The die, from 0 to 1,048,576; it needn't be there.
+    pub die: u32,
+    /// The first call that fails, from 1 to 1,048,576.
+    pub call: u32,
+}
+
+/// What the words of a command line ask for. Files stand by their names.
+#[derive(Clone, Copy, PartialEq, Eq, Debug)]
+pub enum Command<'a> {
+    /// Explain a plan.
+    Explain {
+        plan: &'a str,
+        /// The checkpoint from which its dies go on.
+        from: Option<&'a str>,
+    },
+    /// Find a plan for a datasheet.
+    Fit {
+        sheet: &'a str,
+    },
+    /// Write the script of a plan's arrivals.
+    Arrivals {
+        plan: &'a str,
+        /// For how many slots, from 0 to 1,048,576.
+        slots: u32,
+        /// What draws the operations and their pages.
+        seed: u32,
+        /// Whether the die is filled first.
+        fills: bool,
+        /// Whether each task begins in a slot that is drawn.
+        phases: bool,
+        /// How many slots a job comes late at most, and how many of a hundred jobs come.
+        jitter: u32,
+        load: u32,
+    },
+    /// Tell whether a script keeps the plans of its dies.
+    Keeps {
+        plan: &'a str,
+        script: &'a str,
+        /// How many slots each die runs, from 0 to 1,048,576.
+        slots: u32,
+    },
+    /// Run a script, and tell what it wore.
+    Wear {
+        plan: &'a str,
+        script: &'a str,
+        /// How many slots each die runs, from 0 to 1,048,576.
+        slots: u32,
+    },
+    /// Run a script, and tell what it came to.
+    Report {
+        plan: &'a str,
+        script: &'a str,
+        /// How many slots each die runs, from 0 to 1,048,576.
+        slots: u32,
+        /// How often a block may be erased, and how many microseconds a slot takes; 0 where it isn't said.
+        endurance: u32,
+        slot_us: u32,
+        /// Whether it is printed as CSV.
+        as_csv: bool,
+        fail: Option<FailingDie>,
+    },
+    /// Run a script, and draw what a die did.
+    Draw {
+        plan: &'a str,
+        script: &'a str,
+        /// How many slots the die runs, from 0 to 1,048,576.
+        slots: u32,
+        /// Which die.
+        die: u32,
+        /// The first slot that is drawn.
+        from: u32,
+        /// The slot before which the picture ends.
+        to: u32,
+        /// Whether the busy interval of the worst is drawn.
+        worst: bool,
+        /// Whether lines for a terminal are written.
+        as_text: bool,
+        fail: Option<FailingDie>,
+    },
+    /// Run a script on a store and by plain layers.
+    Compare {
+        plan: &'a str,
+        script: &'a str,
+        /// How many slots each die runs, from 0 to 1,048,576.
+        slots: u32,
+        /// The first slot that counts.
+        from: u32,
+        /// With fewer wholly free blocks a plain layer collects in idle slots.
+        pool: u32,
+        /// Whether it is written as CSV.
+        as_csv: bool,
+        /// Whether a task of a die is drawn, and which one.
+        draws: bool,
+        die: u32,
+        task: u32,
+    },
+    /// Run a script, from a checkpoint and to one.
+    Run {
+        plan: &'a str,
+        script: &'a str,
+        /// How many slots each die runs, from 0 to 1,048,576.
+        slots: u32,
+        /// The checkpoint from which the dies go on; fresh ones begin where there is none.
+        from: Option<&'a str>,
+        /// The file that gets the checkpoint of the dies' end.
+        to: Option<&'a str>,
+        /// With one, all dies are fresh, and no checkpoint is written.
+        fail: Option<FailingDie>,
+    },
+}
+
+/// What is done with several files of a kind.
+#[derive(Clone, Copy, PartialEq, Eq, Debug)]
+pub enum ListCommand {
+    /// Audit reports.
+    Audit,
+    /// Write the script of traces, a die each, or their plan.
+    Import {
+        /// How many microseconds a slot takes.
+        slot_us: u32,
+        /// How many slots after it came a request is due.
+        due: u32,
+        as_plan: bool,
+    },
+}
+
+/// What the words of a command line ask for.
+#[derive(Drop)]
+pub enum Request<'a> {
+    One(Command<'a>),
+    /// The files stand by their names, in their order.
+    Listed(ListCommand, Vec<&'a str>),
+}
+
+/// What is asked for, the name of the file that is written (`-` is standard output), and whether no progress is shown.
+#[derive(Drop)]
+pub struct Asked<'a> {
+    pub request: Request<'a>,
+    pub output: &'a str,
+    pub quiet: bool,
+}

@@ -1,0 +1,278 @@
+//! What a command asks for that clap met.
+
+ghost use Rattle.std.specs.Prelude.{◌≡◌, IfOk, IfSome, option_map};
+ghost use Rattle.clap.specs.Words.{found_of, rows_of};
+ghost use Rattle.tool_command_words.specs.Asked.{FitsRun, RequestFits, text_of_command, text_of_request};
+ghost use Rattle.tool_command_words.specs.Commands.{arrivals_of, audit_of, command_named, compare_of, draw_of, explain_of, fit_of, import_in, import_of};
+ghost use Rattle.tool_command_words.specs.Commands.{keeps_of, report_of, request_named, run_of, wear_of};
+
+use crate::asked::{Command, ListCommand, Request};
+use crate::values::{fail, number_in, value, values};
+use clap::ArgMatches;
+use std::alloc::{AllocError, Global};
+
+/// The command `explain` that was met.
+fn explain<'a>(met: &ArgMatches<'a>) -> Option<Command<'a>>
+    ensures explain { option_map text_of_command result ≡ explain_of (rows_of (found_of met.now)) }
+    ensures fits { IfSome result FitsRun }
+{
+    let plan = value(met, "PLAN")?;
+    let from = value(met, "from");
+    Some(Command::Explain { plan, from })
+}
+
+/// The command `fit` that was met.
+fn fit<'a>(met: &ArgMatches<'a>) -> Option<Command<'a>>
+    ensures fit { option_map text_of_command result ≡ fit_of (rows_of (found_of met.now)) }
+    ensures fits { IfSome result FitsRun }
+{
+    let sheet = value(met, "DATASHEET")?;
+    Some(Command::Fit { sheet })
+}
+
+/// The command `arrivals` that was met.
+fn arrivals<'a>(met: &ArgMatches<'a>) -> Option<Command<'a>>
+    ensures arrivals { option_map text_of_command result
+        ≡ arrivals_of (rows_of (found_of met.now)) }
+    ensures fits { IfSome result FitsRun }
+{
+    let plan = value(met, "PLAN")?;
+    let slots = number_in(value(met, "slots")?)?;
+    let seed = number_in(value(met, "seed")?)?;
+    let fills = value(met, "fill")? == "true";
+    let phases = value(met, "phases")? == "true";
+    let jitter = number_in(value(met, "jitter")?)?;
+    let load = number_in(value(met, "load")?)?;
+    Some(Command::Arrivals {
+        plan,
+        slots,
+        seed,
+        fills,
+        phases,
+        jitter,
+        load,
+    })
+}
+
+/// The command `keeps` that was met.
+fn keeps<'a>(met: &ArgMatches<'a>) -> Option<Command<'a>>
+    ensures keeps { option_map text_of_command result ≡ keeps_of (rows_of (found_of met.now)) }
+    ensures fits { IfSome result FitsRun }
+{
+    let plan = value(met, "PLAN")?;
+    let script = value(met, "SCRIPT")?;
+    let slots = number_in(value(met, "slots")?)?;
+    Some(Command::Keeps {
+        plan,
+        script,
+        slots,
+    })
+}
+
+/// The command `wear` that was met.
+fn wear<'a>(met: &ArgMatches<'a>) -> Option<Command<'a>>
+    ensures wear { option_map text_of_command result ≡ wear_of (rows_of (found_of met.now)) }
+    ensures fits { IfSome result FitsRun }
+{
+    let plan = value(met, "PLAN")?;
+    let script = value(met, "SCRIPT")?;
+    let slots = number_in(value(met, "slots")?)?;
+    Some(Command::Wear {
+        plan,
+        script,
+        slots,
+    })
+}
+
+/// The command `report` that was met.
+fn report<'a>(met: &ArgMatches<'a>) -> Option<Command<'a>>
+    ensures report { option_map text_of_command result ≡ report_of (rows_of (found_of met.now)) }
+    ensures fits { IfSome result FitsRun }
+{
+    let plan = value(met, "PLAN")?;
+    let script = value(met, "SCRIPT")?;
+    let slots = number_in(value(met, "slots")?)?;
+    let endurance = number_in(value(met, "endurance")?)?;
+    let slot_us = number_in(value(met, "slot-us")?)?;
+    let as_csv = value(met, "csv")? == "true";
+    let fail = fail(met)?;
+    Some(Command::Report {
+        plan,
+        script,
+        slots,
+        endurance,
+        slot_us,
+        as_csv,
+        fail,
+    })
+}
+
+/// The command `draw` that was met.
+fn draw<'a>(met: &ArgMatches<'a>) -> Option<Command<'a>>
+    ensures draw { option_map text_of_command result ≡ draw_of (rows_of (found_of met.now)) }
+    ensures fits { IfSome result FitsRun }
+{
+    let plan = value(met, "PLAN")?;
+    let script = value(met, "SCRIPT")?;
+    let slots = number_in(value(met, "slots")?)?;
+    let die = number_in(value(met, "die")?)?;
+    let from = number_in(value(met, "from")?)?;
+    let to = number_in(value(met, "to")?)?;
+    let worst = value(met, "worst")? == "true";
+    let as_text = value(met, "text")? == "true";
+    let fail = fail(met)?;
+    Some(Command::Draw {
+        plan,
+        script,
+        slots,
+        die,
+        from,
+        to,
+        worst,
+        as_text,
+        fail,
+    })
+}
+
+/// The command `compare` that was met.
+fn compare<'a>(met: &ArgMatches<'a>) -> Option<Command<'a>>
+    ensures compare { option_map text_of_command result ≡ compare_of (rows_of (found_of met.now)) }
+    ensures fits { IfSome result FitsRun }
+{
+    let plan = value(met, "PLAN")?;
+    let script = value(met, "SCRIPT")?;
+    let slots = number_in(value(met, "slots")?)?;
+    let from = number_in(value(met, "from")?)?;
+    let pool = number_in(value(met, "pool")?)?;
+    let as_csv = value(met, "csv")? == "true";
+    let draws = value(met, "draw")? == "true";
+    let die = number_in(value(met, "die")?)?;
+    let task = number_in(value(met, "task")?)?;
+    Some(Command::Compare {
+        plan,
+        script,
+        slots,
+        from,
+        pool,
+        as_csv,
+        draws,
+        die,
+        task,
+    })
+}
+
+/// The command `run` that was met.
+fn run<'a>(met: &ArgMatches<'a>) -> Option<Command<'a>>
+    ensures run { option_map text_of_command result ≡ run_of (rows_of (found_of met.now)) }
+    ensures fits { IfSome result FitsRun }
+{
+    let plan = value(met, "PLAN")?;
+    let script = value(met, "SCRIPT")?;
+    let slots = number_in(value(met, "slots")?)?;
+    let from = value(met, "from");
+    let to = value(met, "to");
+    let fail = fail(met)?;
+    if fail.is_some() && (from.is_some() || to.is_some()) {
+        return None;
+    }
+    Some(Command::Run {
+        plan,
+        script,
+        slots,
+        from,
+        to,
+        fail,
+    })
+}
+
+/// The command `audit` that was met.
+fn audit<'a>(alloc: Global, met: &ArgMatches<'a>) -> Result<Option<Request<'a>>, AllocError>
+    ensures audit { IfOk result (λ made.
+        option_map text_of_request made ≡ audit_of (rows_of (found_of met.now))) }
+    ensures fits { IfOk result (λ made. IfSome made RequestFits) }
+{
+    match values(alloc, met, "REPORT")? {
+        Some(reports) => Ok(Some(Request::Listed(ListCommand::Audit, reports))),
+        None => Ok(None),
+    }
+}
+
+/// What `import` is to do.
+fn import_in(met: &ArgMatches<'_>) -> Option<ListCommand>
+    ensures { result ≡ import_in (rows_of (found_of met.now)) }
+{
+    let slot_us = number_in(value(met, "slot-us")?)?;
+    let due = number_in(value(met, "due")?)?;
+    let as_plan = value(met, "plan")? == "true";
+    Some(ListCommand::Import {
+        slot_us,
+        due,
+        as_plan,
+    })
+}
+
+/// The command `import` that was met.
+fn import<'a>(alloc: Global, met: &ArgMatches<'a>) -> Result<Option<Request<'a>>, AllocError>
+    ensures import { IfOk result (λ made.
+        option_map text_of_request made ≡ import_of (rows_of (found_of met.now))) }
+    ensures fits { IfOk result (λ made. IfSome made RequestFits) }
+{
+    let Some(command) = import_in(met) else {
+        return Ok(None);
+    };
+    match values(alloc, met, "TRACE")? {
+        Some(traces) => Ok(Some(Request::Listed(command, traces))),
+        None => Ok(None),
+    }
+}
+
+/// The command that was met, by its name.
+fn command_named<'a>(name: &str, met: &ArgMatches<'a>) -> Option<Command<'a>>
+    ensures named { option_map text_of_command result
+        ≡ command_named name.now (rows_of (found_of met.now)) }
+    ensures fits { IfSome result FitsRun }
+{
+    if name == "explain" {
+        explain(met)
+    } else if name == "fit" {
+        fit(met)
+    } else if name == "arrivals" {
+        arrivals(met)
+    } else if name == "keeps" {
+        keeps(met)
+    } else if name == "wear" {
+        wear(met)
+    } else if name == "report" {
+        report(met)
+    } else if name == "draw" {
+        draw(met)
+    } else if name == "compare" {
+        compare(met)
+    } else if name == "run" {
+        run(met)
+    } else {
+        None
+    }
+}
+
+/// What was asked for, by the command's name.
+pub(crate) fn request_named<'a>(
+    alloc: Global,
+    name: &str,
+    met: &ArgMatches<'a>,
+) -> Result<Option<Request<'a>>, AllocError>
+    ensures named { IfOk result (λ made.
+        option_map text_of_request made ≡ request_named name.now (rows_of (found_of met.now))) }
+    ensures fits { IfOk result (λ made. IfSome made RequestFits) }
+{
+    if name == "audit" {
+        audit(alloc, met)
+    } else if name == "import" {
+        import(alloc, met)
+    } else {
+        match command_named(name, met) {
+            Some(command) => Ok(Some(Request::One(command))),
+            None => Ok(None),
+        }
+    }
+}

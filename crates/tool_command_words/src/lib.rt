@@ -1,0 +1,13 @@
+//! The words of `flashplan`: its commands and their options as clap reads them, and what they ask for.
+#![tactic(auto)]
+
+pub mod asked;
+mod commands;
+mod number_faults;
+pub mod reading;
+mod syntax;
+mod values;
+mod word_faults;
+
+pub use asked::{Asked, Command, FailingDie, ListCommand, Request};
+pub use reading::read_words;

@@ -1,0 +1,95 @@
+//! What the words of a command line ask for.
+
+ghost use Rattle.std.specs.Prelude.{◌≡◌, IfOk, IfSome, Some, map, option_map, string_bytes};
+ghost use Rattle.clap.specs.Words.{app_of, found_of, rows_of, subcommand_rows_of};
+ghost use Rattle.clap.specs.Kinds.{FailsBy};
+ghost use Rattle.clap.specs.Faults.{fault_of};
+ghost use Rattle.tool_command_words.specs.Asked.{RequestFits, text_of_asked, text_of_request};
+ghost use Rattle.tool_command_words.specs.Reading.{asked_by, command_asked, command_asked_by, words_fault};
+ghost use Rattle.tool_command_words.specs.Syntax.{flashplan_app};
+
+use crate::asked::{Asked, Request};
+use crate::commands::request_named;
+use crate::syntax::program_words;
+use crate::values::value;
+use crate::word_faults::command_error;
+use clap::{ArgMatches, Error};
+use std::alloc::{AllocError, Global};
+
+/// A request of a command, with the file that it writes, and whether it is quiet.
+fn asked_of<'a>(request: Option<Request<'a>>, met: &ArgMatches<'a>) -> Option<Asked<'a>>
+    requires { IfSome request RequestFits }
+    ensures asked { option_map text_of_asked result
+        ≡ asked_by (option_map text_of_request request.entry) (rows_of (found_of met.now)) }
+    ensures fits { IfSome result (λ asked. RequestFits asked.request) }
+{
+    let request = request?;
+    let output = value(met, "output")?;
+    let quiet = value(met, "quiet")? == "true";
+    Some(Asked {
+        request,
+        output,
+        quiet,
+    })
+}
+
+/// What the command asks for that clap met, if it met one, and its numbers lie in their ranges.
+fn command_met<'a>(alloc: Global, matches: &ArgMatches<'a>) -> Result<Option<Asked<'a>>, AllocError>
+    ensures asked { IfOk result (λ made.
+        option_map text_of_asked made ≡ command_asked_by (subcommand_rows_of matches.now)) }
+    ensures fits { IfOk result (λ made. IfSome made (λ asked. RequestFits asked.request)) }
+{
+    match matches.subcommand() {
+        None => Ok(None),
+        Some((name, met)) => {
+            let request = request_named(alloc, name, met)?;
+            Ok(asked_of(request, met))
+        }
+    }
+}
+
+/// The command that clap meets in the words, if there is one, and its numbers lie in their ranges.
+fn parsed<'a>(
+    alloc: Global,
+    program: &mut clap::Command<'a>,
+    words: &'a [String],
+) -> Result<Option<Asked<'a>>, Error>
+    requires { app_of program.old ≡ flashplan_app }
+    ensures ok { IfOk result (λ c.
+        option_map text_of_asked c ≡ command_asked (map string_bytes words.entry.now)) }
+    ensures fits { IfOk result (λ c. IfSome c (λ asked. RequestFits asked.request)) }
+    ensures fault { FailsBy (fault_of flashplan_app (map string_bytes words.entry.now)) result }
+{
+    let matches = program.try_get_matches_from_mut(words)?;
+    let met = command_met(alloc, &matches)?;
+    Ok(met)
+}
+
+/// What the words ask for, the first of them being the program's name. Each command takes `-o FILE`, which is `-` if
+/// left out, and `--quiet`.
+///
+/// The words are `explain PLAN --from CHECKPOINT`, `fit DATASHEET`, `arrivals PLAN --slots N --seed S --fill --phases
+/// --jitter J --load L`, where S and J are 0 and L is 100 if left out, `keeps PLAN SCRIPT --slots N`, `wear PLAN SCRIPT
+/// --slots N`, `report PLAN SCRIPT --slots N --endurance E --slot-us U --csv --fail-at DIE:K`, where E and U are 0 if
+/// left out, `draw PLAN SCRIPT --slots N --die D --from A --to B --worst --text --fail-at DIE:K`, where D, A and B may
+/// be left out: the picture is then of die 0, begins with slot 0, or ends with the run; `compare PLAN SCRIPT --slots N
+/// --from F --pool A --csv --draw --die D --task T`, where F, D and T are 0 and A is 4 if left out; `import TRACE..
+/// --slot-us U --due D --plan`, where D is 20 if left out; `run PLAN SCRIPT --slots N --from CHECKPOINT --to CHECKPOINT
+/// --fail-at DIE:K`, where the last goes with neither checkpoint; or `audit REPORT..`. A checkpoint may be left out,
+/// and so may `--fail-at`, with a call K from 1. A number is 1 to 10 decimal digits, and at most 1,048,576. The error
+/// is that of clap, which prints itself: a call for help, a fault of the words, or out of memory; and ValueValidation
+/// where there is no command, or a number that is none or too great.
+#[tactic(auto, using(crate::proofs::KindLemmas::has_kind_in_first))]
+pub fn read_words<'a>(alloc: Global, words: &'a [String]) -> Result<Asked<'a>, Error>
+    ensures ok { IfOk result (λ c.
+        command_asked (map string_bytes words.entry.now) ≡ Some (text_of_asked c)) }
+    ensures fits { IfOk result (λ asked. RequestFits asked.request) }
+    ensures fault { FailsBy (words_fault (map string_bytes words.entry.now)) result }
+{
+    let mut program = program_words(alloc)?;
+    match parsed(alloc, &mut program, words) {
+        Ok(Some(asked)) => Ok(asked),
+        Ok(None) => Err(command_error(alloc, program, words)),
+        Err(error) => Err(error),
+    }
+}

@@ -1,0 +1,33 @@
+//! The command `fit`.
+
+ghost use Rattle.std.specs.Prelude.{◌≡◌, false, IfOk};
+ghost use Rattle.clap.specs.Words.{app_of};
+ghost use Rattle.tool_command_words.specs.Syntax.{fit_app, has_globals};
+
+use clap::Command;
+use command_arguments::required;
+use std::alloc::{AllocError, Global};
+
+/// What is found for a datasheet.
+const FIT_HELP: &str =
+    "A datasheet has read_us, program_us, erase_us, suspend_us, resume_us, blocks, pages and logical, and by
+[[task]] period_ms, reads and writes; docs/TEXTS.md says more. The plan says how long a slot is, and what is to spare.
+Ends with 3 where no plan was found, and says what stands against it.
+
+Example: flashplan fit part.toml > plan.toml";
+
+/// The command `fit`.
+pub(crate) fn fit_words<'a>(alloc: Global) -> Result<Command<'a>, AllocError>
+    ensures app { IfOk result (λ c. app_of c ≡ fit_app) }
+    ensures local { IfOk result (λ c. has_globals c ≡ false) }
+{
+    let sheet = required(
+        alloc,
+        "DATASHEET",
+        "What a part's datasheet says, and what the tasks need, a TOML file; - is standard input",
+    );
+    Command::new(alloc, "fit")
+        .about("Find a plan for a part and its tasks, which passes its test")
+        .after_help(FIT_HELP)
+        .arg(sheet)
+}

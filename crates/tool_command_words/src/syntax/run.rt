@@ -1,0 +1,63 @@
+//! The command `run`.
+
+ghost use Rattle.std.specs.Prelude.{◌≡◌, false, codes, IfOk};
+ghost use Rattle.clap.specs.Words.{app_of, rule_of};
+ghost use Rattle.command_arguments.specs.Arguments.{option_rule};
+ghost use Rattle.tool_command_words.specs.Syntax.{has_globals, run_app, run_files_app};
+
+use crate::syntax::shared::{begun_from, fail_at};
+use clap::{Arg, Command};
+use command_arguments::{option, plan_file, script_file, slots};
+use std::alloc::{AllocError, Global};
+
+/// What a run on dies in memory does with checkpoints.
+const RUN_HELP: &str =
+    "Prints the report that flashrec run prints. Each die is at slot 0 at first; with --from it goes on as it was saved.
+With --to a die that isn't done with its jobs and collections after the last slot goes on with slots in which nothing
+comes, as many as they take; this is reported. Ends with 3 where no checkpoint may be taken all the same: the report is
+printed then, and the file stays as it was.
+
+With --fail-at all dies are fresh, and no checkpoint is written; the slot in which the device failed is reported on
+standard error.
+
+Example: flashplan run plan.toml morning.csv --slots 1000 --to noon.csv
+         flashplan run plan.toml evening.csv --slots 1000 --from noon.csv --to night.csv";
+
+/// The checkpoint that is written.
+fn saved_to<'a>(alloc: Global) -> Arg<'a>
+    ensures rule { rule_of result ≡ option_rule (codes "to") }
+    ensures local { result.global ≡ false }
+{
+    option(
+        alloc,
+        "to",
+        "CHECKPOINT",
+        "The file to which the checkpoint of the dies' end is written, whole or not at all",
+    )
+}
+
+/// The command `run`, with its files.
+fn run_files<'a>(alloc: Global) -> Result<Command<'a>, AllocError>
+    ensures app { IfOk result (λ c. app_of c ≡ run_files_app) }
+    ensures local { IfOk result (λ c. has_globals c ≡ false) }
+{
+    Command::new(alloc, "run")
+        .about(
+            "Run a script on a store, from a checkpoint and to a checkpoint, and print its report",
+        )
+        .after_help(RUN_HELP)
+        .arg(plan_file(alloc))?
+        .arg(script_file(alloc))
+}
+
+/// The command `run`.
+pub(crate) fn run_words<'a>(alloc: Global) -> Result<Command<'a>, AllocError>
+    ensures app { IfOk result (λ c. app_of c ≡ run_app) }
+    ensures local { IfOk result (λ c. has_globals c ≡ false) }
+{
+    run_files(alloc)?
+        .arg(slots(alloc))?
+        .arg(begun_from(alloc))?
+        .arg(saved_to(alloc))?
+        .arg(fail_at(alloc))
+}

@@ -1,0 +1,3 @@
+mod Audits
+mod Endings
+mod Opened

@@ -1,0 +1,7 @@
+use Rattle.report_texts.proofs.TextParts.{whole_is}
+use Rattle.task_script.specs.StoreRuns.{reports_of}
+use Rattle.tool_commands.proofs.checkpoint_acts.print_run.Goals as goal
+
+pub returns-clause-printed : goal.returns-clause-printed
+returns-clause-printed g c =
+    rw (whole_is (reports_of 0 c.in_ok-dies.field-0.dies.items) _ c.in_ok-dies.ensures.report) at c.in_ok-write.ensures.written

@@ -1,0 +1,206 @@
+-- What a command prints, and its status; and what it leaves where it is refused.
+use Rattle.std.specs.Prelude.{◌≡◌, ◌==◌, ◌↔◌, ◌⊎◌, List, [], ◌∷◌, ℕ, Option, Some, None, Result, Ok, Err, IfSome, take, IsTrue, Bool, true, false, ⊤, is_none}
+use Rattle.std.specs.Borrow.{Bor}
+use Rattle.std.specs.Prelude.{if◌then◌else◌}
+use Rattle.std.specs.Io.KnownBytes.{Appends}
+use Rattle.slot_types.specs.declared.plans.DiePlan.{DiePlan}
+use Rattle.slot_types.specs.declared.refusals.Refusal.{Refusal}
+use Rattle.slot_types.specs.declared.refusals.Refusal.TheVariants.{WriteFault}
+use Rattle.plan_texts.specs.PlanReading.{IsStoreOf}
+use Rattle.text_base.specs.Readings.{IsOutside}
+use Rattle.text_base.specs.Writing.{IsNotWhole}
+use Rattle.tool_watched_runs.specs.WearText.{IsWearText}
+use Rattle.tool_commands.specs.declared.keeping.TheConstants.{KEPT}
+use Rattle.tool_plan_arrivals.specs.PlannedScripts.{IsPlannedScript}
+use Rattle.tool_plan_design.specs.AcceptedPlans.{IsAccepted}
+use Rattle.tool_plan_fit.specs.Fits.{IsPassingPlan}
+use Rattle.tool_plan_fit.specs.declared.faults.FitFault.{FitFault}
+use Rattle.tool_plan_fit.specs.declared.faults.FitFault.TheVariants.{NotFound}
+use Rattle.tool_plan_breaches.specs.declared.breaches.Breach.{Breach}
+use Rattle.tool_plan_keeping.specs.Verdicts.{IsBrokenScript, IsFrontOf}
+use Rattle.flash_die.specs.Fuse.{Fuse}
+use Rattle.flash_die.specs.Memory.{Memory}
+use Rattle.flash_commands.specs.Acts.{IsReportOf, RefusesAudit}
+use Rattle.flash_commands.specs.Audit.{audit_status}
+use Rattle.flash_commands.specs.Files.{FileContents}
+use Rattle.report_texts.specs.declared.reports.DieReport.{DieReport}
+use Rattle.report_texts.specs.ReportText.{report_text}
+use Rattle.slot_core.specs.Core.{Core}
+use Rattle.task_script.specs.StoreRuns.{reports_of}
+use Rattle.tool_command_words.specs.declared.asked.Command.{Command}
+use Rattle.tool_command_words.specs.declared.asked.Command.TheVariants as command
+
+-- whether a plan is accepted, by as much of its text as is read, where the text is known: a longer one is too long
+abbrev pub SaysOf : Option (List ℕ) → Bool → Type 0
+SaysOf text is_accepted = IfSome text (λ bytes. IsTrue is_accepted ↔ IsAccepted (take 1048577 bytes))
+
+-- memory ran out, or a reader or a writer failed
+abbrev pub IsHostFault : Refusal → Type 0
+IsHostFault refusal = IsOutside refusal ⊎ (refusal ≡ WriteFault)
+
+-- some text is printed whole
+abbrev pub PrintsText : Option (List ℕ) → Option (List ℕ) → Type 0
+PrintsText old new = (text : List ℕ) × Appends old new text
+
+-- what is said of a plan is printed, and whether it is accepted
+abbrev pub Explains : Option (List ℕ) → Bool → Option (List ℕ) → Option (List ℕ) → Type 0
+Explains plan is_accepted old new = SaysOf plan is_accepted × PrintsText old new
+
+-- the script of a plan's arrivals is printed: its rows keep the plans of the store that was read, with times that pass
+-- their test, so that its runs go as planned
+pub record PrintsArrivals (plan : Option (List ℕ)) (slots : ℕ) (old new : Option (List ℕ)) : Type 0 where
+  pub store : List DiePlan
+  pub read : IsStoreOf plan store
+  pub script : List ℕ
+  pub planned : IsPlannedScript store slots script
+  pub written : Appends old new script
+
+-- the plan that was found for a datasheet is printed: it passes its test
+pub record PrintsPassingPlan (old new : Option (List ℕ)) : Type 0 where
+  pub plan : List ℕ
+  pub passing : IsPassingPlan plan
+  pub written : Appends old new plan
+
+-- the status of a search for a plan
+abbrev pub fit_status : Result (Unit {0}) FitFault → ℕ
+fit_status (Ok found) = 0
+fit_status (Err (NotFound reason)) = 3
+fit_status (Err _) = 1
+
+-- the rows of the script that was read keep the plans of the store that was read
+pub record KeepsPlans (plan script : Option (List ℕ)) (slots : ℕ) : Type 0 where
+  pub store : List DiePlan
+  pub read : IsStoreOf plan store
+  pub text : List ℕ
+  pub whole : IsFrontOf script text
+  pub planned : IsPlannedScript store slots text
+
+-- a condition of a die's plan doesn't hold of its rows in the script that was read
+pub record BreaksPlans (plan script : Option (List ℕ)) (slots : ℕ) : Type 0 where
+  pub store : List DiePlan
+  pub read : IsStoreOf plan store
+  pub text : List ℕ
+  pub whole : IsFrontOf script text
+  pub die : ℕ
+  pub breach : Breach
+  pub broken : IsBrokenScript store slots text die breach
+
+-- what dies wore is printed that began fresh by the plans of the store that was read
+pub record PrintsWear (plan : Option (List ℕ)) (old new : Option (List ℕ)) : Type 0 where
+  pub store : List DiePlan
+  pub read : IsStoreOf plan store
+  pub text : List ℕ
+  pub worn : IsWearText store text
+  pub written : Appends old new text
+
+-- whether a script keeps the plans of its dies is printed: that it does, or what breaks one
+abbrev pub PrintsKept : Option (List ℕ) → Option (List ℕ) → ℕ → Bool → Option (List ℕ) → Option (List ℕ) → Type 0
+PrintsKept plan script slots true old new = KeepsPlans plan script slots × Appends old new KEPT.now
+PrintsKept plan script slots false old new = BreaksPlans plan script slots × PrintsText old new
+
+-- no plan was found for a datasheet
+abbrev pub IsUnfound : Result (Unit {0}) FitFault → Type 0
+IsUnfound (Err (NotFound reason)) = ⊤
+IsUnfound _ = ⊥
+
+-- the status of what is said of a plan, or of why nothing is
+abbrev pub explained_status : {E : Type 0} → Result Bool E → ℕ
+explained_status (Ok true) = 0
+explained_status (Ok false) = 1
+explained_status (Err fault) = 1
+
+-- the report of these dies is printed: what each log says over its start
+abbrev pub PrintsReport : {N : Type 0} → Option (List ℕ) → Option (List ℕ) → List (Core N) → Type 0
+PrintsReport old new dies = Appends old new (report_text (reports_of 0 dies))
+
+-- of some dies, whose devices are in memory
+abbrev pub PrintsRun : Option (List ℕ) → Option (List ℕ) → Type 0
+PrintsRun old new = (dies : List (Core Memory)) × PrintsReport old new dies
+
+-- of some dies, whose devices are in memory, and one of which fails
+abbrev pub PrintsFailing : Option (List ℕ) → Option (List ℕ) → Type 0
+PrintsFailing old new = (dies : List (Core (Fuse Memory))) × PrintsReport old new dies
+
+-- a report was read and audited, and this says whether a certificate of it is refused
+abbrev pub IsAuditOf : Option (List ℕ) → Bool → Type 0
+IsAuditOf text refused = (report : List DieReport) × IsReportOf text report × ((if refused then 3 else 0) ≡ audit_status report)
+
+-- a report was read and audited, or this says why it isn't
+abbrev pub IsAudited : Option (List ℕ) → Result Bool Refusal → Type 0
+IsAudited text (Ok refused) = IsAuditOf text refused
+IsAudited text (Err refusal) = RefusesAudit text refusal
+
+-- the status of audits, and of one more: 1 where a report isn't read, else 3 where a certificate is refused
+abbrev pub worse_of : ℕ → Result Bool Refusal → ℕ
+worse_of status (Err refusal) = 1
+worse_of status (Ok true) = if status == 1 then 1 else 3
+worse_of status (Ok false) = status
+
+-- the files of these names are audited, each in its turn, and the worst status of all, and of one before them, is this
+pub AuditsFiles : FileContents → List (Bor (List ℕ)) → ℕ → ℕ → Type 0
+AuditsFiles held [] before worst = worst ≡ before
+AuditsFiles held (name ∷ names) before worst =
+    (audited : Result Bool Refusal) × IsAudited (held name.now) audited × AuditsFiles held names (worse_of before audited) worst
+
+-- the status of what is reported of a script
+abbrev pub kept_status : Result (Option Bool) Refusal → ℕ
+kept_status (Ok (Some true)) = 0
+kept_status (Ok (Some false)) = 3
+kept_status (Ok None) = 1
+kept_status (Err refusal) = 1
+
+-- the status of an explained plan, by whether it is accepted; and of a script, by whether it keeps its plans
+abbrev pub accepted_status : Bool → ℕ
+accepted_status is_accepted = if is_accepted then 0 else 1
+
+abbrev pub verdict_status : Bool → ℕ
+verdict_status keeps = if keeps then 0 else 3
+
+-- this is printed of a yes, or of a no
+abbrev pub Says : (Bool → Option (List ℕ) → Option (List ℕ) → Type 0) → Option (List ℕ) → Option (List ℕ) → Type 0
+Says prints old new = (yes : Bool) × prints yes old new
+
+-- it was refused, with status 1, and nothing was written, or the writer failed before it had the whole of what is printed so
+abbrev pub IsRefused : {W : Type 0} → (W → Option (List ℕ)) → (Option (List ℕ) → Option (List ℕ) → Type 0) → W → W → ℕ → Type 0
+IsRefused contents prints old new status = IsNotWhole contents prints old new × (status ≡ 1)
+
+-- it is printed so, with status 0, or refused
+abbrev pub Ends : {W : Type 0} → (W → Option (List ℕ)) → (Option (List ℕ) → Option (List ℕ) → Type 0) → W → W → ℕ → Type 0
+Ends contents prints old new status = (prints (contents old) (contents new) × (status ≡ 0)) ⊎ IsRefused contents prints old new status
+
+-- it is printed so of a yes or of a no, with the status of that, or refused
+abbrev pub EndsSaying : {W : Type 0} → (W → Option (List ℕ)) → (Bool → Option (List ℕ) → Option (List ℕ) → Type 0) → (Bool → ℕ) → W → W → ℕ
+    → Type 0
+EndsSaying contents prints status_of old new status =
+    ((yes : Bool) × prints yes (contents old) (contents new) × (status ≡ status_of yes)) ⊎ IsRefused contents (Says prints) old new status
+
+-- a plan that passes is printed, or refused; or none was found, and nothing written
+abbrev pub EndsFit : {W : Type 0} → (W → Option (List ℕ)) → W → W → ℕ → Type 0
+EndsFit contents old new status = Ends contents PrintsPassingPlan old new status ⊎ ((new ≡ old) × (status ≡ 3))
+
+-- the status of a run whose report is printed: where a checkpoint of its end is wanted, that may fail, or none may be taken
+abbrev pub IsRunStatus : Bool → ℕ → Type 0
+IsRunStatus alone status = (status ≡ 0) ⊎ ((alone ≡ false) × ((status ≡ 1) ⊎ (status ≡ 3)))
+
+-- the report of a run is printed, alone or with a checkpoint, or it is refused
+abbrev pub EndsRun : {W : Type 0} → (W → Option (List ℕ)) → Bool → W → W → ℕ → Type 0
+EndsRun contents alone old new status =
+    (PrintsRun (contents old) (contents new) × IsRunStatus alone status) ⊎ IsRefused contents PrintsRun old new status
+
+-- how a command ends
+abbrev pub EndsSo : {W : Type 0} → (W → Option (List ℕ)) → Command → Option (List ℕ) → Option (List ℕ) → W → W → ℕ → Type 0
+EndsSo contents (command.Explain plan from) text rows old new status = EndsSaying contents (Explains text) accepted_status old new status
+EndsSo contents (command.Fit sheet) text rows old new status = EndsFit contents old new status
+EndsSo contents (command.Arrivals plan slots seed fills phases jitter load) text rows old new status =
+    Ends contents (PrintsArrivals text slots) old new status
+EndsSo contents (command.Keeps plan script slots) text rows old new status =
+    EndsSaying contents (PrintsKept text rows slots) verdict_status old new status
+EndsSo contents (command.Wear plan script slots) text rows old new status = Ends contents (PrintsWear text) old new status
+EndsSo contents (command.Report plan script slots endurance slot_us as_csv fail) text rows old new status =
+    Ends contents PrintsText old new status
+EndsSo contents (command.Draw plan script slots die first end worst as_text fail) text rows old new status =
+    Ends contents PrintsText old new status
+EndsSo contents (command.Compare plan script slots first pool as_csv draws die task) text rows old new status =
+    Ends contents PrintsText old new status
+EndsSo contents (command.Run plan script slots from to None) text rows old new status = EndsRun contents (is_none to) old new status
+EndsSo contents (command.Run plan script slots from to (Some fail)) text rows old new status = Ends contents PrintsFailing old new status

@@ -1,0 +1,166 @@
+//! Commands that are carried out.
+
+ghost use Rattle.tool_command_words.specs.Asked.{FitsRun};
+ghost use Rattle.tool_commands.specs.Acts.{EndsSo};
+
+use crate::arriving::act_arrivals;
+use crate::checkpoint_acts::{Kept, Shelf, act_failing, act_run};
+use crate::comparing::act_compare;
+use crate::explaining::act_explain;
+use crate::fitting::act_fit;
+use crate::keeping::act_keeps;
+use crate::runs::{act_draw, act_report, act_wear};
+use std::alloc::Global;
+use std::io::{Read, Write};
+use tool_command_words::{Command, FailingDie};
+use tool_plain_layers::Marks;
+use tool_plan_arrivals::Manner;
+use tool_run_figures::Life;
+use tool_store_compare::{Form, Measure};
+use tool_watched_runs::{FailAt, Shown};
+
+/// With fewer wholly free blocks than these a plain layer has to collect.
+const LOW: usize = 2;
+
+/// How a comparison is written: a picture where one is asked for.
+fn form_of(as_csv: bool, draws: bool, die: u32, task: u32) -> Form {
+    if draws {
+        Form::Picture { die, task }
+    } else if as_csv {
+        Form::Csv
+    } else {
+        Form::Table
+    }
+}
+
+/// The device that is to fail, as a run takes it.
+fn failing(fail: FailingDie) -> FailAt {
+    FailAt {
+        die: fail.die,
+        call: fail.call,
+    }
+}
+
+/// The device that is to fail, if one is.
+fn failing_in(fail: Option<FailingDie>) -> Option<FailAt> {
+    Some(failing(fail?))
+}
+
+/// Carries a command out, with `plan` and `script` in place of its files, and `kept` in place of its checkpoints.
+/// Answers the status.
+///
+/// `explain` prints what [`explain`](tool_plan_design::explain) says of the plan, whole; the status is 0 where the plan
+/// is accepted, and 1 where it isn't. `fit` prints the plan that [`fit`](tool_plan_fit::fit) finds for a datasheet, or
+/// tells why it found none (status 3). `arrivals` prints the script of what the plan's tasks ask for, as
+/// [`arrivals`](tool_plan_arrivals::arrivals) makes it: its rows keep the plan of each die, so that a run of it refuses
+/// none and is never late. A plan without times that pass their test is reported as `error 3 BadPlan`; then, and where
+/// more slots are asked for than a script may have, nothing is printed, and the status is 1. `keeps` prints whether the
+/// script keeps the plan of each die (status 0), or a condition that doesn't hold, and of which record (status 3).
+/// `wear` prints what [`wear`](tool_watched_runs::wear) says of the run of the script, `report` what
+/// [`report`](tool_watched_runs::report) does, and `draw` what [`draw`](tool_watched_runs::draw) draws of it, each
+/// whole; the status is 0, and where rows were refused, `err` gets a line, as `refused 1 first line 6 with 6`.
+/// `compare` prints the table, the records or the picture of [`compare`](tool_store_compare::compare), whole. `run`
+/// prints the report of dies that go on from a checkpoint, and has the checkpoint of their end written, as [`act_run`]
+/// says. Where a device is to fail, `err` gets a line that says in which slot it did, as `die 0 failed in slot 12, at
+/// call 7 of its device`, or that it didn't; the status stays, and rows that come later for its die are refused.
+///
+/// No more of the plan is read than 1,048,577 bytes. Where a text is refused, memory runs out, or a reader or `out`
+/// fails, that is reported in a line to `err`, as `error 21 ReadFault`, and the status is 1; where `out` fails nothing
+/// is reported. Where `err` fails, that is passed over.
+pub fn act<P: Read + Drop, S: Read + Drop, C: Read + Drop, K: Shelf, W: Write, E: Write>(
+    alloc: Global,
+    command: Command<'_>,
+    plan: P,
+    script: S,
+    kept: Kept<'_, C, K>,
+    out: &mut W,
+    err: &mut E,
+) -> u8
+    requires { FitsRun command }
+    ensures { EndsSo W.contents command.entry (P.remaining plan) (S.remaining script) out.old
+        out.new
+        result }
+{
+    match command {
+        Command::Explain { .. } => act_explain(alloc, plan, kept.from, out, err),
+        Command::Fit { .. } => act_fit(alloc, plan, out, err),
+        Command::Arrivals {
+            slots,
+            seed,
+            fills,
+            phases,
+            jitter,
+            load,
+            ..
+        } => {
+            let manner = Manner {
+                seed,
+                fills,
+                phases,
+                jitter,
+                load,
+            };
+            act_arrivals(alloc, plan, slots, manner, out, err)
+        }
+        Command::Keeps { slots, .. } => act_keeps(alloc, plan, script, slots, out, err),
+        Command::Wear { slots, .. } => act_wear(alloc, plan, script, slots, out, err),
+        Command::Report {
+            slots,
+            endurance,
+            slot_us,
+            as_csv,
+            fail,
+            ..
+        } => {
+            let life = Life { endurance, slot_us };
+            let fail = failing_in(fail);
+            act_report(alloc, plan, script, slots, life, as_csv, fail, out, err)
+        }
+        Command::Draw {
+            slots,
+            die,
+            from,
+            to,
+            worst,
+            as_text,
+            fail,
+            ..
+        } => {
+            let shown = Shown {
+                from,
+                to,
+                worst,
+                as_text,
+            };
+            let fail = failing_in(fail);
+            act_draw(alloc, plan, script, slots, die, shown, fail, out, err)
+        }
+        Command::Compare {
+            slots,
+            from,
+            pool,
+            as_csv,
+            draws,
+            die,
+            task,
+            ..
+        } => {
+            let marks = Marks {
+                low: LOW,
+                pool: pool as usize,
+            };
+            let measure = Measure { slots, from, marks };
+            let form = form_of(as_csv, draws, die, task);
+            act_compare(alloc, plan, script, measure, form, out, err)
+        }
+        Command::Run {
+            slots,
+            to,
+            fail,
+            ..
+        } => match fail {
+            Some(fail) => act_failing(alloc, plan, script, slots, failing(fail), out, err),
+            None => act_run(alloc, plan, script, kept, slots, to, out, err),
+        },
+    }
+}

@@ -1,0 +1,104 @@
+//! The script of a plan's arrivals.
+
+ghost use Rattle.std.specs.Prelude.{◌≡◌, ◌≤◌, IfErr, OnErr, OnOk, if◌then◌else◌, is_ok};
+ghost use Rattle.text_base.specs.Writing.{IsNotWhole};
+ghost use Rattle.tool_commands.specs.Acts.{Ends, PrintsArrivals};
+
+use crate::endings::end_refused;
+use plan_texts::read_plan_from;
+use slot_types::{MAX_SLOT, Refusal, StorePlan};
+use std::alloc::Global;
+use std::io::{Read, Write};
+use text_base::write_whole;
+use tool_plan_arrivals::{Fault as Unplanned, Manner, arrivals, full_from};
+
+/// What is reported beside a plan that has no arrivals.
+const WANTED: &str =
+    "arrivals wants a plan with times (version 2) that is accepted: flashplan explain says more";
+
+/// Prints the script of a plan's arrivals, which is made whole before its first byte.
+fn print_arrivals<R: Read + Drop, W: Write>(
+    alloc: Global,
+    plan: R,
+    slots: u32,
+    manner: Manner,
+    out: &mut W,
+) -> Result<StorePlan, Unplanned>
+    requires slots { slots ≤ MAX_SLOT }
+    ensures printed { OnOk result
+        (PrintsArrivals (R.remaining plan) slots (W.contents out.old) (W.contents out.new)) }
+    ensures part { OnErr result
+        (IsNotWhole W.contents (PrintsArrivals (R.remaining plan) slots) out.old out.new) }
+{
+    let store = read_plan_from(alloc, plan)?;
+    let script = arrivals(alloc, &store, slots, manner)?;
+    write_whole(out, &script)?;
+    Ok(store)
+}
+
+/// Reports from which slots on the dies are full. A writer that fails is passed over, and so is lack of memory.
+fn report_full<E: Write>(alloc: Global, err: &mut E, store: &StorePlan) {
+    let Ok(full) = full_from(alloc, store) else {
+        return;
+    };
+    for die in 0..full.len() {
+        let slot = full[die];
+        let _ = writeln!(err, "die {die} is full from slot {slot} on");
+    }
+}
+
+/// Reports what was made of a plan's arrivals, and answers the status.
+fn end_arrivals<E: Write>(
+    alloc: Global,
+    err: &mut E,
+    manner: Manner,
+    made: Result<StorePlan, Unplanned>,
+) -> u8
+    ensures { result ≡ (if is_ok made then 0 else 1) }
+{
+    match made {
+        Ok(store) => {
+            if manner.fills {
+                report_full(alloc, err, &store);
+            }
+            0
+        }
+        Err(fault) => end_unplanned(err, fault),
+    }
+}
+
+/// Reports why no script was made, and answers the status. A writer that fails is passed over.
+fn end_unplanned<E: Write>(err: &mut E, fault: Unplanned) -> u8
+    ensures { result ≡ 1 }
+{
+    match fault {
+        Unplanned::Refused(refusal) => {
+            let _ = end_refused(err, refusal);
+            if refusal == Refusal::BadPlan {
+                let _ = writeln!(err, "{WANTED}");
+            }
+        }
+        _ => {
+            let _ = writeln!(err, "error: {fault}");
+        }
+    }
+    1
+}
+
+/// Prints the script of a plan's arrivals, whole. Answers the status: 0, or 1 where something was refused, which is
+/// reported: nothing was written then, or not the whole.
+#[tactic(auto, using(crate::proofs::Endings::ends))]
+pub fn act_arrivals<R: Read + Drop, W: Write, E: Write>(
+    alloc: Global,
+    plan: R,
+    slots: u32,
+    manner: Manner,
+    out: &mut W,
+    err: &mut E,
+) -> u8
+    requires slots { slots ≤ MAX_SLOT }
+    ensures { Ends W.contents (PrintsArrivals (R.remaining plan) slots) out.old out.new result }
+{
+    let made = print_arrivals(alloc, plan, slots, manner, out);
+    end_arrivals(alloc, err, manner, made)
+}

@@ -1,0 +1,234 @@
+//! Runs that go on from a checkpoint, and end with one.
+
+ghost use Rattle.std.specs.Prelude.{◌≡◌, ◌⊎◌, ◌≤◌, IfOk, OnErr, OnOk, is_none, length, true};
+ghost use Rattle.text_base.specs.Writing.{IsNotWhole};
+ghost use Rattle.tool_commands.specs.Acts.{Ends, EndsRun, PrintsFailing, PrintsReport, PrintsRun};
+
+use crate::endings::{end_refused, report_failure, report_refused};
+use checkpoint_texts::{SavedStore, TextFault, read_checkpoint};
+use plan_texts::read_plan_from;
+use slot_types::{MAX_SLOT, Refusal};
+use std::alloc::Global;
+use std::io::{Read, Write};
+use tool_checkpoint_runs::{
+    FailingRun, RunFault, StoreDies, StoreRun, Unsaved, run_failing, run_script, save,
+};
+use tool_watched_runs::{FailAt, Failure, RefusedRows};
+
+/// Where texts are put, by the names of files.
+pub trait Shelf {
+    /// Puts a text into the file of a name, whole, in place of what it had; or else leaves that as it was, and what it
+    /// had.
+    fn put(&self, name: &str, text: &[u8]) -> Result<(), Refusal>;
+}
+
+/// The checkpoints of a command: the one from which dies go on, if there is one, and where the one of their end is put.
+#[derive(Drop)]
+pub struct Kept<'a, C, K> {
+    pub from: Option<C>,
+    pub shelf: &'a K,
+}
+
+/// What was saved of dies, in a text.
+pub fn saved_in<C: Read + Drop>(alloc: Global, text: C) -> Result<SavedStore, RunFault> {
+    match read_checkpoint(alloc, text) {
+        Ok(saved) => Ok(saved),
+        Err(TextFault::NoMemory) => Err(RunFault::Refused(Refusal::NoMemory)),
+        Err(TextFault::ReadFault) => Err(RunFault::Refused(Refusal::ReadFault)),
+        Err(fault) => Err(RunFault::Text(fault)),
+    }
+}
+
+/// What was saved of dies, in a text that there may be.
+fn begun_in<C: Read + Drop>(
+    alloc: Global,
+    from: Option<C>,
+) -> Result<Option<SavedStore>, RunFault> {
+    match from {
+        Some(text) => Ok(Some(saved_in(alloc, text)?)),
+        None => Ok(None),
+    }
+}
+
+/// What came of a run whose report was printed.
+#[derive(Drop)]
+struct PrintedRun {
+    dies: StoreDies,
+    refused: RefusedRows,
+    idle: Vec<u32>,
+}
+
+/// What is reported of a run in which a device failed.
+#[derive(Clone, Copy, Drop)]
+struct FailingReported {
+    refused: RefusedRows,
+    failure: Failure,
+}
+
+/// Runs a script on the dies of a plan, and prints their report, which is made whole before its first byte.
+fn print_run<P: Read + Drop, S: Read + Drop, C: Read + Drop, W: Write>(
+    alloc: Global,
+    plan: P,
+    script: S,
+    from: Option<C>,
+    slots: u32,
+    saves: bool,
+    out: &mut W,
+) -> Result<PrintedRun, RunFault>
+    requires slots { slots ≤ MAX_SLOT }
+    ensures printed { IfOk result (λ run.
+        PrintsReport (W.contents out.old) (W.contents out.new) run.dies.items) }
+    ensures part { OnErr result (IsNotWhole W.contents PrintsRun out.old out.new) }
+    ensures few { IfOk result (λ run. length run.dies.items ≤ 8) }
+{
+    let store = read_plan_from(alloc, plan)?;
+    let from = begun_in(alloc, from)?;
+    let StoreRun {
+        dies,
+        report,
+        refused,
+        idle,
+    } = run_script(alloc, store, from, script, slots, saves)?;
+    report.write(out)?;
+    Ok(PrintedRun {
+        dies,
+        refused,
+        idle,
+    })
+}
+
+/// Reports why there is no run, and answers the status. A writer that fails is passed over.
+pub fn end_unrun<E: Write>(err: &mut E, fault: RunFault) -> u8
+    ensures { result ≡ 1 }
+{
+    match fault {
+        RunFault::Refused(refusal) => end_refused(err, refusal),
+        _ => {
+            let _ = writeln!(err, "error: {fault}");
+            1
+        }
+    }
+}
+
+/// Reports how long dies went on until all was done. A writer that fails is passed over.
+fn report_idle<E: Write>(err: &mut E, idle: &[u32]) {
+    for die in 0..idle.len() {
+        let slots = idle[die];
+        let unit = if slots == 1 { "slot" } else { "slots" };
+        if slots > 0 {
+            let _ = writeln!(
+                err,
+                "die {die} went on for {slots} {unit} until all was done"
+            );
+        }
+    }
+}
+
+/// Puts the checkpoint of dies into a file, and answers the status: 0 where it stands there, 3 where none may be taken,
+/// 1 where memory or the file fails. A writer that fails is passed over.
+fn put_checkpoint<K: Shelf, E: Write>(
+    alloc: Global,
+    dies: StoreDies,
+    shelf: &K,
+    name: &str,
+    err: &mut E,
+) -> u8
+    requires few { length dies.items ≤ 8 }
+    ensures { (result ≡ 0) ⊎ ((result ≡ 1) ⊎ (result ≡ 3)) }
+{
+    let text = match save(alloc, dies) {
+        Ok(text) => text,
+        Err(Unsaved::NoMemory) => return end_refused(err, Refusal::NoMemory),
+        Err(unsaved) => {
+            let _ = writeln!(err, "no checkpoint: {unsaved}");
+            return 3;
+        }
+    };
+    match shelf.put(name, &text) {
+        Ok(()) => 0,
+        Err(refusal) => {
+            let _ = writeln!(err, "error {} {refusal}: {name:?}", refusal.number());
+            1
+        }
+    }
+}
+
+/// Runs a script on the dies of a plan, fresh or from a checkpoint, prints the report, and puts the checkpoint of the
+/// dies' end into the file `to`, if there is one. Answers the status: 0; 1 where something was refused, which is reported,
+/// and nothing was written, or not the whole; where the report is printed, and there is such a file, 1 where it can't be
+/// written, or memory runs out, and 3 where no checkpoint may be taken.
+pub fn act_run<P: Read + Drop, S: Read + Drop, C: Read + Drop, K: Shelf, W: Write, E: Write>(
+    alloc: Global,
+    plan: P,
+    script: S,
+    kept: Kept<'_, C, K>,
+    slots: u32,
+    to: Option<&str>,
+    out: &mut W,
+    err: &mut E,
+) -> u8
+    requires slots { slots ≤ MAX_SLOT }
+    ensures { EndsRun W.contents (is_none to) out.old out.new result }
+{
+    let Kept { from, shelf } = kept;
+    let ran = match print_run(alloc, plan, script, from, slots, to.is_some(), out) {
+        Ok(ran) => ran,
+        Err(fault) => return end_unrun(err, fault),
+    };
+    report_idle(err, ran.idle.as_slice());
+    report_refused(err, ran.refused);
+    match to {
+        Some(name) => put_checkpoint(alloc, ran.dies, shelf, name, err),
+        None => 0,
+    }
+}
+
+/// Runs a script on fresh dies of a plan, the device of one of which fails, and prints the report, which is made whole
+/// before its first byte.
+fn print_failing<P: Read + Drop, S: Read + Drop, W: Write>(
+    alloc: Global,
+    plan: P,
+    script: S,
+    slots: u32,
+    fail: FailAt,
+    out: &mut W,
+) -> Result<FailingReported, Refusal>
+    requires slots { slots ≤ MAX_SLOT }
+    ensures printed { OnOk result (PrintsFailing (W.contents out.old) (W.contents out.new)) }
+    ensures part { OnErr result (IsNotWhole W.contents PrintsFailing out.old out.new) }
+{
+    let store = read_plan_from(alloc, plan)?;
+    let FailingRun {
+        dies,
+        report,
+        refused,
+        failure,
+    } = run_failing(alloc, store, script, slots, fail)?;
+    report.write(out)?;
+    Ok(FailingReported { refused, failure })
+}
+
+/// Runs a script on fresh dies of a plan, the device of one of which fails, prints the report of what was done until
+/// then, and reports in which slot it failed. Answers the status: 0, or 1 where something was refused, which is reported:
+/// nothing was written then, or not the whole.
+pub fn act_failing<P: Read + Drop, S: Read + Drop, W: Write, E: Write>(
+    alloc: Global,
+    plan: P,
+    script: S,
+    slots: u32,
+    fail: FailAt,
+    out: &mut W,
+    err: &mut E,
+) -> u8
+    requires slots { slots ≤ MAX_SLOT }
+    ensures { Ends W.contents PrintsFailing out.old out.new result }
+{
+    match print_failing(alloc, plan, script, slots, fail, out) {
+        Ok(reported) => {
+            report_failure(err, Some(reported.failure));
+            report_refused(err, reported.refused);
+            0
+        }
+        Err(refusal) => end_refused(err, refusal),
+    }
+}

@@ -1,0 +1,69 @@
+//! A script on the store and on plain layers.
+
+ghost use Rattle.std.specs.Prelude.{◌≡◌, ◌≤◌, OnErr, OnOk, if◌then◌else◌, is_ok};
+ghost use Rattle.text_base.specs.Writing.{IsNotWhole};
+ghost use Rattle.tool_commands.specs.Acts.{Ends, PrintsText};
+
+use crate::endings::end_refused;
+use plan_texts::read_plan_from;
+use slot_types::MAX_SLOT;
+use std::alloc::Global;
+use std::io::{Read, Write};
+use text_base::write_whole;
+use tool_store_compare::{CompareFault, Form, Measure, compare};
+
+/// Prints how late the jobs of a script were on the store and by plain layers.
+fn print_compared<P: Read + Drop, S: Read + Drop, W: Write>(
+    alloc: Global,
+    plan: P,
+    script: S,
+    measure: Measure,
+    form: Form,
+    out: &mut W,
+) -> Result<(), CompareFault>
+    requires slots { measure.slots ≤ MAX_SLOT }
+    ensures printed { OnOk result (PrintsText (W.contents out.old) (W.contents out.new)) }
+    ensures part { OnErr result (IsNotWhole W.contents PrintsText out.old out.new) }
+{
+    let store = read_plan_from(alloc, plan)?;
+    let said = compare(alloc, &store, script, measure, form)?;
+    write_whole(out, &said)?;
+    Ok(())
+}
+
+/// Answers the status of a comparison, and reports why there is none. A writer that fails is passed over.
+fn end_compared<E: Write>(err: &mut E, compared: Result<(), CompareFault>) -> u8
+    ensures { result ≡ (if is_ok compared then 0 else 1) }
+{
+    match compared {
+        Ok(()) => 0,
+        Err(CompareFault::Refused(refusal)) => end_refused(err, refusal),
+        Err(CompareFault::WrongLayer { policy, fault }) => {
+            let _ = writeln!(
+                err,
+                "error: the plain layer {} is wrong: {fault:?}",
+                policy.name()
+            );
+            1
+        }
+    }
+}
+
+/// Prints how late the jobs of a script were on the store and by plain layers, whole. Answers the status: 0, or 1 where
+/// something was refused, which is reported: nothing was written then, or not the whole.
+#[tactic(auto, using(crate::proofs::Endings::ends))]
+pub fn act_compare<P: Read + Drop, S: Read + Drop, W: Write, E: Write>(
+    alloc: Global,
+    plan: P,
+    script: S,
+    measure: Measure,
+    form: Form,
+    out: &mut W,
+    err: &mut E,
+) -> u8
+    requires slots { measure.slots ≤ MAX_SLOT }
+    ensures { Ends W.contents PrintsText out.old out.new result }
+{
+    let compared = print_compared(alloc, plan, script, measure, form, out);
+    end_compared(err, compared)
+}

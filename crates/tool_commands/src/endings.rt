@@ -1,0 +1,59 @@
+//! What a command reports beside its text, and the statuses of refusals.
+
+ghost use Rattle.std.specs.Prelude.{◌≡◌, if◌then◌else◌, is_ok};
+
+use flash_commands::{Fault, end};
+use slot_types::Refusal;
+use std::io::Write;
+use tool_watched_runs::{FailAt, Failure, RefusedRows};
+
+/// Reports a refusal, and answers the status. Where standard output takes no more, nothing is reported. A writer that
+/// fails is passed over.
+pub fn end_refused<E: Write>(err: &mut E, refusal: Refusal) -> u8
+    ensures { result ≡ 1 }
+{
+    if refusal != Refusal::WriteFault {
+        let _ = end(err, Err(Fault::Refused(refusal)));
+    }
+    1
+}
+
+/// Reports in which slot a device failed that was to fail. A writer that fails is passed over.
+pub fn report_failure<E: Write>(err: &mut E, failure: Option<Failure>) {
+    let Some(Failure { at, slot }) = failure else {
+        return;
+    };
+    let FailAt { die, call } = at;
+    let _ = match slot {
+        Some(slot) => writeln!(
+            err,
+            "die {die} failed in slot {slot}, at call {call} of its device"
+        ),
+        None => writeln!(
+            err,
+            "die {die} didn't fail: its device had fewer than {call} calls"
+        ),
+    };
+}
+
+/// Reports the rows that were refused, if there are any. A writer that fails is passed over.
+pub fn report_refused<E: Write>(err: &mut E, refused: RefusedRows) {
+    if let Some((line, number)) = refused.first {
+        let count = refused.count;
+        let _ = writeln!(err, "refused {count} first line {line} with {number}");
+    }
+}
+
+/// Reports the rows that were refused, or why nothing was printed, and answers the status. A writer that fails is passed
+/// over.
+pub fn end_run<E: Write>(err: &mut E, ran: Result<RefusedRows, Refusal>) -> u8
+    ensures { result ≡ (if is_ok ran then 0 else 1) }
+{
+    match ran {
+        Ok(refused) => {
+            report_refused(err, refused);
+            0
+        }
+        Err(refusal) => end_refused(err, refusal),
+    }
+}

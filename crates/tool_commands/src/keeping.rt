@@ -1,0 +1,100 @@
+//! Whether a script keeps the plans of its dies.
+
+ghost use Rattle.std.specs.Prelude.{◌≡◌, ◌≢◌, ◌≤◌, IfOk, IfSome, None, Ok, OnErr, option_to_list};
+ghost use Rattle.text_base.specs.Writing.{IsNotWhole};
+ghost use Rattle.tool_commands.specs.Acts.{EndsSaying, PrintsKept, Says, kept_status, verdict_status};
+
+use crate::endings::end_refused;
+use plan_texts::read_plan_from;
+use slot_types::{MAX_SLOT, Refusal};
+use std::alloc::Global;
+use std::io::{Read, Write};
+use text_base::write_whole;
+use tool_plan_keeping::{Verdict, keep, script_text, sentence};
+
+/// What is reported where a script doesn't keep a plan, and it isn't found why.
+const UNFOUND: &str =
+    "error: the script doesn't keep the plan, and no reason was found, which is a fault of flashplan";
+
+/// What is reported beside a plan that no script keeps.
+const TIMES_WANTED: &str =
+    "keeps wants a plan with times (version 2) that is accepted: flashplan explain says more";
+
+/// What is printed of a script that keeps the plans of its dies.
+pub const KEPT: &[u8] = b"the script keeps the plan of each die\n";
+
+/// Prints whether a script keeps the plans of its dies, and says whether it does; none where it doesn't, and no
+/// condition was found that doesn't hold, which is a fault of this program.
+fn print_kept<P: Read + Drop, S: Read + Drop, W: Write>(
+    alloc: Global,
+    plan: P,
+    script: S,
+    slots: u32,
+    out: &mut W,
+) -> Result<Option<bool>, Refusal>
+    requires slots { slots ≤ MAX_SLOT }
+    ensures printed { IfOk result (λ kept. IfSome kept (λ keeps.
+        PrintsKept (P.remaining plan) (S.remaining script) slots keeps (W.contents out.old)
+        (W.contents out.new))) }
+    ensures astray { result ≡ Ok None → out.new ≡ out.old }
+    ensures part { OnErr result
+        (IsNotWhole W.contents (Says (PrintsKept (P.remaining plan) (S.remaining script) slots))
+        out.old
+        out.new) }
+{
+    let store = read_plan_from(alloc, plan)?;
+    let text = script_text(alloc, script)?;
+    match keep(alloc, &text, &store, slots)? {
+        Verdict::Kept => {
+            write_whole(out, KEPT)?;
+            Ok(Some(true))
+        }
+        Verdict::Broken(broken) => {
+            let said = sentence(alloc, &text, &store, slots, broken)?;
+            write_whole(out, &said)?;
+            Ok(Some(false))
+        }
+        Verdict::Astray => Ok(None),
+    }
+}
+
+/// Reports why it isn't known whether a script keeps its plans, or answers whether it does.
+fn end_kept<E: Write>(err: &mut E, kept: Result<Option<bool>, Refusal>) -> u8
+    ensures { result ≡ kept_status kept }
+{
+    match kept {
+        Ok(Some(true)) => 0,
+        Ok(Some(false)) => 3,
+        Ok(None) => {
+            let _ = writeln!(err, "{UNFOUND}");
+            1
+        }
+        Err(refusal) => {
+            let _ = end_refused(err, refusal);
+            if refusal == Refusal::BadPlan {
+                let _ = writeln!(err, "{TIMES_WANTED}");
+            }
+            1
+        }
+    }
+}
+
+/// Prints whether a script keeps the plans of its dies, whole, or what breaks one. Answers the status: 0 where it keeps
+/// them, 3 where it doesn't, 1 where something was refused, which is reported: nothing was written then, or not the
+/// whole.
+#[tactic(auto, using(crate::proofs::Endings::ends_kept))]
+pub fn act_keeps<P: Read + Drop, S: Read + Drop, W: Write, E: Write>(
+    alloc: Global,
+    plan: P,
+    script: S,
+    slots: u32,
+    out: &mut W,
+    err: &mut E,
+) -> u8
+    requires slots { slots ≤ MAX_SLOT }
+    ensures { EndsSaying W.contents (PrintsKept (P.remaining plan) (S.remaining script) slots)
+        verdict_status out.old out.new result }
+{
+    let kept = print_kept(alloc, plan, script, slots, out);
+    end_kept(err, kept)
+}

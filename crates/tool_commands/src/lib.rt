@@ -1,0 +1,18 @@
+//! The commands of `flashplan`: what each prints of the files that it names, and its status.
+#![tactic(auto)]
+
+pub mod acts;
+pub mod arriving;
+pub mod checkpoint_acts;
+pub mod comparing;
+pub mod endings;
+pub mod explaining;
+pub mod fitting;
+pub mod keeping;
+pub mod listed_acts;
+pub mod requests;
+pub mod runs;
+
+pub use acts::act;
+pub use checkpoint_acts::{Kept, Shelf};
+pub use requests::{act_asked, slots_of, texts_of};

@@ -1,0 +1,206 @@
+//! Runs of a script: what they wear, what they come to, and what is drawn of them.
+
+ghost use Rattle.std.specs.Prelude.{◌≡◌, ◌≤◌, OnErr, OnOk, if◌then◌else◌, is_ok};
+ghost use Rattle.text_base.specs.Writing.{IsNotWhole};
+ghost use Rattle.tool_commands.specs.Acts.{Ends, PrintsText, PrintsWear};
+
+use crate::endings::{end_refused, end_run, report_failure};
+use plan_texts::read_plan_from;
+use slot_types::{MAX_SLOT, Refusal};
+use std::alloc::Global;
+use std::io::{Read, Write};
+use text_base::write_whole;
+use tool_run_figures::Life;
+use tool_watched_runs::{FailAt, Failure, RefusedRows, Shown, Sights, draw, report, wear};
+
+/// Prints what a run wore.
+fn print_wear<P: Read + Drop, S: Read + Drop, W: Write>(
+    alloc: Global,
+    plan: P,
+    script: S,
+    slots: u32,
+    out: &mut W,
+) -> Result<RefusedRows, Refusal>
+    requires slots { slots ≤ MAX_SLOT }
+    ensures printed { OnOk result
+        (PrintsWear (P.remaining plan) (W.contents out.old) (W.contents out.new)) }
+    ensures part { OnErr result
+        (IsNotWhole W.contents (PrintsWear (P.remaining plan)) out.old out.new) }
+{
+    let store = read_plan_from(alloc, plan)?;
+    let worn = wear(alloc, store, script, slots)?;
+    write_whole(out, &worn.text)?;
+    Ok(worn.refused)
+}
+
+/// Prints what a run wore, whole. Answers the status: 0, or 1 where something was refused, which is reported: nothing
+/// was written then, or not the whole.
+#[tactic(auto, using(crate::proofs::Endings::ends))]
+pub fn act_wear<P: Read + Drop, S: Read + Drop, W: Write, E: Write>(
+    alloc: Global,
+    plan: P,
+    script: S,
+    slots: u32,
+    out: &mut W,
+    err: &mut E,
+) -> u8
+    requires slots { slots ≤ MAX_SLOT }
+    ensures { Ends W.contents (PrintsWear (P.remaining plan)) out.old out.new result }
+{
+    let ran = print_wear(alloc, plan, script, slots, out);
+    end_run(err, ran)
+}
+
+/// Prints what a run came to.
+fn print_report<P: Read + Drop, S: Read + Drop, W: Write>(
+    alloc: Global,
+    plan: P,
+    script: S,
+    slots: u32,
+    life: Life,
+    as_csv: bool,
+    fail: Option<FailAt>,
+    out: &mut W,
+) -> Result<(RefusedRows, Option<Failure>), Refusal>
+    requires slots { slots ≤ MAX_SLOT }
+    ensures printed { OnOk result (PrintsText (W.contents out.old) (W.contents out.new)) }
+    ensures part { OnErr result (IsNotWhole W.contents PrintsText out.old out.new) }
+{
+    let store = read_plan_from(alloc, plan)?;
+    let said = report(alloc, store, script, slots, life, as_csv, fail)?;
+    write_whole(out, &said.text)?;
+    Ok((said.refused, said.failure))
+}
+
+/// Reports what came of a report's run, and answers the status.
+fn end_report<E: Write>(err: &mut E, ran: Result<(RefusedRows, Option<Failure>), Refusal>) -> u8
+    ensures { result ≡ (if is_ok ran then 0 else 1) }
+{
+    match ran {
+        Ok((refused, failure)) => {
+            report_failure(err, failure);
+            end_run(err, Ok(refused))
+        }
+        Err(refusal) => end_refused(err, refusal),
+    }
+}
+
+/// Prints what a run came to, whole. Answers the status: 0, or 1 where something was refused, which is reported: nothing
+/// was written then, or not the whole.
+#[tactic(auto, using(crate::proofs::Endings::ends))]
+pub fn act_report<P: Read + Drop, S: Read + Drop, W: Write, E: Write>(
+    alloc: Global,
+    plan: P,
+    script: S,
+    slots: u32,
+    life: Life,
+    as_csv: bool,
+    fail: Option<FailAt>,
+    out: &mut W,
+    err: &mut E,
+) -> u8
+    requires slots { slots ≤ MAX_SLOT }
+    ensures { Ends W.contents PrintsText out.old out.new result }
+{
+    let ran = print_report(alloc, plan, script, slots, life, as_csv, fail, out);
+    end_report(err, ran)
+}
+
+/// What is reported of a run that was drawn.
+#[derive(Clone, Copy, Drop)]
+struct Drawn {
+    refused: RefusedRows,
+    sights: Sights,
+    failure: Option<Failure>,
+}
+
+/// Prints the picture of what the slots of a die carried.
+fn print_drawn<P: Read + Drop, S: Read + Drop, W: Write>(
+    alloc: Global,
+    plan: P,
+    script: S,
+    slots: u32,
+    die: u32,
+    shown: Shown,
+    fail: Option<FailAt>,
+    out: &mut W,
+) -> Result<Drawn, Refusal>
+    requires slots { slots ≤ MAX_SLOT }
+    ensures printed { OnOk result (PrintsText (W.contents out.old) (W.contents out.new)) }
+    ensures part { OnErr result (IsNotWhole W.contents PrintsText out.old out.new) }
+{
+    let store = read_plan_from(alloc, plan)?;
+    let drawn = draw(alloc, store, script, slots, die, shown, fail)?;
+    write_whole(out, &drawn.text)?;
+    Ok(Drawn {
+        refused: drawn.refused,
+        sights: drawn.sights,
+        failure: drawn.failure,
+    })
+}
+
+/// The most slots of a picture that is drawn without a warning.
+const MANY_SLOTS: u32 = 5_000;
+
+/// Warns of a picture of many slots, and names those that are worth looking at. A writer that fails is passed over.
+fn warn_many<E: Write>(err: &mut E, slots: u32, sights: Sights) {
+    if slots <= MANY_SLOTS {
+        return;
+    }
+    let _ = writeln!(
+        err,
+        "warning: a picture of {slots} slots is large: --from A --to B draws fewer"
+    );
+    if let Some((from, to)) = sights.worst {
+        let _ = writeln!(err, "the worst: --from {from} --to {to}");
+    }
+    if let Some(slot) = sights.collection {
+        let to = slot.saturating_add(100);
+        let _ = writeln!(err, "the first collection: --from {slot} --to {to}");
+    }
+}
+
+/// Reports what was drawn, and answers the status.
+fn end_drawn<E: Write>(err: &mut E, slots: u32, drawn: Result<Drawn, Refusal>) -> u8
+    ensures { result ≡ (if is_ok drawn then 0 else 1) }
+{
+    match drawn {
+        Ok(drawn) => {
+            warn_many(err, slots, drawn.sights);
+            report_failure(err, drawn.failure);
+            end_run(err, Ok(drawn.refused))
+        }
+        Err(refusal) => end_refused(err, refusal),
+    }
+}
+
+/// How many slots a picture has; 0 where it is of the worst, or for a terminal.
+fn many_of(shown: Shown, slots: u32) -> u32 {
+    if shown.worst || shown.as_text {
+        0
+    } else {
+        shown.to.min(slots).saturating_sub(shown.from)
+    }
+}
+
+/// Prints the picture of what the slots of a die carried, whole. Answers the status: 0, or 1 where something was refused,
+/// which is reported: nothing was written then, or not the whole.
+#[tactic(auto, using(crate::proofs::Endings::ends))]
+pub fn act_draw<P: Read + Drop, S: Read + Drop, W: Write, E: Write>(
+    alloc: Global,
+    plan: P,
+    script: S,
+    slots: u32,
+    die: u32,
+    shown: Shown,
+    fail: Option<FailAt>,
+    out: &mut W,
+    err: &mut E,
+) -> u8
+    requires slots { slots ≤ MAX_SLOT }
+    ensures { Ends W.contents PrintsText out.old out.new result }
+{
+    let many = many_of(shown, slots);
+    let drawn = print_drawn(alloc, plan, script, slots, die, shown, fail, out);
+    end_drawn(err, many, drawn)
+}
