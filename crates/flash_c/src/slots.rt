@@ -116,7 +116,16 @@ fn made(
     name: FlashName,
 ) -> FlashCall
     ensures { result
-        ≡ record { kind = kind; block = block; page = page; last = last; slot = slot; act = act; job = job; name = name } }
+        ≡ record {
+          kind = kind;
+          block = block;
+          page = page;
+          last = last;
+          slot = slot;
+          act = act;
+          job = job;
+          name = name;
+        } }
 {
     FlashCall {
         kind,

@@ -49,10 +49,16 @@ impl<N: Nand> Model for PageArray<N> {
 
     ghost Value = { ArrayState N };
 
-    ghost view = { λ a. record { failed = a.failed; device = a.device; placing = a.placed; candidates = a.victims } };
+    ghost view = { λ a. record {
+      failed = a.failed;
+      device = a.device;
+      placing = a.placed;
+      candidates = a.victims;
+    } };
 
     ghost invariant = { λ a. a.failed ≡ false
-        → IsSoundState (N.shape_of a.device) (N.failures a.device) (N.blocks a.device) a.placed a.fills a.erases.items a.writing a.victims };
+        → IsSoundState (N.shape_of a.device) (N.failures a.device) (N.blocks a.device) a.placed
+        a.fills a.erases.items a.writing a.victims };
 }
 
 impl<N: Nand> PageArray<N> {

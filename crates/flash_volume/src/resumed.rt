@@ -98,7 +98,12 @@ impl<N: Nand> PageArray<N> {
             tables.placed tables.fills tables.erases.items
             tables.writing tables.victims }
         ensures { result
-            ≡ record { failed = false; device = device; placing = tables.placed; candidates = tables.victims } }
+            ≡ record {
+              failed = false;
+              device = device;
+              placing = tables.placed;
+              candidates = tables.victims;
+            } }
     {
         let Tables {
             placed,

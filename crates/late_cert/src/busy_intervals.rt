@@ -57,7 +57,8 @@ fn busy_interval(
     job: JobNo,
 ) -> Result<Option<Certificate>, Refusal>
     requires { RowsRise rows.now }
-    ensures ok { IfOk result (λ busy_interval. busy_interval ≡ busy_interval_if_done rows.now carried.now job) }
+    ensures ok { IfOk result (λ busy_interval.
+        busy_interval ≡ busy_interval_if_done rows.now carried.now job) }
     ensures not_done { is_done rows.now job ≡ false → IsOk result }
     ensures refused { FailsForMemory result }
 {

@@ -183,7 +183,8 @@ fn resumed<N: Nand>(
     own: DiePlan,
     stood: &Checkpoint,
 ) -> (Option<Box<DieCore<N>>>, Option<ResumeRefusal>)
-    requires left { N.shape_of device ≡ plan.shape → Fits plan from.now → IsAsLeft from.now (N.blocks device) (N.failures device) }
+    requires left { N.shape_of device ≡ plan.shape → Fits plan from.now
+        → IsAsLeft from.now (N.blocks device) (N.failures device) }
     requires own { IsAsLeft stood.now (N.blocks device) (N.failures device) }
 {
     match DieCore::resume(alloc, plan, device, from) {
@@ -204,7 +205,8 @@ fn resume_as<N: Nand>(
     own: DiePlan,
     said: &mut Reported,
 ) -> (Option<Box<DieCore<N>>>, Result<(), Refusal>)
-    requires own { IsAsLeft stood.now (N.blocks (box_value die).device) (N.failures (box_value die).device) }
+    requires own { IsAsLeft stood.now (N.blocks (box_value die).device)
+        (N.failures (box_value die).device) }
 {
     let die = Box::into_inner(die);
     let (die, refusal) = resumed(alloc, die.into_device(), plan, stood, own, stood);
@@ -222,7 +224,8 @@ fn resume_from<N: Nand>(
     own: DiePlan,
     said: &mut Reported,
 ) -> (Option<Box<DieCore<N>>>, Result<(), Refusal>)
-    requires own { IsAsLeft stood.now (N.blocks (box_value die).device) (N.failures (box_value die).device) }
+    requires own { IsAsLeft stood.now (N.blocks (box_value die).device)
+        (N.failures (box_value die).device) }
 {
     match from.check(alloc, &plan) {
         Ok(()) => (Some(die), said.words("fits")),
@@ -244,7 +247,8 @@ fn resume_by<N: Nand>(
     fields: &Fields,
     said: &mut Reported,
 ) -> (Option<Box<DieCore<N>>>, Result<(), Refusal>)
-    requires own { IsAsLeft stood.now (N.blocks (box_value die).device) (N.failures (box_value die).device) }
+    requires own { IsAsLeft stood.now (N.blocks (box_value die).device)
+        (N.failures (box_value die).device) }
 {
     let asked = match asked_in(alloc, die.plan(), fields) {
         Ok(asked) => asked,

@@ -29,7 +29,13 @@ const SHAPE: Shape = Shape {
 fn roomy<N: Nand>(alloc: Global, device: N) -> Result<Volume<N>, Refusal>
     requires { IsFresh (N.shape_of device) (N.blocks device) (N.failures device) }
     ensures { IfOk result (λ volume. volume ≡ fresh_volume
-        (record { shape = N.shape_of device; logical = 12; alpha = 2; caps = 4 ∷ []; times = None }) device) }
+        (record {
+          shape = N.shape_of device;
+          logical = 12;
+          alpha = 2;
+          caps = 4 ∷ [];
+          times = None;
+        }) device) }
 {
     let mut caps = Caps::new(alloc);
     caps.push(4)?;

@@ -15,7 +15,8 @@ pub(crate) const TWOS: PageData = PageData([0x22; 16]);
 
 /// A device in memory.
 pub(crate) fn memory(alloc: Global) -> Result<MemoryNand, Refusal>
-    ensures { IfOk result (λ nand. IsFresh (⟦<MemoryNand as Nand>⟧.shape_of nand) (⟦<MemoryNand as Nand>⟧.blocks nand)
+    ensures { IfOk result (λ nand. IsFresh (⟦<MemoryNand as Nand>⟧.shape_of nand)
+        (⟦<MemoryNand as Nand>⟧.blocks nand)
         (⟦<MemoryNand as Nand>⟧.failures nand)) }
 {
     MemoryNand::new(alloc, ROOMY.shape)
@@ -23,7 +24,8 @@ pub(crate) fn memory(alloc: Global) -> Result<MemoryNand, Refusal>
 
 // A device in memory that fails after so many calls.
 fn fused(alloc: Global, calls: u64) -> Result<FuseNand<MemoryNand>, Refusal>
-    ensures { IfOk result (λ nand. IsFresh (⟦<FuseNand<MemoryNand> as Nand>⟧.shape_of nand) (⟦<FuseNand<MemoryNand> as Nand>⟧.blocks nand)
+    ensures { IfOk result (λ nand. IsFresh (⟦<FuseNand<MemoryNand> as Nand>⟧.shape_of nand)
+        (⟦<FuseNand<MemoryNand> as Nand>⟧.blocks nand)
         (⟦<FuseNand<MemoryNand> as Nand>⟧.failures nand)) }
 {
     Ok(FuseNand::new(memory(alloc)?, calls))

@@ -200,7 +200,8 @@ fn held(
     waits: bool,
     read: &Arc<Read, Global>,
 ) -> Result<HeldNand<MemoryNand>, Refusal>
-    ensures { IfOk result (λ nand. IsFresh (⟦<HeldNand<MemoryNand> as Nand>⟧.shape_of nand) (⟦<HeldNand<MemoryNand> as Nand>⟧.blocks nand)
+    ensures { IfOk result (λ nand. IsFresh (⟦<HeldNand<MemoryNand> as Nand>⟧.shape_of nand)
+        (⟦<HeldNand<MemoryNand> as Nand>⟧.blocks nand)
         (⟦<HeldNand<MemoryNand> as Nand>⟧.failures nand)) }
 {
     Ok(HeldNand::new(memory(alloc)?, waits, Arc::try_clone(read)?))

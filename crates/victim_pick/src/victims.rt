@@ -73,7 +73,10 @@ impl Victims {
     pub fn lower(&mut self, block: u32)
         requires { IsSomeAnd (count_of self.old.counts block) (λ valid. 0 < valid) }
         ensures { self.new
-            ≡ record self.old { counts = slice_set self.old.counts block (one_page_less (count_of self.old.counts block)) } }
+            ≡ record self.old {
+              counts = slice_set self.old.counts block
+                  (one_page_less (count_of self.old.counts block));
+            } }
     {
         if let Some(valid) = self.count(block) {
             self.lists.remove(valid, block);
@@ -105,7 +108,10 @@ impl Victims {
         ensures none { IsNone result ↔ HasNone self.old.counts }
         ensures least { IfSome result (IsLeast self.old.counts self.old.erases) }
         ensures taken { self.new
-            ≡ record self.old { counts = without result self.old.counts; erases = without result self.old.erases } }
+            ≡ record self.old {
+              counts = without result self.old.counts;
+              erases = without result self.old.erases;
+            } }
     {
         let (valid, block) = self.lists.first_from(self.least, &self.erases)?;
         self.lists.remove(valid, block);
