@@ -1,5 +1,6 @@
 -- What is printed of dies that ran is what they wore.
-use Rattle.std.proofs.Common.{◌≡◌, ℕ, List, [], ◌∷◌, All, Box, map, refl, ap, sym, ◌∙◌}
+use Rattle.std.proofs.Common.{◌≡◌, ℕ, List, [], ◌∷◌, All, map, refl, ap, sym, ◌∙◌}
+use Rattle.std.specs.Global.{Box}
 use Rattle.std.proofs.lemmas.List.Elements.{All-map}
 use Rattle.slot_types.specs.declared.plans.DiePlan.{DiePlan}
 use Rattle.die_log.specs.Model.Start.{Start, fresh}

@@ -1,5 +1,6 @@
 -- Dies that run.
-use Rattle.std.specs.Prelude.{List, map, Box, box_value}
+use Rattle.std.specs.Prelude.{List, map, box_value}
+use Rattle.std.specs.Global.{Box}
 use Rattle.die_log.specs.Model.Start.{Start}
 use Rattle.tool_watched_runs.specs.Wear.{Worn}
 use Rattle.tool_watched_runs.specs.declared.die_runs.DieRun.{DieRun}

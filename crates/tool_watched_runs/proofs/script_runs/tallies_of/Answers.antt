@@ -1,4 +1,5 @@
-use Rattle.std.proofs.Common.{rules, ◌≡◌, ◌++◌, ◌∷◌, [], List, All, Box, ap, append_assoc, sym, subst, ◌∙◌, map}
+use Rattle.std.proofs.Common.{rules, ◌≡◌, ◌++◌, ◌∷◌, [], List, All, ap, append_assoc, sym, subst, ◌∙◌, map}
+use Rattle.std.specs.Global.{Box}
 use Rattle.std.proofs.lemmas.List.Elements.{All-cons}
 use Rattle.std.specs.Vec.Iter.{into_iter_items}
 use Rattle.tool_watched_runs.specs.Runs.{worn_of}
