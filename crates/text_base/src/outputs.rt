@@ -64,6 +64,20 @@ impl<W: Write> Flagged<W> {
         }
     }
 
+    /// Whether a call of `put` has failed.
+    pub fn has_failed(&self) -> bool
+        ensures { ⟦<Flagged<W> as Output>⟧.has_failed self.now ≡ Some result }
+    {
+        self.failed
+    }
+
+    /// The writer itself, lent.
+    pub fn get_ref(&self) -> &W
+        ensures contents { W.contents result.now ≡ ⟦<Flagged<W> as Write>⟧.contents self.now }
+    {
+        &self.inner
+    }
+
     /// The writer itself.
     pub fn into_inner(self) -> W
         ensures contents { W.contents result ≡ ⟦<Flagged<W> as Write>⟧.contents self }
