@@ -33,7 +33,3 @@ abbrev pub Says : {X : Type 0} → Option (Result X TextFault) → Result X Text
 Says None result = ⊤
 Says (Some read) (Ok x) = read ≡ Ok x
 Says (Some read) (Err e) = IsOutside e ⊎ (read ≡ Err e)
-
--- a call was refused, not for its text
-abbrev pub EndsOutside : {X : Type 0} → Result X TextFault → Type 0
-EndsOutside result = (fault : TextFault) × (result ≡ Err fault) × IsOutside fault

@@ -3,7 +3,8 @@
 ghost use Rattle.std.specs.Prelude.{◌≡◌, ◌≤◌, ◌⊎◌, List, Ok, Result, Some, length};
 ghost use Rattle.checkpoint_texts.specs.CheckpointOf.{checkpoint_of};
 ghost use Rattle.checkpoint_texts.specs.CheckpointText.{checkpoint_text};
-ghost use Rattle.checkpoint_texts.specs.Readings.{EndsOutside, Says};
+ghost use Rattle.checkpoint_texts.specs.Readings.{Says};
+ghost use Rattle.checkpoint_texts.specs.Refused.{EndsOutside};
 ghost use Rattle.checkpoint_texts.specs.WellFormed.{IsStore};
 ghost use Rattle.checkpoint_texts.specs.declared.fault.TextFault.{TextFault};
 ghost use Rattle.checkpoint_texts.specs.declared.saved.SavedDie.{SavedDie};

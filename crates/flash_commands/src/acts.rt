@@ -19,10 +19,10 @@ use std::io::{Read, Write};
 use std::sync::Wait;
 use std::thread::Threads;
 use task_script::{RunCount, run_text};
-use text_base::{Output, write_whole};
+use text_base::write_whole;
 
 /// Prints the figures of a plan.
-fn print_figures<R: Read + Drop, W: Output>(
+fn print_figures<R: Read + Drop, W: Write>(
     alloc: Global,
     first: R,
     out: &mut W,
@@ -41,7 +41,7 @@ fn print_figures<R: Read + Drop, W: Output>(
 
 /// Prints the audit of a report, and says whether a certificate is refused. A refusal is of the report's text, or
 /// memory, or a reader, or `WriteFault`, and all but the last leave `out` as it was.
-pub fn print_audit<R: Read + Drop, W: Output>(
+pub fn print_audit<R: Read + Drop, W: Write>(
     alloc: Global,
     first: R,
     out: &mut W,
@@ -61,7 +61,7 @@ pub fn print_audit<R: Read + Drop, W: Output>(
 }
 
 /// Runs a script on the store of a plan, and prints its report.
-fn print_run<R: Threads + Wait + Sync, F: Read + Drop, S: Read + Drop, W: Output>(
+fn print_run<R: Threads + Wait + Sync, F: Read + Drop, S: Read + Drop, W: Write>(
     rt: &R,
     alloc: Global,
     first: F,
@@ -94,7 +94,7 @@ fn report_refused<E: Write>(err: &mut E, count: &RunCount) {
 }
 
 /// Runs a script on the store of a plan, or says why not.
-fn run<R: Threads + Wait + Sync, F: Read + Drop, S: Read + Drop, W: Output, E: Write>(
+fn run<R: Threads + Wait + Sync, F: Read + Drop, S: Read + Drop, W: Write, E: Write>(
     rt: &R,
     alloc: Global,
     first: F,
@@ -122,7 +122,7 @@ fn run<R: Threads + Wait + Sync, F: Read + Drop, S: Read + Drop, W: Output, E: W
 }
 
 /// Shows the figures of a plan, or says why not.
-fn figures<R: Read + Drop, W: Output>(alloc: Global, first: R, out: &mut W) -> Result<(), Fault>
+fn figures<R: Read + Drop, W: Write>(alloc: Global, first: R, out: &mut W) -> Result<(), Fault>
     ensures printed { (outcome_status result ≡ 1)
         ⊎ (PrintsFigures (R.remaining first) (W.contents out.old) (W.contents out.new)
         × (outcome_status result ≡ 0)) }
@@ -136,7 +136,7 @@ fn figures<R: Read + Drop, W: Output>(alloc: Global, first: R, out: &mut W) -> R
 }
 
 /// Audits a report, or says why not.
-fn audit<R: Read + Drop, W: Output>(alloc: Global, first: R, out: &mut W) -> Result<(), Fault>
+fn audit<R: Read + Drop, W: Write>(alloc: Global, first: R, out: &mut W) -> Result<(), Fault>
     ensures printed { (outcome_status result ≡ 1)
         ⊎ PrintsAudit (R.remaining first) (W.contents out.old) (W.contents out.new)
         (outcome_status result) }
@@ -157,7 +157,7 @@ fn audit<R: Read + Drop, W: Output>(alloc: Global, first: R, out: &mut W) -> Res
 /// What it prints is what [`act`] says. `Certificate` comes exactly where a report was read and audited, its audit is
 /// printed whole, and some certificate is refused; any other error is a refusal. A refusal leaves `out` as it was,
 /// but for `WriteFault`: `out` then took a front of what was to be printed, and not the whole.
-pub fn carry_out<R: Threads + Wait + Sync, F: Read + Drop, S: Read + Drop, W: Output, E: Write>(
+pub fn carry_out<R: Threads + Wait + Sync, F: Read + Drop, S: Read + Drop, W: Write, E: Write>(
     rt: &R,
     alloc: Global,
     command: Command<'_>,
@@ -206,7 +206,7 @@ pub fn carry_out<R: Threads + Wait + Sync, F: Read + Drop, S: Read + Drop, W: Ou
 /// Each text for `out` is made whole before its first byte. A refusal is reported in a line to `err`, as
 /// `error 19 ScriptRow 6 Fields`, and the status is 1: nothing was written to `out`, or `out` failed before it had the
 /// whole text. Where `err` fails, that is passed over. Neither is flushed. A run may wait for its workers.
-pub fn act<R: Threads + Wait + Sync, F: Read + Drop, S: Read + Drop, W: Output, E: Write>(
+pub fn act<R: Threads + Wait + Sync, F: Read + Drop, S: Read + Drop, W: Write, E: Write>(
     rt: &R,
     alloc: Global,
     command: Command<'_>,

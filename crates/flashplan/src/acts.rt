@@ -12,7 +12,7 @@ use plan_texts::{plan_text, read_plan_from};
 use slot_types::{MAX_SLOT, Refusal, StorePlan};
 use std::alloc::Global;
 use std::io::{Read, Write};
-use text_base::{Output, write_whole};
+use text_base::write_whole;
 use tool_plain_layers::Marks;
 use tool_plan_arrivals::{Fault as Unplanned, Manner, arrivals, full_from};
 use tool_plan_design::explain;
@@ -35,7 +35,7 @@ pub fn end_refused<E: Write>(err: &mut E, refusal: Refusal) -> u8
 }
 
 /// Prints what is said of a plan, and says whether it is accepted.
-fn print_explained<R: Read + Drop, W: Output>(
+fn print_explained<R: Read + Drop, W: Write>(
     alloc: Global,
     plan: R,
     out: &mut W,
@@ -50,7 +50,7 @@ fn print_explained<R: Read + Drop, W: Output>(
 }
 
 /// Prints the plan that was found for a datasheet.
-fn print_fit<R: Read + Drop, W: Output>(alloc: Global, sheet: R, out: &mut W) -> Result<(), FitFault>
+fn print_fit<R: Read + Drop, W: Write>(alloc: Global, sheet: R, out: &mut W) -> Result<(), FitFault>
     ensures printed { OnOk result (PrintsPassingPlan (W.contents out.old) (W.contents out.new)) }
 {
     let sheet = plan_text(alloc, sheet)?;
@@ -93,7 +93,7 @@ const TIMES_WANTED: &str =
 const KEPT: &[u8] = b"the script keeps the plan of each die\n";
 
 /// Prints the script of a plan's arrivals, which is made whole before its first byte.
-fn print_arrivals<R: Read + Drop, W: Output>(
+fn print_arrivals<R: Read + Drop, W: Write>(
     alloc: Global,
     plan: R,
     slots: u32,
@@ -161,7 +161,7 @@ fn end_unplanned<E: Write>(err: &mut E, fault: Unplanned) -> u8
 
 /// Prints whether a script keeps the plans of its dies, and says whether it does; none where it doesn't, and no condition
 /// was found that doesn't hold, which is a fault of this program.
-fn print_kept<P: Read + Drop, S: Read + Drop, W: Output>(
+fn print_kept<P: Read + Drop, S: Read + Drop, W: Write>(
     alloc: Global,
     plan: P,
     script: S,
@@ -209,7 +209,7 @@ fn end_kept<E: Write>(err: &mut E, kept: Result<Option<bool>, Refusal>) -> u8
 }
 
 /// Prints what a run wore.
-fn print_wear<P: Read + Drop, S: Read + Drop, W: Output>(
+fn print_wear<P: Read + Drop, S: Read + Drop, W: Write>(
     alloc: Global,
     plan: P,
     script: S,
@@ -225,7 +225,7 @@ fn print_wear<P: Read + Drop, S: Read + Drop, W: Output>(
 }
 
 /// Prints what a run came to.
-fn print_report<P: Read + Drop, S: Read + Drop, W: Output>(
+fn print_report<P: Read + Drop, S: Read + Drop, W: Write>(
     alloc: Global,
     plan: P,
     script: S,
@@ -243,7 +243,7 @@ fn print_report<P: Read + Drop, S: Read + Drop, W: Output>(
 }
 
 /// Prints the picture of what the slots of a die carried.
-fn print_drawn<P: Read + Drop, S: Read + Drop, W: Output>(
+fn print_drawn<P: Read + Drop, S: Read + Drop, W: Write>(
     alloc: Global,
     plan: P,
     script: S,
@@ -298,7 +298,7 @@ fn end_drawn<E: Write>(err: &mut E, slots: u32, drawn: Result<(RefusedRows, Sigh
 const LOW: usize = 2;
 
 /// Prints how late the jobs of a script were on the store and by plain layers.
-fn print_compared<P: Read + Drop, S: Read + Drop, W: Output>(
+fn print_compared<P: Read + Drop, S: Read + Drop, W: Write>(
     alloc: Global,
     plan: P,
     script: S,
@@ -344,7 +344,7 @@ fn end_compared<E: Write>(err: &mut E, compared: Result<(), CompareFault>) -> u8
 }
 
 /// Prints the script of a trace, or its plan.
-fn print_import<R: Read + Drop, W: Output>(
+fn print_import<R: Read + Drop, W: Write>(
     alloc: Global,
     trace: R,
     measure: TraceMeasure,
@@ -406,7 +406,7 @@ pub fn end_run<E: Write>(err: &mut E, ran: Result<RefusedRows, Refusal>) -> u8
 /// No more of the plan is read than 1,048,577 bytes. Where a text is refused, memory runs out, or a reader or `out`
 /// fails, that is reported in a line to `err`, as `error 21 ReadFault`, and the status is 1; where `out` fails nothing
 /// is reported. Where `err` fails, that is passed over.
-pub fn act<P: Read + Drop, S: Read + Drop, C: Read + Drop, K: Shelf, W: Output, E: Write>(
+pub fn act<P: Read + Drop, S: Read + Drop, C: Read + Drop, K: Shelf, W: Write, E: Write>(
     alloc: Global,
     command: Command<'_>,
     plan: P,

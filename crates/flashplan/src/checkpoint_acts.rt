@@ -9,7 +9,7 @@ use plan_texts::{plan_text, read_plan_from};
 use slot_types::{MAX_SLOT, Refusal};
 use std::alloc::Global;
 use std::io::{Read, Write};
-use text_base::{Output, write_whole};
+use text_base::write_whole;
 use tool_checkpoint_runs::{
     RunFault, StoreDies, StoreRun, Unsaved, explain as explain_checkpoint, run_script, save,
 };
@@ -59,7 +59,7 @@ struct PrintedRun {
 }
 
 /// Runs a script on the dies of a plan, and prints their report, which is made whole before its first byte.
-fn print_run<P: Read + Drop, S: Read + Drop, C: Read + Drop, W: Output>(
+fn print_run<P: Read + Drop, S: Read + Drop, C: Read + Drop, W: Write>(
     alloc: Global,
     plan: P,
     script: S,
@@ -146,7 +146,7 @@ fn put_checkpoint<K: Shelf, E: Write>(
 /// Runs a script on the dies of a plan, fresh or from a checkpoint, prints the report, and puts the checkpoint of the dies' end
 /// into the file `to`, if there is one. Answers the status: 0; 1 where something was refused or failed; 3 where the report is printed,
 /// and no checkpoint may be taken.
-pub fn act_run<P: Read + Drop, S: Read + Drop, C: Read + Drop, K: Shelf, W: Output, E: Write>(
+pub fn act_run<P: Read + Drop, S: Read + Drop, C: Read + Drop, K: Shelf, W: Write, E: Write>(
     alloc: Global,
     plan: P,
     script: S,
@@ -173,7 +173,7 @@ pub fn act_run<P: Read + Drop, S: Read + Drop, C: Read + Drop, K: Shelf, W: Outp
 }
 
 /// Prints what is said of a plan, and, where it is accepted, of a checkpoint of its dies. Says whether it is accepted.
-pub fn print_explained_from<P: Read + Drop, C: Read + Drop, W: Output>(
+pub fn print_explained_from<P: Read + Drop, C: Read + Drop, W: Write>(
     alloc: Global,
     plan: P,
     from: C,

@@ -13,7 +13,7 @@ ghost use Rattle.flashplan.specs.Commands.{FitsRun};
 use acts::act;
 use checkpoint_acts::{Kept, Shelf};
 use commands::{Asked, Command, read_words};
-use flash_commands::{Disk, Fault, Flagged, Folder, Output, end, show, words_of};
+use flash_commands::{Disk, Fault, Folder, end, show, words_of};
 use slot_types::Refusal;
 use std::alloc::Global;
 use std::env::Env;
@@ -48,7 +48,7 @@ fn open_named<D: Folder>(folder: &D, name: Option<&str>) -> Result<Option<D::Rea
 }
 
 /// Carries out a command on the files that it names, which are opened before any of them is read.
-fn act_on<D: Folder, K: Shelf, W: Output, E: Write>(
+fn act_on<D: Folder, K: Shelf, W: Write, E: Write>(
     alloc: Global,
     folder: &D,
     shelf: &K,
@@ -133,7 +133,7 @@ fn own_words<R: Env>(rt: &R, alloc: Global) -> Result<Vec<String>, Fault> {
 
 fn main(rt: HostRuntime) -> ExitCode {
     let alloc = rt.alloc();
-    let (mut out, mut err) = (Flagged::new(rt.stdout()), rt.stderr());
+    let (mut out, mut err) = (rt.stdout(), rt.stderr());
     let status = match own_words(&rt, alloc) {
         Ok(words) => match read_words(alloc, words.as_slice()) {
             Ok(asked) => {

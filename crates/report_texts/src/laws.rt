@@ -2,7 +2,7 @@
 
 ghost use Rattle.std.specs.Prelude.{◌≡◌, ◌⊎◌, List, Ok, Result, Some};
 ghost use Rattle.slot_types.specs.declared.refusals.Refusal.{Refusal};
-ghost use Rattle.text_base.specs.Readings.{EndsOutside};
+ghost use Rattle.report_texts.specs.Refused.{EndsOutside};
 ghost use Rattle.report_texts.specs.ReportOf.{Reading, Says, report_of};
 ghost use Rattle.report_texts.specs.ReportText.{report_text};
 ghost use Rattle.report_texts.specs.WellFormed.{IsReport};

@@ -24,10 +24,9 @@ use script_texts::ScriptReader;
 use slot_core::DieCore;
 use slot_types::{MAX_SLOT, OpList, Refusal, StorePlan};
 use std::alloc::Global;
-use std::io::Read;
+use std::io::{Read, Write};
 use std::sync::Wait;
 use std::thread::Threads;
-use text_base::Output;
 
 /// Dies that carried out their slots: the text of their report, and how many of their rows were accepted and refused.
 #[derive(Drop)]
@@ -174,7 +173,7 @@ fn run_script<R: Threads + Wait + Sync, S: Read + Drop>(
 /// It ends with the first fault of the script, as [`ScriptReader`](crate::ScriptReader) says it; with `ReadFault`; or
 /// with `NoMemory`. Nothing is written before the whole script was read and run, and nothing with these. `WriteFault`
 /// comes where the writer fails: a front of the report was then written that isn't the whole.
-pub fn run_text<R: Threads + Wait + Sync, S: Read + Drop, W: Output>(
+pub fn run_text<R: Threads + Wait + Sync, S: Read + Drop, W: Write>(
     rt: &R,
     alloc: Global,
     plan: &StorePlan,

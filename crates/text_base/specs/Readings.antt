@@ -20,7 +20,3 @@ GivesReading result read = Shows (λ x. x) result read
 -- a refusal that is no fault of a text: memory ran out, or the reader failed
 abbrev pub IsOutside : Refusal → Type 0
 IsOutside refusal = (refusal ≡ NoMemory) ⊎ (refusal ≡ ReadFault)
-
--- a call was refused so
-abbrev pub EndsOutside : {X : Type 0} → Result X Refusal → Type 0
-EndsOutside result = (refusal : Refusal) × (result ≡ Err refusal) × IsOutside refusal
