@@ -5,3 +5,4 @@ pub mod Gathering
 pub mod CheckpointOf
 pub mod CheckpointText
 pub mod WellFormed
+pub mod Refused

@@ -2,3 +2,4 @@ pub mod TableLaws
 pub mod PlanLaws
 pub mod PlanFronts
 pub mod StoreLaws
+pub mod OneReading

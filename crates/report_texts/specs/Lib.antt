@@ -14,3 +14,4 @@ pub mod Numbering
 pub mod ReportWork
 pub mod GatheredWork
 pub mod WellFormed
+pub mod Refused

@@ -16,7 +16,9 @@ mod reports;
 mod row_numbers;
 mod work_reading;
 
-pub use laws::reports_come_back;
+pub use laws::{
+    reading_a_report_has_one_answer, reading_the_work_has_one_answer, reports_come_back,
+};
 pub use report_certs::Finish;
 pub use report_reading::read_report;
 pub use report_work::{DieWork, ReportWork};

@@ -6,7 +6,7 @@ ghost use Rattle.slot_types.specs.Refusal.{FailsForMemory};
 ghost use Rattle.report_texts.specs.ReportText.{report_text};
 ghost use Rattle.report_texts.specs.RowNumbers.{row_with};
 ghost use Rattle.report_texts.specs.TextSoFar.{cert_added, die_added, row_added, rows_added, text_so_far, whole_text};
-ghost use Rattle.text_base.specs.Writing.{AppendsPart, Flags, is_write_fault};
+ghost use Rattle.text_base.specs.Writing.{AppendsPart};
 
 use crate::report_lines::{put_cert, put_header, put_row};
 use crate::reports::{DieReport, Report, ReportRow};
@@ -14,8 +14,9 @@ use crate::row_numbers::RowNumbers;
 use late_cert::Certificate;
 use slot_types::{PageData, Refusal};
 use std::alloc::Global;
+use std::io::Write;
 use std::marker::Model;
-use text_base::{Output, write_whole};
+use text_base::write_whole;
 
 /// The text of a report while it is made: a line for each row as it comes, and the certificates, which stand after all
 /// rows. It keeps no row and no page but as text.
@@ -89,7 +90,7 @@ impl ReportText {
     ///
     /// NoMemory comes before the first byte, and the writer is as it was. WriteFault comes where the writer fails, as
     /// [`write_whole`] says: a front of the text was then written that isn't the whole.
-    pub fn write<W: Output>(self, writer: &mut W) -> Result<(), Refusal>
+    pub fn write<W: Write>(self, writer: &mut W) -> Result<(), Refusal>
         ensures written { OnOk result
             (Appends (W.contents writer.old) (W.contents writer.new) (whole_text self)) }
         ensures memory { result ≡ Err Refusal.NoMemory → writer.new ≡ writer.old }
@@ -97,8 +98,6 @@ impl ReportText {
             → AppendsPart (W.contents writer.old) (W.contents writer.new) (whole_text self) }
         ensures refused { IfErr result (λ refusal.
             (refusal ≡ Refusal.NoMemory) ⊎ (refusal ≡ Refusal.WriteFault)) }
-        ensures failed { Flags (W.has_failed writer.old) (W.has_failed writer.new)
-            (is_write_fault result) }
     {
         let text = self.whole()?;
         write_whole(writer, &text)
@@ -160,7 +159,7 @@ fn text_of(alloc: Global, report: &Report) -> Result<ReportText, Refusal>
 }
 
 /// Writes a report as csv, as [`ReportText::write`] says, with the same refusals.
-pub fn write_report<W: Output>(alloc: Global, writer: &mut W, report: &Report) -> Result<(), Refusal>
+pub fn write_report<W: Write>(alloc: Global, writer: &mut W, report: &Report) -> Result<(), Refusal>
     ensures written { OnOk result
         (Appends (W.contents writer.old) (W.contents writer.new) (report_text report.now)) }
     ensures memory { result ≡ Err Refusal.NoMemory → writer.new ≡ writer.old }
@@ -168,8 +167,6 @@ pub fn write_report<W: Output>(alloc: Global, writer: &mut W, report: &Report) -
         → AppendsPart (W.contents writer.old) (W.contents writer.new) (report_text report.now) }
     ensures refused { IfErr result (λ refusal.
         (refusal ≡ Refusal.NoMemory) ⊎ (refusal ≡ Refusal.WriteFault)) }
-    ensures failed { Flags (W.has_failed writer.old) (W.has_failed writer.new)
-        (is_write_fault result) }
 {
     let text = text_of(alloc, report)?;
     text.write(writer)

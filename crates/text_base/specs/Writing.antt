@@ -1,7 +1,5 @@
--- How much of a text a writer took, and whether it failed.
-use Rattle.std.specs.Prelude.{◌≡◌, ◌⊎◌, ⊤, ℕ, ◌<◌, List, [], ◌++◌, length, take, Bool, true, false, Option, None, Some, Result, Ok, Err}
-use Rattle.slot_types.specs.declared.refusals.Refusal.{Refusal}
-use Rattle.slot_types.specs.declared.refusals.Refusal.TheVariants.{WriteFault}
+-- How much of a text a writer took.
+use Rattle.std.specs.Prelude.{◌≡◌, ◌⊎◌, ℕ, ◌<◌, List, [], ◌++◌, length, take, Option, Some}
 use Rattle.std.specs.Io.KnownBytes.{Appends}
 
 -- known bytes grew by a front of a text that isn't the whole of it
@@ -11,21 +9,6 @@ AppendsPart old new text = (n : ℕ) × (n < length text) × Appends old new (ta
 -- known bytes grew by the front of a text, of which this is left
 abbrev pub AppendsUpTo : Option (List ℕ) → Option (List ℕ) → List ℕ → List ℕ → Type 0
 AppendsUpTo old new text left = (front : List ℕ) × (text ≡ front ++ left) × Appends old new front
-
-abbrev pub is_fault : Refusal → Bool
-is_fault WriteFault = true
-is_fault _ = false
-
--- whether the writer is said to have failed
-abbrev pub is_write_fault : {T : Type 0} → Result T Refusal → Bool
-is_write_fault (Ok x) = false
-is_write_fault (Err refusal) = is_fault refusal
-
--- a known flag is set where a call has failed, and else stays
-abbrev pub Flags : Option Bool → Option Bool → Bool → Type 0
-Flags None new failed = ⊤
-Flags (Some before) new true = new ≡ Some true
-Flags (Some before) new false = new ≡ Some before
 
 -- of what prints so after nothing a front was written, and not the whole
 abbrev pub InPart : (Option (List ℕ) → Option (List ℕ) → Type 0) → Option (List ℕ) → Option (List ℕ) → Type 0
