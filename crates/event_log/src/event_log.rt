@@ -135,6 +135,7 @@ impl EventLog {
 
     /// Makes room for at least so many more events, and for so many more waivers with them, and never less than there
     /// was. Where there is that room already, this isn't refused. Refused with `NoMemory`, nothing changes.
+    #[inline(always)]
     pub fn reserve(&mut self, events: usize, waivers: usize) -> Result<(), Refusal>
         ensures room { OnOk result (events ≤ self.new.room) }
         ensures waiver_room { OnOk result (waivers ≤ self.new.waiver_room) }
@@ -153,6 +154,7 @@ impl EventLog {
     }
 
     /// As `reserve`, asking both lists: apart from it, so that a slot that finds its room makes no call.
+    #[inline(never)]
     fn grow(&mut self, events: usize, waivers: usize) -> Result<(), Refusal>
         ensures room { OnOk result (events ≤ self.new.room) }
         ensures waiver_room { OnOk result (waivers ≤ self.new.waiver_room) }
@@ -188,6 +190,7 @@ impl EventLog {
     }
 
     /// Adds an event, with the collections that were waived in it, in room that was made.
+    #[inline(always)]
     pub fn push_reserved(&mut self, caller: u32, deed: Deed, waived: &[Waived])
         requires room { 0 < self.old.room }
         requires waiver_room { length waived.now ≤ self.old.waiver_room }

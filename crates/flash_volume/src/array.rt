@@ -240,6 +240,7 @@ impl<N: Nand> PageArray<N> {
 
     /// Takes away the candidate in which the fewest pages lie, of equal ones that with the fewest erases, of these the
     /// first.
+    #[inline(never)]
     pub(crate) fn take_victim(&mut self) -> u32
         requires alive { self.old.failed ≡ false }
         requires some { HasNone self.old.candidates.counts → ⊥ }

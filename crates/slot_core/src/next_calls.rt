@@ -64,6 +64,7 @@ fn op_call<N: Nand>(volume: &Volume<N>, task: TaskNo, op: Op) -> Option<NandCall
 }
 
 /// What a head will do that is a job, or a collection that has begun.
+#[inline(always)]
 fn next_head_slot<N: Nand>(volume: &Volume<N>, number: JobNo, job: &Job) -> NextSlot
     requires alive { volume.now.failed ≡ false }
     requires fits { HeadFits N.blocks volume.now job.now }
@@ -91,6 +92,7 @@ fn run_slot<N: Nand>(volume: &Volume<N>, number: JobNo, job: &Job) -> NextSlot
 }
 
 /// The next operation of a job.
+#[inline(always)]
 fn op_slot<N: Nand>(volume: &Volume<N>, number: JobNo, job: &Job) -> NextSlot
     requires alive { volume.now.failed ≡ false }
     requires plain { job.now.collects ≡ false }
@@ -168,6 +170,7 @@ fn look_at_head<N: Nand>(
 
 /// Looks ahead at the present slot of a die that isn't stopped: passes over the collections that it will waive, and
 /// answers what its head will do. It takes no memory, and changes nothing.
+#[inline(never)]
 fn look_ahead<N: Nand>(
     volume: &Volume<N>,
     table: &mut JobTable,

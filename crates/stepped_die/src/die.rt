@@ -71,6 +71,7 @@ impl SteppedDie {
     ///
     /// Refused with `DieStopped` where a fault has stopped the die; else `Begun` where a slot has begun that isn't
     /// below the release; else as the die refuses it. Every refusal changes nothing.
+    #[inline(always)]
     pub fn submit(
         &mut self,
         alloc: Global,
