@@ -1,8 +1,6 @@
 -- Commands on the files that they name.
-use Rattle.std.specs.Prelude.{◌≡◌, ℕ, List, Option, Some, None, ⊤}
-use Rattle.std.specs.Borrow.{Bor}
+use Rattle.std.specs.Prelude.{ℕ, List, Option, Some, None, ⊤}
 use Rattle.flash_commands.specs.Files.{FileContents, GivesFile}
-use Rattle.tool_command_words.specs.Asked.{name_of}
 use Rattle.tool_command_words.specs.declared.asked.Command.{Command}
 use Rattle.tool_command_words.specs.declared.asked.Command.TheVariants as command
 use Rattle.tool_commands.specs.Acts.{EndsSo}
@@ -41,10 +39,10 @@ IsOpened remaining held None None = ⊤
 IsOpened remaining held _ _ = ⊥
 
 -- a command ends so on what its files hold
-pub record EndsOnFiles {W : Type 0} (contents : W → Option (List ℕ)) (held : FileContents) (command : Command) (old new : W) (status : ℕ) : Type 0
-where
+pub record EndsOnFiles {W : Type 0} (contents : W → Option (List ℕ)) (held : FileContents) (c : Command) (old new : W)
+    (status : ℕ) : Type 0 where
   pub text : Option (List ℕ)
   pub rows : Option (List ℕ)
-  pub plan : GivesFile (held (plan_name command)) text
-  pub script : GivesNamed held (script_name command) rows
-  pub ends : EndsSo contents command text rows old new status
+  pub plan : GivesFile (held (plan_name c)) text
+  pub script : GivesNamed held (script_name c) rows
+  pub ends : EndsSo contents c text rows old new status

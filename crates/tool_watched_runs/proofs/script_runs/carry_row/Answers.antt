@@ -11,4 +11,4 @@ returns-in_err-carry-clause-starts c =
 pub returns-clause-starts : goal.returns-clause-starts
 returns-clause-starts c =
     map_stays start_of c.args.dies.now.items c.args.place c.index_mut-run.result.now c.ask.new.run c.index_mut-run.ensures.value
-    (c.ask.ensures ∙ c.carry.ensures.start)
+    (c.ask.ensures.start ∙ c.carry.ensures.start)

@@ -18,7 +18,7 @@ loop-plan-preserved c =
       can_next = tt;
       is_finite = tt;
       starts = ap (λ (dies : List (Box DieRun)). starts_of dies ++ map fresh left) c.in_ok-push_run.ensures.ok
-          ∙ map_more start_of c.loop-plan.dies.items c.in_ok-run.run (fresh c.in-Some.plan) (map fresh left) (map fresh c.args.plan)
+          ∙ map_more start_of c.loop-plan.dies.items c.in_ok-run.run' (fresh c.in-Some.plan) (map fresh left) (map fresh c.args.plan)
           c.in_ok-run.ensures.start
           (ap (λ (plans : List DiePlan). starts_of c.loop-plan.dies.items ++ map fresh plans) (sym here) ∙ c.loop-plan.invariant.starts);
       bound = All-rest MeetsBound c.in-Some.plan left (into_iter_items c.loop-plan.plan-iterator) here c.loop-plan.invariant.bound;

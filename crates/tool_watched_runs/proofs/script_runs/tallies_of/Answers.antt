@@ -14,7 +14,7 @@ tally_in run = (worn_of run).tally
 pub loop-run-preserved : goal.loop-run-preserved
 loop-run-preserved c =
     let left : List (Box DieRun) = into_iter_items c.next.new.self in
-    let here : into_iter_items c.loop-run.run-iterator ≡ c.in-Some.run ∷ left = search rules in
+    let here : into_iter_items c.loop-run.run-iterator ≡ c.in-Some.run' ∷ left = search rules in
     let old = c.loop-run.tallies.items in
     record {
       can_next = tt;
@@ -25,5 +25,5 @@ loop-run-preserved c =
           ∙ ap (λ (runs : List (Box DieRun)). old ++ map tally_in runs) (sym here) ∙ c.loop-run.invariant.tallies;
       worn = λ rest. c.loop-run.invariant.worn (
           subst (All (λ (run : Box DieRun). IsWorn (worn_of run))) (sym here)
-          (All-cons (λ (run : Box DieRun). IsWorn (worn_of run)) c.in-Some.run left c.tally_of.ensures.worn rest));
+          (All-cons (λ (run : Box DieRun). IsWorn (worn_of run)) c.in-Some.run' left c.tally_of.ensures.worn rest));
     }
