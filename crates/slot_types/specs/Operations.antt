@@ -1,5 +1,5 @@
 -- What an operation asks for.
-use Rattle.std.specs.Prelude.{ℕ, Bool, true, false, List, count_by}
+use Rattle.std.specs.Prelude.{ℕ, Bool, true, false, List, count_by, Option, Some, None}
 use Rattle.slot_types.specs.declared.events.Op.{Op}
 use Rattle.slot_types.specs.declared.events.Op.TheVariants as asks
 
@@ -12,6 +12,15 @@ abbrev pub is_write : Op → Bool
 is_write (asks.Read page) = false
 is_write (asks.Write page bytes) = true
 is_write (asks.Trim page) = false
+
+abbrev pub is_read : Op → Bool
+is_read (asks.Read page) = true
+is_read (asks.Write page bytes) = false
+is_read (asks.Trim page) = false
+
+abbrev pub is_some_write : Option Op → Bool
+is_some_write None = false
+is_some_write (Some op) = is_write op
 
 -- how many of these operations write
 abbrev pub writes : List Op → ℕ

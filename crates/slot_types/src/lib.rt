@@ -4,8 +4,11 @@
 pub mod acts;
 pub mod events;
 pub mod items;
+pub mod lent_ops;
 pub mod limits;
 pub mod numbers;
+pub mod op_kinds;
+pub mod packed_ops;
 pub mod pages;
 pub mod plans;
 pub mod refusals;
@@ -15,11 +18,14 @@ pub mod short_items;
 pub use acts::Act;
 pub use events::{Event, JobHead, Op, OpList};
 pub use items::Items;
+pub use lent_ops::{LentOps, OpCounts};
 pub use limits::{
     MAX_BLOCKS, MAX_DIES, MAX_ERASE_SLOTS, MAX_JOBS, MAX_OPS, MAX_PAGES, MAX_PASSES, MAX_SLOT,
     MAX_TASKS, MAX_WORKERS, MIN_BLOCKS, MIN_PAGES, PAGE_BYTES,
 };
 pub use numbers::{JobNo, TaskNo};
+pub use op_kinds::OpKind;
+pub use packed_ops::PackedOps;
 pub use pages::{PageData, Place};
 pub use plans::{Caps, DiePlan, Shape, StorePlan, TaskTimes, Times, TimesList};
 pub use refusals::{Cause, Refusal};
