@@ -18,7 +18,7 @@ use Rattle.job_table.specs.Jobs.{JobRecord, is_read, is_some_read, new_record, w
 use Rattle.job_table.specs.Table.{changed_at, reads_next_at, reads_next_of}
 use Rattle.job_table.specs.Flat.{ops_at, reads_at, job_at, jobs_at, place_count, places_lacking, place_from, places_unfilled, with_page, IsRowOf, IsRowIn, AreLaid}
 use Rattle.job_table.specs.Flat.{HasFewOps, HaveRoom}
-use Rattle.job_table.specs.Words.{is_some_write}
+use Rattle.slot_types.specs.Operations.{is_some_write}
 use Rattle.job_table.proofs.Reading.{one_if, read_of, write_of, no_write, done_more, has_read, lacks_all, lacks_none, done_placed}
 use Rattle.job_table.proofs.Reading.{next_of_all}
 

@@ -10,7 +10,6 @@ pub mod Waivers
 pub mod Releasing
 pub mod Roomy
 pub mod Tables
-pub mod Decoding
 pub mod Reading
 pub mod Laying
 pub mod Beyond

@@ -11,7 +11,7 @@ use Rattle.slot_types.specs.declared.pages.PageData.{PageData}
 use Rattle.slot_types.specs.Operations.{is_write, writes}
 use Rattle.job_table.specs.declared.rows.Row.{Row}
 use Rattle.job_table.specs.Jobs.{is_read, is_some_read}
-use Rattle.job_table.specs.Words.{is_some_write}
+use Rattle.slot_types.specs.Operations.{is_some_write}
 use Rattle.job_table.specs.Flat.{ops_at, reads_at, place_count, places_lacking, place_from, places_unfilled, IsRowOf, IsRowIn}
 
 -- Operations of one kind

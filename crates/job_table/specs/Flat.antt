@@ -1,11 +1,14 @@
 -- Jobs as flat rows over two arenas: the operations of all jobs, one after another, and places for what reads give.
 use Rattle.std.specs.Prelude.{◌≡◌, ◌≢◌, ◌⊎◌, ◌==◌, ℕ, ◌+◌, ◌^◌, ◌<◌, ◌≤◌, List, Some, slice_get, length, take, drop, map, count_by}
-use Rattle.std.specs.Prelude.{sum_by, if◌then◌else◌, ◌*◌, ◌-◌, [], ◌∷◌, ◌++◌, slice_set}
+use Rattle.std.specs.Prelude.{sum_by, if◌then◌else◌, ◌*◌, ◌-◌, [], ◌∷◌, ◌++◌, slice_set, replicate}
 use Rattle.slot_types.specs.declared.events.Op.{Op}
 use Rattle.slot_types.specs.declared.pages.PageData.{PageData}
 use Rattle.slot_types.specs.Operations.{writes}
 use Rattle.job_table.specs.declared.rows.Row.{Row}
 use Rattle.job_table.specs.Jobs.{JobRecord, is_read}
+
+abbrev pub blank : PageData
+blank = record { 0 = replicate 16 255 }
 
 abbrev pub ops_at : List Op → Row → List Op
 ops_at ops row = take row.op_count (drop row.first_op ops)

@@ -2,7 +2,7 @@
 use Rattle.std.specs.Prelude.{ℕ, ◌+◌, Bool, true, false, List, [], ◌∷◌, ◌++◌, Option, Some, None, slice_get, ℤ}
 use Rattle.std.specs.Prelude.{pos, ◌-ℤ◌}
 use Rattle.slot_types.specs.declared.events.Op.{Op}
-use Rattle.slot_types.specs.declared.events.Op.TheVariants.{Read, Write, Trim}
+pub use Rattle.slot_types.specs.Operations.{is_read}
 use Rattle.slot_types.specs.declared.pages.PageData.{PageData}
 use Rattle.job_table.specs.declared.stages.Stage.{Stage}
 use Rattle.job_table.specs.declared.stages.Stage.TheVariants.{Pending, Done, Waived}
@@ -43,11 +43,6 @@ completion_in (Waived given) = 0
 -- completion minus deadline
 abbrev pub lateness_of : JobRecord → ℤ
 lateness_of job = pos (completion_in job.stage) -ℤ pos job.due
-
-abbrev pub is_read : Op → Bool
-is_read (Read page) = true
-is_read (Write page bytes) = false
-is_read (Trim page) = false
 
 abbrev pub is_some_read : Option Op → Bool
 is_some_read None = false

@@ -1,5 +1,4 @@
 pub mod Jobs
-pub mod Words
 pub mod Counted
 pub mod Flat
 pub mod Table

@@ -1,20 +1,17 @@
 //! Operations with what was counted of them.
 
-ghost use Rattle.std.specs.Prelude.{◌≡◌, ◌≤◌, ◌^◌, [], true, None, Some, length, count_by, find, nat_le, option_map, IfOk, IfErr};
-ghost use Rattle.std.specs.List.{list_all};
-ghost use Rattle.slot_types.specs.Operations.{page_of, writes};
-ghost use Rattle.job_table.specs.Jobs.{is_read};
-ghost use Rattle.job_table.specs.Words.{has_word};
+ghost use Rattle.std.specs.Prelude.{◌≡◌, ◌++◌, [], None, Some, length, count_by, find, nat_le, option_map, IfOk, IfErr, OnOk, OnErr};
+ghost use Rattle.slot_types.specs.Operations.{is_read, page_of, writes};
+ghost use Rattle.slot_types.specs.Refusal.{FailsForMemory};
 
-use crate::words::page_of;
-use slot_types::Op;
+use slot_types::{LentOps, PackedOps, Refusal};
 use std::marker::Model;
 
 /// The operations of a job, each on a page that is there, and how many of them read and write: so who takes them looks
 /// at them no second time. Contracts see the operations.
 #[derive(Drop)]
 pub struct CountedOps<'a> {
-    ops: &'a [Op],
+    ops: LentOps<'a>,
     reads: usize,
     writes: usize,
 }
@@ -26,9 +23,9 @@ impl<'a> Model for CountedOps<'a> {
 
     ghost Value = { List Op };
 
-    ghost view = { λ c. c.ops.now };
+    ghost view = { λ c. c.ops };
 
-    ghost invariant = { λ c. AreCounted c.ops.now c.reads c.writes };
+    ghost invariant = { λ c. AreCounted c.ops c.reads c.writes };
 }
 
 impl<'a> CountedOps<'a> {
@@ -37,43 +34,37 @@ impl<'a> CountedOps<'a> {
         ensures { result ≡ [] }
     {
         CountedOps {
-            ops: &[],
+            ops: LentOps::none(),
             reads: 0,
             writes: 0,
         }
     }
 
-    /// Looks at operations on so many pages, at most 2^30, once each. Refused with the first page that isn't there.
-    pub fn count(ops: &'a [Op], pages: u32) -> Result<CountedOps<'a>, u32>
-        requires { pages ≤ 2 ^ 30 }
+    /// Looks at operations on so many pages, once each. Refused with the first page that isn't there.
+    pub fn count(ops: &LentOps<'a>, pages: u32) -> Result<CountedOps<'a>, u32>
         ensures ok { IfOk result (λ counted. counted ≡ ops.now) }
         ensures all_there { IfOk result (λ counted.
             find (λ op. nat_le pages (page_of op)) ops.now ≡ None) }
         ensures missing { IfErr result (λ page.
             option_map page_of (find (λ op. nat_le pages (page_of op)) ops.now) ≡ Some page) }
     {
-        let mut reads = 0;
-        let mut writes = 0;
-        for op in ops {
-            let page = page_of(*op);
-            if page >= pages {
-                return Err(page);
-            }
-            match op {
-                Op::Read(_) => reads += 1,
-                Op::Write(..) => writes += 1,
-                Op::Trim(_) => {}
-            }
+        match ops.count(pages) {
+            Ok(counts) => Ok(CountedOps {
+                ops: ops.lend(),
+                reads: counts.reads,
+                writes: counts.writes,
+            }),
+            Err(page) => Err(page),
         }
-        Ok(CountedOps { ops, reads, writes })
     }
 
-    /// The operations themselves. Their pages leave room in a table's words.
-    pub fn as_slice(&self) -> &'a [Op]
-        ensures same { result.now ≡ self.now }
-        ensures words { list_all has_word self.now ≡ true }
+    /// Adds them to others. Refused with `NoMemory`, none is added.
+    pub(crate) fn add_to(&self, list: &mut PackedOps) -> Result<(), Refusal>
+        ensures ok { OnOk result (list.new ≡ list.old ++ self.now) }
+        ensures refused { FailsForMemory result }
+        ensures err { OnErr result (list.new ≡ list.old) }
     {
-        self.ops
+        list.push_all(&self.ops, self.writes)
     }
 
     /// How many there are.

@@ -6,15 +6,14 @@ ghost use Rattle.slot_types.specs.Refusal.{FailsForMemory};
 ghost use Rattle.slot_types.specs.declared.limits.TheConstants.{MAX_JOBS, MAX_OPS};
 ghost use Rattle.job_table.specs.Jobs.{JobRecord, new_record, with_one_more_slot, with_read, with_stage};
 ghost use Rattle.job_table.specs.Table.{changed_at, work_at, reads_next_at};
-ghost use Rattle.job_table.specs.Words.{blank, is_some_write};
-ghost use Rattle.job_table.specs.Flat.{ops_at, places_lacking, places_unfilled, place_from, with_page, IsRowOf};
+ghost use Rattle.slot_types.specs.Operations.{is_some_write};
+ghost use Rattle.job_table.specs.Flat.{blank, ops_at, places_lacking, places_unfilled, place_from, with_page, IsRowOf};
 
-use crate::arenas::OpArena;
 use crate::counted_ops::CountedOps;
 use crate::jobs::Job;
 use crate::rows::Row;
 use crate::stages::Stage;
-use slot_types::{JobHead, JobNo, PageData, Refusal};
+use slot_types::{JobHead, JobNo, PackedOps, PageData, Refusal};
 use std::alloc::Global;
 use std::marker::Model;
 
@@ -23,7 +22,7 @@ use std::marker::Model;
 #[derive(Drop)]
 pub(crate) struct FlatJobs {
     rows: Vec<Row>,
-    ops: OpArena,
+    ops: PackedOps,
     /// What reads gave, each in a place of its job, and room for the reads of all jobs: so a job that never runs takes
     /// room for its reads, and none of it is touched.
     reads: Vec<PageData>,
@@ -98,7 +97,7 @@ fn put_page(reads: &mut Vec<PageData>, place: usize, bytes: PageData)
 }
 
 /// How many writes the next operation of a row is: one or none.
-fn next_writes(row: &Row, ops: &OpArena) -> u8
+fn next_writes(row: &Row, ops: &PackedOps) -> u8
     requires { IsRowOf ops.now row.now }
     ensures { result
         ≡ (if is_some_write (slice_get (ops_at ops.now row.now) row.now.work) then 1 else 0) }
@@ -120,7 +119,7 @@ impl FlatJobs {
     {
         FlatJobs {
             rows: Vec::new(alloc),
-            ops: OpArena::new(alloc),
+            ops: PackedOps::new(alloc),
             reads: Vec::new(alloc),
             placed: 0,
             all_reads: 0,
@@ -198,7 +197,7 @@ impl FlatJobs {
         self.rows.reserve(1)?;
         // Room for the reads of all jobs that have no places yet, and of this one.
         self.reads.reserve(all_reads - self.reads.len())?;
-        self.ops.push_all(ops)?;
+        ops.add_to(&mut self.ops)?;
         let number = self.rows.len() as u32;
         self.rows.push_reserved(row);
         self.all_reads = all_reads as u32;

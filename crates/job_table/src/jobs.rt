@@ -3,17 +3,16 @@
 ghost use Rattle.std.specs.Prelude.{◌≡◌, true, false, count_by, length, slice_get, take};
 ghost use Rattle.job_table.specs.Jobs.{is_read, is_pending, lateness_of, completion_in};
 
-use crate::arenas::OpArena;
 use crate::rows::Row;
 use crate::stages::Stage;
-use slot_types::{Op, PageData, TaskNo};
+use slot_types::{Op, PackedOps, PageData, TaskNo};
 use std::marker::Model;
 
 /// A job, or a collection: what it was accepted with, how many slots it took so far, and how it stands. It is lent by a
 /// table, and has nothing of its own.
 #[derive(Drop)]
 pub struct Job<'a> {
-    pub(crate) ops: &'a OpArena,
+    pub(crate) ops: &'a PackedOps,
     pub(crate) reads: &'a [PageData],
     pub(crate) row: &'a Row,
 }

@@ -1,7 +1,6 @@
 //! The jobs and collections of a die by number: who of them is ready, who is next, and who was done latest.
 #![tactic(auto)]
 
-mod arenas;
 mod changes;
 pub mod counted_ops;
 mod flat_jobs;
@@ -15,7 +14,6 @@ pub mod stages;
 mod tests;
 #[cfg(test)]
 mod twin;
-mod words;
 mod worst;
 
 pub use counted_ops::CountedOps;

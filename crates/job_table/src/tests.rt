@@ -6,7 +6,7 @@ use crate::counted_ops::CountedOps;
 use crate::job_table::JobTable;
 use crate::jobs::Job;
 use crate::stages::Stage;
-use slot_types::{JobNo, MAX_JOBS, MAX_OPS, Op, PageData, Refusal, TaskNo, Waived};
+use slot_types::{JobNo, LentOps, MAX_JOBS, MAX_OPS, Op, PageData, Refusal, TaskNo, Waived};
 use std::alloc::Global;
 use std::test::Fail;
 
@@ -21,7 +21,7 @@ fn add_ops(
     if table.ended() || table.len() >= MAX_JOBS || ops.len() > MAX_OPS as usize {
         return Ok(None);
     }
-    match CountedOps::count(ops, 1 << 30) {
+    match CountedOps::count(&LentOps::list(ops), 1 << 30) {
         Ok(counted) => {
             let number = table.add_job(alloc, TaskNo(0), release, due, &counted)?;
             Ok(Some(number.0))

@@ -2,7 +2,7 @@
 
 use crate::counted_ops::CountedOps;
 use crate::job_table::JobTable;
-use slot_types::{JobNo, MAX_JOBS, MAX_OPS, Op, OpList, PageData, Refusal, TaskNo};
+use slot_types::{JobNo, LentOps, MAX_JOBS, MAX_OPS, Op, OpList, PageData, Refusal, TaskNo};
 use std::alloc::Global;
 use std::test::Fail;
 
@@ -54,7 +54,7 @@ fn accept(
     if ops.len() > MAX_OPS as usize {
         return Err(Refusal::TooManyOps);
     }
-    let counted = match CountedOps::count(ops.as_slice(), 1 << 30) {
+    let counted = match CountedOps::count(&LentOps::list(ops.as_slice()), 1 << 30) {
         Ok(counted) => counted,
         Err(page) => return Err(Refusal::BadPage { page }),
     };

@@ -1,5 +1,5 @@
 use Rattle.std.proofs.Common.{◌≡◌, ◌+◌, ◌++◌, replicate, vec_len, vec_capacity}
-use Rattle.job_table.specs.Words.{blank}
+use Rattle.job_table.specs.Flat.{blank}
 use Rattle.job_table.proofs.flat_jobs.fill_places.Given as goal
 
 abbrev pub invariant-loop-place : goal.invariant-loop-place

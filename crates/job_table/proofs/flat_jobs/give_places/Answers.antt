@@ -1,5 +1,5 @@
 use Rattle.std.proofs.Common.{◌+◌, ◌-◌, ◌++◌, ℕ, replicate, arith, ap, sym, ◌∙◌, vec_len}
-use Rattle.job_table.specs.Words.{blank}
+use Rattle.job_table.specs.Flat.{blank}
 use Rattle.job_table.proofs.Reading.{lacks_all}
 use Rattle.job_table.proofs.flat_jobs.give_places.Goals as goal
 

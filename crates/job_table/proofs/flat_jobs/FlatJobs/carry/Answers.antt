@@ -5,7 +5,7 @@ use Rattle.job_table.specs.Table.{changed_at, work_of, reads_next_of}
 use Rattle.slot_types.specs.declared.events.Op.{Op}
 use Rattle.std.specs.Prelude.{Option}
 use Rattle.slot_types.specs.Operations.{is_write}
-use Rattle.job_table.specs.Words.{is_some_write}
+use Rattle.slot_types.specs.Operations.{is_some_write}
 use Rattle.job_table.specs.Flat.{ops_at}
 use Rattle.job_table.proofs.Reading.{write_of, next_few}
 use Rattle.job_table.proofs.Laying.{few_set, row_read, job_there, row_carried, laid_kept, room_kept, jobs_set}

@@ -4,7 +4,7 @@ use Rattle.slot_types.specs.declared.pages.PageData.{PageData}
 use Rattle.job_table.specs.declared.rows.Row.{Row}
 use Rattle.job_table.specs.Jobs.{JobRecord, is_read, with_one_more_slot, with_read}
 use Rattle.job_table.specs.Table.{changed_at, work_of}
-use Rattle.job_table.specs.Words.{blank}
+use Rattle.job_table.specs.Flat.{blank}
 use Rattle.job_table.specs.Flat.{ops_at, places_lacking, places_unfilled, place_from}
 use Rattle.job_table.proofs.Reading.{read_of, next_few}
 use Rattle.job_table.proofs.Laying.{few_set, job_there, row_reading, row_room, made, read_room, laid_read, room_read, jobs_read}

@@ -42,7 +42,7 @@ invariant_of-self-2 c =
     let room = c.in_ok-reserve-2.ensures.ok in
     let len = c.in_ok-reserve-2.ensures.len in
     let before = c.len-3.ensures in
-    rw (c.push_reserved.ensures.items, c.in_ok-reserve.ensures.items, c.in_ok-push_all.ensures.ok, c.in_ok-reserve-2.ensures.items) (
+    rw (c.push_reserved.ensures.items, c.in_ok-reserve.ensures.items, c.in_ok-add_to.ensures.ok, c.in_ok-reserve-2.ensures.items) (
       laid_push c.self.inside.rows.items c.self.inside.ops c.args.ops.now c.self.inside.reads.items c.self.inside.placed row begun c.self.invariant.0,
       room_push c.self.inside.rows.items c.self.inside.ops c.args.ops.now c.self.inside.reads.items c.self.inside.all_reads
           (c.self.inside.all_reads + c.reads.result) c.self.inside.placed (vec_capacity c.self.inside.reads) (vec_capacity c.reserve-2.new.self) row begun (omega arith)
@@ -88,9 +88,9 @@ returns-clause-ok c =
       writes_done_is = refl;
       work_is = refl;
     } in
-    ap (jobs_at c.push_all.new.self c.reserve-2.new.self.items) (c.push_reserved.ensures.items
+    ap (jobs_at c.add_to.new.list c.reserve-2.new.self.items) (c.push_reserved.ensures.items
     ∙ ap (λ (l : List Row). l ++ row ∷ []) c.in_ok-reserve.ensures.items)
-    ∙ ap (λ (l : List Op). jobs_at l c.reserve-2.new.self.items (c.self.inside.rows.items ++ row ∷ [])) c.in_ok-push_all.ensures.ok
+    ∙ ap (λ (l : List Op). jobs_at l c.reserve-2.new.self.items (c.self.inside.rows.items ++ row ∷ [])) c.in_ok-add_to.ensures.ok
     ∙ ap (λ (l : List PageData). jobs_at (c.self.inside.ops ++ c.args.ops.now) l (c.self.inside.rows.items ++ row ∷ []))
     c.in_ok-reserve-2.ensures.items
     ∙ jobs_pushed c.self.inside.rows.items c.self.inside.ops c.args.ops.now c.self.inside.reads.items c.self.inside.placed row begun c.self.invariant.0
@@ -127,20 +127,20 @@ returns-in_err-reserve-2-clause-refused c = grind (arith, common_steps)
 pub returns-in_err-reserve-2-clause-err : goal.returns-in_err-reserve-2-clause-err
 returns-in_err-reserve-2-clause-err c = grind (arith, common_steps)
 
-pub invariant_of-self-in_err-push_all : goal.invariant_of-self-in_err-push_all
-invariant_of-self-in_err-push_all c = grind (arith, common_steps)
+pub invariant_of-self-in_err-add_to : goal.invariant_of-self-in_err-add_to
+invariant_of-self-in_err-add_to c = grind (arith, common_steps)
 
-pub returns-in_err-push_all-clause-ok : goal.returns-in_err-push_all-clause-ok
-returns-in_err-push_all-clause-ok c = grind (arith, common_steps)
+pub returns-in_err-add_to-clause-ok : goal.returns-in_err-add_to-clause-ok
+returns-in_err-add_to-clause-ok c = grind (arith, common_steps)
 
-pub returns-in_err-push_all-clause-number : goal.returns-in_err-push_all-clause-number
-returns-in_err-push_all-clause-number c = grind (arith, common_steps)
+pub returns-in_err-add_to-clause-number : goal.returns-in_err-add_to-clause-number
+returns-in_err-add_to-clause-number c = grind (arith, common_steps)
 
-pub returns-in_err-push_all-clause-refused : goal.returns-in_err-push_all-clause-refused
-returns-in_err-push_all-clause-refused c = grind (arith, common_steps)
+pub returns-in_err-add_to-clause-refused : goal.returns-in_err-add_to-clause-refused
+returns-in_err-add_to-clause-refused c = grind (arith, common_steps)
 
-pub returns-in_err-push_all-clause-err : goal.returns-in_err-push_all-clause-err
-returns-in_err-push_all-clause-err c = grind (arith, common_steps)
+pub returns-in_err-add_to-clause-err : goal.returns-in_err-add_to-clause-err
+returns-in_err-add_to-clause-err c = grind (arith, common_steps)
 
 pub returns-clause-number : goal.returns-clause-number
 returns-clause-number c = grind (arith, common_steps)
