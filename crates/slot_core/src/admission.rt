@@ -15,7 +15,7 @@ use crate::die_core::DieCore;
 use event_log::{Deed, EventLog};
 use flash_die::Nand;
 use job_table::{CountedOps, JobTable};
-use slot_types::{Event, JobNo, MAX_JOBS, MAX_OPS, MAX_SLOT, Op, OpList, Refusal, TaskNo};
+use slot_types::{Event, JobNo, LentOps, MAX_JOBS, MAX_OPS, MAX_SLOT, Op, OpList, Refusal, TaskNo};
 use std::alloc::Global;
 
 /// Enters an accepted job into the table and the log, or finds no memory and changes neither.
@@ -98,7 +98,7 @@ impl<N: Nand> DieCore<N> {
         task: TaskNo,
         release: u32,
         due: u32,
-        ops: &'a [Op],
+        ops: &LentOps<'a>,
     ) -> Result<CountedOps<'a>, Refusal>
         requires { self.now.stopped ≡ false }
         ensures refusal { result_err result
@@ -109,7 +109,7 @@ impl<N: Nand> DieCore<N> {
         if task.0 as usize >= plan.caps.len() {
             return Err(Refusal::UnknownTask);
         }
-        if ops.is_empty() {
+        if ops.len() == 0 {
             return Err(Refusal::EmptyJob);
         }
         if ops.len() > MAX_OPS as usize {
@@ -170,6 +170,23 @@ impl<N: Nand> DieCore<N> {
         release: u32,
         due: u32,
         ops: &[Op],
+    ) -> Result<JobNo, Refusal>
+        ensures { IsCall N.ends N.failures N.never_fails caller
+            (Event.Submit task release due ops.now) (reply_as Reply.Taken result) self.old
+            self.new }
+    {
+        self.submit_ops(alloc, caller, task, release, due, &LentOps::list(ops))
+    }
+
+    /// As `submit`, of operations that the caller keeps, in whichever form.
+    pub(crate) fn submit_ops(
+        &mut self,
+        alloc: Global,
+        caller: u32,
+        task: TaskNo,
+        release: u32,
+        due: u32,
+        ops: &LentOps,
     ) -> Result<JobNo, Refusal>
         ensures { IsCall N.ends N.failures N.never_fails caller
             (Event.Submit task release due ops.now) (reply_as Reply.Taken result) self.old

@@ -7,7 +7,7 @@ ghost use Rattle.slot_core.specs.Events.{with_ops, reply_of_note};
 use crate::die_core::DieCore;
 use crate::slot_note::SlotNote;
 use flash_die::Nand;
-use slot_types::{Event, JobHead, JobNo, Op, Refusal, Reply};
+use slot_types::{Event, JobHead, JobNo, LentOps, Refusal, Reply};
 use std::alloc::Global;
 
 /// An event but for a job's operations, which lie beside it.
@@ -35,7 +35,7 @@ impl<N: Nand> DieCore<N> {
         alloc: Global,
         caller: u32,
         head: JobHead,
-        ops: &[Op],
+        ops: &LentOps,
     ) -> Result<JobNo, Refusal>
         ensures { IsCall N.ends N.failures N.never_fails caller (arrival_of head ops.now)
             (reply_as Reply.Taken result) self.old
@@ -50,7 +50,7 @@ impl<N: Nand> DieCore<N> {
         if collects {
             self.collect(alloc, caller, task, release, due)
         } else {
-            self.submit_lent(alloc, caller, task, release, due, ops)
+            self.submit_ops(alloc, caller, task, release, due, ops)
         }
     }
 
@@ -71,7 +71,7 @@ impl<N: Nand> DieCore<N> {
                     release,
                     due,
                 };
-                self.arrive(alloc, caller, head, ops.as_slice())
+                self.arrive(alloc, caller, head, &LentOps::list(ops.as_slice()))
             }
             Event::Collect { task, release, due } => {
                 let head = JobHead {
@@ -80,7 +80,7 @@ impl<N: Nand> DieCore<N> {
                     release,
                     due,
                 };
-                self.arrive(alloc, caller, head, &[])
+                self.arrive(alloc, caller, head, &LentOps::none())
             }
             Event::Slot => {
                 return match self.slot(alloc, caller) {
@@ -95,13 +95,13 @@ impl<N: Nand> DieCore<N> {
         }
     }
 
-    /// As `perform`, of an event whose operations the caller keeps, and hands back no more than a note of the reply.
+    /// As `perform`, of an event whose operations are lent, and hands back no more than a note of the reply.
     pub fn note(
         &mut self,
         alloc: Global,
         caller: u32,
         head: EventHead,
-        ops: &[Op],
+        ops: &LentOps,
     ) -> Result<ReplyNote, Refusal>
         ensures { IsCall N.ends N.failures N.never_fails caller (with_ops head ops.now)
             (reply_as reply_of_note result) self.old

@@ -15,7 +15,7 @@ use Rattle.slot_core.proofs.Fitting.{accepted_few}
 use Rattle.slot_core.proofs.Telling.{submit_reports, few_reported}
 use Rattle.job_table.specs.Jobs.{new_job}
 use Rattle.slot_core.proofs.Marks.{marks_push}
-use Rattle.slot_core.proofs.die_core.DieCore.submit_lent.Goals as goal
+use Rattle.slot_core.proofs.die_core.DieCore.submit_ops.Goals as goal
 use Rattle.die_log.specs.Model.Start.{over}
 
 pub returns-then-failed : goal.returns-then-failed
