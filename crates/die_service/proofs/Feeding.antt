@@ -1,6 +1,6 @@
 -- The rows of a feed, and what a course reads of them.
 use Rattle.std.proofs.Common.{◌≡◌, ℕ, zero, suc, ◌+◌, ◌-◌, ◌<◌, ◌≤◌, Bool, true, false, true≢false, List, [], ◌∷◌, ◌++◌, Option, Some, None}
-use Rattle.std.proofs.Common.{refl, sym, ap, ◌∙◌, subst, arith, length, take, drop, slice_get, get_or}
+use Rattle.std.proofs.Common.{refl, sym, ap, ◌∙◌, subst, arith, length, take, drop, slice_get, get_or, add-one, length-append}
 use Rattle.std.specs.Prelude.{option_map, not, ◌&&◌, nat_le}
 use Rattle.std.proofs.lemmas.Bool.Decides.{nat_tests}
 use Rattle.std.specs.List.{AllByRecursion}
@@ -9,6 +9,7 @@ use Rattle.std.proofs.lemmas.List.{length-take, length-drop, take_all, take-appe
 use Rattle.std.proofs.lemmas.List.Elements.{All-from_recursion, recursion_from_All}
 use Rattle.std.proofs.lemmas.Option.{none-some, same_Some, slice_get-get_or}
 use Rattle.slot_types.specs.Arrivals.{IsArrival, arrival_of}
+use Rattle.slot_types.specs.Operations.{writes}
 use Rattle.slot_types.proofs.Arriving.{arrived_none, later_none}
 use Rattle.slot_types.specs.declared.events.Event.{Event}
 use Rattle.slot_types.specs.declared.events.Op.{Op}
@@ -19,9 +20,8 @@ use Rattle.slot_types.specs.declared.events.JobHead.{JobHead}
 use Rattle.slot_core.specs.declared.events.EventHead.{EventHead}
 use Rattle.slot_core.specs.declared.events.EventHead.TheVariants as heads
 use Rattle.slot_core.specs.Events.{with_ops}
-use Rattle.die_service.specs.Feeds.{ops_in, op_count, HaveAtMost, ops_between, arrival_at, feed_from, AreRowsOf, begins_at, last_end}
+use Rattle.die_service.specs.Feeds.{ops_in, ops_if, ops_at, last_ops, ops_between, arrival_at, feed_from, AreRowsOf, begins_at, writes_before, last_end}
 use Rattle.die_service.specs.Feeds.{is_job, arrives, follows, all_follow, IsInOrder}
-use Rattle.die_service.proofs.Packing.{slice_get_drop}
 use Rattle.die_service.specs.Runs.{AllArrive, comes_at}
 use Rattle.die_service.specs.Drives.{Course, Comes, NoneDue}
 
@@ -42,9 +42,9 @@ drop_past (x ∷ xs) (suc n) past = drop_past xs n (omega (arith, past))
 
 -- Rows
 
-pub end_within : (most first : ℕ) (rows : List FeedRow) → AreRowsOf most first rows → first ≤ last_end first rows
-end_within most first [] are = let same : first ≤ first = omega arith in same
-end_within most first (row ∷ rows) are = let later = end_within most row.ops_end rows are.2 in let here = are.0 in omega arith
+pub end_within : (ops : List Op) (first : ℕ) (rows : List FeedRow) → AreRowsOf ops first rows → first ≤ last_end first rows
+end_within ops first [] are = let same : first ≤ first = omega arith in same
+end_within ops first (row ∷ rows) are = let later = end_within ops row.ops_end rows are.2 in let here = are.0 in omega arith
 
 row_stays : (ops more : List Op) (first : ℕ) (row : FeedRow) → first ≤ row.ops_end → row.ops_end ≤ length ops
     → arrival_at (ops ++ more) first row ≡ arrival_at ops first row
@@ -62,22 +62,31 @@ new_ops ops more first count first_is count_is = ap (λ n. take count (drop n (o
     ∙ ap (take count) (drop-append_seam ops more) ∙ take_all count more (omega (arith, count_is))
 
 -- one row more, over operations that go on
-pub feed_more : (ops more : List Op) (most first : ℕ) (rows : List FeedRow) (row : FeedRow) → AreRowsOf most first rows
+pub feed_more : (ops more : List Op) (first : ℕ) (rows : List FeedRow) (row : FeedRow) → AreRowsOf ops first rows
     → last_end first rows ≡ length ops → row.ops_end ≡ length ops + length more
     → feed_from (ops ++ more) first (rows ++ row ∷ [])
     ≡ feed_from ops first rows ++ record { at = row.at; event = with_ops row.head more } ∷ []
-feed_more ops more most first [] row are ends is = ap (λ (l : List Op). record { at = row.at; event = with_ops row.head l } ∷ [])
+feed_more ops more first [] row are ends is = ap (λ (l : List Op). record { at = row.at; event = with_ops row.head l } ∷ [])
     (new_ops ops more first (row.ops_end - first) ends (omega (arith, ends, is)))
-feed_more ops more most first (r ∷ rows) row are ends is =
+feed_more ops more first (r ∷ rows) row are ends is =
     ap (λ (a : Arrival). a ∷ feed_from (ops ++ more) r.ops_end (rows ++ row ∷ [])) (row_stays ops more first r are.0
-    (let within = end_within most r.ops_end rows are.2 in omega (arith, ends, within)))
-    ∙ ap (λ (l : List Arrival). arrival_at ops first r ∷ l) (feed_more ops more most r.ops_end rows row are.2 ends is)
+    (let within = end_within ops r.ops_end rows are.2 in omega (arith, ends, within)))
+    ∙ ap (λ (l : List Arrival). arrival_at ops first r ∷ l) (feed_more ops more r.ops_end rows row are.2 ends is)
 
-pub rows_more : (most most2 first : ℕ) (rows : List FeedRow) (row : FeedRow) → most ≤ most2 → AreRowsOf most first rows
-    → last_end first rows ≤ row.ops_end → row.ops_end - last_end first rows ≤ most2 → AreRowsOf most2 first (rows ++ row ∷ [])
-rows_more most most2 first [] row rise are forward few = (forward, few, tt)
-rows_more most most2 first (r ∷ rows) row rise are forward few =
-    (are.0, (let few_here = are.1 in omega (arith, few_here, rise)), rows_more most most2 r.ops_end rows row rise are.2 forward few)
+pub rows_more : (ops more : List Op) (first : ℕ) (rows : List FeedRow) (row : FeedRow) → AreRowsOf ops first rows
+    → last_end first rows ≡ length ops → row.ops_end ≡ length ops + length more → row.writes_end ≡ writes (ops ++ more)
+    → AreRowsOf (ops ++ more) first (rows ++ row ∷ [])
+rows_more ops more first [] row are ends is written = (
+  omega (arith, ends, is),
+  written ∙ ap writes (sym (take_all row.ops_end (ops ++ more) (omega (arith, is, length-append ops more)))),
+  tt,
+)
+rows_more ops more first (r ∷ rows) row are ends is written = (
+  are.0,
+  are.1 ∙ ap writes (sym (take-append-le r.ops_end ops more
+      (let within = end_within ops r.ops_end rows are.2 in omega (arith, ends, within)))),
+  rows_more ops more r.ops_end rows row are.2 ends is written,
+)
 
 pub end_more : (first : ℕ) (rows : List FeedRow) (row : FeedRow) → last_end first (rows ++ row ∷ []) ≡ row.ops_end
 end_more first [] row = refl
@@ -86,29 +95,6 @@ end_more first (r ∷ rows) row = end_more r.ops_end rows row
 pub length_feed : (ops : List Op) (first : ℕ) (rows : List FeedRow) → length (feed_from ops first rows) ≡ length rows
 length_feed ops first [] = refl
 length_feed ops first (row ∷ rows) = ap suc (length_feed ops row.ops_end rows)
-
-count_arrival : (head : JobHead) (ops : List Op) (b : Bool) → head.collects ≡ b → op_count (arrival_of head ops) ≤ length ops
-count_arrival head ops true e = rw e (omega arith)
-count_arrival head ops false e = rw e (omega arith)
-
--- an event has no more operations than lie beside its head
-pub few_ops : (head : EventHead) (ops : List Op) → op_count (with_ops head ops) ≤ length ops
-few_ops (heads.Arrive head) ops = count_arrival head ops head.collects refl
-few_ops heads.Slot ops = omega arith
-
-few_by : (ops : List Op) (most first : ℕ) (rows : List FeedRow) → AreRowsOf most first rows
-    → AllByRecursion (λ (a : Arrival). op_count a.event ≤ most) (feed_from ops first rows)
-few_by ops most first [] are = tt
-few_by ops most first (row ∷ rows) are = (
-  let few = few_ops row.head (ops_between ops first row.ops_end) in
-      let most_here = are.1 in
-      omega (arith, few, most_here, length-take (row.ops_end - first) (drop first ops)),
-  few_by ops most row.ops_end rows are.2,
-)
-
-pub have_at_most : (ops : List Op) (most : ℕ) (rows : List FeedRow) → AreRowsOf most 0 rows → HaveAtMost most (feed_from ops 0 rows)
-have_at_most ops most rows are = All-from_recursion (λ (a : Arrival). op_count a.event ≤ most) (feed_from ops 0 rows)
-    (few_by ops most 0 rows are)
 
 -- A place
 
@@ -120,15 +106,16 @@ all_at P (y ∷ xs) (suc n) x all at = all_at P xs n x all.1 at
 pub get_at : {A : Type 0} (xs : List A) (n : ℕ) (x : A) → n < length xs → x ≡ get_or xs n x → slice_get xs n ≡ Some x
 get_at xs n x within is = slice_get-get_or xs n x within ∙ ap Some (sym is)
 
--- where the row of a place lies among the operations
-pub row_at : (most first : ℕ) (rows : List FeedRow) (n : ℕ) (row : FeedRow) → slice_get rows n ≡ Some row → AreRowsOf most first rows
-    → (begins_at first rows n ≤ row.ops_end) × (row.ops_end ≤ last_end first rows)
-row_at most first [] n row at are = absurd (none-some row at)
-row_at most first (r ∷ rows) zero row at are =
+-- where the row of a place lies among the operations, and how many of those before its end write
+pub row_at : (ops : List Op) (first : ℕ) (rows : List FeedRow) (n : ℕ) (row : FeedRow) → slice_get rows n ≡ Some row → AreRowsOf ops first rows
+    → (begins_at first rows n ≤ row.ops_end) × (row.ops_end ≤ last_end first rows) × (row.writes_end ≡ writes (take row.ops_end ops))
+row_at ops first [] n row at are = absurd (none-some row at)
+row_at ops first (r ∷ rows) zero row at are =
     let same : r ≡ row = same_Some r row at in
-    let within = end_within most r.ops_end rows are.2 in
-    subst (λ (x : FeedRow). (first ≤ x.ops_end) × (x.ops_end ≤ last_end r.ops_end rows)) same (are.0, within)
-row_at most first (r ∷ rows) (suc n) row at are = row_at most r.ops_end rows n row at are.2
+    let within = end_within ops r.ops_end rows are.2 in
+    subst (λ (x : FeedRow). (first ≤ x.ops_end) × (x.ops_end ≤ last_end r.ops_end rows) × (x.writes_end ≡ writes (take x.ops_end ops))) same
+    (are.0, within, are.1)
+row_at ops first (r ∷ rows) (suc n) row at are = row_at ops r.ops_end rows n row at are.2
 
 -- the operations of a row begin where those of the row before it end
 pub begins_after : (first : ℕ) (rows : List FeedRow) (n : ℕ) (before : FeedRow) → slice_get rows n ≡ Some before
@@ -136,6 +123,20 @@ pub begins_after : (first : ℕ) (rows : List FeedRow) (n : ℕ) (before : FeedR
 begins_after first [] n before at = absurd (none-some before at)
 begins_after first (r ∷ rows) zero before at = ap (λ (x : FeedRow). x.ops_end) (same_Some r before at)
 begins_after first (r ∷ rows) (suc n) before at = begins_after r.ops_end rows n before at
+
+pub writes_after : (first : ℕ) (rows : List FeedRow) (n : ℕ) (before : FeedRow) → slice_get rows n ≡ Some before
+    → writes_before first rows (suc n) ≡ before.writes_end
+writes_after first [] n before at = absurd (none-some before at)
+writes_after first (r ∷ rows) zero before at = ap (λ (x : FeedRow). x.writes_end) (same_Some r before at)
+writes_after first (r ∷ rows) (suc n) before at = writes_after r.writes_end rows n before at
+
+-- so many operations before those of a row write
+pub counted_before : (ops : List Op) (first written : ℕ) (rows : List FeedRow) (n : ℕ) (row : FeedRow) → slice_get rows n ≡ Some row
+    → AreRowsOf ops first rows → written ≡ writes (take first ops)
+    → writes_before written rows n ≡ writes (take (begins_at first rows n) ops)
+counted_before ops first written [] n row at are is = absurd (none-some row at)
+counted_before ops first written (r ∷ rows) zero row at are is = is
+counted_before ops first written (r ∷ rows) (suc n) row at are is = counted_before ops r.ops_end r.writes_end rows n row at are.2 are.1
 
 pub place_at : (ops : List Op) (first : ℕ) (rows : List FeedRow) (n : ℕ) (row : FeedRow) → slice_get rows n ≡ Some row
     → slice_get (feed_from ops first rows) n ≡ Some (arrival_at ops (begins_at first rows n) row)
@@ -187,15 +188,6 @@ pub own_ops : (head : EventHead) (ops : List Op) → with_ops head (ops_in (with
 own_ops (heads.Arrive head) ops = own_by head ops head.collects refl
 own_ops heads.Slot ops = refl
 
-op_length : (head : JobHead) (ops : List Op) (b : Bool) → head.collects ≡ b → op_count (arrival_of head ops)
-    ≡ length (ops_in (arrival_of head ops))
-op_length head ops true e = rw e refl
-op_length head ops false e = rw e refl
-
-counted : (head : EventHead) (ops : List Op) → op_count (with_ops head ops) ≡ length (ops_in (with_ops head ops))
-counted (heads.Arrive head) ops = op_length head ops head.collects refl
-counted heads.Slot ops = refl
-
 pub between_length : (ops : List Op) (first last : ℕ) → first ≤ last → last ≤ length ops → length (ops_between ops first last) ≡ last - first
 between_length ops first last forward there =
     omega (arith, forward, there, length-take (last - first) (drop first ops), length-drop first ops)
@@ -207,28 +199,45 @@ get_taken (x ∷ xs) zero n within = absurd (omega (arith, within))
 get_taken (x ∷ xs) (suc count) zero within = refl
 get_taken (x ∷ xs) (suc count) (suc n) within = get_taken xs count n (omega (arith, within))
 
+slice_get_drop : {A : Type 0} (xs : List A) (first n : ℕ) → slice_get (drop first xs) n ≡ slice_get xs (first + n)
+slice_get_drop xs zero n = ap (slice_get xs) (let same : n ≡ zero + n = omega arith in same)
+slice_get_drop [] (suc first) n = refl
+slice_get_drop (x ∷ xs) (suc first) n = slice_get_drop xs first n
+    ∙ ap (slice_get (x ∷ xs)) (let same : suc (first + n) ≡ suc first + n = omega arith in same)
+
 -- an operation of a row
 pub op_between : (ops : List Op) (first last n : ℕ) → n < last - first → slice_get (ops_between ops first last) n ≡ slice_get ops (first + n)
 op_between ops first last n within = get_taken (drop first ops) (last - first) n within ∙ slice_get_drop ops first n
+
+-- an operation of an event lies between the ends of its row
+pub item_within : (head : EventHead) (ops : List Op) (first last n : ℕ) → first ≤ last → last ≤ length ops
+    → n < length (ops_in (with_ops head (ops_between ops first last)))
+    → (n < last - first) × (ops_in (with_ops head (ops_between ops first last)) ≡ ops_between ops first last)
+    × ((count : ℕ) → count ≡ length (ops_in (with_ops head (ops_between ops first last))) → first + n ≡ last - (count - n))
+item_within head ops first last n forward there within =
+    let all = job_ops head (ops_between ops first last) (job_of head (ops_between ops first last) n within) in
+    let same = ap length all in
+    let long = between_length ops first last forward there in
+    let here : n < last - first = omega (arith, within, same, long) in
+    (here, all, λ count is. omega (arith, is, same, long, here, forward))
 
 pub get_past : {A : Type 0} (xs : List A) (n : ℕ) → length xs ≤ n → slice_get xs n ≡ None
 get_past [] n past = refl
 get_past (x ∷ xs) zero past = absurd (omega (arith, past))
 get_past (x ∷ xs) (suc n) past = get_past xs n (omega (arith, past))
 
--- there is room for the operations of the job of a place
-pub room_at : (ops : List Op) (most room : ℕ) (rows : List FeedRow) (n : ℕ) (row : FeedRow) → slice_get rows n ≡ Some row
-    → is_job row.head ≡ true → AreRowsOf most 0 rows → last_end 0 rows ≡ length ops → HaveAtMost room (feed_from ops 0 rows)
-    → row.ops_end - begins_at 0 rows n ≤ room
-room_at ops most room rows n row at job are ends h =
-    let lies = row_at most 0 rows n row at are in
-    let few : op_count (with_ops row.head (ops_between ops (begins_at 0 rows n) row.ops_end)) ≤ room =
-    all_at (λ (a : Arrival). op_count a.event ≤ room) (feed_from ops 0 rows) n (arrival_at ops (begins_at 0 rows n) row)
-    (recursion_from_All (λ (a : Arrival). op_count a.event ≤ room) (feed_from ops 0 rows) h) (place_at ops 0 rows n row at) in
-    let count = counted row.head (ops_between ops (begins_at 0 rows n) row.ops_end) in
-    let all = ap length (job_ops row.head (ops_between ops (begins_at 0 rows n) row.ops_end) job) in
-    let long = between_length ops (begins_at 0 rows n) row.ops_end lies.0 (omega (arith, lies.1, ends)) in
-    omega (arith, few, count, all, long)
+-- the event of a place is its head and its operations
+pub event_at : (feed : List Arrival) (n : ℕ) (at : ℕ) (head : EventHead) (own : List Op)
+    → slice_get feed n ≡ Some (record { at = at; event = with_ops head own })
+    → option_map (λ (a : Arrival). a.event) (slice_get feed n) ≡ Some (with_ops head (ops_at feed n))
+event_at feed n at head own here =
+    ap (option_map (λ (a : Arrival). a.event)) here
+    ∙ ap Some (sym (own_ops head own))
+    ∙ ap (λ (o : Option Arrival). Some (with_ops head (ops_if o))) (sym here)
+
+-- of one event more that came, its operations are those of the last
+pub last_next : (place : ℕ) (feed : List Arrival) → last_ops (place + 1) feed ≡ ops_at feed place
+last_next place feed = rw add-one refl
 
 -- In order
 

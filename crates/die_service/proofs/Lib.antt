@@ -5,7 +5,6 @@ pub mod Passing
 pub mod Making
 pub mod LastPasses
 pub mod Joining
-pub mod Packing
 pub mod Feeding
 pub mod Driving
 pub mod Bringing

@@ -1,9 +1,11 @@
 -- The events of a feed as flat rows, with the operations of all jobs one after another.
-use Rattle.std.specs.Prelude.{ℕ, zero, suc, ◌-◌, ◌≤◌, nat_le, Bool, true, false, not, ◌&&◌, ⊤, List, [], ◌∷◌, length, take, drop, All}
+use Rattle.std.specs.Prelude.{◌≡◌, ℕ, zero, suc, ◌-◌, ◌≤◌, nat_le, Bool, true, false, not, ◌&&◌, ⊤, List, [], ◌∷◌, take, drop}
+use Rattle.std.specs.Prelude.{Option, Some, None, slice_get}
 use Rattle.slot_types.specs.declared.events.Event.{Event}
 use Rattle.slot_types.specs.declared.events.Event.TheVariants as events
 use Rattle.slot_types.specs.declared.events.Op.{Op}
 use Rattle.slot_types.specs.Arrivals.{IsArrival}
+use Rattle.slot_types.specs.Operations.{writes}
 use Rattle.slot_core.specs.declared.events.EventHead.{EventHead}
 use Rattle.slot_core.specs.declared.events.EventHead.TheVariants as heads
 use Rattle.slot_core.specs.Events.{with_ops}
@@ -15,13 +17,18 @@ abbrev pub ops_in : Event → List Op
 ops_in (events.Submit task release due ops) = ops
 ops_in _ = []
 
-abbrev pub op_count : Event → ℕ
-op_count (events.Submit task release due ops) = length ops
-op_count _ = 0
+abbrev pub ops_if : Option Arrival → List Op
+ops_if None = []
+ops_if (Some arrival) = ops_in arrival.event
 
--- no event of a feed has more operations than so many
-abbrev pub HaveAtMost : ℕ → List Arrival → Type 0
-HaveAtMost most feed = All (λ arrival. op_count arrival.event ≤ most) feed
+-- the operations of the event at a place of a feed, if there is one
+abbrev pub ops_at : List Arrival → ℕ → List Op
+ops_at feed place = ops_if (slice_get feed place)
+
+-- of so many events that came, those of the last
+abbrev pub last_ops : ℕ → List Arrival → List Op
+last_ops zero feed = []
+last_ops (suc place) feed = ops_at feed place
 
 -- what a run is to be given: no event is a slot, and the slots before which they come never fall, from this one on
 abbrev pub IsInOrder : ℕ → List Arrival → Type 0
@@ -50,15 +57,22 @@ begins_at first rows zero = first
 begins_at first [] (suc place) = first
 begins_at first (row ∷ rows) (suc place) = begins_at row.ops_end rows place
 
+-- how many operations before those of the row of a place write
+abbrev pub writes_before : ℕ → List FeedRow → ℕ → ℕ
+writes_before first rows zero = first
+writes_before first [] (suc place) = first
+writes_before first (row ∷ rows) (suc place) = writes_before row.writes_end rows place
+
 -- where the operations of the rows end
 abbrev pub last_end : ℕ → List FeedRow → ℕ
 last_end first [] = first
 last_end first (row ∷ rows) = last_end row.ops_end rows
 
--- no row's operations end before they begin, and no row has more than so many
-abbrev pub AreRowsOf : ℕ → ℕ → List FeedRow → Type 0
-AreRowsOf most first [] = ⊤
-AreRowsOf most first (row ∷ rows) = (first ≤ row.ops_end) × (row.ops_end - first ≤ most) × AreRowsOf most row.ops_end rows
+-- no row's operations end before they begin, and of those before their end so many write
+abbrev pub AreRowsOf : List Op → ℕ → List FeedRow → Type 0
+AreRowsOf ops first [] = ⊤
+AreRowsOf ops first (row ∷ rows) =
+    (first ≤ row.ops_end) × (row.writes_end ≡ writes (take row.ops_end ops)) × AreRowsOf ops row.ops_end rows
 
 -- it is the head of a job
 abbrev pub is_job : EventHead → Bool

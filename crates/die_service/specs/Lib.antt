@@ -3,8 +3,6 @@ pub mod Replies
 pub mod Answers
 pub mod Passes
 pub mod Stores
-pub mod OpWords
-pub mod PackedOps
 pub mod Feeds
 pub mod Runs
 pub mod Drives

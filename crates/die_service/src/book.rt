@@ -8,7 +8,7 @@ use crate::refused::RefusedAt;
 use flash_die::Nand;
 use log_start::LogStart;
 use slot_core::{DieCore, EventHead, ReplyNote};
-use slot_types::{Event, Op, Reply};
+use slot_types::{Event, LentOps, Reply};
 use std::alloc::Global;
 use std::marker::Model;
 use turn_lock::{Book, NotingBook};
@@ -104,7 +104,7 @@ impl<N: Nand> Book for DieBook<N> {
     }
 }
 
-impl<N: Nand> NotingBook for DieBook<N> {
+impl<'a, N: Nand> NotingBook<LentOps<'a>> for DieBook<N> {
     ghost use Rattle.die_service.specs.Replies.{result_of_note};
     ghost use Rattle.slot_core.specs.Events.{with_ops};
 
@@ -112,13 +112,16 @@ impl<N: Nand> NotingBook for DieBook<N> {
 
     type Head = EventHead;
 
-    type Part = Op;
-
     ghost noted = { result_of_note };
 
     ghost whole = { with_ops };
 
-    fn note(&mut self, caller: u32, head: EventHead, ops: &[Op]) -> Result<ReplyNote, RefusedAt> {
+    fn note(
+        &mut self,
+        caller: u32,
+        head: EventHead,
+        ops: &LentOps<'a>,
+    ) -> Result<ReplyNote, RefusedAt> {
         let before = self.core.len();
         match self.core.note(self.alloc, caller, head, ops) {
             Ok(note) => Ok(note),

@@ -11,12 +11,12 @@ use crate::ends::{RefusedEvent, RefusedList};
 use crate::feeds::Feed;
 use crate::refused::RefusedAt;
 use slot_core::EventHead;
-use slot_types::{Op, Refusal};
+use slot_types::{LentOps, Refusal};
 use std::alloc::Global;
 use std::marker::Model;
 
-/// A batch, the events of which come one after the other, with room for the operations of one and to note each that is
-/// refused. So no event takes memory, and none is given back before the run of its die ends.
+/// A batch, the events of which come one after the other, with room to note each that is refused. So no event takes
+/// memory, and none is given back before the run of its die ends.
 #[derive(Drop)]
 pub(crate) struct Course {
     // The slot at which the clock begins, and how many slots are asked for.
@@ -25,14 +25,12 @@ pub(crate) struct Course {
     feed: Feed,
     // How many events came.
     place: usize,
-    // The operations of the event that came last.
-    ops: Vec<Op>,
     refused: Vec<RefusedEvent>,
 }
 
 impl Model for Course {
     ghost use Rattle.std.specs.Prelude.{◌≤◌, drop, length, vec_capacity};
-    ghost use Rattle.die_service.specs.Feeds.{HaveAtMost};
+    ghost use Rattle.die_service.specs.Feeds.{last_ops};
     ghost use Rattle.die_service.specs.Runs.{AllArrive};
     ghost use Rattle.die_service.specs.Drives as drives;
 
@@ -43,13 +41,12 @@ impl Model for Course {
       slots = c.slots;
       rest = drop c.place c.feed;
       place = c.place;
-      ops = c.ops.items;
+      ops = last_ops c.place c.feed;
       refused = c.refused.items;
     } };
 
     ghost invariant = { λ c.
-        AllArrive c.feed × HaveAtMost (vec_capacity c.ops) c.feed
-        × (length c.refused.items ≤ c.place) × (c.place ≤ vec_capacity c.refused) × (length c.feed ≤ vec_capacity c.refused) };
+        AllArrive c.feed × (length c.refused.items ≤ c.place) × (c.place ≤ vec_capacity c.refused) × (length c.feed ≤ vec_capacity c.refused) };
 }
 
 impl Course {
@@ -61,13 +58,11 @@ impl Course {
     {
         let Batch { from, slots, feed } = batch;
         let refused = Vec::with_capacity(alloc, feed.len())?;
-        let ops = Vec::with_capacity(alloc, feed.most_ops())?;
         Ok(Course {
             from,
             slots,
             feed,
             place: 0,
-            ops,
             refused,
         })
     }
@@ -99,14 +94,17 @@ impl Course {
             return None;
         }
         self.place = place + 1;
-        Some(self.feed.read(place, &mut self.ops))
+        Some(self.feed.head(place))
     }
 
-    /// The operations of the event that came last.
-    pub(crate) fn ops(&self) -> &[Op]
-        ensures { result.now ≡ self.now.ops }
+    /// The operations of the event that came last, as they lie in the feed.
+    pub(crate) fn ops(&self) -> LentOps<'_>
+        ensures { result ≡ self.now.ops }
     {
-        self.ops.as_slice()
+        if self.place == 0 {
+            return LentOps::none();
+        }
+        self.feed.ops(self.place - 1)
     }
 
     /// Notes that the event that came last was refused.
@@ -123,13 +121,12 @@ impl Course {
         });
     }
 
-    /// Frees the feed, and the room for operations. The events that were refused stay.
+    /// Frees the feed. The events that were refused stay.
     pub(crate) fn end(&mut self, alloc: Global)
         ensures gone { self.new.rest ≡ [] }
         ensures refused { self.new.refused ≡ self.old.refused }
     {
         self.feed = Feed::new(alloc);
-        self.ops = Vec::new(alloc);
     }
 
     /// The events that were refused.

@@ -18,7 +18,7 @@ use crate::refused::RefusedAt;
 use flash_die::Nand;
 use late_cert::Certificate;
 use slot_core::{EventHead, Outcome, ReplyNote, SlotNote, Worst};
-use slot_types::{Event, JobNo, Op, OpList, Refusal, Reply, SlotReply, TaskNo};
+use slot_types::{Event, JobNo, LentOps, OpList, Refusal, Reply, SlotReply, TaskNo};
 use std::marker::Model;
 use std::sync::Wait;
 use turn_lock::{Pass, Turned};
@@ -97,7 +97,7 @@ impl<N: Nand> Die<N> {
         rt: &R,
         pass: &mut DiePass<N>,
         head: EventHead,
-        ops: &[Op],
+        ops: &LentOps,
     ) -> Result<ReplyNote, RefusedAt>
         requires { pass.old.lock ≡ self.now }
         ensures same { IsSamePass pass.old pass.new }
@@ -210,7 +210,7 @@ impl<N: Nand> Die<N> {
         ensures refused { IfErr result (λ refused.
             AddsNone N.never_fails pass.old.view Event.Slot refused pass.new.view) }
     {
-        match self.note(rt, pass, EventHead::Slot, &[]) {
+        match self.note(rt, pass, EventHead::Slot, &LentOps::none()) {
             Ok(note) => Ok(slot_note(note)),
             Err(refused) => Err(refused),
         }

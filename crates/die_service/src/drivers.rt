@@ -95,7 +95,7 @@ impl<'a, N: Nand> Driver<'a, N> {
             return false;
         };
         let die = self.die;
-        match work.event(rt, die, &mut self.pass, head, self.course.ops()) {
+        match work.event(rt, die, &mut self.pass, head, &self.course.ops()) {
             Ok(_) => {}
             Err(refused) => self.course.note(refused),
         }

@@ -1,17 +1,17 @@
 //! The events that a run brings to a die.
 
-ghost use Rattle.std.specs.Prelude.{◌≡◌, ◌↔◌, ◌<◌, ◌≤◌, ◌∷◌, ◌++◌, [], IsTrue, Some, length, slice_get, option_map, vec_capacity, OnOk, OnErr};
+ghost use Rattle.std.specs.Prelude.{◌≡◌, ◌↔◌, ◌<◌, ◌≤◌, ◌∷◌, ◌++◌, [], IsTrue, Some, length, slice_get, option_map, OnOk, OnErr};
 ghost use Rattle.slot_types.specs.Refusal.{FailsForMemory};
 ghost use Rattle.slot_types.specs.Arrivals.{arrival_of};
 ghost use Rattle.slot_core.specs.Events.{with_ops};
-ghost use Rattle.die_service.specs.Feeds.{HaveAtMost, IsInOrder, all_follow, begins_at, follows, is_job, ops_in};
+ghost use Rattle.die_service.specs.Feeds.{IsInOrder, all_follow, begins_at, follows, is_job, ops_at, ops_in, writes_before};
 ghost use Rattle.die_service.specs.Runs.{AllArrive};
 
-use crate::packed_ops::PackedOps;
 use slot_core::EventHead;
-use slot_types::{Event, JobHead, Op, Refusal};
+use slot_types::{Event, JobHead, LentOps, Op, PackedOps, Refusal};
 use std::alloc::Global;
 use std::marker::Model;
+use std::mem::size_of;
 
 /// An event, and the slot before which it comes.
 #[derive(Clone, PartialEq, Eq, Debug, Drop)]
@@ -21,13 +21,16 @@ pub struct Arrival {
 }
 
 /// An event that comes, flat. A job's operations are those of the feed from where those of the row before it end to
-/// `ops_end`.
+/// `ops_end`; of all operations up to there `writes_end` write.
 #[derive(Clone, Copy, Debug, Drop)]
 pub(crate) struct FeedRow {
     pub(crate) ops_end: usize,
+    pub(crate) writes_end: usize,
     pub(crate) at: u32,
     pub(crate) head: EventHead,
 }
+
+const _: () = prove!(size_of::<FeedRow>() == 40);
 
 /// The events that come to a die in a run, in their order. Contracts see the list of these.
 #[derive(Drop)]
@@ -35,8 +38,6 @@ pub struct Feed {
     rows: Vec<FeedRow>,
     /// The operations of all jobs, one after another.
     ops: PackedOps,
-    /// The most operations that a row has.
-    most: usize,
 }
 
 impl Model for Feed {
@@ -48,7 +49,7 @@ impl Model for Feed {
 
     ghost view = { λ f. feed_from f.ops 0 f.rows.items };
 
-    ghost invariant = { λ f. AreRowsOf f.most 0 f.rows.items × (last_end 0 f.rows.items ≡ length f.ops) };
+    ghost invariant = { λ f. AreRowsOf f.ops 0 f.rows.items × (last_end 0 f.rows.items ≡ length f.ops) };
 }
 
 /// An event of a feed, lent. Contracts see the event, and the slot before which it comes.
@@ -59,10 +60,13 @@ pub struct FeedItem<'a> {
     ops: &'a PackedOps,
     first_op: usize,
     ops_end: usize,
+    /// How many operations before the end write.
+    writes_end: usize,
 }
 
 impl<'a> Model for FeedItem<'a> {
-    ghost use Rattle.std.specs.Prelude.{◌≤◌, length};
+    ghost use Rattle.std.specs.Prelude.{◌≡◌, ◌≤◌, length, take};
+    ghost use Rattle.slot_types.specs.Operations.{writes};
     ghost use Rattle.slot_core.specs.Events.{with_ops};
     ghost use Rattle.die_service.specs.declared.feeds.Arrival.{Arrival};
     ghost use Rattle.die_service.specs.Feeds.{ops_between};
@@ -71,7 +75,8 @@ impl<'a> Model for FeedItem<'a> {
 
     ghost view = { λ i. record { at = i.at; event = with_ops i.head (ops_between i.ops.now i.first_op i.ops_end) } };
 
-    ghost invariant = { λ i. (i.first_op ≤ i.ops_end) × (i.ops_end ≤ length i.ops.now) };
+    ghost invariant = { λ i.
+        (i.first_op ≤ i.ops_end) × (i.ops_end ≤ length i.ops.now) × (i.writes_end ≡ writes (take i.ops_end i.ops.now)) };
 }
 
 /// Whether it is the head of a job, which has operations.
@@ -84,16 +89,27 @@ fn has_ops(head: &EventHead) -> bool
     }
 }
 
+/// Where the operations of a row begin, and how many of those before them write.
+#[derive(Clone, Copy, Debug, Drop)]
+struct RowBegin {
+    op: usize,
+    writes: usize,
+}
+
 /// Where the operations of the row of a place begin.
-fn first_op(rows: &[FeedRow], place: usize) -> usize
+fn begin_of(rows: &[FeedRow], place: usize) -> RowBegin
     requires { place ≤ length rows.now }
-    ensures { result ≡ begins_at 0 rows.now place }
+    ensures op { result.op ≡ begins_at 0 rows.now place }
+    ensures writes { result.writes ≡ writes_before 0 rows.now place }
 {
     if place == 0 {
-        return 0;
+        return RowBegin { op: 0, writes: 0 };
     }
     match rows.get(place - 1) {
-        Some(before) => before.ops_end,
+        Some(before) => RowBegin {
+            op: before.ops_end,
+            writes: before.writes_end,
+        },
         None => unreachable!(),
     }
 }
@@ -147,7 +163,7 @@ impl FeedItem<'_> {
         self.ops_end - self.first_op
     }
 
-    /// The operation at a place from 0, if there is one.
+    /// The operation at a place from 0, if there is one. It takes a step for each operation from there on.
     pub fn op(&self, place: usize) -> Option<Op>
         ensures { slice_get (ops_in self.now.event) place ≡ result }
     {
@@ -155,7 +171,9 @@ impl FeedItem<'_> {
         if place >= count {
             return None;
         }
-        Some(self.ops.get(self.ops_end - (count - place)))
+        let at = self.ops_end - (count - place);
+        let writes = self.writes_end - self.ops.count_writes(at, self.ops_end);
+        Some(self.ops.get(at, writes))
     }
 }
 
@@ -167,7 +185,6 @@ impl Feed {
         Feed {
             rows: Vec::new(alloc),
             ops: PackedOps::new(alloc),
-            most: 0,
         }
     }
 
@@ -187,8 +204,9 @@ impl Feed {
                 at: row.at,
                 head: row.head,
                 ops: &self.ops,
-                first_op: first_op(self.rows.as_slice(), place),
+                first_op: begin_of(self.rows.as_slice(), place).op,
                 ops_end: row.ops_end,
+                writes_end: row.writes_end,
             }),
             None => None,
         }
@@ -204,17 +222,20 @@ impl Feed {
     }
 
     /// Adds a row of this head and these operations, which only a job has.
-    fn push_row(&mut self, at: u32, head: EventHead, ops: &[Op]) -> Result<(), Refusal>
+    fn push_row(&mut self, at: u32, head: EventHead, ops: &LentOps) -> Result<(), Refusal>
         ensures ok { OnOk result (self.new
             ≡ self.old ++ record { at = at; event = with_ops head ops.now } ∷ []) }
         ensures refused { FailsForMemory result }
         ensures err { OnErr result (self.new ≡ self.old) }
     {
         self.rows.reserve(1)?;
-        self.ops.push_all(ops)?;
-        self.most = self.most.max(ops.len());
-        let ops_end = self.ops.len();
-        self.rows.push_reserved(FeedRow { ops_end, at, head });
+        self.ops.push_all(ops, ops.writes())?;
+        self.rows.push_reserved(FeedRow {
+            ops_end: self.ops.len(),
+            writes_end: self.ops.writes(),
+            at,
+            head,
+        });
         Ok(())
     }
 
@@ -238,7 +259,7 @@ impl Feed {
                     release,
                     due,
                 };
-                self.push_row(at, EventHead::Arrive(head), ops.as_slice())
+                self.push_row(at, EventHead::Arrive(head), &LentOps::list(ops.as_slice()))
             }
             Event::Collect { task, release, due } => {
                 let head = JobHead {
@@ -247,9 +268,9 @@ impl Feed {
                     release,
                     due,
                 };
-                self.push_row(at, EventHead::Arrive(head), &[])
+                self.push_row(at, EventHead::Arrive(head), &LentOps::none())
             }
-            Event::Slot => self.push_row(at, EventHead::Slot, &[]),
+            Event::Slot => self.push_row(at, EventHead::Slot, &LentOps::none()),
         }
     }
 
@@ -262,16 +283,9 @@ impl Feed {
         ensures err { OnErr result (self.new ≡ self.old) }
     {
         if head.collects {
-            return self.push_row(at, EventHead::Arrive(head), &[]);
+            return self.push_row(at, EventHead::Arrive(head), &LentOps::none());
         }
-        self.push_row(at, EventHead::Arrive(head), ops)
-    }
-
-    /// The most operations that an event of the feed has.
-    pub(crate) fn most_ops(&self) -> usize
-        ensures { HaveAtMost result self.now }
-    {
-        self.most
+        self.push_row(at, EventHead::Arrive(head), &LentOps::list(ops))
     }
 
     /// The slot before which the event of a place comes.
@@ -282,21 +296,28 @@ impl Feed {
         self.rows[place].at
     }
 
-    /// The event of a place, whose operations take the place of those that a list has, in room that was made.
-    pub(crate) fn read(&self, place: usize, ops: &mut Vec<Op>) -> EventHead
-        requires there { place < length self.now }
-        requires room { HaveAtMost (vec_capacity ops.old) self.now }
-        ensures event { option_map (λ arrival.
-            arrival.event) (slice_get self.now place) ≡ Some (with_ops result ops.new.items) }
-        ensures room { vec_capacity ops.new ≡ vec_capacity ops.old }
+    /// The event of a place but for its operations.
+    pub(crate) fn head(&self, place: usize) -> EventHead
+        requires { place < length self.now }
+        ensures { option_map (λ arrival. arrival.event) (slice_get self.now place)
+            ≡ Some (with_ops result (ops_at self.now place)) }
     {
-        let row = self.rows[place];
-        ops.clear();
+        self.rows[place].head
+    }
+
+    /// The operations of the event of a place, lent as they lie: none, where there is no event or it isn't a job.
+    pub(crate) fn ops(&self, place: usize) -> LentOps<'_>
+        ensures { result ≡ ops_at self.now place }
+    {
+        let row = match self.rows.get(place) {
+            Some(row) => row,
+            None => return LentOps::none(),
+        };
         if !has_ops(&row.head) {
-            return row.head;
+            return LentOps::none();
         }
-        let first = first_op(self.rows.as_slice(), place);
-        self.ops.copy_to(first, row.ops_end, ops);
-        row.head
+        let begin = begin_of(self.rows.as_slice(), place);
+        self.ops
+            .slice(begin.op, row.ops_end, begin.writes, row.writes_end)
     }
 }

@@ -13,7 +13,7 @@ use crate::gate::Gate;
 use crate::refused::RefusedAt;
 use flash_die::Nand;
 use slot_core::{EventHead, ReplyNote, SlotNote};
-use slot_types::{Event, Op, Reply};
+use slot_types::{Event, LentOps, Reply};
 use std::sync::Wait;
 
 /// What a worker calls: its dies, and the hook around each slot. It is lent to the worker, and contracts say what each
@@ -35,7 +35,7 @@ pub(crate) trait Work: Drop {
         die: &Die<N>,
         pass: &mut DiePass<N>,
         head: EventHead,
-        ops: &[Op],
+        ops: &LentOps,
     ) -> Result<ReplyNote, RefusedAt>
         requires { pass.old.lock ≡ die.now }
         ensures same { IsSamePass pass.old pass.new }
@@ -91,7 +91,7 @@ impl<G: Gate> Work for GatedWork<'_, G> {
         die: &Die<N>,
         pass: &mut DiePass<N>,
         head: EventHead,
-        ops: &[Op],
+        ops: &LentOps,
     ) -> Result<ReplyNote, RefusedAt> {
         die.note(rt, pass, head, ops)
     }

@@ -208,16 +208,18 @@ impl<B: Book> Turned<B> {
     }
 }
 
-impl<B: NotingBook> Turned<B> {
+impl<B: Book> Turned<B> {
     /// As `apply`, of an event whose parts are lent, and hands back no more than the book's note of the reply. May wait
     /// for the turn.
-    pub fn note<R: Wait>(
+    pub fn note<R: Wait, P>(
         &self,
         rt: &R,
         pass: &mut Pass<B>,
         head: B::Head,
-        parts: &[B::Part],
+        parts: &P,
     ) -> B::Note
+    where
+        B: NotingBook<P>,
         requires { pass.old.lock ≡ self.now }
         ensures same { IsSamePass pass.old pass.new }
         ensures reply { Replies B.accepts B.fits B.gives pass.old.view (B.whole head parts.now)

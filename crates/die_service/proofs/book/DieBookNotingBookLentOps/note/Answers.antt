@@ -3,8 +3,8 @@ use Rattle.slot_core.specs.Core.{Core}
 use Rattle.slot_core.specs.Events.{with_ops}
 use Rattle.die_service.proofs.Lists.{log_of_calls, length_of_calls}
 use Rattle.slot_core.proofs.Calling.{may_refuse}
-use Rattle.die_service.proofs.book.DieBookNotingBook.note.Goals.{in-Ok, in-Err}
-use Rattle.die_service.proofs.book.DieBookNotingBook.note.Goals as goal
+use Rattle.die_service.proofs.book.DieBookNotingBookLentOps.note.Goals.{in-Ok, in-Err}
+use Rattle.die_service.proofs.book.DieBookNotingBookLentOps.note.Goals as goal
 
 pub returns-clause-gives : goal.returns-clause-gives
 returns-clause-gives g c =

@@ -12,11 +12,11 @@ invariant_of-result c =
     let at_n : slice_get f.rows.items c.args.place ≡ Some row =
     ap (λ (l : List FeedRow). slice_get l c.args.place) (sym c.deref.ensures.value)
     ∙ get_at c.deref.result.now c.args.place row c.in-Some.ensures.lookup.3.0 (c.in-Some.ensures.lookup.3.1 row) in
-    let lies = row_at f.most 0 f.rows.items c.args.place row at_n c.self.invariant.0 in
-    let first : c.first_op.result ≡ begins_at 0 f.rows.items c.args.place = c.first_op.ensures
+    let lies = row_at f.ops 0 f.rows.items c.args.place row at_n c.self.invariant.0 in
+    let first : c.begin_of.result.op ≡ begins_at 0 f.rows.items c.args.place = c.begin_of.ensures.op
     ∙ ap (λ (l : List FeedRow). begins_at 0 l c.args.place) c.as_slice.ensures.value in
     let ends = c.self.invariant.1 in
-    (omega (arith, lies.0, first), omega (arith, lies.1, ends))
+    (omega (arith, lies.0, first), omega (arith, lies.1, ends), lies.2)
 
 pub returns-in-Some : goal.returns-in-Some
 returns-in-Some c =
@@ -25,7 +25,7 @@ returns-in-Some c =
     let at_n : slice_get f.rows.items c.args.place ≡ Some row =
     ap (λ (l : List FeedRow). slice_get l c.args.place) (sym c.deref.ensures.value)
     ∙ get_at c.deref.result.now c.args.place row c.in-Some.ensures.lookup.3.0 (c.in-Some.ensures.lookup.3.1 row) in
-    let first : c.first_op.result ≡ begins_at 0 f.rows.items c.args.place = c.first_op.ensures
+    let first : c.begin_of.result.op ≡ begins_at 0 f.rows.items c.args.place = c.begin_of.ensures.op
     ∙ ap (λ (l : List FeedRow). begins_at 0 l c.args.place) c.as_slice.ensures.value in
     sym (ap (λ (l : List Arrival). slice_get l c.args.place) c.self.view_is)
     ∙ (place_at f.ops 0 f.rows.items c.args.place row at_n ∙ ap (λ (n : ℕ). Some (arrival_at f.ops n row)) (sym first))
