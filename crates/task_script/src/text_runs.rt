@@ -8,7 +8,7 @@ ghost use Rattle.task_script.specs.Batches.{Closes, joined_counts, rows_counted}
 ghost use Rattle.task_script.specs.DieReports.{die_report_of};
 ghost use Rattle.task_script.specs.PlannedRuns.{RunsAsPlanned, RunsSo};
 ghost use Rattle.task_script.specs.StoreRuns.{reports_of};
-ghost use Rattle.task_script.specs.TextRuns.{RanScript, RefusesText, RunsText};
+ghost use Rattle.task_script.specs.TextRuns.{RanScript, RefusesOrCuts, RefusesText, RunsText};
 ghost use Rattle.task_script.specs.Feeds.{RefusesScript};
 ghost use Rattle.text_base.specs.Writing.{IsNotWhole};
 
@@ -198,6 +198,9 @@ pub fn run_text<R: Threads + Wait + Sync, S: Read + Drop, W: Write>(
         (refusal ≡ Refusal.WriteFault → ⊥) → writer.new ≡ writer.old) }
     ensures part { OnErr result
         (IsNotWhole W.contents (RunsSo (S.remaining script) plan.now slots) writer.old writer.new) }
+    ensures cut { IfErr result
+        (RefusesOrCuts W.contents (RefusesScript (S.remaining script) (length plan.now) slots)
+        (RunsSo (S.remaining script) plan.now slots) writer.old writer.new) }
 {
     let ran = run_script(rt, alloc, plan, script, slots, workers)?;
     match ran.text.write(writer) {
