@@ -211,13 +211,7 @@ impl<B: Book> Turned<B> {
 impl<B: Book> Turned<B> {
     /// As `apply`, of an event whose parts are lent, and hands back no more than the book's note of the reply. May wait
     /// for the turn.
-    pub fn note<R: Wait, P>(
-        &self,
-        rt: &R,
-        pass: &mut Pass<B>,
-        head: B::Head,
-        parts: &P,
-    ) -> B::Note
+    pub fn note<R: Wait, P>(&self, rt: &R, pass: &mut Pass<B>, head: B::Head, parts: &P) -> B::Note
     where
         B: NotingBook<P>,
         requires { pass.old.lock ≡ self.now }
