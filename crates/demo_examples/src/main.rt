@@ -26,7 +26,10 @@ fn play_all<R: Files + Threads + Wait + Sync, W: Write>(
     alloc: Global,
     tables: &[String],
     out: &mut W,
-) -> io::Result<Tally> {
+) -> io::Result<Tally>
+where
+    R::File: Send,
+{
     let mut tally = Tally::new();
     for table in tables {
         let text = fs::read_to_string(&(rt, alloc), table.as_str())?;

@@ -42,7 +42,10 @@ pub(crate) fn carry_out<R: Threads + Wait + Sync, D: Folder>(
     alloc: Global,
     folder: &D,
     line: &str,
-) -> io::Result<Ended> {
+) -> io::Result<Ended>
+where
+    D::Reader: Send,
+{
     let words = words_in(alloc, line)?;
     let (mut out, mut err) = (Vec::new(alloc), Vec::new(alloc));
     let status = match read_words(alloc, words.as_slice()) {

@@ -85,7 +85,10 @@ fn play_text<R: Files + Threads + Wait + Sync, W: Write>(
     wanted: Wanted<'_>,
     text: &str,
     out: &mut W,
-) -> io::Result<bool> {
+) -> io::Result<bool>
+where
+    R::File: Send,
+{
     let folder = Changed::new(rt, place.file, text.as_bytes());
     let ended = carry_out(rt, alloc, &folder, place.words)?;
     let is_right = ended.is(rt, alloc, wanted)?;
@@ -119,7 +122,10 @@ fn play_prefixes<R: Files + Threads + Wait + Sync, W: Write>(
     (first, last, line): (usize, usize, &str),
     out: &mut W,
     tally: &mut Tally,
-) -> io::Result<()> {
+) -> io::Result<()>
+where
+    R::File: Send,
+{
     let text = text_of(rt, alloc, place)?;
     for length in first..last.saturating_add(1) {
         let is_right = match (wanted_in(line), text.as_str().get(..length)) {
@@ -139,7 +145,10 @@ fn play_line<R: Files + Threads + Wait + Sync, W: Write>(
     line: &str,
     out: &mut W,
     tally: &mut Tally,
-) -> io::Result<()> {
+) -> io::Result<()>
+where
+    R::File: Send,
+{
     if let Some(lengths) = lengths_in(line) {
         return play_prefixes(rt, alloc, place, lengths, out, tally);
     }
@@ -167,7 +176,10 @@ pub(crate) fn play_table<R: Files + Threads + Wait + Sync, W: Write>(
     text: &str,
     out: &mut W,
     tally: &mut Tally,
-) -> io::Result<()> {
+) -> io::Result<()>
+where
+    R::File: Send,
+{
     let mut place = Place::above(table);
     for line in text.split('\n') {
         place = place.at(line);

@@ -2,3 +2,4 @@ mod KindLemmas
 mod Endings
 mod Reported
 mod Judging
+mod Verdicts

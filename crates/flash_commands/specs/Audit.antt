@@ -1,5 +1,6 @@
 -- What an audit of a report prints, and its status.
-use Rattle.std.specs.Prelude.{ℕ, ◌++◌, not, Bool, false, List, [], ◌∷◌, flat_map, codes, decimal, Option, Some, None, if◌then◌else◌}
+use Rattle.std.specs.Prelude.{ℕ, ◌++◌, not, Bool, false, List, [], ◌∷◌, flat_map, codes, decimal, Option, Some, None}
+use Rattle.std.specs.Prelude.{if◌then◌else◌, option_map}
 use Rattle.std.specs.Fmt.{signed_decimal}
 use Rattle.std.specs.List.{list_any}
 use Rattle.late_cert.specs.Check.{verdict_of}
@@ -15,6 +16,10 @@ use Rattle.report_texts.specs.declared.reports.DieReport.{DieReport}
 -- the verdict on a certificate, by the rows that its die has in the report
 abbrev pub verdict_on : List JobRow → Certificate → Verdict
 verdict_on rows cert = verdict_of rows cert.start cert.due cert.completion cert.jobs
+
+-- the verdict on the certificate of a die's work, if it has one
+abbrev pub verdict_in : DieWork → Option Verdict
+verdict_in work = option_map (verdict_on work.rows) work.cert
 
 abbrev pub fault_text : Option ℕ → List ℕ → List ℕ
 fault_text None name = codes "holds"

@@ -6,7 +6,7 @@ ghost use Rattle.flash_commands.specs.Acts.{PrintsFigures, PrintsRun, RefusesAud
 ghost use Rattle.flash_commands.specs.Faults.{outcome_status};
 ghost use Rattle.text_base.specs.Writing.{IsNotWhole};
 
-use crate::audits::audit_report;
+use crate::audits::{audit_by_threads, audit_report};
 use crate::commands::Command;
 use crate::faults::{Fault, end};
 use crate::figures::figures_text;
@@ -40,7 +40,7 @@ fn print_figures<R: Read + Drop, W: Write>(
 }
 
 /// Prints the audit of a report, and says whether a certificate is refused. A refusal is of the report's text, or
-/// memory, or a reader, or `WriteFault`, and all but the last leave `out` as it was.
+/// memory, or a reader, or `WriteFault`, and all but the last leave `out` as it was. It starts no thread.
 pub fn print_audit<R: Read + Drop, W: Write>(
     alloc: Global,
     first: R,
@@ -54,14 +54,35 @@ pub fn print_audit<R: Read + Drop, W: Write>(
     ensures part { OnErr result
         (IsNotWhole W.contents (AuditsSome (R.remaining first)) out.old out.new) }
 {
+    let report = read_work(alloc, first)?;
+    let found = audit_report(alloc, &report)?;
+    write_whole(out, &found.text)?;
+    Ok(found.refused)
+}
+
+/// The same, by as many threads as the report has dies with work, at most four.
+fn print_audit_by_threads<T: Threads + Sync, R: Read + Drop, W: Write>(
+    rt: &T,
+    alloc: Global,
+    first: R,
+    out: &mut W,
+) -> Result<bool, Refusal>
+    ensures printed { IfOk result (λ refused.
+        PrintsAudit (R.remaining first) (W.contents out.old) (W.contents out.new)
+        (if refused then 3 else 0)) }
+    ensures refused { IfErr result (RefusesAudit (R.remaining first)) }
+    ensures unwritten { IfErr result (IsUnwritten out.old out.new) }
+    ensures part { OnErr result
+        (IsNotWhole W.contents (AuditsSome (R.remaining first)) out.old out.new) }
+{
     let work = read_work(alloc, first)?;
-    let audit = audit_report(alloc, &work)?;
+    let audit = audit_by_threads(rt, alloc, &work)?;
     write_whole(out, &audit.text)?;
     Ok(audit.refused)
 }
 
 /// Runs a script on the store of a plan, and prints its report.
-fn print_run<R: Threads + Wait + Sync, F: Read + Drop, S: Read + Drop, W: Write>(
+fn print_run<R: Threads + Wait + Sync, F: Read + Drop, S: Read + Drop + Send, W: Write>(
     rt: &R,
     alloc: Global,
     first: F,
@@ -94,7 +115,7 @@ fn report_refused<E: Write>(err: &mut E, count: &RunCount) {
 }
 
 /// Runs a script on the store of a plan, or says why not.
-fn run<R: Threads + Wait + Sync, F: Read + Drop, S: Read + Drop, W: Write, E: Write>(
+fn run<R: Threads + Wait + Sync, F: Read + Drop, S: Read + Drop + Send, W: Write, E: Write>(
     rt: &R,
     alloc: Global,
     first: F,
@@ -136,7 +157,12 @@ fn figures<R: Read + Drop, W: Write>(alloc: Global, first: R, out: &mut W) -> Re
 }
 
 /// Audits a report, or says why not.
-fn audit<R: Read + Drop, W: Write>(alloc: Global, first: R, out: &mut W) -> Result<(), Fault>
+fn audit<T: Threads + Sync, R: Read + Drop, W: Write>(
+    rt: &T,
+    alloc: Global,
+    first: R,
+    out: &mut W,
+) -> Result<(), Fault>
     ensures printed { (outcome_status result ≡ 1)
         ⊎ PrintsAudit (R.remaining first) (W.contents out.old) (W.contents out.new)
         (outcome_status result) }
@@ -145,7 +171,7 @@ fn audit<R: Read + Drop, W: Write>(alloc: Global, first: R, out: &mut W) -> Resu
     ensures part { IfErr result (IsFaultOf (λ _.
         IsNotWhole W.contents (AuditsSome (R.remaining first)) out.old out.new)) }
 {
-    if print_audit(alloc, first, out)? {
+    if print_audit_by_threads(rt, alloc, first, out)? {
         return Err(Fault::Certificate);
     }
     Ok(())
@@ -157,7 +183,13 @@ fn audit<R: Read + Drop, W: Write>(alloc: Global, first: R, out: &mut W) -> Resu
 /// What it prints is what [`act`] says. `Certificate` comes exactly where a report was read and audited, its audit is
 /// printed whole, and some certificate is refused; any other error is a refusal. A refusal leaves `out` as it was,
 /// but for `WriteFault`: `out` then took a front of what was to be printed, and not the whole.
-pub fn carry_out<R: Threads + Wait + Sync, F: Read + Drop, S: Read + Drop, W: Write, E: Write>(
+pub fn carry_out<
+    R: Threads + Wait + Sync,
+    F: Read + Drop,
+    S: Read + Drop + Send,
+    W: Write,
+    E: Write,
+>(
     rt: &R,
     alloc: Global,
     command: Command<'_>,
@@ -183,7 +215,7 @@ pub fn carry_out<R: Threads + Wait + Sync, F: Read + Drop, S: Read + Drop, W: Wr
             let (slots, workers) = (slots.count, workers.count);
             run(rt, alloc, first, second, slots, workers, out, err)
         }
-        Command::Audit { .. } => audit(alloc, first, out),
+        Command::Audit { .. } => audit(rt, alloc, first, out),
         Command::Plan { .. } => figures(alloc, first, out),
     }
 }
@@ -197,7 +229,8 @@ pub fn carry_out<R: Threads + Wait + Sync, F: Read + Drop, S: Read + Drop, W: Wr
 ///
 /// `audit` prints for each die of the report the lateness and the job of its certificate, and whether it holds, as
 /// `die 0 worst -1 job 0 holds` or `die 0 worst 0 job 1 refused 5 EarlyRelease`, or that it has none, as
-/// `die 0 no lateness`; the status is 3 exactly where this is written whole and some certificate is refused.
+/// `die 0 no lateness`; the status is 3 exactly where this is written whole and some certificate is refused. The dies are
+/// judged by at most four threads.
 ///
 /// `plan` prints for each die the figures of its plan, as `die 0 fmax 7 closed 6 live 18 logical 12 accepted`, and
 /// after them, where the plan has times, its demand, as `die 0 load 11 of 20`; no more of the plan is read than
@@ -206,7 +239,7 @@ pub fn carry_out<R: Threads + Wait + Sync, F: Read + Drop, S: Read + Drop, W: Wr
 /// Each text for `out` is made whole before its first byte. A refusal is reported in a line to `err`, as
 /// `error 19 ScriptRow 6 Fields`, and the status is 1: nothing was written to `out`, or `out` failed before it had the
 /// whole text. Where `err` fails, that is passed over. Neither is flushed. A run may wait for its workers.
-pub fn act<R: Threads + Wait + Sync, F: Read + Drop, S: Read + Drop, W: Write, E: Write>(
+pub fn act<R: Threads + Wait + Sync, F: Read + Drop, S: Read + Drop + Send, W: Write, E: Write>(
     rt: &R,
     alloc: Global,
     command: Command<'_>,

@@ -14,3 +14,4 @@ pub mod CertsBack
 pub mod ReportsBack
 pub mod WorkLaws
 pub mod WorkReported
+pub mod PartWriting

@@ -15,7 +15,7 @@ use Rattle.task_script.proofs.AsPlanned.{runs_as_planned}
 
 -- where the writer failed, a front of the report of this run was written, and not the whole
 pub runs_in_part : {W : Type 0} (contents : W → Option (List ℕ)) (text : Option (List ℕ)) (plans : List DiePlan) (slots : ℕ)
-    (said : TextSoFar) (count : RunCount) (old new : W) (refusal : Refusal)
+    (said : List TextSoFar) (count : RunCount) (old new : W) (refusal : Refusal)
     → All MeetsBound plans → (r : RanScript text plans slots said count)
     → (refusal ≡ NoMemory → new ≡ old) → (refusal ≡ WriteFault → AppendsPart (contents old) (contents new) (report_text r.report))
     → (refusal ≡ NoMemory) ⊎ (refusal ≡ WriteFault)

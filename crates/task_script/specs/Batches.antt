@@ -13,12 +13,12 @@ use Rattle.die_service.specs.Drives.{Far}
 use Rattle.die_service.specs.Logs.{log_of}
 use Rattle.die_service.specs.Runs.{AskedEvent, HaveRun}
 use Rattle.die_service.specs.Stores.{DiePass, IsClosedWith}
-use Rattle.report_texts.specs.TextSoFar.{TextSoFar, text_so_far}
+use Rattle.report_texts.specs.TextSoFar.{TextSoFar}
 use Rattle.script_texts.specs.declared.script_rows.ScriptItem.{ScriptItem}
 use Rattle.task_script.specs.DieRuns.{MakesCalls, calls_of, fresh_run, run_at}
 use Rattle.task_script.specs.RowEnds.{arrivals_of, lines_of, ends_from}
 use Rattle.task_script.specs.RunCounts.{count_of, counted_after, rows_in, sum_of_counts}
-use Rattle.task_script.specs.StoreRuns.{reports_of}
+use Rattle.task_script.specs.DieTexts.{report_parts}
 use Rattle.task_script.specs.declared.batches.KeptRows.{KeptRows}
 use Rattle.task_script.specs.declared.batches.Progress.{Progress}
 use Rattle.task_script.specs.declared.run_counts.RowEnd.{RowEnd}
@@ -110,9 +110,9 @@ joined_after count (at ∷ progress) = joined_after (sum_of_counts count at.coun
 abbrev pub joined_counts : List Progress → RunCount
 joined_counts progress = joined_after (count_of []) progress
 
--- the dies were closed with these passes, this is the text of their reports, and so many rows were counted
-pub record Closes (ps : List DiePass) (progress : List Progress) (text : TextSoFar) (count : RunCount) : Type 0 where
+-- the dies were closed with these passes, these are the parts of their report, and so many rows were counted
+pub record Closes (ps : List DiePass) (progress : List Progress) (parts : List TextSoFar) (count : RunCount) : Type 0 where
   pub dies : List (Core Memory)
   pub closed : AllZip IsClosedWith ps dies
-  pub said : text ≡ text_so_far (reports_of 0 dies)
+  pub said : parts ≡ report_parts dies
   pub counted : count ≡ joined_counts progress

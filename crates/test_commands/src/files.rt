@@ -4,27 +4,27 @@ use crate::printed::Printed;
 use example_texts::{PLAN, REPORT, SCRIPT};
 use flash_commands::{Command, Folder, Slots, Workers, act, open};
 use slot_types::Refusal;
-use std::cell::Cell;
 use std::io;
 use std::io::Read;
+use std::sync::atomic::{AtomicU64, Ordering};
 use std::test::Fail;
 
 /// A plan and a script, of which the plan is opened first, and no reader gives anything before both are open.
 #[derive(Drop)]
 struct InTurn<'a> {
-    opened: &'a Cell<u32>,
+    opened: &'a AtomicU64,
 }
 
 /// Reads a text, once two files are open.
 #[derive(Drop)]
 struct Waiting<'a> {
     text: &'a [u8],
-    opened: &'a Cell<u32>,
+    opened: &'a AtomicU64,
 }
 
 impl Read for Waiting<'_> {
     fn read(&mut self, buf: &mut [u8]) -> io::Result<usize> {
-        if self.opened.get() < 2 {
+        if self.opened.load(Ordering::SeqCst) < 2 {
             return Err(io::Error::from(io::ErrorKind::BrokenPipe));
         }
         self.text.read(buf)
@@ -40,10 +40,10 @@ impl<'a> Folder for InTurn<'a> {
         } else {
             (1, SCRIPT)
         };
-        if self.opened.get() != turn {
+        if self.opened.load(Ordering::SeqCst) != turn {
             return Err(Refusal::ReadFault);
         }
-        self.opened.set(turn + 1);
+        self.opened.store(turn + 1, Ordering::SeqCst);
         Ok(Waiting {
             text: text.as_bytes(),
             opened: self.opened,
@@ -63,7 +63,7 @@ fn run_of_two() -> Option<Command<'static>> {
 
 #[test]
 fn files_are_opened_in_order_before_any_is_read(rt: HostRuntime) -> Result<(), Fail> {
-    let (alloc, opened) = (rt.alloc(), Cell::new(0));
+    let (alloc, opened) = (rt.alloc(), AtomicU64::new(0));
     let command = run_of_two().ok_or("no run")?;
     let (first, second) = open(&InTurn { opened: &opened }, command)?;
     let (mut out, mut err) = (Vec::new(alloc), Vec::new(alloc));
