@@ -78,7 +78,8 @@ fn parts_in(alloc: Global, texts: Vec<DieText>) -> Result<Vec<ReportText>, Refus
     let mut parts = Vec::new(alloc);
     parts.push(header)?;
     for made in texts {
-        let Some(part) = made.text else {
+        let DieText { die: _, text } = made;
+        let Some(part) = text else {
             return Err(Refusal::NoMemory);
         };
         parts.push(part)?;

@@ -14,8 +14,11 @@ use std::io::Read;
 /// How many rows are read before they are run, at most.
 const BATCH_ROWS: u32 = 16_384;
 
-/// After how many operations no further row is read before these are run. No contract depends on it.
+/// After how many operations no further row is read before these are run, by one worker. No contract depends on it.
 const BATCH_OPS: usize = 65_536;
+
+/// The same by more workers, whose threads are started for each batch anew.
+const BATCH_OPS_OF_MANY: usize = 262_144;
 
 /// The rows that were read from a script, by die.
 #[derive(Drop)]
@@ -38,12 +41,13 @@ fn no_rows(alloc: Global, dies: usize) -> Result<Vec<DieRows>, Refusal>
 }
 
 /// By die the next rows of a script for so many dies, as many as are run at a time, or all that are left: 16,384 at
-/// most. Their operations are read into the list of the caller's.
+/// most. They are for so many workers. Their operations are read into the list of the caller's.
 pub fn read_rows<R: Read>(
     alloc: Global,
     script: &mut ScriptReader<R>,
     ops: &mut OpList,
     dies: usize,
+    workers: u32,
 ) -> Result<ReadRows, Refusal>
     requires dies { dies_of script.old ≡ dies }
     ensures rows { IfOk result (λ rows.
@@ -55,7 +59,11 @@ pub fn read_rows<R: Read>(
     ensures slots { slots_of script.new ≡ slots_of script.old }
 {
     let mut rows = no_rows(alloc, dies)?;
-    let mut left = BATCH_OPS;
+    let mut left = if workers == 1 {
+        BATCH_OPS
+    } else {
+        BATCH_OPS_OF_MANY
+    };
     for _ in 0..BATCH_ROWS {
         match script.next_into(ops) {
             Ok(Some(head)) => {

@@ -3,7 +3,8 @@
 ghost use Rattle.std.specs.Prelude.{◌≡◌, ◌+◌, ◌<◌, ◌≤◌, ◌^◌, All, IfErr, IfOk, length, map};
 ghost use Rattle.script_texts.specs.ScriptLeft.{dies_of, script_left, slots_of};
 ghost use Rattle.slot_types.specs.Arrivals.{IsArrival};
-ghost use Rattle.task_script.specs.Batches.{RanRows, rows_counted};
+ghost use Rattle.slot_types.specs.Refusal.{FailsForMemory};
+ghost use Rattle.task_script.specs.Batches.{CanRun, GoesOn, RanRows, rows_counted};
 ghost use Rattle.task_script.specs.Feeds.{FailsIn, HasReadRows, rows_dealt};
 
 use crate::batches::{RunDies, run_rows};
@@ -26,12 +27,13 @@ pub struct ReadScript<S> {
     pub rows: ReadRows,
 }
 
-/// Reads the next rows of a script for so many dies.
+/// Reads the next rows of a script for so many dies and workers.
 pub fn read_next<S: Read + Drop>(
     alloc: Global,
     reader: ScriptReader<S>,
     ops: OpList,
     dies: usize,
+    workers: u32,
 ) -> Result<ReadScript<S>, Refusal>
     requires dies { dies_of reader ≡ dies }
     ensures rows { IfOk result (λ read.
@@ -44,7 +46,7 @@ pub fn read_next<S: Read + Drop>(
 {
     let mut reader = reader;
     let mut ops = ops;
-    let rows = read_rows(alloc, &mut reader, &mut ops, dies)?;
+    let rows = read_rows(alloc, &mut reader, &mut ops, dies, workers)?;
     Ok(ReadScript { reader, ops, rows })
 }
 
@@ -86,13 +88,20 @@ pub fn run_and_read<R: Threads + Wait + Sync, S: Read + Drop + Send>(
     let rows = rows.dies;
     if workers == 1 {
         let ran = run_rows(rt, alloc, store, dies, rows, 0, workers)?;
-        let next = read_next(alloc, reader, ops, count)?;
+        let next = read_next(alloc, reader, ops, count, workers)?;
         return Ok((ran, next));
     }
+    let run = move || -> Result<RunDies, Refusal>
+        requires { CanRun store.now dies.passes.items dies.progress.items rows.items workers }
+        ensures { FailsForMemory result × IfOk result (λ ran.
+            GoesOn store.entry.now dies.passes.items dies.progress.items rows.items
+            ran.passes.items
+            ran.progress.items) }
+    { run_rows(rt, alloc, store, dies, rows, 0, workers) };
     let (next, ran) = join(
         rt,
-        move || read_next(alloc, reader, ops, count),
-        move || run_rows(rt, alloc, store, dies, rows, 0, workers),
+        move || read_next(alloc, reader, ops, count, workers),
+        run,
     );
     let ran = ran?;
     let next = next?;

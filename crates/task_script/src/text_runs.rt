@@ -37,8 +37,13 @@ fn joined(progress: &[Progress]) -> RunCount
     ensures { result ≡ joined_counts progress.now }
 {
     let mut count = RunCount::none();
-    for at in progress {
+    let mut left = progress;
+    for _ in 0..progress.len() {
+        let Some((at, later)) = left.split_first() else {
+            unreachable!()
+        };
         count.add_all(&at.count);
+        left = later;
     }
     count
 }
@@ -93,7 +98,7 @@ fn run_script<R: Threads + Wait + Sync, S: Read + Drop + Send>(
     let progress = no_progress(alloc, plan.len())?;
     let reader = ScriptReader::new(alloc, script, plan, slots)?;
     let mut dies = RunDies { passes, progress };
-    let mut read = read_next(alloc, reader, OpList::new(alloc), plan.len())?;
+    let mut read = read_next(alloc, reader, OpList::new(alloc), plan.len(), workers)?;
     for _ in 0..u32::MAX {
         if read.rows.ended {
             let ran = run_rows(rt, alloc, &store, dies, read.rows.dies, slots, workers)?;
