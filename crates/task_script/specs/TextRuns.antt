@@ -2,8 +2,6 @@
 use Rattle.std.specs.Prelude.{◌≡◌, ◌==◌, ◌⊎◌, ⊤, ℕ, ◌<◌, ◌+◌, if◌then◌else◌, List, [], ◌∷◌, flat_map, length, Option}
 use Rattle.std.specs.Io.KnownBytes.{Appends}
 use Rattle.slot_types.specs.declared.plans.DiePlan.{DiePlan}
-use Rattle.slot_types.specs.declared.refusals.Refusal.{Refusal}
-use Rattle.slot_types.specs.declared.refusals.Refusal.TheVariants.{WriteFault}
 use Rattle.script_texts.specs.AskedPages.{RowsHavePages}
 use Rattle.report_texts.specs.ReportText.{report_text}
 use Rattle.report_texts.specs.TextSoFar.{TextSoFar, text_so_far}
@@ -11,7 +9,7 @@ use Rattle.script_texts.specs.declared.script_rows.ScriptItem.{ScriptItem}
 use Rattle.report_texts.specs.declared.reports.DieReport.{DieReport}
 use Rattle.task_script.specs.DieReports.{die_report_of}
 use Rattle.task_script.specs.DieRuns.{DieRun, IsScriptRun}
-use Rattle.task_script.specs.Feeds.{AreInTime, AreItemsOf, RefusesScript, feed_of}
+use Rattle.task_script.specs.Feeds.{AreInTime, AreItemsOf, feed_of}
 use Rattle.task_script.specs.RunCounts.{count_of}
 use Rattle.task_script.specs.declared.run_counts.RowEnd.{RowEnd}
 use Rattle.task_script.specs.declared.run_counts.RunCount.{RunCount}
@@ -47,10 +45,6 @@ pub record RunsText (text : Option (List ℕ)) (plans : List DiePlan) (slots : �
     pub ran : AreRuns slots (feed_of items) 0 plans runs
     pub counted : count ≡ count_of (ends_of runs)
     pub written : Appends old new (report_text (reports_from 0 plans runs))
-
--- the script is refused; or memory ran out; or the writer failed
-abbrev pub RefusesText : Option (List ℕ) → ℕ → ℕ → Refusal → Type 0
-RefusesText text dies slots refusal = RefusesScript text dies slots refusal ⊎ (refusal ≡ WriteFault)
 
 -- While the dies run
 

@@ -1,6 +1,6 @@
 //! Scripts that are run on the dies of a store.
 
-ghost use Rattle.std.specs.Prelude.{◌≡◌, ◌<◌, ◌≤◌, ◌^◌, ℕ, None, All, length, map, true, IfOk, IfErr, OnErr, OnOk};
+ghost use Rattle.std.specs.Prelude.{◌≡◌, ◌<◌, ◌≤◌, ◌^◌, ℕ, None, All, length, map, false, true, IfOk, IfErr, OnOk};
 ghost use Rattle.slot_types.specs.Refusal.{FailsForMemory};
 ghost use Rattle.plan_rules.specs.Bound.{MeetsBound};
 ghost use Rattle.report_texts.specs.TextSoFar.{die_added, text_so_far};
@@ -8,9 +8,9 @@ ghost use Rattle.task_script.specs.Batches.{Closes, joined_counts, rows_counted}
 ghost use Rattle.task_script.specs.DieReports.{die_report_of};
 ghost use Rattle.task_script.specs.PlannedRuns.{RunsAsPlanned, RunsSo};
 ghost use Rattle.task_script.specs.StoreRuns.{reports_of};
-ghost use Rattle.task_script.specs.TextRuns.{RanScript, RefusesText, RunsText};
+ghost use Rattle.task_script.specs.TextRuns.{RanScript, RunsText};
 ghost use Rattle.task_script.specs.Feeds.{RefusesScript};
-ghost use Rattle.text_base.specs.Writing.{IsNotWhole};
+ghost use Rattle.text_base.specs.Writing.{Flags, RefusesOrCuts};
 
 use crate::batches::{Progress, no_progress, run_rows};
 use crate::die_reports::add_die;
@@ -173,7 +173,7 @@ fn run_script<R: Threads + Wait + Sync, S: Read + Drop>(
 ///
 /// It ends with the first fault of the script, as [`ScriptReader`](crate::ScriptReader) says it; with `ReadFault`; or
 /// with `NoMemory`. Nothing is written before the whole script was read and run, and nothing with these. `WriteFault`
-/// comes where the writer fails: a front of the report was then written that isn't the whole.
+/// comes exactly where the writer fails: a front of the report was then written that isn't the whole.
 pub fn run_text<R: Threads + Wait + Sync, S: Read + Drop, W: Output>(
     rt: &R,
     alloc: Global,
@@ -194,11 +194,12 @@ pub fn run_text<R: Threads + Wait + Sync, S: Read + Drop, W: Output>(
     ensures planned { IfOk result (λ count.
         RunsAsPlanned (S.remaining script) plan.now slots count (W.contents writer.old)
         (W.contents writer.new)) }
-    ensures refused { IfErr result (RefusesText (S.remaining script) (length plan.now) slots) }
-    ensures unwritten { IfErr result (λ refusal.
-        (refusal ≡ Refusal.WriteFault → ⊥) → writer.new ≡ writer.old) }
-    ensures part { OnErr result
-        (IsNotWhole W.contents (RunsSo (S.remaining script) plan.now slots) writer.old writer.new) }
+    ensures refused { IfErr result
+        (RefusesOrCuts W.contents W.has_failed
+        (RefusesScript (S.remaining script) (length plan.now) slots)
+        (RunsSo (S.remaining script) plan.now slots) writer.old writer.new) }
+    ensures works { OnOk result
+        (Flags (W.has_failed writer.old) (W.has_failed writer.new) false) }
 {
     let ran = run_script(rt, alloc, plan, script, slots, workers)?;
     match ran.text.write(writer) {

@@ -31,6 +31,15 @@ Flags (Some before) new false = new ≡ Some before
 abbrev pub InPart : (Option (List ℕ) → Option (List ℕ) → Type 0) → Option (List ℕ) → Option (List ℕ) → Type 0
 InPart prints old new = (whole : List ℕ) × prints (Some []) (Some whole) × AppendsPart old new whole
 
--- nothing was written, or not the whole
-abbrev pub IsNotWhole : {W : Type 0} → (W → Option (List ℕ)) → (Option (List ℕ) → Option (List ℕ) → Type 0) → W → W → Type 0
-IsNotWhole contents prints old new = (new ≡ old) ⊎ InPart prints (contents old) (contents new)
+-- the writer failed, and took a front of what prints so, and not the whole
+pub record IsCut {W : Type 0} (contents : W → Option (List ℕ)) (has_failed : W → Option Bool)
+    (prints : Option (List ℕ) → Option (List ℕ) → Type 0) (old new : W) (refusal : Refusal) : Type 0 where
+  pub refusal_is : refusal ≡ WriteFault
+  pub failed : Flags (has_failed old) (has_failed new) true
+  pub part : InPart prints (contents old) (contents new)
+
+-- a refusal comes so, and nothing was written; or the writer failed
+abbrev pub RefusesOrCuts : {W : Type 0} → (W → Option (List ℕ)) → (W → Option Bool) → (Refusal → Type 0)
+    → (Option (List ℕ) → Option (List ℕ) → Type 0) → W → W → Refusal → Type 0
+RefusesOrCuts contents has_failed refuses prints old new refusal =
+    (refuses refusal × (new ≡ old)) ⊎ IsCut contents has_failed prints old new refusal
