@@ -1,10 +1,11 @@
 //! Commands that are carried out.
 
-ghost use Rattle.std.specs.Prelude.{◌≡◌, ◌≤◌, ◌⊎◌, IfOk, IfErr, OnErr, OnOk, if◌then◌else◌};
-ghost use Rattle.flash_commands.specs.Acts.{AuditsSome, HasThree, IsFaultOf, IsRefused, IsRefusedFor, IsUnwritten, Prints, PrintsAudit};
-ghost use Rattle.flash_commands.specs.Acts.{PrintsFigures, PrintsRun, RefusesAudit, RefusesFigures, RefusesRun};
+ghost use Rattle.std.specs.Prelude.{◌≡◌, ◌≤◌, ◌⊎◌, IfOk, IfErr, OnOk, if◌then◌else◌};
+ghost use Rattle.flash_commands.specs.Acts.{AuditsSome, HasThree, IsFaultOf, IsRefused, IsRefusedFor, Prints, PrintsAudit};
+ghost use Rattle.flash_commands.specs.Acts.{PrintsFigures, PrintsRun, RefusesAudit, RefusesRun};
+ghost use Rattle.plan_texts.specs.PlanReading.{RefusesPlanOf};
 ghost use Rattle.flash_commands.specs.Faults.{outcome_status};
-ghost use Rattle.text_base.specs.Writing.{IsNotWhole};
+ghost use Rattle.task_script.specs.TextRuns.{RefusesOrCuts};
 
 use crate::audits::audit_report;
 use crate::commands::Command;
@@ -29,10 +30,9 @@ fn print_figures<R: Read + Drop, W: Write>(
 ) -> Result<(), Refusal>
     ensures printed { OnOk result
         (PrintsFigures (R.remaining first) (W.contents out.old) (W.contents out.new)) }
-    ensures refused { IfErr result (RefusesFigures (R.remaining first)) }
-    ensures unwritten { IfErr result (IsUnwritten out.old out.new) }
-    ensures part { OnErr result
-        (IsNotWhole W.contents (PrintsFigures (R.remaining first)) out.old out.new) }
+    ensures refused { IfErr result
+        (RefusesOrCuts W.contents (RefusesPlanOf (R.remaining first))
+        (PrintsFigures (R.remaining first)) out.old out.new) }
 {
     let store = read_plan_from(alloc, first)?;
     let text = figures_text(alloc, &store)?;
@@ -49,10 +49,9 @@ pub fn print_audit<R: Read + Drop, W: Write>(
     ensures printed { IfOk result (λ refused.
         PrintsAudit (R.remaining first) (W.contents out.old) (W.contents out.new)
         (if refused then 3 else 0)) }
-    ensures refused { IfErr result (RefusesAudit (R.remaining first)) }
-    ensures unwritten { IfErr result (IsUnwritten out.old out.new) }
-    ensures part { OnErr result
-        (IsNotWhole W.contents (AuditsSome (R.remaining first)) out.old out.new) }
+    ensures refused { IfErr result
+        (RefusesOrCuts W.contents (RefusesAudit (R.remaining first))
+        (AuditsSome (R.remaining first)) out.old out.new) }
 {
     let work = read_work(alloc, first)?;
     let audit = audit_report(alloc, &work)?;
@@ -75,11 +74,9 @@ fn print_run<R: Threads + Wait + Sync, F: Read + Drop, S: Read + Drop, W: Write>
     ensures printed { OnOk result
         (PrintsRun (F.remaining first) (S.remaining second) slots (W.contents out.old)
         (W.contents out.new)) }
-    ensures refused { IfErr result (RefusesRun (F.remaining first) (S.remaining second) slots) }
-    ensures unwritten { IfErr result (IsUnwritten out.old out.new) }
-    ensures part { OnErr result
-        (IsNotWhole W.contents (PrintsRun (F.remaining first) (S.remaining second) slots) out.old
-        out.new) }
+    ensures refused { IfErr result
+        (RefusesOrCuts W.contents (RefusesRun (F.remaining first) (S.remaining second) slots)
+        (PrintsRun (F.remaining first) (S.remaining second) slots) out.old out.new) }
 {
     let store = read_plan_from(alloc, first)?;
     run_text(rt, alloc, &store, second, out, slots, workers)
@@ -109,12 +106,9 @@ fn run<R: Threads + Wait + Sync, F: Read + Drop, S: Read + Drop, W: Write, E: Wr
     ensures printed { (outcome_status result ≡ 1)
         ⊎ (PrintsRun (F.remaining first) (S.remaining second) slots (W.contents out.old)
         (W.contents out.new) × (outcome_status result ≡ 0)) }
-    ensures refused { IfErr result
-        (IsFaultOf (RefusesRun (F.remaining first) (S.remaining second) slots)) }
-    ensures unwritten { IfErr result (IsFaultOf (IsUnwritten out.old out.new)) }
-    ensures part { IfErr result (IsFaultOf (λ _.
-        IsNotWhole W.contents (PrintsRun (F.remaining first) (S.remaining second) slots) out.old
-        out.new)) }
+    ensures refused { IfErr result (IsFaultOf
+        (RefusesOrCuts W.contents (RefusesRun (F.remaining first) (S.remaining second) slots)
+        (PrintsRun (F.remaining first) (S.remaining second) slots) out.old out.new)) }
 {
     let count = print_run(rt, alloc, first, second, slots, workers, out)?;
     report_refused(err, &count);
@@ -126,10 +120,9 @@ fn figures<R: Read + Drop, W: Write>(alloc: Global, first: R, out: &mut W) -> Re
     ensures printed { (outcome_status result ≡ 1)
         ⊎ (PrintsFigures (R.remaining first) (W.contents out.old) (W.contents out.new)
         × (outcome_status result ≡ 0)) }
-    ensures refused { IfErr result (IsFaultOf (RefusesFigures (R.remaining first))) }
-    ensures unwritten { IfErr result (IsFaultOf (IsUnwritten out.old out.new)) }
-    ensures part { IfErr result (IsFaultOf (λ _.
-        IsNotWhole W.contents (PrintsFigures (R.remaining first)) out.old out.new)) }
+    ensures refused { IfErr result (IsFaultOf
+        (RefusesOrCuts W.contents (RefusesPlanOf (R.remaining first))
+        (PrintsFigures (R.remaining first)) out.old out.new)) }
 {
     print_figures(alloc, first, out)?;
     Ok(())
@@ -140,10 +133,9 @@ fn audit<R: Read + Drop, W: Write>(alloc: Global, first: R, out: &mut W) -> Resu
     ensures printed { (outcome_status result ≡ 1)
         ⊎ PrintsAudit (R.remaining first) (W.contents out.old) (W.contents out.new)
         (outcome_status result) }
-    ensures refused { IfErr result (IsFaultOf (RefusesAudit (R.remaining first))) }
-    ensures unwritten { IfErr result (IsFaultOf (IsUnwritten out.old out.new)) }
-    ensures part { IfErr result (IsFaultOf (λ _.
-        IsNotWhole W.contents (AuditsSome (R.remaining first)) out.old out.new)) }
+    ensures refused { IfErr result (IsFaultOf
+        (RefusesOrCuts W.contents (RefusesAudit (R.remaining first))
+        (AuditsSome (R.remaining first)) out.old out.new)) }
 {
     if print_audit(alloc, first, out)? {
         return Err(Fault::Certificate);
@@ -170,9 +162,8 @@ pub fn carry_out<R: Threads + Wait + Sync, F: Read + Drop, S: Read + Drop, W: Wr
         ⊎ Prints command.entry (F.remaining first) (S.remaining second) (W.contents out.old)
         (W.contents out.new) (outcome_status result) }
     ensures refused { IfErr result
-        (IsFaultOf (IsRefusedFor W.contents command.entry (F.remaining first) (S.remaining second)
-        out.old
-        out.new)) }
+        (IsFaultOf (IsRefusedFor W.contents command.entry (F.remaining first)
+        (S.remaining second) out.old out.new)) }
 {
     match command {
         Command::Alone => {
@@ -222,8 +213,8 @@ pub fn act<R: Threads + Wait + Sync, F: Read + Drop, S: Read + Drop, W: Write, E
     ensures three { HasThree command.entry (F.remaining first) (W.contents out.old)
         (W.contents out.new) result }
     ensures refused { result ≡ 1
-        → IsRefused W.contents command.entry (F.remaining first) (S.remaining second) out.old
-        out.new }
+        → IsRefused W.contents command.entry (F.remaining first) (S.remaining second)
+        out.old out.new }
 {
     let done = carry_out(rt, alloc, command, first, second, out, err);
     end(err, done)

@@ -1,6 +1,6 @@
 //! Scripts that are run on the dies of a store.
 
-ghost use Rattle.std.specs.Prelude.{◌≡◌, ◌<◌, ◌≤◌, ◌^◌, ℕ, None, All, length, map, true, IfOk, IfErr, OnErr, OnOk};
+ghost use Rattle.std.specs.Prelude.{◌≡◌, ◌<◌, ◌≤◌, ◌^◌, ℕ, None, All, length, map, true, IfOk, IfErr, OnOk};
 ghost use Rattle.slot_types.specs.Refusal.{FailsForMemory};
 ghost use Rattle.plan_rules.specs.Bound.{MeetsBound};
 ghost use Rattle.report_texts.specs.TextSoFar.{die_added, text_so_far};
@@ -8,9 +8,8 @@ ghost use Rattle.task_script.specs.Batches.{Closes, joined_counts, rows_counted}
 ghost use Rattle.task_script.specs.DieReports.{die_report_of};
 ghost use Rattle.task_script.specs.PlannedRuns.{RunsAsPlanned, RunsSo};
 ghost use Rattle.task_script.specs.StoreRuns.{reports_of};
-ghost use Rattle.task_script.specs.TextRuns.{RanScript, RefusesText, RunsText};
+ghost use Rattle.task_script.specs.TextRuns.{RanScript, RefusesOrCuts, RunsText};
 ghost use Rattle.task_script.specs.Feeds.{RefusesScript};
-ghost use Rattle.text_base.specs.Writing.{IsNotWhole};
 
 use crate::batches::{Progress, no_progress, run_rows};
 use crate::die_reports::add_die;
@@ -172,7 +171,7 @@ fn run_script<R: Threads + Wait + Sync, S: Read + Drop>(
 ///
 /// It ends with the first fault of the script, as [`ScriptReader`](crate::ScriptReader) says it; with `ReadFault`; or
 /// with `NoMemory`. Nothing is written before the whole script was read and run, and nothing with these. `WriteFault`
-/// comes where the writer fails: a front of the report was then written that isn't the whole.
+/// comes exactly where the writer fails: a front of the report was then written that isn't the whole.
 pub fn run_text<R: Threads + Wait + Sync, S: Read + Drop, W: Write>(
     rt: &R,
     alloc: Global,
@@ -193,11 +192,9 @@ pub fn run_text<R: Threads + Wait + Sync, S: Read + Drop, W: Write>(
     ensures planned { IfOk result (λ count.
         RunsAsPlanned (S.remaining script) plan.now slots count (W.contents writer.old)
         (W.contents writer.new)) }
-    ensures refused { IfErr result (RefusesText (S.remaining script) (length plan.now) slots) }
-    ensures unwritten { IfErr result (λ refusal.
-        (refusal ≡ Refusal.WriteFault → ⊥) → writer.new ≡ writer.old) }
-    ensures part { OnErr result
-        (IsNotWhole W.contents (RunsSo (S.remaining script) plan.now slots) writer.old writer.new) }
+    ensures refused { IfErr result
+        (RefusesOrCuts W.contents (RefusesScript (S.remaining script) (length plan.now) slots)
+        (RunsSo (S.remaining script) plan.now slots) writer.old writer.new) }
 {
     let ran = run_script(rt, alloc, plan, script, slots, workers)?;
     match ran.text.write(writer) {
