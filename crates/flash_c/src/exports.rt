@@ -21,7 +21,7 @@ use crate::plans::plan_in;
 use crate::shapes::{
     FlashCall, FlashName, FlashOp, FlashPlan, FlashReply, FlashTask, FlashWaived, FlashWhy,
 };
-use crate::slots::{call_of, reply_of};
+use crate::slots::{put_call, reply_of};
 use slot_core::new_reply;
 use slot_types::{JobNo, Op, TaskNo};
 use std::alloc::Global;
@@ -202,7 +202,7 @@ pub extern "C" fn flash_begin(
     put(die, boxed);
     match said {
         Ok(begun) => {
-            *call = call_of(begun);
+            put_call(call, &begun);
             OK
         }
         Err(refusal) => of_step(refusal),

@@ -105,74 +105,61 @@ fn next_job(runs: Option<(JobNo, NextAct)>) -> u32
     }
 }
 
-fn made(
-    slot: u32,
-    act: u32,
-    job: u32,
-    kind: u32,
-    block: u32,
-    page: u32,
-    last: u32,
-    name: FlashName,
-) -> FlashCall
-    ensures { result
-        ≡ record {
-          kind = kind;
-          block = block;
-          page = page;
-          last = last;
-          slot = slot;
-          act = act;
-          job = job;
-          name = name;
-        } }
-{
-    FlashCall {
-        kind,
-        block,
-        page,
-        last,
-        slot,
-        act,
-        job,
-        name,
-    }
-}
-
-pub(crate) fn call_of(begun: Begun) -> FlashCall
-    ensures { result ≡ call_of begun }
+/// Writes what the device is asked, and for whom. Each kind of call is written whole, so that its name is moved once.
+pub(crate) fn put_call(call: &mut FlashCall, begun: &Begun)
+    ensures { call.new ≡ call_of begun.now }
 {
     let slot = begun.slot;
     let act = next_act(begun.runs);
     let job = next_job(begun.runs);
     match begun.call {
-        None => made(slot, act, job, 0, 0, 0, 0, NO_NAME),
-        Some(Call::Read { place, bytes }) => {
-            made(
+        None => {
+            *call = FlashCall {
+                kind: 0,
+                block: 0,
+                page: 0,
+                last: 0,
                 slot,
                 act,
                 job,
-                1,
-                place.block,
-                place.page,
-                0,
-                name_of(bytes),
-            )
+                name: NO_NAME,
+            };
+        }
+        Some(Call::Read { place, bytes }) => {
+            *call = FlashCall {
+                kind: 1,
+                block: place.block,
+                page: place.page,
+                last: 0,
+                slot,
+                act,
+                job,
+                name: name_of(bytes),
+            };
         }
         Some(Call::Program { place, bytes }) => {
-            made(
+            *call = FlashCall {
+                kind: 2,
+                block: place.block,
+                page: place.page,
+                last: 0,
                 slot,
                 act,
                 job,
-                2,
-                place.block,
-                place.page,
-                0,
-                name_of(bytes),
-            )
+                name: name_of(bytes),
+            };
         }
         Some(Call::Erase { block, last }) => {
-            made(slot, act, job, 3, block, 0, flag(last), NO_NAME)
+            *call = FlashCall {
+                kind: 3,
+                block,
+                page: 0,
+                last: flag(last),
+                slot,
+                act,
+                job,
+                name: NO_NAME,
+            };
         }
     }
 }
