@@ -46,7 +46,7 @@ static struct buffer *buffer_of(const struct flash_name *name) {
 static void stage(const uint8_t *payload) {
     struct flash_name name = name_of(payload);
     struct buffer *found = buffer_of(&name);
-    if (found) { found->used++; return; } /* the same payload twice: the program of each lets it go once */
+    if (found) { found->used++; return; } /* the same payload twice: the program of each frees it once */
     for (size_t i = 0; i < BUFFERS; i++)
         if (!buffers[i].used) {
             buffers[i].used = 1;
@@ -59,7 +59,7 @@ static void stage(const uint8_t *payload) {
 
 /* ---- The driver -------------------------------------------------------------------------------------------------- */
 
-/* Does what the die tells the device: whether it went well, and the name of what a read gave. */
+/* Does what the die asks of the device: whether it went well, and the name of what a read gave. */
 static uint32_t drive(const struct flash_call *call, struct flash_name *gave) {
     struct buffer *from;
     switch (call->kind) {
@@ -241,7 +241,7 @@ static uint32_t go_on(flash_die *die, struct flash_why *why) {
                         kept.spare, why);
 }
 
-/* A die is let go and made again, while the chip keeps its pages. */
+/* A die is freed and made again, while the chip keeps its pages. */
 static void show_shutdown(void) {
     static uint8_t payload[PAYLOAD];
     uint32_t job, acts[7] = {0};
@@ -258,7 +258,7 @@ static void show_shutdown(void) {
     check(shut_down(&die, &why) == FLASH_NOT_QUIET && why.first == job, "not while a job waits");
     stage(payload);
     check(slot(&die, &reply) == FLASH_OK && reply.finished, "it is done");
-    check(shut_down(&die, &why) == FLASH_OK, "what stands is told");
+    check(shut_down(&die, &why) == FLASH_OK, "what stands is reported");
     check(!memcmp(&kept.names[3], &write.name, sizeof write.name), "a page's name is what was written last");
     flash_free(&die);
 

@@ -1,11 +1,11 @@
 /* A die of a proved flash translation layer with deadlines, for C and C++. bindings/README.md is the way in.
  *
  * HANDLES. One `struct flash_die` is one die. `{0}` is empty; flash_new fills it, flash_free empties it, and nothing else
- * may look inside. Every other function wants a full one. A handle is never copied: both copies would let the die go. A
+ * may look inside. Every other function wants a full one. A handle is never copied: both copies would free the die. A
  * die is used by one thread at a time, and stays on the thread that made it; several dies share nothing but the heap.
  *
  * POINTERS. None may be null, not even that of an array of no items. Arrays go in as pointer and count. They come out into
- * the caller's array, as far as there is room: items[0..count) are written, and how many there are is told beside them.
+ * the caller's array, as far as there is room: items[0..count) are written, and how many there are is reported beside them.
  *
  * ANSWERS. Each function that answers FLASH_OK or the number of a refusal leaves the die as it was where it is refused,
  * but for FLASH_DEVICE_FAULT of flash_end, and writes through none of its pointers then but `why`. `why` gets the numbers
@@ -126,7 +126,7 @@ typedef struct flash_die { void *at; } flash_die;
  * BAD_SHAPE, BAD_PLAN as flash_plan_bound; NO_MEMORY. The handle stays empty then. */
 uint32_t flash_new(flash_die *die, const struct flash_plan *plan, const struct flash_task *tasks, size_t count);
 
-/* Lets a die go, and leaves its handle empty. */
+/* Frees a die, and leaves its handle empty. */
 void flash_free(flash_die *die);
 
 struct flash_name { uint8_t bytes[16]; }; /* sixteen bytes 0xFF: a page that was never written, or was trimmed since */
@@ -138,7 +138,7 @@ struct flash_op {
     struct flash_name name; /* what a write writes; not looked at else */
 };
 
-/* Accepts a job of 1 to 64 operations, done in order, one a slot, and tells its number: 0, 1, 2, .. in order of acceptance,
+/* Accepts a job of 1 to 64 operations, done in order, one a slot, and reports its number: 0, 1, 2, .. in order of acceptance,
  * jobs and collections counted together. `caller` is any number of yours, which the log keeps. A write takes a token of the
  * task; collections give tokens.
  *
@@ -150,7 +150,7 @@ struct flash_op {
 uint32_t flash_submit(flash_die *die, uint32_t caller, uint32_t task, uint32_t release, uint32_t due,
                       const struct flash_op *ops, size_t count, uint32_t *number, struct flash_why *why);
 
-/* Accepts a collection for the task, and tells its number: it copies what is valid out of the block that has the fewest
+/* Accepts a collection for the task, and reports its number: it copies what is valid out of the block that has the fewest
  * valid pages, erases it, and gives the task up to `alpha` tokens. A collection that comes first while at least `alpha`
  * pages are spare is waived: it does nothing, and gives its tokens.
  *
@@ -180,7 +180,7 @@ struct flash_call {
     struct flash_name name;
 };
 
-/* Begins the present slot, and tells the one call of the device that it needs. The first that stands: DIE_STOPPED; BEGUN;
+/* Begins the present slot, and reports the one call of the device that it needs. The first that stands: DIE_STOPPED; BEGUN;
  * CLOCK_END; NO_MEMORY, never while slots are reserved: nothing has begun then. Every slot that has begun is to be ended. */
 uint32_t flash_begin(flash_die *die, uint32_t caller, struct flash_call *call);
 
@@ -197,8 +197,8 @@ struct flash_reply {
 /* A collection that was waived, and how many tokens it gave its task. */
 struct flash_waived { uint32_t job, given; };
 
-/* Ends the slot that has begun. `ok` is 1 where the device did what it was told, else the device has failed; `name` is that
- * of what a read gave, and isn't looked at else. Tells what the slot did, and the collections that it waived.
+/* Ends the slot that has begun. `ok` is 1 where the device did what it was asked, else the device has failed; `name` is that
+ * of what a read gave, and isn't looked at else. Reports what the slot did, and the collections that it waived.
  *
  * The first that stands: DIE_STOPPED; NOT_BEGUN; DEVICE_FAULT, where `ok` isn't 1, or a read gave another name than the
  * cell was programmed with. It never answers NO_MEMORY.
@@ -228,10 +228,10 @@ struct flash_place { uint32_t block, page; };
 /* How many pages of a block are programmed since its last erase, the first so many, and how often it was erased. */
 struct flash_block { uint32_t filled, erases; };
 
-/* Tells what stands at a moment at which all that was accepted is done or was waived, and leaves the die as it is: by logical
+/* Reports what stands at a moment at which all that was accepted is done or was waived, and leaves the die as it is: by logical
  * page its cell, and its name, which is what was written to it last (sixteen bytes 0xFF where it lies nowhere); by block its
  * counts; by task how many tokens it has; and the pages that are spare. Give places and names as many items as the plan
- * has logical pages, blocks as it has blocks, balances as it has tasks: what is told is whole then, and flash_resume takes it.
+ * has logical pages, blocks as it has blocks, balances as it has tasks: what is reported is whole then, and flash_resume takes it.
  *
  * The first that stands: DIE_STOPPED; BEGUN; NOT_QUIET; WORN_OUT; NO_MEMORY. */
 uint32_t flash_checkpoint(flash_die *die, struct flash_place *places, size_t place_count, struct flash_name *names,
@@ -257,7 +257,7 @@ uint32_t flash_resume(flash_die *die, const struct flash_plan *plan, const struc
 
 uint32_t flash_now(flash_die *die);     /* the present slot: how many were carried out */
 uint64_t flash_len(flash_die *die);     /* the entries of the log: jobs and collections accepted, and slots */
-uint64_t flash_records(flash_die *die); /* the records that these take in memory: stretches of alike entries */
+uint64_t flash_records(flash_die *die); /* the records that these take in memory: runs of alike entries */
 
 struct flash_job { uint32_t collects, task, release, due; }; /* collects is 1 for a collection */
 /* What it was accepted with. UNKNOWN_JOB. */

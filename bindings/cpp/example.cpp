@@ -72,9 +72,9 @@ int main() {
     die.submit(1, 0, 0, 2, {flash::read(5)});
     {
         flash::slot moved_from = die.begin(9);
-        flash::slot let_go = std::move(moved_from);
+        flash::slot destroyed = std::move(moved_from);
         check(refused([&] { moved_from.end(true); }) == FLASH_NOT_BEGUN, "a slot that was moved from isn't ended");
     }
-    check(refused([&] { die.begin(9); }) == FLASH_DIE_STOPPED, "a slot that is let go stops the die");
+    check(refused([&] { die.begin(9); }) == FLASH_DIE_STOPPED, "a slot that is destroyed stops the die");
     std::cout << "all as it should be\n";
 }

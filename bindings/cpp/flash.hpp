@@ -1,7 +1,7 @@
 // A die of a proved flash translation layer with deadlines, for C++17: flash.h with types that see to its rules.
 //
-// A `flash::die` moves and isn't copied, and lets its die go. A `flash::slot` is a slot that has begun: it is ended by `end`,
-// or, where it is let go, as a fault, which stops the die if the device was to do something. What is refused is thrown as a
+// A `flash::die` moves and isn't copied, and frees its die. A `flash::slot` is a slot that has begun: it is ended by `end`,
+// or, where it is destroyed first, as a fault, which stops the die if the device was to do something. What is refused is thrown as a
 // `flash::refusal`. flash.h says what each call does.
 #ifndef FLASH_HPP
 #define FLASH_HPP
@@ -108,10 +108,10 @@ public:
     slot &operator=(slot &&) = delete;
     ~slot() {
         if (handle_) {
-            ::flash_reply told;
+            ::flash_reply said;
             ::flash_waived waived;
             name blank{};
-            ::flash_end(handle_, 0, &blank, &told, &waived, 1);
+            ::flash_end(handle_, 0, &blank, &said, &waived, 1);
         }
     }
 
@@ -121,11 +121,11 @@ public:
     // Ends it: whether the device did that, and the name of what a read gave. NOT_BEGUN where it was ended or moved from.
     reply end(bool ok, const name &gave = {}) {
         if (!handle_) throw refusal(FLASH_NOT_BEGUN);
-        reply told{};
+        reply said{};
         std::array<::flash_waived, 16> waived{};
-        must(::flash_end(std::exchange(handle_, nullptr), ok ? 1 : 0, &gave, &told, waived.data(), waived.size()));
-        told.waived_ones.assign(waived.begin(), waived.begin() + told.waived);
-        return told;
+        must(::flash_end(std::exchange(handle_, nullptr), ok ? 1 : 0, &gave, &said, waived.data(), waived.size()));
+        said.waived_ones.assign(waived.begin(), waived.begin() + said.waived);
+        return said;
     }
 
 private:
@@ -136,7 +136,7 @@ private:
 };
 
 // One die. It is used by one thread at a time, and stays on its thread. A die that was moved from may only be assigned to or
-// let go.
+// destroyed.
 class die {
 public:
     die(const plan &p, const std::vector<task> &tasks) {
@@ -198,9 +198,9 @@ public:
 
     // The slot may not outlive the die, but the die may be moved meanwhile.
     slot begin(std::uint32_t caller) {
-        flash::call told{};
-        must(::flash_begin(handle_, caller, &told));
-        return slot(handle_, told);
+        flash::call said{};
+        must(::flash_begin(handle_, caller, &said));
+        return slot(handle_, said);
     }
 
     void reserve(std::uint32_t slots) { must(::flash_reserve(handle_, slots)); }
@@ -212,17 +212,17 @@ public:
 
     // What stands, with the names of the pages. The die stays as it is.
     flash::checkpoint checkpoint() {
-        flash::checkpoint told;
-        told.places.resize(size_.logical);
-        told.names.resize(size_.logical);
-        told.blocks.resize(size_.blocks);
-        told.balances.resize(tasks_);
+        flash::checkpoint said;
+        said.places.resize(size_.logical);
+        said.names.resize(size_.logical);
+        said.blocks.resize(size_.blocks);
+        said.balances.resize(tasks_);
         ::flash_why why{0, 0};
-        must(::flash_checkpoint(handle_, told.places.data(), told.places.size(), told.names.data(), told.names.size(),
-                                told.blocks.data(), told.blocks.size(), told.balances.data(), told.balances.size(),
-                                &told.spare, &why),
+        must(::flash_checkpoint(handle_, said.places.data(), said.places.size(), said.names.data(), said.names.size(),
+                                said.blocks.data(), said.blocks.size(), said.balances.data(), said.balances.size(),
+                                &said.spare, &why),
              why);
-        return told;
+        return said;
     }
 
     std::uint32_t now() const { return ::flash_now(handle_); }
@@ -230,44 +230,44 @@ public:
     std::uint64_t records() const { return ::flash_records(handle_); }
 
     job_head job(std::uint32_t number) const {
-        job_head told{};
-        must(::flash_job(handle_, number, &told));
-        return told;
+        job_head said{};
+        must(::flash_job(handle_, number, &said));
+        return said;
     }
 
     flash::outcome outcome(std::uint32_t job) const {
-        flash::outcome told{};
+        flash::outcome said{};
         std::array<name, 64> reads{};
-        must(::flash_outcome(handle_, job, &told, reads.data(), reads.size()));
-        told.read_names.assign(reads.begin(), reads.begin() + told.reads);
-        return told;
+        must(::flash_outcome(handle_, job, &said, reads.data(), reads.size()));
+        said.read_names.assign(reads.begin(), reads.begin() + said.reads);
+        return said;
     }
 
     worst_job worst() const {
-        worst_job told{};
-        must(::flash_worst(handle_, &told));
-        return told;
+        worst_job said{};
+        must(::flash_worst(handle_, &said));
+        return said;
     }
 
     flash::certificate certificate() const {
-        flash::certificate told{};
-        for (told.listed.resize(64);; told.listed.resize(told.jobs)) {
-            must(::flash_certificate(handle_, &told, told.listed.data(), told.listed.size()));
-            if (told.jobs <= told.listed.size()) break;
+        flash::certificate said{};
+        for (said.listed.resize(64);; said.listed.resize(said.jobs)) {
+            must(::flash_certificate(handle_, &said, said.listed.data(), said.listed.size()));
+            if (said.jobs <= said.listed.size()) break;
         }
-        told.listed.resize(told.jobs);
-        return told;
+        said.listed.resize(said.jobs);
+        return said;
     }
 
     std::vector<row> rows() const {
-        std::vector<row> told(64);
+        std::vector<row> said(64);
         std::uint32_t total = 0;
-        for (;; told.resize(total)) {
-            must(::flash_rows(handle_, told.data(), told.size(), &total));
-            if (total <= told.size()) break;
+        for (;; said.resize(total)) {
+            must(::flash_rows(handle_, said.data(), said.size(), &total));
+            if (total <= said.size()) break;
         }
-        told.resize(total);
-        return told;
+        said.resize(total);
+        return said;
     }
 
 private:

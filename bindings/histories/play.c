@@ -104,7 +104,7 @@ static uint32_t jobs; /* that were accepted */
 static uint32_t words;
 static int begun; /* a slot has begun */
 
-static void tell(uint32_t code, const struct flash_why *why, uint32_t number) {
+static void report(uint32_t code, const struct flash_why *why, uint32_t number) {
     if (code == FLASH_OK) fprintf(answers, "taken %" PRIu32 "\n", number), jobs++;
     else fprintf(answers, "refused %" PRIu32 " %" PRIu32 " %" PRIu32 "\n", code, why->first, why->second);
 }
@@ -135,7 +135,7 @@ static void submit(flash_die *die, uint32_t least_release) {
     for (uint32_t i = 0; i < count; i++)
         fprintf(script, " %" PRIu32 " %" PRIu32 " %" PRIu32, ops[i].kind, ops[i].page, word_of(&ops[i].name));
     fputc('\n', script);
-    tell(code, &why, number);
+    report(code, &why, number);
 }
 
 static void collect(flash_die *die, uint32_t least_release) {
@@ -147,7 +147,7 @@ static void collect(flash_die *die, uint32_t least_release) {
     uint32_t code = flash_collect(die, 7, task, release, due, &number, &why);
     if (held_back(die, code, release)) return;
     fprintf(script, "collect 7 %" PRIu32 " %" PRIu32 " %" PRIu32 "\n", task, release, due);
-    tell(code, &why, number);
+    report(code, &why, number);
 }
 
 /* Every question: the moment, the worst and its certificate, the rows, and one job. */
@@ -208,7 +208,7 @@ static int slot(flash_die *die) {
         check(flash_begin(die, 9, &call) == FLASH_DIE_STOPPED, "the die is stopped");
         return 0;
     }
-    check(reply.slot == call.slot && reply.act == call.act && reply.job == call.job, "the slot did what was told");
+    check(reply.slot == call.slot && reply.act == call.act && reply.job == call.job, "the slot did what was announced");
     fprintf(answers, "slot %" PRIu32 " %" PRIu32 " %" PRIu32 " %" PRIu32 " %" PRIu32 " %" PRIu32, reply.slot, reply.act, reply.job, reply.page,
             reply.finished, word_of(&reply.name));
     for (uint32_t i = 0; i < reply.waived; i++) fprintf(answers, " %" PRIu32 " %" PRIu32, waived[i].job, waived[i].given);
@@ -216,7 +216,7 @@ static int slot(flash_die *die) {
     return 1;
 }
 
-/* A renewal; or the die is let go and made again from its checkpoint, which has to come to the same. */
+/* A renewal; or the die is freed and made again from its checkpoint, which has to come to the same. */
 static uint32_t start_anew(flash_die *die, struct flash_why *why) {
     static struct flash_place places[64];
     static struct flash_name names[64];

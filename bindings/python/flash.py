@@ -114,7 +114,7 @@ def check(rows, certificate):
 
 
 class Die:
-    """One die, of one thread; `with` lets it go."""
+    """One die, of one thread; `with` frees it."""
 
     def __init__(self, plan, tasks, checkpoint=None):
         """A die over a chip that is erased; with a checkpoint one that goes on from there, over a chip that is as that says."""
@@ -155,7 +155,7 @@ class Die:
     @property
     def _die(self):
         if self._at is None:
-            raise ValueError("the die was let go")
+            raise ValueError("the die was freed")
         return c.byref(self._at)
 
     def submit(self, task, release, due, ops, caller=0):
@@ -172,20 +172,20 @@ class Die:
         return number.value
 
     def begin(self, caller=0):
-        """Begins the present slot, and tells what the device is to do."""
+        """Begins the present slot, and reports what the device is to do."""
         call = _Call()
         _must(_lib.flash_begin(self._die, U32(caller), c.byref(call)))
         return Call(call.kind, call.block, call.page, call.last == 1, call.slot, call.act, call.job, bytes(call.name))
 
     def end(self, ok, name=BLANK):
         """Ends the slot that has begun: whether the device did it, and the name of what a read gave."""
-        told, waived = _Reply(), (_Waived * 16)()
-        _must(_lib.flash_end(self._die, U32(1 if ok else 0), c.byref(_Name(*name)), c.byref(told), waived, c.c_size_t(16)))
-        return Reply(told.slot, told.act, told.job, told.page, told.finished == 1,
-                     [Waived(w.job, w.given) for w in waived[:told.waived]], bytes(told.name))
+        said, waived = _Reply(), (_Waived * 16)()
+        _must(_lib.flash_end(self._die, U32(1 if ok else 0), c.byref(_Name(*name)), c.byref(said), waived, c.c_size_t(16)))
+        return Reply(said.slot, said.act, said.job, said.page, said.finished == 1,
+                     [Waived(w.job, w.given) for w in waived[:said.waived]], bytes(said.name))
 
     def slot(self, drive, caller=0):
-        """One slot. drive(call) does what is told on the device, and answers (ok, name). Where it raises, the slot is a fault."""
+        """One slot. drive(call) does what is asked on the device, and answers (ok, name). Where it raises, the slot is a fault."""
         call = self.begin(caller)
         try:
             ok, name = drive(call)
@@ -229,9 +229,9 @@ class Die:
         return Job(job.collects == 1, job.task, job.release, job.due)
 
     def outcome(self, job):
-        told, reads = _Outcome(), (_Name * 64)()
-        _must(_lib.flash_outcome(self._die, U32(job), c.byref(told), reads, c.c_size_t(64)))
-        return Outcome(told.state, told.completion, told.lateness, told.given, [bytes(r) for r in reads[:told.reads]])
+        said, reads = _Outcome(), (_Name * 64)()
+        _must(_lib.flash_outcome(self._die, U32(job), c.byref(said), reads, c.c_size_t(64)))
+        return Outcome(said.state, said.completion, said.lateness, said.given, [bytes(r) for r in reads[:said.reads]])
 
     def worst(self):
         worst = _Worst()
@@ -239,9 +239,9 @@ class Die:
         return Worst(worst.job, worst.lateness)
 
     def certificate(self):
-        told, jobs = _Certificate(), (U32 * 65536)()
-        _must(_lib.flash_certificate(self._die, c.byref(told), jobs, c.c_size_t(65536)))
-        return Certificate(told.job, told.start, told.due, told.completion, jobs[:told.jobs])
+        said, jobs = _Certificate(), (U32 * 65536)()
+        _must(_lib.flash_certificate(self._die, c.byref(said), jobs, c.c_size_t(65536)))
+        return Certificate(said.job, said.start, said.due, said.completion, jobs[:said.jobs])
 
     def rows(self):
         rows, total = (_Row * 65536)(), U32()

@@ -36,7 +36,7 @@ impl Driver {
         name
     }
 
-    /// Does what the die tells: whether it went well, and the name of what a read gave.
+    /// Does what the die asks: whether it went well, and the name of what a read gave.
     fn drive(&mut self, call: Call) -> (bool, Name) {
         match call {
             Call::Nothing => (true, Name::BLANK),
@@ -150,7 +150,7 @@ fn main() -> Result<(), Refusal> {
     assert_eq!(play(&mut die, &mut driver, 200), Err(Refusal::DeviceFault));
     println!("a program that fails stops the die");
 
-    // The die is let go and made again from its checkpoint; the chip keeps its pages.
+    // The die is dropped and made again from its checkpoint; the chip keeps its pages.
     let (mut die, mut driver) = made()?;
     play(&mut die, &mut driver, 30)?;
     let mut checkpoint = die.checkpoint()?;
@@ -164,12 +164,12 @@ fn main() -> Result<(), Refusal> {
     play(&mut die, &mut driver, 30)?;
     println!("a shutdown, and a die that goes on");
 
-    // A slot that is let go stops a die, too.
+    // A slot that is dropped stops a die, too.
     let (mut die, _) = made()?;
     die.submit(1, 0, 0, 1, &[Op::Write(0, Name::BLANK)])?;
     drop(die.begin(9)?);
     assert!(matches!(die.begin(9), Err(Refusal::DieStopped)));
-    println!("a slot that is let go stops the die");
+    println!("a slot that is dropped stops the die");
     println!("all as it should be");
     Ok(())
 }

@@ -154,8 +154,8 @@ pub struct Reply {
 }
 
 impl Reply {
-    pub(crate) fn of(told: &raw::Reply, waived: &[raw::Waived]) -> Reply {
-        let raw::Reply { slot, act, job, page, finished, waived: count, name } = *told;
+    pub(crate) fn of(said: &raw::Reply, waived: &[raw::Waived]) -> Reply {
+        let raw::Reply { slot, act, job, page, finished, waived: count, name } = *said;
         Reply {
             slot,
             act: match act {

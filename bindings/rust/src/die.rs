@@ -186,25 +186,25 @@ impl Die {
         unsafe { raw::flash_len(self.at()) }
     }
 
-    /// How many records these take in memory: stretches of alike entries.
+    /// How many records these take in memory: runs of alike entries.
     pub fn records(&self) -> u64 {
         unsafe { raw::flash_records(self.at()) }
     }
 
     /// What a job or a collection was accepted with. `UnknownJob` where there is none of that number.
     pub fn job(&self, number: u32) -> Result<Job, Refusal> {
-        let mut told = raw::Job::default();
-        plain(unsafe { raw::flash_job(self.at(), number, &mut told) })?;
-        let raw::Job { collects, task, release, due } = told;
+        let mut said = raw::Job::default();
+        plain(unsafe { raw::flash_job(self.at(), number, &mut said) })?;
+        let raw::Job { collects, task, release, due } = said;
         Ok(Job { collects: collects == 1, task, release, due })
     }
 
     /// What became of a job or a collection. `UnknownJob`; `NoMemory`.
     pub fn outcome(&self, job: u32) -> Result<Outcome, Refusal> {
-        let mut told = raw::Outcome::default();
+        let mut said = raw::Outcome::default();
         let mut reads = [Name::BLANK; 64]; // a job has 64 operations at most
-        plain(unsafe { raw::flash_outcome(self.at(), job, &mut told, reads.as_mut_ptr(), reads.len()) })?;
-        let raw::Outcome { lateness, state, completion, given, reads: count } = told;
+        plain(unsafe { raw::flash_outcome(self.at(), job, &mut said, reads.as_mut_ptr(), reads.len()) })?;
+        let raw::Outcome { lateness, state, completion, given, reads: count } = said;
         Ok(match state {
             0 => Outcome::Waiting,
             1 => Outcome::Done { completion, lateness, given, reads: reads[..count as usize].to_vec() },
@@ -214,18 +214,18 @@ impl Die {
 
     /// The done job or collection with the greatest lateness. `NothingDone`.
     pub fn worst(&self) -> Result<Worst, Refusal> {
-        let mut told = raw::Worst::default();
-        plain(unsafe { raw::flash_worst(self.at(), &mut told) })?;
-        Ok(Worst { job: told.job, lateness: told.lateness })
+        let mut said = raw::Worst::default();
+        plain(unsafe { raw::flash_worst(self.at(), &mut said) })?;
+        Ok(Worst { job: said.job, lateness: said.lateness })
     }
 
     /// The certificate of the worst. `NothingDone`, `NoMemory`.
     pub fn certificate(&self) -> Result<Certificate, Refusal> {
         let mut jobs = vec![0; 64];
         loop {
-            let mut told = raw::Certificate::default();
-            plain(unsafe { raw::flash_certificate(self.at(), &mut told, jobs.as_mut_ptr(), jobs.len()) })?;
-            let raw::Certificate { job, start, due, completion, jobs: count } = told;
+            let mut said = raw::Certificate::default();
+            plain(unsafe { raw::flash_certificate(self.at(), &mut said, jobs.as_mut_ptr(), jobs.len()) })?;
+            let raw::Certificate { job, start, due, completion, jobs: count } = said;
             if count as usize <= jobs.len() {
                 jobs.truncate(count as usize);
                 return Ok(Certificate { job, start, due, completion, jobs });
@@ -257,7 +257,7 @@ impl Drop for Die {
 
 /// A slot that has begun. It derefs to the die for questions, which are answered by the log without it.
 ///
-/// One that is let go without an end is ended as a fault, which stops the die if the device was to do something.
+/// One that is dropped without an end is ended as a fault, which stops the die if the device was to do something.
 pub struct Slot<'a> {
     die: &'a mut Die,
     call: raw::Call,
@@ -296,12 +296,12 @@ impl Slot<'_> {
     }
 
     fn finish(&mut self, ok: bool, name: Name) -> Result<Reply, Refusal> {
-        let mut told = raw::Reply::default();
+        let mut said = raw::Reply::default();
         let mut waived = [raw::Waived::default(); 16]; // one a task at most
         plain(unsafe {
-            raw::flash_end(self.die.at(), u32::from(ok), &name, &mut told, waived.as_mut_ptr(), waived.len())
+            raw::flash_end(self.die.at(), u32::from(ok), &name, &mut said, waived.as_mut_ptr(), waived.len())
         })?;
-        Ok(Reply::of(&told, &waived))
+        Ok(Reply::of(&said, &waived))
     }
 }
 

@@ -1,6 +1,6 @@
 //! A die of a proved flash translation layer with deadlines.
 //!
-//! A slot goes in two steps. [`Die::begin`] chooses what the slot carries and tells the one call of the device that it
+//! A slot goes in two steps. [`Die::begin`] chooses what the slot carries and reports the one call of the device that it
 //! needs, the driver does it, and [`Slot::end`] takes what the device answered. A device that failed, or that gave another
 //! name than the cell was programmed with, stops the die for good.
 //!

@@ -9,7 +9,7 @@ use types.Part.{agg}
 use contract.Monad.{fact, fact_i}
 use denote.Exit.{yes}
 use denote.Builtin.{RawPtr}
-use denote.RawPtr.{ptr_val, rawptr_vals, rawptr_Says, rawptr_Lawful}
+use denote.RawPtr.{ptr_val, rawptr_vals, rawptr_Tells, rawptr_Lawful}
 use denote.Signature.{plain}
 use denote.Steps.{nothing}
 use denote.Triple.Entry.{on_entry}
@@ -28,7 +28,7 @@ empty_spec 𝓤 𝓛 𝓜 𝓡 wired =
     let hs : Stays ended.signature.params ended.kept = (stay_dropped (plain (λ _. RawPtr)) yes, tt) in
     let nothing_held : Option SteppedDie = None in
     proved 𝓛 ended hs c 𝓜 𝓡 (Goes-dropped 𝓛 0 (plain (λ _. RawPtr)) yes (λ κs x f. refl), tt) #self code.function (code.unfolded 𝓤 H 𝓜 𝓡 wired)
-    (λ κs. (rawptr_vals, tt)) (λ κs. (rawptr_Says, tt)) (λ κs qs bounds a g are.
+    (λ κs. (rawptr_vals, tt)) (λ κs. (rawptr_Tells, tt)) (λ κs qs bounds a g are.
     let p = a.0 in let z : (walk_of 𝓛 ended hs c).Ghost = ((κs, qs, bounds, a, (rawptr_vals p, tt)), g) in
     qed 𝓛 (raw (on_entry 𝓛 signature κs qs a (rawptr_vals p, tt)) ∷ ‵ ftrue ∷ []) ∵
     enter ! _ _ _ _ _ $ alloc_all ! (λ l. pass_all ! refl ((rawptr_Lawful 𝓛).typed p _ refl) $
