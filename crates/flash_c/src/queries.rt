@@ -102,7 +102,8 @@ pub extern "C" fn flash_outcome(
         outcome.new ≡ says.outcome_of said) }
     ensures reads { result ≡ 0 → IsSomeAnd (outcome_at held.core.start held.core.log job) (λ said.
         reads.new ≡ array_with name_of reads.old (says.reads_in said)) }
-    ensures unknown { result ≢ 0 → (result ≡ 17) ⊎ (result ≡ 1) }
+    ensures unknown { (result ≡ 17) ↔ (job_at held.core.log job ≡ None) }
+    ensures refused { result ≢ 0 → (result ≡ 17) ⊎ (result ≡ 1) }
     ensures silent { result ≢ 0 → (outcome.new ≡ outcome.old) × (reads.new ≡ reads.old) }
 {
     let boxed = take(alloc, die);
@@ -167,6 +168,7 @@ pub extern "C" fn flash_certificate(
     ensures jobs { result ≡ 0 → IsSomeAnd (certificate held.core.start.plan held.core.log) (λ built.
         jobs.new ≡ array_with says.number_in jobs.old built.jobs) }
     ensures nothing { result ≡ 103 → certificate held.core.start.plan held.core.log ≡ None }
+    ensures refused { result ≢ 0 → (result ≡ 103) ⊎ (result ≡ 1) }
     ensures silent { result ≢ 0 → (said.new ≡ said.old) × (jobs.new ≡ jobs.old) }
 {
     let boxed = take(alloc, die);
