@@ -91,7 +91,7 @@ fn end_explained<E: Write>(err: &mut E, explained: Result<bool, RunFault>) -> u8
 /// Prints what is said of a plan, and of a checkpoint of its dies if there is one, whole. Answers the status: 0 where the
 /// plan is accepted, and 1 where it isn't, or where something was refused, which is reported; nothing was written then,
 /// or not the whole.
-#[tactic(auto, using(crate::proofs::Endings::ends_explained))]
+#[tactic(auto, using(crate::proofs::EndedSo::ends_explained))]
 pub fn act_explain<P: Read + Drop, C: Read + Drop, W: Write, E: Write>(
     alloc: Global,
     plan: P,
