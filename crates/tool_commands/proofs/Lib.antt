@@ -1,3 +1,3 @@
 mod Audits
-mod Endings
+mod EndedSo
 mod Opened

@@ -137,7 +137,7 @@ worse_of status (Ok true) = if status == 1 then 1 else 3
 worse_of status (Ok false) = status
 
 -- the files of these names are audited, each in its turn, and the worst status of all, and of one before them, is this
-pub AuditsFiles : FileContents → List (Bor (List ℕ)) → ℕ → ℕ → Type 0
+abbrev pub AuditsFiles : FileContents → List (Bor (List ℕ)) → ℕ → ℕ → Type 0
 AuditsFiles held [] before worst = worst ≡ before
 AuditsFiles held (name ∷ names) before worst =
     (audited : Result Bool Refusal) × IsAudited (held name.now) audited × AuditsFiles held names (worse_of before audited) worst

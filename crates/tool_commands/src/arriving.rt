@@ -87,7 +87,7 @@ fn end_unplanned<E: Write>(err: &mut E, fault: Unplanned) -> u8
 
 /// Prints the script of a plan's arrivals, whole. Answers the status: 0, or 1 where something was refused, which is
 /// reported: nothing was written then, or not the whole.
-#[tactic(auto, using(crate::proofs::Endings::ends))]
+#[tactic(auto, using(crate::proofs::EndedSo::ends))]
 pub fn act_arrivals<R: Read + Drop, W: Write, E: Write>(
     alloc: Global,
     plan: R,

@@ -168,7 +168,7 @@ pub fn act_run<P: Read + Drop, S: Read + Drop, C: Read + Drop, K: Shelf, W: Writ
     err: &mut E,
 ) -> u8
     requires slots { slots ≤ MAX_SLOT }
-    ensures { EndsRun W.contents (is_none to) out.old out.new result }
+    ensures { EndsRun W.contents (is_none to.entry) out.old out.new result }
 {
     let Kept { from, shelf } = kept;
     let ran = match print_run(alloc, plan, script, from, slots, to.is_some(), out) {

@@ -51,7 +51,7 @@ fn end_compared<E: Write>(err: &mut E, compared: Result<(), CompareFault>) -> u8
 
 /// Prints how late the jobs of a script were on the store and by plain layers, whole. Answers the status: 0, or 1 where
 /// something was refused, which is reported: nothing was written then, or not the whole.
-#[tactic(auto, using(crate::proofs::Endings::ends))]
+#[tactic(auto, using(crate::proofs::EndedSo::ends))]
 pub fn act_compare<P: Read + Drop, S: Read + Drop, W: Write, E: Write>(
     alloc: Global,
     plan: P,

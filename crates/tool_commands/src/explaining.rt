@@ -2,7 +2,7 @@
 
 ghost use Rattle.std.specs.Prelude.{◌≡◌, IfErr, IfOk, OnErr};
 ghost use Rattle.text_base.specs.Writing.{IsNotWhole};
-ghost use Rattle.tool_commands.specs.Acts.{EndsSaying, Explains, IsHostFault, Says, accepted_status, explained_status};
+ghost use Rattle.tool_commands.specs.Acts.{EndsSaying, Explains, IsHostFault, Says, SaysOf, accepted_status, explained_status};
 
 use crate::checkpoint_acts::{end_unrun, saved_in};
 use crate::endings::end_refused;
@@ -12,7 +12,17 @@ use std::alloc::Global;
 use std::io::{Read, Write};
 use text_base::write_whole;
 use tool_checkpoint_runs::{RunFault, explain as explain_checkpoint};
-use tool_plan_design::explain;
+use tool_plan_design::{Explained, explain};
+
+/// What is said of a plan.
+fn explained_of<R: Read + Drop>(alloc: Global, plan: R) -> Result<Explained, Refusal>
+    ensures said { IfOk result (λ explained.
+        SaysOf (R.remaining plan) explained.is_accepted) }
+    ensures refused { IfErr result IsHostFault }
+{
+    let text = plan_text(alloc, plan)?;
+    explain(alloc, &text)
+}
 
 /// Prints what is said of a plan, and says whether it is accepted.
 fn print_explained<R: Read + Drop, W: Write>(
@@ -26,8 +36,7 @@ fn print_explained<R: Read + Drop, W: Write>(
         (IsNotWhole W.contents (Says (Explains (R.remaining plan))) out.old out.new) }
     ensures refused { IfErr result IsHostFault }
 {
-    let text = plan_text(alloc, plan)?;
-    let explained = explain(alloc, &text)?;
+    let explained = explained_of(alloc, plan)?;
     write_whole(out, &explained.text)?;
     Ok(explained.is_accepted)
 }
@@ -44,6 +53,23 @@ fn add_checkpoint<C: Read + Drop>(
     explain_checkpoint(alloc, text, &store, &saved)
 }
 
+/// What is said of a plan, and, where it is accepted, of a checkpoint of its dies.
+fn explained_from<P: Read + Drop, C: Read + Drop>(
+    alloc: Global,
+    plan: P,
+    from: C,
+) -> Result<Explained, RunFault>
+    ensures said { IfOk result (λ explained.
+        SaysOf (P.remaining plan) explained.is_accepted) }
+{
+    let text = plan_text(alloc, plan)?;
+    let mut explained = explain(alloc, &text)?;
+    if explained.is_accepted {
+        add_checkpoint(alloc, &text, from, &mut explained.text)?;
+    }
+    Ok(explained)
+}
+
 /// Prints what is said of a plan, and, where it is accepted, of a checkpoint of its dies. Says whether it is accepted.
 fn print_explained_from<P: Read + Drop, C: Read + Drop, W: Write>(
     alloc: Global,
@@ -56,11 +82,7 @@ fn print_explained_from<P: Read + Drop, C: Read + Drop, W: Write>(
     ensures part { OnErr result
         (IsNotWhole W.contents (Says (Explains (P.remaining plan))) out.old out.new) }
 {
-    let text = plan_text(alloc, plan)?;
-    let mut explained = explain(alloc, &text)?;
-    if explained.is_accepted {
-        add_checkpoint(alloc, &text, from, &mut explained.text)?;
-    }
+    let explained = explained_from(alloc, plan, from)?;
     write_whole(out, &explained.text)?;
     Ok(explained.is_accepted)
 }
@@ -91,7 +113,7 @@ fn end_explained<E: Write>(err: &mut E, explained: Result<bool, RunFault>) -> u8
 /// Prints what is said of a plan, and of a checkpoint of its dies if there is one, whole. Answers the status: 0 where the
 /// plan is accepted, and 1 where it isn't, or where something was refused, which is reported; nothing was written then,
 /// or not the whole.
-#[tactic(auto, using(crate::proofs::Endings::ends_explained))]
+#[tactic(auto, using(crate::proofs::EndedSo::ends_explained))]
 pub fn act_explain<P: Read + Drop, C: Read + Drop, W: Write, E: Write>(
     alloc: Global,
     plan: P,

@@ -45,7 +45,7 @@ fn end_fit<E: Write>(err: &mut E, fitted: Result<(), FitFault>) -> u8
 
 /// Prints the plan that is found for a datasheet, whole. Answers the status: 0; 3 where none was found, which is reported,
 /// and nothing written; 1 where something was refused, which is reported: nothing was written then, or not the whole.
-#[tactic(auto, using(crate::proofs::Endings::ends_fit))]
+#[tactic(auto, using(crate::proofs::EndedSo::ends_fit))]
 pub fn act_fit<R: Read + Drop, W: Write, E: Write>(
     alloc: Global,
     sheet: R,

@@ -82,7 +82,7 @@ fn end_kept<E: Write>(err: &mut E, kept: Result<Option<bool>, Refusal>) -> u8
 /// Prints whether a script keeps the plans of its dies, whole, or what breaks one. Answers the status: 0 where it keeps
 /// them, 3 where it doesn't, 1 where something was refused, which is reported: nothing was written then, or not the
 /// whole.
-#[tactic(auto, using(crate::proofs::Endings::ends_kept))]
+#[tactic(auto, using(crate::proofs::EndedSo::ends_kept))]
 pub fn act_keeps<P: Read + Drop, S: Read + Drop, W: Write, E: Write>(
     alloc: Global,
     plan: P,

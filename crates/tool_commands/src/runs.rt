@@ -35,7 +35,7 @@ fn print_wear<P: Read + Drop, S: Read + Drop, W: Write>(
 
 /// Prints what a run wore, whole. Answers the status: 0, or 1 where something was refused, which is reported: nothing
 /// was written then, or not the whole.
-#[tactic(auto, using(crate::proofs::Endings::ends))]
+#[tactic(auto, using(crate::proofs::EndedSo::ends))]
 pub fn act_wear<P: Read + Drop, S: Read + Drop, W: Write, E: Write>(
     alloc: Global,
     plan: P,
@@ -87,7 +87,7 @@ fn end_report<E: Write>(err: &mut E, ran: Result<(RefusedRows, Option<Failure>),
 
 /// Prints what a run came to, whole. Answers the status: 0, or 1 where something was refused, which is reported: nothing
 /// was written then, or not the whole.
-#[tactic(auto, using(crate::proofs::Endings::ends))]
+#[tactic(auto, using(crate::proofs::EndedSo::ends))]
 pub fn act_report<P: Read + Drop, S: Read + Drop, W: Write, E: Write>(
     alloc: Global,
     plan: P,
@@ -185,7 +185,7 @@ fn many_of(shown: Shown, slots: u32) -> u32 {
 
 /// Prints the picture of what the slots of a die carried, whole. Answers the status: 0, or 1 where something was refused,
 /// which is reported: nothing was written then, or not the whole.
-#[tactic(auto, using(crate::proofs::Endings::ends))]
+#[tactic(auto, using(crate::proofs::EndedSo::ends))]
 pub fn act_draw<P: Read + Drop, S: Read + Drop, W: Write, E: Write>(
     alloc: Global,
     plan: P,
