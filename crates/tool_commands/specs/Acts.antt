@@ -10,7 +10,6 @@ use Rattle.plan_texts.specs.PlanReading.{IsStoreOf}
 use Rattle.text_base.specs.Readings.{IsOutside}
 use Rattle.text_base.specs.Writing.{IsNotWhole}
 use Rattle.tool_watched_runs.specs.WearText.{IsWearText}
-use Rattle.tool_commands.specs.declared.keeping.TheConstants.{KEPT}
 use Rattle.tool_plan_arrivals.specs.PlannedScripts.{IsPlannedScript}
 use Rattle.tool_plan_design.specs.AcceptedPlans.{IsAccepted}
 use Rattle.tool_plan_fit.specs.Fits.{IsPassingPlan}
@@ -95,7 +94,7 @@ pub record PrintsWear (plan : Option (List ℕ)) (old new : Option (List ℕ)) :
 
 -- whether a script keeps the plans of its dies is printed: that it does, or what breaks one
 abbrev pub PrintsKept : Option (List ℕ) → Option (List ℕ) → ℕ → Bool → Option (List ℕ) → Option (List ℕ) → Type 0
-PrintsKept plan script slots true old new = KeepsPlans plan script slots × Appends old new KEPT.now
+PrintsKept plan script slots true old new = KeepsPlans plan script slots × PrintsText old new
 PrintsKept plan script slots false old new = BreaksPlans plan script slots × PrintsText old new
 
 -- no plan was found for a datasheet

@@ -21,7 +21,7 @@ const TIMES_WANTED: &str =
     "keeps wants a plan with times (version 2) that is accepted: flashplan explain says more";
 
 /// What is printed of a script that keeps the plans of its dies.
-pub const KEPT: &[u8] = b"the script keeps the plan of each die\n";
+const KEPT: &[u8] = b"the script keeps the plan of each die\n";
 
 /// Prints whether a script keeps the plans of its dies, and says whether it does; none where it doesn't, and no
 /// condition was found that doesn't hold, which is a fault of this program.
@@ -46,7 +46,8 @@ fn print_kept<P: Read + Drop, S: Read + Drop, W: Write>(
     let text = script_text(alloc, script)?;
     match keep(alloc, &text, &store, slots)? {
         Verdict::Kept => {
-            write_whole(out, KEPT)?;
+            let said = Vec::from_slice(alloc, KEPT)?;
+            write_whole(out, &said)?;
             Ok(Some(true))
         }
         Verdict::Broken(broken) => {
