@@ -92,10 +92,14 @@ pub record PrintsWear (plan : Option (List ℕ)) (old new : Option (List ℕ)) :
   pub worn : IsWearText store text
   pub written : Appends old new text
 
--- whether a script keeps the plans of its dies is printed: that it does, or what breaks one
+-- a script keeps the plans of its dies, or breaks one
+abbrev pub SaysKept : Option (List ℕ) → Option (List ℕ) → ℕ → Bool → Type 0
+SaysKept plan script slots true = KeepsPlans plan script slots
+SaysKept plan script slots false = BreaksPlans plan script slots
+
+-- which of both it is is printed
 abbrev pub PrintsKept : Option (List ℕ) → Option (List ℕ) → ℕ → Bool → Option (List ℕ) → Option (List ℕ) → Type 0
-PrintsKept plan script slots true old new = KeepsPlans plan script slots × PrintsText old new
-PrintsKept plan script slots false old new = BreaksPlans plan script slots × PrintsText old new
+PrintsKept plan script slots keeps old new = SaysKept plan script slots keeps × PrintsText old new
 
 -- no plan was found for a datasheet
 abbrev pub IsUnfound : Result (Unit {0}) FitFault → Type 0

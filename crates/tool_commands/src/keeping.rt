@@ -2,7 +2,7 @@
 
 ghost use Rattle.std.specs.Prelude.{◌≡◌, ◌≢◌, ◌≤◌, IfOk, IfSome, None, Ok, OnErr, option_to_list};
 ghost use Rattle.text_base.specs.Writing.{IsNotWhole};
-ghost use Rattle.tool_commands.specs.Acts.{EndsSaying, PrintsKept, Says, kept_status, verdict_status};
+ghost use Rattle.tool_commands.specs.Acts.{EndsSaying, PrintsKept, Says, SaysKept, kept_status, verdict_status};
 
 use crate::endings::end_refused;
 use plan_texts::read_plan_from;
@@ -23,8 +23,41 @@ const TIMES_WANTED: &str =
 /// What is printed of a script that keeps the plans of its dies.
 const KEPT: &[u8] = b"the script keeps the plan of each die\n";
 
-/// Prints whether a script keeps the plans of its dies, and says whether it does; none where it doesn't, and no
-/// condition was found that doesn't hold, which is a fault of this program.
+/// Whether a script keeps the plans of its dies, and what is said of that.
+#[derive(Drop)]
+struct Kept {
+    keeps: bool,
+    text: Vec<u8>,
+}
+
+/// Whether a script keeps the plans of its dies; none where it doesn't, and no condition was found that doesn't hold,
+/// which is a fault of this program.
+fn kept_of<P: Read + Drop, S: Read + Drop>(
+    alloc: Global,
+    plan: P,
+    script: S,
+    slots: u32,
+) -> Result<Option<Kept>, Refusal>
+    requires slots { slots ≤ MAX_SLOT }
+    ensures said { IfOk result (λ found. IfSome found (λ kept.
+        SaysKept (P.remaining plan) (S.remaining script) slots kept.keeps)) }
+{
+    let store = read_plan_from(alloc, plan)?;
+    let text = script_text(alloc, script)?;
+    match keep(alloc, &text, &store, slots)? {
+        Verdict::Kept => Ok(Some(Kept {
+            keeps: true,
+            text: Vec::from_slice(alloc, KEPT)?,
+        })),
+        Verdict::Broken(broken) => Ok(Some(Kept {
+            keeps: false,
+            text: sentence(alloc, &text, &store, slots, broken)?,
+        })),
+        Verdict::Astray => Ok(None),
+    }
+}
+
+/// Prints whether a script keeps the plans of its dies, and says whether it does, as [`kept_of`] finds.
 fn print_kept<P: Read + Drop, S: Read + Drop, W: Write>(
     alloc: Global,
     plan: P,
@@ -42,20 +75,12 @@ fn print_kept<P: Read + Drop, S: Read + Drop, W: Write>(
         out.old
         out.new) }
 {
-    let store = read_plan_from(alloc, plan)?;
-    let text = script_text(alloc, script)?;
-    match keep(alloc, &text, &store, slots)? {
-        Verdict::Kept => {
-            let said = Vec::from_slice(alloc, KEPT)?;
-            write_whole(out, &said)?;
-            Ok(Some(true))
+    match kept_of(alloc, plan, script, slots)? {
+        Some(kept) => {
+            write_whole(out, &kept.text)?;
+            Ok(Some(kept.keeps))
         }
-        Verdict::Broken(broken) => {
-            let said = sentence(alloc, &text, &store, slots, broken)?;
-            write_whole(out, &said)?;
-            Ok(Some(false))
-        }
-        Verdict::Astray => Ok(None),
+        None => Ok(None),
     }
 }
 
