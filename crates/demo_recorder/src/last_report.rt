@@ -3,7 +3,7 @@
 use crate::plan::Device;
 use report_texts::ReportText;
 use slot_core::DieCore;
-use slot_types::Refusal;
+use slot_types::{MAX_DIES, Refusal};
 use std::alloc::Global;
 use std::fs;
 use std::rt::Files;
@@ -13,8 +13,11 @@ use task_script::add_die;
 /// of the worst. It is read off the dies' logs, whatever their device is.
 fn report_of(alloc: Global, dies: &[DieCore<Device>]) -> Result<ReportText, Refusal> {
     let mut text = ReportText::new(alloc)?;
-    for number in 0..dies.len() {
-        add_die(alloc, &mut text, number as u32, &dies[number])?;
+    for number in 0..MAX_DIES {
+        match dies.get(number as usize) {
+            Some(die) => add_die(alloc, &mut text, number, die)?,
+            None => return Ok(text),
+        }
     }
     Ok(text)
 }
