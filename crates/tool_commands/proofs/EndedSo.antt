@@ -19,8 +19,8 @@ pub ends_explained : {W E : Type 0} (contents : W → Option (List ℕ)) (prints
     (said : Result Bool E) (status : ℕ) → IfOk said (λ (yes : Bool). prints yes (contents old) (contents new))
     → OnErr said (IsNotWhole contents (Says prints) old new) → status ≡ explained_status said
     → EndsSaying contents prints accepted_status old new status
-ends_explained contents prints old new (Ok true) status printed part is = inl (true, (printed, is))
-ends_explained contents prints old new (Ok false) status printed part is = inl (false, (printed, is))
+ends_explained contents prints old new (Ok true) status printed part is = inl (true, printed, is)
+ends_explained contents prints old new (Ok false) status printed part is = inl (false, printed, is)
 ends_explained contents prints old new (Err e) status printed part is = inr (part, is)
 
 pub ends_kept : {W : Type 0} (contents : W → Option (List ℕ)) (prints : Bool → Option (List ℕ) → Option (List ℕ) → Type 0) (old new : W)
@@ -28,8 +28,8 @@ pub ends_kept : {W : Type 0} (contents : W → Option (List ℕ)) (prints : Bool
     → IfOk kept (λ (found : Option Bool). IfSome found (λ (yes : Bool). prints yes (contents old) (contents new)))
     → (kept ≡ Ok None → new ≡ old) → OnErr kept (IsNotWhole contents (Says prints) old new) → status ≡ kept_status kept
     → EndsSaying contents prints verdict_status old new status
-ends_kept contents prints old new (Ok (Some true)) status printed astray part is = inl (true, (printed, is))
-ends_kept contents prints old new (Ok (Some false)) status printed astray part is = inl (false, (printed, is))
+ends_kept contents prints old new (Ok (Some true)) status printed astray part is = inl (true, printed, is)
+ends_kept contents prints old new (Ok (Some false)) status printed astray part is = inl (false, printed, is)
 ends_kept contents prints old new (Ok None) status printed astray part is = inr (inl (astray refl), is)
 ends_kept contents prints old new (Err e) status printed astray part is = inr (part, is)
 
@@ -48,4 +48,4 @@ pub in_part : {W : Type 0} (contents : W → Option (List ℕ)) (prints : Option
     → (◌≡◌ {A = Result (Unit {0}) Refusal} (Err refusal) (Err WriteFault) → AppendsPart (contents old) (contents new) whole)
     → prints (Some []) (Some whole) → IsNotWhole contents prints old new
 in_part contents prints old new whole refusal (inl is) memory part printed = inl (memory (ap Err is))
-in_part contents prints old new whole refusal (inr is) memory part printed = inr (whole, (printed, part (ap Err is)))
+in_part contents prints old new whole refusal (inr is) memory part printed = inr (whole, printed, part (ap Err is))
