@@ -11,7 +11,7 @@ pub returns-in_err-write-clause-part : goal.returns-in_err-write-clause-part
 returns-in_err-write-clause-part g c =
     let dies = c.in_ok-dies.field-0.dies.items in
     on-error c.from_residual-in_err-write.result _
-    (in_part g.W.Write.contents PrintsFailing _ _ (report_text (reports_of 0 dies)) c.in_err-write.field-0 c.in_err-write.ensures.refused
+    (in_part g.W.Write.contents PrintsFailing _ _ (report_text (reports_of 0 dies)) _ c.in_err-write.ensures.refused
     c.in_err-write.ensures.memory (rw (whole_is (reports_of 0 dies) _ c.in_ok-dies.ensures.report) at c.in_err-write.ensures.part)
     (dies, refl))
 
