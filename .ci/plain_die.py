@@ -48,7 +48,7 @@ class Block:
 
 
 class Flash:
-    """Blocks and pages on a device that fails behind so many calls."""
+    """Blocks and pages on a device that fails after so many calls."""
 
     def __init__(self, blocks, pages, erase_slots, logical, calls):
         self.erase_slots, self.calls = erase_slots, calls
@@ -426,7 +426,7 @@ class Die:
         while start and carried[start - 1] is not None and carried[start - 1].key <= job.key:
             start -= 1
         stretch = carried[start:completion]
-        # What a certificate is for: no slot idle, nothing released before it or due behind the job.
+        # What a certificate is for: no slot idle, nothing released before it or due after the job.
         assert all(item.release >= start and item.due <= job.due for item in stretch)
         numbers = sorted({item.number for item in stretch})
         of = " ".join(map(str, numbers))
@@ -699,7 +699,7 @@ def differences(text):
     """The lines that the rules answer otherwise, each with that answer."""
     player, named = Player(), {}
     for name, lines in paragraphs(text):
-        if lines[0][1].startswith("behind,"):
+        if lines[0][1].startswith("after,"):
             lines = named[lines[0][1].partition(",")[2]] + lines[1:]
         if name:
             named[name] = lines

@@ -52,7 +52,7 @@ def records(text):
             field.append(byte)
             begun, fresh = True, False
     if quoted and not closing:
-        # The line feed that was put behind the text is no part of its last field.
+        # The line feed that was put after the text is no part of its last field.
         made.append(fields + [bytes(field[:-1])])
     return made
 

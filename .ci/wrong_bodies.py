@@ -9,7 +9,7 @@ import sys
 
 
 def sections(page):
-    """The sections of a page: (name, words behind `fails:`, lines of the edit)."""
+    """The sections of a page: (name, words after `fails:`, lines of the edit)."""
     name, fails, lines, fenced = None, [], [], False
     for line in page.read_text().splitlines():
         if line.startswith("## "):

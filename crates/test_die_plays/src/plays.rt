@@ -106,7 +106,7 @@ pub(crate) fn play<W: Write>(
         tally: Tally { calls: 0, wrong: 0 },
     };
     for (place, line) in text.lines().enumerate() {
-        match line.strip_prefix("behind,") {
+        match line.strip_prefix("after,") {
             Some(name) => player.named(alloc, text, name, said, out)?,
             None => player.line(alloc, place, line, said, out)?,
         }

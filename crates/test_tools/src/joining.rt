@@ -49,7 +49,7 @@ die,0,4
 ";
 
 /// The second row finds no token, and is refused; on a fresh die it would be taken. The collection gives one, with which page 2 is
-/// written behind the three reads, in slot 3: into the open block.
+/// written after the three reads, in slot 3: into the open block.
 const EVENING: &str = "at,die,task,kind,release,due,ops
 0,0,0,job,0,4,R0 R1 R2
 0,0,0,job,0,5,W2=99999999999999999999999999999999
