@@ -501,7 +501,7 @@ class Die:
             self.slot()
         return self.now - first
 
-    def checkpoint(self):
+    def checkpoint_records(self):
         """What stands at a quiet moment, as the records of a checkpoint's text without the one that ends a die."""
         assert not self.pending
         records = []
