@@ -64,7 +64,8 @@ pub(crate) fn die_plan(alloc: Global) -> Result<DiePlan, Refusal> {
 }
 
 fn device(alloc: Global, endurance: u32) -> Result<Device, Refusal>
-    ensures { IfOk result (λ nand. IsFresh (⟦<Device as Nand>⟧.shape_of nand) (⟦<Device as Nand>⟧.blocks nand)
+    ensures { IfOk result (λ nand. IsFresh (⟦<Device as Nand>⟧.shape_of nand)
+        (⟦<Device as Nand>⟧.blocks nand)
         (⟦<Device as Nand>⟧.failures nand)) }
 {
     let chip = MemoryNand::new(alloc, SHAPE)?;

@@ -14,7 +14,8 @@ use std::alloc::Global;
 
 /// What stands on a die, which stays as it is. The device is just so.
 fn taken<N: Nand>(alloc: Global, die: &mut DieCore<N>) -> Result<Checkpoint, Stop>
-    ensures left { IfOk result (λ taken. IsAsLeft taken (N.blocks die.new.device) (N.failures die.new.device)) }
+    ensures left { IfOk result (λ taken.
+        IsAsLeft taken (N.blocks die.new.device) (N.failures die.new.device)) }
 {
     match die.checkpoint(alloc) {
         Ok(taken) => Ok(taken),

@@ -6,7 +6,7 @@ ghost use Rattle.flash_commands.specs.Acts.{PrintsFigures, PrintsRun, RefusesAud
 ghost use Rattle.flash_commands.specs.Faults.{outcome_status};
 ghost use Rattle.text_base.specs.Writing.{IsNotWhole};
 
-use crate::audits::{audit_by_threads, audit_report};
+use crate::audits::audit_by_threads;
 use crate::commands::Command;
 use crate::faults::{Fault, end};
 use crate::figures::figures_text;
@@ -39,29 +39,9 @@ fn print_figures<R: Read + Drop, W: Write>(
     write_whole(out, &text)
 }
 
-/// Prints the audit of a report, and says whether a certificate is refused. A refusal is of the report's text, or
-/// memory, or a reader, or `WriteFault`, and all but the last leave `out` as it was. It starts no thread.
-pub fn print_audit<R: Read + Drop, W: Write>(
-    alloc: Global,
-    first: R,
-    out: &mut W,
-) -> Result<bool, Refusal>
-    ensures printed { IfOk result (λ refused.
-        PrintsAudit (R.remaining first) (W.contents out.old) (W.contents out.new)
-        (if refused then 3 else 0)) }
-    ensures refused { IfErr result (RefusesAudit (R.remaining first)) }
-    ensures unwritten { IfErr result (IsUnwritten out.old out.new) }
-    ensures part { OnErr result
-        (IsNotWhole W.contents (AuditsSome (R.remaining first)) out.old out.new) }
-{
-    let report = read_work(alloc, first)?;
-    let found = audit_report(alloc, &report)?;
-    write_whole(out, &found.text)?;
-    Ok(found.refused)
-}
-
-/// The same, by as many threads as the report has dies with work, at most four.
-fn print_audit_by_threads<T: Threads + Sync, R: Read + Drop, W: Write>(
+/// Prints the audit of a report, and says whether a certificate is refused. Its dies are judged by as many threads as
+/// have work, at most four.
+fn print_audit<T: Threads + Sync, R: Read + Drop, W: Write>(
     rt: &T,
     alloc: Global,
     first: R,
@@ -171,7 +151,7 @@ fn audit<T: Threads + Sync, R: Read + Drop, W: Write>(
     ensures part { IfErr result (IsFaultOf (λ _.
         IsNotWhole W.contents (AuditsSome (R.remaining first)) out.old out.new)) }
 {
-    if print_audit_by_threads(rt, alloc, first, out)? {
+    if print_audit(rt, alloc, first, out)? {
         return Err(Fault::Certificate);
     }
     Ok(())

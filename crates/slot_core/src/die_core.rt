@@ -73,7 +73,13 @@ impl<N: Nand> DieCore<N> {
     pub fn new(alloc: Global, plan: DiePlan, nand: N) -> Result<DieCore<N>, Refusal>
         requires fresh { IsFresh (N.shape_of nand) (N.blocks nand) (N.failures nand) }
         ensures ok { IfOk result (λ core.
-            core ≡ record { start = fresh plan; device = nand; stopped = false; reserved = 0; log = [] }) }
+            core ≡ record {
+              start = fresh plan;
+              device = nand;
+              stopped = false;
+              reserved = 0;
+              log = [];
+            }) }
         ensures bad_shape { (result ≡ Err Refusal.BadShape)
             ↔ ¬ (IsShape plan.shape × (N.shape_of nand ≡ plan.shape)) }
         ensures bad_plan { (result ≡ Err Refusal.BadPlan)
@@ -104,7 +110,13 @@ impl<N: Nand> DieCore<N> {
     pub fn boxed(alloc: Global, plan: DiePlan, nand: N) -> Result<Box<DieCore<N>>, Refusal>
         requires fresh { IsFresh (N.shape_of nand) (N.blocks nand) (N.failures nand) }
         ensures ok { IfOk result (λ core. box_value core
-            ≡ record { start = fresh plan; device = nand; stopped = false; reserved = 0; log = [] }) }
+            ≡ record {
+              start = fresh plan;
+              device = nand;
+              stopped = false;
+              reserved = 0;
+              log = [];
+            }) }
         ensures bad_shape { (result ≡ Err Refusal.BadShape)
             ↔ ¬ (IsShape plan.shape × (N.shape_of nand ≡ plan.shape)) }
         ensures bad_plan { (result ≡ Err Refusal.BadPlan)

@@ -1,15 +1,10 @@
--- An audit that is printed is one of the report that was read; and one of what a reader gives is one of its file.
+-- An audit of what a reader gives is one of its file.
 use Rattle.std.proofs.Common.{ℕ, List, Bool, Option, None, Some, Result, Ok, Err, inl, inr, ◌∷◌, []}
 use Rattle.std.specs.Prelude.{◌≡◌, if◌then◌else◌}
 use Rattle.std.specs.Borrow.{Bor}
 use Rattle.slot_types.specs.declared.refusals.Refusal.{Refusal}
-use Rattle.flash_commands.specs.Acts.{PrintsAudit}
 use Rattle.flash_commands.specs.Files.{FileContents, GivesFile}
 use Rattle.tool_commands.specs.Acts.{AuditsFiles, IsAuditOf, IsAudited, worse_of}
-
-pub audit_of_printed : (text old new : Option (List ℕ)) (refused : Bool) → PrintsAudit text old new (if refused then 3 else 0)
-    → IsAuditOf text refused
-audit_of_printed text old new refused (report, is, appended, status) = (report, is, status)
 
 pub audited_file : (file text : Option (List ℕ)) (audited : Result Bool Refusal) → GivesFile file text → IsAudited text audited → IsAudited file audited
 audited_file None text (Ok refused) gives (report, is, status) = (report, tt, status)

@@ -8,7 +8,8 @@ ghost use Rattle.slot_types.specs.Refusal.{FailsForMemory};
 
 use crate::endings::end_refused;
 use flash_commands::Folder;
-use flash_commands::acts::print_audit;
+use flash_commands::audits::audit_report;
+use report_texts::read_work;
 use slot_types::Refusal;
 use std::alloc::Global;
 use std::io::{Read, Write};
@@ -35,7 +36,6 @@ fn named_lines(alloc: Global, name: &str, text: &[u8]) -> Result<Vec<u8>, Refusa
 
 /// Audits a report: adds the lines of its dies to a text, each with the report's name in front, and says whether a
 /// certificate is refused. Where that is refused, nothing is added.
-#[tactic(auto, using(crate::proofs::Audits::audit_of_printed))]
 fn audit_named<R: Read + Drop>(
     alloc: Global,
     name: &str,
@@ -45,11 +45,11 @@ fn audit_named<R: Read + Drop>(
     ensures audited { IfOk result (IsAuditOf (R.remaining report)) }
     ensures refused { IfErr result (RefusesAudit (R.remaining report)) }
 {
-    let mut lines = Vec::new(alloc);
-    let refused = print_audit(alloc, report, &mut lines)?;
-    let named = named_lines(alloc, name, &lines)?;
+    let work = read_work(alloc, report)?;
+    let audit = audit_report(alloc, &work)?;
+    let named = named_lines(alloc, name, &audit.text)?;
     text.extend_from_slice(&named)?;
-    Ok(refused)
+    Ok(audit.refused)
 }
 
 /// Opens a report and audits it.

@@ -32,7 +32,8 @@ fn add(events: &mut Events, now: u32, slots: u32, item: ScriptItem) -> Result<u3
     requires { now ≤ slots }
     ensures within { IfOk result (λ after. after ≤ slots) }
     ensures ok { IfOk result (λ after. (rest : List ScriptItem) →
-        events.old ++ later_events slots now (item ∷ rest) ≡ events.new ++ later_events slots after rest) }
+        events.old ++ later_events slots now (item ∷ rest)
+        ≡ events.new ++ later_events slots after rest) }
     ensures refused { FailsForMemory result }
 {
     let to = item.at.min(slots).max(now);
@@ -52,7 +53,8 @@ fn add_own(
     requires { now ≤ slots }
     ensures within { IfOk result (λ after. after ≤ slots) }
     ensures ok { IfOk result (λ after. (rest : List ScriptItem) →
-        events.old ++ later_events slots now (feed_of (item ∷ rest) die) ≡ events.new ++ later_events slots after (feed_of rest die)) }
+        events.old ++ later_events slots now (feed_of (item ∷ rest) die)
+        ≡ events.new ++ later_events slots after (feed_of rest die)) }
     ensures refused { FailsForMemory result }
 {
     if item.die == die {

@@ -11,7 +11,9 @@ ghost use Rattle.tool_plan_arrivals.specs.PlannedScripts.{IsPlannedScript};
 /// or was waived, no row of the report has a lateness above 0, and no row of the script is refused but out of memory,
 /// or after one that was.
 pub fn planned_scripts_go_as_planned()
-    ensures { (plans : List DiePlan) (slots : ℕ) (text : List ℕ) (count : RunCount) (old new : Option (List ℕ)) →
-        IsPlannedScript plans slots text → (run : RunsAsPlanned (Some text) plans slots count old new) →
+    ensures { (plans : List DiePlan) (slots : ℕ) (text : List ℕ) (count : RunCount)
+        (old new : Option (List ℕ)) →
+        IsPlannedScript plans slots text →
+        (run : RunsAsPlanned (Some text) plans slots count old new) →
         AllZip RowsGoAsPlanned plans run.ran.runs }
 {}

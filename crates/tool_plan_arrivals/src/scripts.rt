@@ -17,7 +17,8 @@ use std::alloc::Global;
 pub fn test_all(plans: &[DiePlan]) -> Result<(), Refusal>
     requires { All MeetsBound plans.now }
     ensures passed { OnOk result (All HasPassed plans.now) }
-    ensures refused { IfErr result (λ refusal. (refusal ≡ Refusal.BadPlan) × ¬ All HasPassed plans.now) }
+    ensures refused { IfErr result (λ refusal.
+        (refusal ≡ Refusal.BadPlan) × ¬ All HasPassed plans.now) }
 {
     for plan in plans {
         match plan_test(plan) {

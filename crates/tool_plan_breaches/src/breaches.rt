@@ -54,7 +54,8 @@ fn breaks_collection(
     place: usize,
     rule: CollectionRule,
 ) -> bool
-    ensures { IsTrue result → BreaksCollection plan.now times.now end (map arrival_of all.now) place rule }
+    ensures { IsTrue result →
+        BreaksCollection plan.now times.now end (map arrival_of all.now) place rule }
 {
     match at(all, place) {
         Some(a) => a.collects && !collection_holds(plan, times, end, &a, rule),
@@ -75,7 +76,8 @@ fn are_near(times: &Times, first: &Arrived<'_>, second: &Arrived<'_>) -> bool
 
 /// Whether the job at a place isn't apart from an earlier one.
 fn is_near_at(times: &Times, all: &[Arrived<'_>], first: &Arrived<'_>, later: usize) -> bool
-    ensures { IsTrue result → IsNearAt times.now (map arrival_of all.now) (arrival_of first.now) later }
+    ensures { IsTrue result →
+        IsNearAt times.now (map arrival_of all.now) (arrival_of first.now) later }
 {
     match at(all, later) {
         Some(second) => are_near(times, first, &second),
@@ -125,7 +127,8 @@ fn breaks_count(
     slot: u32,
     came: usize,
 ) -> bool
-    ensures { IsTrue result → BreaksCount plan.now times.now end (map arrival_of all.now) task slot came }
+    ensures { IsTrue result →
+        BreaksCount plan.now times.now end (map arrival_of all.now) task slot came }
 {
     if came == 1 {
         return false;

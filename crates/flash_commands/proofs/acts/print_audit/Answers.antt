@@ -9,13 +9,13 @@ use Rattle.flash_commands.proofs.acts.print_audit.Goals as goal
 
 pub returns-in_err-write_whole-clause-part : goal.returns-in_err-write_whole-clause-part
 returns-in_err-write_whole-clause-part g c =
-    let (report, is, said) = c.in_ok-report.ensures.work in
+    let (report, is, said) = c.in_ok-work.ensures.work in
     on-error c.from_residual-in_err-write_whole.result _
     (inr (
-      c.in_ok-found.found.text.items,
+      c.in_ok-audit.audit.text.items,
       (
         audit_status report,
-        (report, said-report _ report said, c.in_ok-found.ensures.text ∙ ap (flat_map work_line) is ∙ text-works report, refl),
+        (report, said-report _ report said, c.in_ok-audit.ensures.text ∙ ap (flat_map work_line) is ∙ text-works report, refl),
       ),
       rw c.deref.ensures.value at
           c.in_err-write_whole.ensures.part,
@@ -23,12 +23,12 @@ returns-in_err-write_whole-clause-part g c =
 
 pub returns-clause-printed : goal.returns-clause-printed
 returns-clause-printed g c =
-    let (report, is, said) = c.in_ok-report.ensures.work in
-    let text : c.in_ok-found.found.text.items ≡ audit_text report
-    = c.in_ok-found.ensures.text ∙ ap (flat_map work_line) is ∙ text-works report in (
+    let (report, is, said) = c.in_ok-work.ensures.work in
+    let text : c.in_ok-audit.audit.text.items ≡ audit_text report
+    = c.in_ok-audit.ensures.text ∙ ap (flat_map work_line) is ∙ text-works report in (
       report,
       said-report _ report said,
       subst (Appends (g.W.Write.contents c.args.out.now) (g.W.Write.contents c.write_whole.new.writer)) text
           (rw c.deref.ensures.value at c.in_ok-write_whole.ensures.whole),
-      ap (λ (b : Bool). if b then 3 else 0) (c.in_ok-found.ensures.refusal ∙ ap (list_any is_refused_work) is ∙ refused-works report),
+      ap (λ (b : Bool). if b then 3 else 0) (c.in_ok-audit.ensures.refusal ∙ ap (list_any is_refused_work) is ∙ refused-works report),
     )
