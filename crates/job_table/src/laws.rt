@@ -24,7 +24,7 @@ pub fn making_a_table_has_one_answer()
         (one ≡ other) ⊎ ((one ≡ Err Refusal.NoMemory) ⊎ (other ≡ Err Refusal.NoMemory)) }
 {}
 
-/// Accepting a job or a collection (`add_job`, `add_collection`) has one answer, and leaves one table. Left open is
+/// Accepting a job or a collection (`add`) has one answer, and leaves one table. Left open is
 /// whether there is memory for it.
 pub fn accepting_has_one_answer()
     ensures job { (task release due : ℕ) (ops : List Op) (before left right : Table)

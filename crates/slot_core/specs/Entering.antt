@@ -1,0 +1,8 @@
+-- What the log notes of a job or a collection that is accepted.
+use Rattle.std.specs.Prelude.{ℕ, if◌then◌else◌}
+use Rattle.slot_types.specs.declared.events.JobHead.{JobHead}
+use Rattle.event_log.specs.declared.deeds.Deed.{Deed}
+use Rattle.event_log.specs.declared.deeds.Deed.TheVariants.{Submit, Collect}
+
+abbrev pub deed_of : JobHead → ℕ → Deed
+deed_of head number = if head.collects then Collect number else Submit number
