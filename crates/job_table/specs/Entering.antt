@@ -1,5 +1,5 @@
 -- A job or a collection is accepted, by its head.
-use Rattle.std.specs.Prelude.{◌≡◌, ◌<◌, Bool, true, false, if◌then◌else◌, List, slice_set}
+use Rattle.std.specs.Prelude.{◌≡◌, ◌<◌, Bool, true, false, if◌then◌else◌, List, [], slice_set}
 use Rattle.slot_types.specs.declared.events.JobHead.{JobHead}
 use Rattle.slot_types.specs.declared.events.Op.{Op}
 use Rattle.job_table.specs.Jobs.{JobRecord, new_record}
@@ -9,9 +9,10 @@ use Rattle.job_table.specs.Table.{Table, is_collecting}
 abbrev pub job_of : JobHead → List Op → JobRecord
 job_of head ops = new_record head.collects head.task head.release head.due ops
 
--- if it is a collection, its task is one of the table's and has no other
-abbrev pub MayEnter : Table → JobHead → Type 0
-MayEnter table head = head.collects ≡ true → (head.task < table.tasks) × (is_collecting table.jobs head.task ≡ false)
+-- if it is a collection, it has no operations, and its task is one of the table's and has no pending one
+abbrev pub MayEnter : Table → JobHead → List Op → Type 0
+MayEnter table head ops = head.collects ≡ true
+    → (ops ≡ []) × (head.task < table.tasks) × (is_collecting table.jobs head.task ≡ false)
 
 -- by task whether it has a pending collection, from then on
 abbrev pub marks_with : JobHead → List Bool → List Bool

@@ -161,23 +161,24 @@ impl JobTable {
         }
     }
 
-    /// Accepts a job of these operations, or a collection, under the next number. There are fewer than `MAX_JOBS`; a job
-    /// has at most `MAX_OPS` operations, a collection none, and its task has no pending one. All memory that it will
-    /// ever need is taken here: refused with `NoMemory`, the table stays as it was.
+    /// Accepts a job of these operations, or a collection, under the next number, to run from its release on. There are
+    /// fewer than `MAX_JOBS`; a job has at most `MAX_OPS` operations; a collection has none, and its task is one of the
+    /// table's and has no pending one. All memory that it will ever need is taken here: refused with `NoMemory`, the
+    /// table stays as it was.
     pub fn add(&mut self, head: JobHead, ops: &CountedOps) -> Result<JobNo, Refusal>
         requires running { self.old.ended ≡ false }
         requires few { length self.old.jobs < MAX_JOBS }
         requires few_ops { length ops.now ≤ MAX_OPS }
-        requires single { MayEnter self.old head }
+        requires collection { MayEnter self.old head ops.now }
         ensures ok { OnOk result (self.new ≡ with_job self.old (job_of head ops.now)) }
         ensures number { IfOk result (λ number. number ≡ length self.old.jobs) }
         ensures refused { FailsForMemory result }
         ensures err { OnErr result (self.new ≡ self.old) }
     {
         self.queues.reserve()?;
-        let number = self.jobs.push(head, ops)?;
-        self.queues
-            .enter(self.clock, number, head.release, head.due);
+        let number = self.jobs.push(&head, ops)?;
+        let JobHead { release, due, .. } = head;
+        self.queues.enter(self.clock, number, release, due);
         mark(&mut self.collecting, head);
         Ok(JobNo(number))
     }

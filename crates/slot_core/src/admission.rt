@@ -52,7 +52,7 @@ fn enter(
     requires few_events { length events.old.notes + 1 < 2 ^ 32 }
     requires reserved { reserved ≤ events.old.room }
     requires few_ops { length ops.now ≤ MAX_OPS }
-    requires single { MayEnter table.old head }
+    requires collection { MayEnter table.old head ops.now }
     ensures table { OnOk result (table.new ≡ with_job table.old (job_of head ops.now)) }
     ensures number { IfOk result (λ number. number ≡ length table.old.jobs) }
     ensures logged { IfOk result (λ number.
@@ -163,7 +163,7 @@ impl<N: Nand> DieCore<N> {
     /// As `submit`, of operations that the caller keeps, in whichever form.
     pub(crate) fn submit_ops(
         &mut self,
-        alloc: Global,
+        _alloc: Global,
         caller: u32,
         task: TaskNo,
         release: u32,
@@ -245,7 +245,7 @@ impl<N: Nand> DieCore<N> {
     /// `JobsFull`, where 65,536 were accepted; `NoMemory`.
     pub fn collect(
         &mut self,
-        alloc: Global,
+        _alloc: Global,
         caller: u32,
         task: TaskNo,
         release: u32,

@@ -8,19 +8,19 @@ use Rattle.job_table.proofs.Entered.{entered_sound}
 use Rattle.job_table.proofs.job_table.JobTable.add.Goals as goal
 
 pub mark-requires : goal.mark-requires
-mark-requires c collects = (subst (λ (t : Table). MayEnter t c.args.head) (sym c.self.view_is) c.requires.single collects).0
+mark-requires c collects = (subst (λ (t : Table). MayEnter t c.args.head c.args.ops.now) (sym c.self.view_is) c.requires.collection collects).1
 
 pub invariant_of-self-2 : goal.invariant_of-self-2
 invariant_of-self-2 c =
     let few = subst (λ (t : Table). length t.jobs < MAX_JOBS) (sym c.self.view_is) c.requires.few in
     let runs = subst (λ (t : Table). t.ended ≡ false) (sym c.self.view_is) c.requires.running in
-    let single = subst (λ (t : Table). MayEnter t c.args.head) (sym c.self.view_is) c.requires.single in
+    let may = subst (λ (t : Table). MayEnter t c.args.head c.args.ops.now) (sym c.self.view_is) c.requires.collection in
     let waiting = rw (c.in_ok-number.ensures.number, c.in_ok-reserve.ensures.waiting) at c.enter.ensures.waiting in
     let ready = rw (c.in_ok-number.ensures.number, c.in_ok-reserve.ensures.ready) at c.enter.ensures.ready in
     let r = c.self.invariant.running runs in
     rw (c.in_ok-number.ensures.ok, c.mark.ensures)
     (entered_sound c.self.inside.jobs c.args.head c.args.ops.now c.self.inside.clock c.self.inside.ended c.self.inside.collecting.items
-    c.self.inside.queues c.enter.new.self c.self.inside.worst runs few single
+    c.self.inside.queues c.enter.new.self c.self.inside.worst runs few may
     (has_entered c.self.inside.jobs (job_of c.args.head c.args.ops.now) c.self.inside.clock c.self.inside.queues.waiting
     c.enter.new.self.waiting c.self.inside.queues.ready c.enter.new.self.ready refl waiting ready r.queued r.later)
     c.self.invariant)

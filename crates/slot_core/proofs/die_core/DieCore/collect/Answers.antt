@@ -26,14 +26,15 @@ returns-in-Some g c =
     c.args.self.now _ c.in-Some.refusal (rw (← c.self.view_is) (sym c.failed.ensures ∙ c.if-failed.false))
     (refused_answer _ _ _ _ (sym c.collect_refusal.ensures ∙ c.in-Some.is)) (search rules)
 
-pub enter-requires-clause-single : goal.enter-requires-clause-single
-enter-requires-clause-single g c _ =
+pub enter-requires-clause-collection : goal.enter-requires-clause-collection
+enter-requires-clause-collection g c _ =
     let none : refusal_of (over c.self.inside.volume.accounts.plan c.self.inside.start) (log_of c.self.inside.table c.self.inside.events.notes)
     (Collect c.args.task c.args.release c.args.due) ≡ None =
     ap (λ (d : Core g.row.N.Denot). refusal_of d.start d.log (Collect c.args.task c.args.release c.args.due)) c.self.view_is
     ∙ (sym c.collect_refusal.ensures ∙ c.in-None.is) in
     let may = may_collect (over c.self.inside.volume.accounts.plan c.self.inside.start)
     (log_of c.self.inside.table c.self.inside.events.notes) c.args.task c.args.release c.args.due none in (
+      c.none.ensures,
       omega (arith, may.task_in, c.self.invariant.0.kept.tasks_are),
       collecting_is (over c.self.inside.volume.accounts.plan c.self.inside.start) (log_of c.self.inside.table c.self.inside.events.notes)
           c.self.inside.table.jobs c.args.task c.self.invariant.0.kept.jobs_are ∙ may.single,

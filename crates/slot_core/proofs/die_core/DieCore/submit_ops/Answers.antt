@@ -85,8 +85,8 @@ enter-requires-clause-few_ops g c =
     (accepted_few (over f.volume.accounts.plan c.self.inside.start) (log_of f.table f.events.notes) c.args.task c.args.release c.args.due
     c.args.ops.now none)
 
-pub enter-requires-clause-single : goal.enter-requires-clause-single
-enter-requires-clause-single g c e = absurd (true≢false (sym e))
+pub enter-requires-clause-collection : goal.enter-requires-clause-collection
+enter-requires-clause-collection g c e = absurd (true≢false (sym e))
 
 pub enter-requires-clause-few_events : goal.enter-requires-clause-few_events
 enter-requires-clause-few_events g c = few_reported (over c.self.inside.volume.accounts.plan c.self.inside.start) c.self.inside.table.jobs c.self.inside.events.notes
