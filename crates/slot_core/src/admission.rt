@@ -7,7 +7,7 @@ ghost use Rattle.slot_types.specs.Refusal.{FailsForMemory};
 ghost use Rattle.slot_types.specs.declared.replies.Reply.{Reply};
 ghost use Rattle.job_table.specs.Table.{with_job};
 ghost use Rattle.job_table.specs.Entering.{MayEnter, job_of};
-ghost use Rattle.slot_core.specs.Entering.{deed_of};
+ghost use Rattle.slot_core.specs.Entering.{arrival_deed};
 ghost use Rattle.die_log.specs.Model.Work.{is_collecting as collecting};
 ghost use Rattle.die_log.specs.Model.Answers.{refusal_of};
 ghost use Rattle.slot_core.specs.Calls.{IsCall, reply_as};
@@ -20,8 +20,8 @@ use slot_types::{Event, JobHead, JobNo, LentOps, MAX_JOBS, MAX_OPS, MAX_SLOT, Op
 use std::alloc::Global;
 
 /// What the log notes of a job or a collection that was accepted under a number.
-fn deed_of(head: JobHead, number: JobNo) -> Deed
-    ensures { result ≡ deed_of head number }
+fn deed_of_arrival(head: JobHead, number: JobNo) -> Deed
+    ensures { result ≡ arrival_deed head number }
 {
     if head.collects {
         Deed::Collect { number }
@@ -56,7 +56,7 @@ fn enter(
     ensures table { OnOk result (table.new ≡ with_job table.old (job_of head ops.now)) }
     ensures number { IfOk result (λ number. number ≡ length table.old.jobs) }
     ensures logged { IfOk result (λ number.
-        events.new.notes ≡ record { caller = caller; deed = deed_of head number; waived = [] }
+        events.new.notes ≡ record { caller = caller; deed = arrival_deed head number; waived = [] }
         ∷ events.old.notes) }
     ensures refused { FailsForMemory result }
     ensures table_stays { OnErr result (table.new ≡ table.old) }
@@ -69,7 +69,7 @@ fn enter(
 {
     events.reserve(reserved as usize + 1, waivers_with(head, table))?;
     let number = table.add(head, ops)?;
-    events.push_reserved(caller, deed_of(head, number), &[]);
+    events.push_reserved(caller, deed_of_arrival(head, number), &[]);
     Ok(number)
 }
 
