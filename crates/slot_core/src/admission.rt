@@ -16,26 +16,28 @@ use crate::die_core::DieCore;
 use event_log::{Deed, EventLog};
 use flash_die::Nand;
 use job_table::{CountedOps, JobTable};
-use slot_types::{Event, JobHead, JobNo, LentOps, MAX_JOBS, MAX_OPS, MAX_SLOT, Op, OpList, Refusal, TaskNo};
+use slot_types::{
+    Event, JobHead, JobNo, LentOps, MAX_JOBS, MAX_OPS, MAX_SLOT, Op, OpList, Refusal, TaskNo,
+};
 use std::alloc::Global;
 
 /// What the log notes of a job or a collection that was accepted under a number.
-fn deed_of_arrival(head: JobHead, number: JobNo) -> Deed
-    ensures { result ≡ arrival_deed head number }
+fn deed_of_arrival(collects: bool, number: JobNo) -> Deed
+    ensures { result ≡ arrival_deed collects number }
 {
-    if head.collects {
+    if collects {
         Deed::Collect { number }
     } else {
         Deed::Submit { number }
     }
 }
 
-/// For how many waivers room is reserved with it, so that no slot takes memory for them: a task has one collection at a
-/// time.
-fn waivers_with(head: JobHead, table: &JobTable) -> usize
-    ensures { result ≡ (if head.collects then table.now.tasks else 0) }
+/// For how many waivers room is reserved with a job or a collection, so that no slot takes memory for them: a task has
+/// one collection at a time.
+fn waivers_with(collects: bool, table: &JobTable) -> usize
+    ensures { result ≡ (if collects then table.now.tasks else 0) }
 {
-    if head.collects { table.tasks() } else { 0 }
+    if collects { table.tasks() } else { 0 }
 }
 
 /// Enters an accepted job or collection into the table and the log, or finds no memory and changes neither.
@@ -56,7 +58,8 @@ fn enter(
     ensures table { OnOk result (table.new ≡ with_job table.old (job_of head ops.now)) }
     ensures number { IfOk result (λ number. number ≡ length table.old.jobs) }
     ensures logged { IfOk result (λ number.
-        events.new.notes ≡ record { caller = caller; deed = arrival_deed head number; waived = [] }
+        events.new.notes
+        ≡ record { caller = caller; deed = arrival_deed head.collects number; waived = [] }
         ∷ events.old.notes) }
     ensures refused { FailsForMemory result }
     ensures table_stays { OnErr result (table.new ≡ table.old) }
@@ -67,9 +70,10 @@ fn enter(
         (if head.collects then table.old.tasks else 0) ≤ events.new.waiver_room) }
     ensures waiver_room_stays { events.old.waiver_room ≤ events.new.waiver_room }
 {
-    events.reserve(reserved as usize + 1, waivers_with(head, table))?;
+    let collects = head.collects;
+    events.reserve(reserved as usize + 1, waivers_with(collects, table))?;
     let number = table.add(head, ops)?;
-    events.push_reserved(caller, deed_of_arrival(head, number), &[]);
+    events.push_reserved(caller, deed_of_arrival(collects, number), &[]);
     Ok(number)
 }
 
