@@ -10,6 +10,7 @@ pub mod Waivers
 pub mod Releasing
 pub mod Roomy
 pub mod Tables
+pub mod Entered
 pub mod Reading
 pub mod Laying
 pub mod Beyond

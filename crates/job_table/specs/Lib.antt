@@ -8,3 +8,4 @@ pub mod Worst
 pub mod QueuedKeys
 pub mod SoundTable
 pub mod Heads
+pub mod Entering

@@ -3,13 +3,14 @@
 ghost use Rattle.std.specs.Prelude.{◌≡◌, ◌<◌, true, length, slice_get};
 ghost use Rattle.job_table.specs.Jobs.{with_stage};
 ghost use Rattle.job_table.specs.Table.{changed_at};
+ghost use Rattle.job_table.specs.Entering.{marks_with};
 ghost use Rattle.job_table.specs.Waivers.{AreWaived, without_waivers};
 ghost use Rattle.job_table.specs.SoundTable.{AreOfTasks, marks_after};
 
 use crate::flat_jobs::FlatJobs;
 use crate::jobs::Job;
 use crate::stages::Stage;
-use slot_types::{JobNo, Waived};
+use slot_types::{JobHead, JobNo, Waived};
 
 /// A job is over. If it is a collection, its task has no pending one any more.
 pub(crate) fn end_job(jobs: &mut FlatJobs, collecting: &mut Vec<bool>, number: JobNo, stage: Stage)
@@ -30,6 +31,16 @@ fn unmark(collecting: &mut Vec<bool>, job: &Job)
 {
     if job.collects() {
         collecting[job.task().0 as usize] = false;
+    }
+}
+
+/// If a collection was accepted, its task has a pending one.
+pub(crate) fn mark(collecting: &mut Vec<bool>, head: JobHead)
+    requires { head.collects ≡ true → head.task < length collecting.old.items }
+    ensures { collecting.new.items ≡ marks_with head collecting.old.items }
+{
+    if head.collects {
+        collecting[head.task.0 as usize] = true;
     }
 }
 

@@ -4,9 +4,10 @@ ghost use Rattle.std.specs.Prelude.{◌≡◌, ◌+◌, ◌<◌, ◌≤◌, ◌^
 ghost use Rattle.std.specs.Prelude.{vec_capacity, OnOk, IfOk, OnErr};
 ghost use Rattle.slot_types.specs.Refusal.{FailsForMemory};
 ghost use Rattle.slot_types.specs.declared.limits.TheConstants.{MAX_JOBS, MAX_OPS};
-ghost use Rattle.job_table.specs.Jobs.{JobRecord, new_record, with_one_more_slot, with_read, with_stage};
+ghost use Rattle.job_table.specs.Jobs.{JobRecord, with_one_more_slot, with_read, with_stage};
 ghost use Rattle.job_table.specs.Table.{changed_at, work_at, reads_next_at};
 ghost use Rattle.slot_types.specs.Operations.{is_some_write};
+ghost use Rattle.job_table.specs.Entering.{job_of};
 ghost use Rattle.job_table.specs.Flat.{blank, ops_at, places_lacking, places_unfilled, place_from, with_page, IsRowOf};
 
 use crate::counted_ops::CountedOps;
@@ -169,20 +170,25 @@ impl FlatJobs {
 
     /// Adds a job of at most 64 operations that has not begun, or a collection, and answers its number. It takes all
     /// memory that it will ever need. Refused with `NoMemory`, all stay as they were.
-    pub(crate) fn push(&mut self, head: JobHead, ops: &CountedOps) -> Result<u32, Refusal>
+    pub(crate) fn push(&mut self, head: &JobHead, ops: &CountedOps) -> Result<u32, Refusal>
         requires few { length self.old < MAX_JOBS }
         requires few_ops { length ops.now ≤ MAX_OPS }
-        ensures ok { OnOk result (self.new
-            ≡ self.old ++ new_record head.collects head.task head.release head.due ops.now ∷ []) }
+        ensures ok { OnOk result (self.new ≡ self.old ++ job_of head.now ops.now ∷ []) }
         ensures number { IfOk result (λ number. number ≡ length self.old) }
         ensures refused { FailsForMemory result }
         ensures err { OnErr result (self.new ≡ self.old) }
     {
+        let JobHead {
+            collects,
+            task,
+            release,
+            due,
+        } = *head;
         let all_reads = self.all_reads as usize + ops.reads();
         let row = Row {
-            task: head.task,
-            release: head.release,
-            due: head.due,
+            task,
+            release,
+            due,
             first_op: self.ops.len() as u32,
             first_write: self.ops.writes() as u32,
             first_place: 0,
@@ -192,7 +198,7 @@ impl FlatJobs {
             read_count: ops.reads() as u8,
             reads_done: 0,
             writes_done: 0,
-            collects: head.collects,
+            collects,
         };
         self.rows.reserve(1)?;
         // Room for the reads of all jobs that have no places yet, and of this one.

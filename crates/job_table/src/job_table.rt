@@ -3,14 +3,15 @@
 ghost use Rattle.std.specs.Prelude.{◌≡◌, ◌<◌, ◌≤◌, ◌+◌, ◌^◌, ◌==◌, List, true, false, length, slice_get, OnOk, IfOk, OnErr, IfSome};
 ghost use Rattle.std.specs.Prelude.{IfNone, IsTrue, ◌↔◌};
 ghost use Rattle.slot_types.specs.Refusal.{FailsForMemory};
-ghost use Rattle.job_table.specs.Jobs.{JobRecord, new_job, new_collection, with_one_more_slot, with_read, with_stage};
+ghost use Rattle.job_table.specs.Jobs.{JobRecord, with_one_more_slot, with_read, with_stage};
 ghost use Rattle.job_table.specs.Table.{empty_table, with_job, with_change, work_at, reads_next_at, is_collecting};
 ghost use Rattle.job_table.specs.Waivers.{AreWaived, WerePending, jobs_after_waivers, stopped_table};
+ghost use Rattle.job_table.specs.Entering.{MayEnter, job_of};
 ghost use Rattle.job_table.specs.Heads.{WereHeads, with_waived};
 ghost use Rattle.job_table.specs.Order.{IsHead, IsNextReleased, NothingReady, NothingWaiting};
 ghost use Rattle.job_table.specs.Worst.{IsWorst, NothingDone, lateness_at};
 
-use crate::changes::{end_job, take_back};
+use crate::changes::{end_job, mark, take_back};
 use crate::counted_ops::CountedOps;
 use crate::flat_jobs::FlatJobs;
 use crate::jobs::Job;
@@ -160,69 +161,25 @@ impl JobTable {
         }
     }
 
-    /// Accepts a job under the next number, to run from slot `release` on. There are fewer than `MAX_JOBS`; it has at
-    /// most `MAX_OPS` operations. All memory that it will ever need is taken here: refused with `NoMemory`, the table
-    /// stays as it was.
-    pub fn add_job(
-        &mut self,
-        _alloc: Global,
-        task: TaskNo,
-        release: u32,
-        due: u32,
-        ops: &CountedOps,
-    ) -> Result<JobNo, Refusal>
+    /// Accepts a job of these operations, or a collection, under the next number, to run from its release on. There are
+    /// fewer than `MAX_JOBS`; a job has at most `MAX_OPS` operations; a collection has none, and its task is one of the
+    /// table's and has no pending one. All memory that it will ever need is taken here: refused with `NoMemory`, the
+    /// table stays as it was.
+    pub fn add(&mut self, head: JobHead, ops: &CountedOps) -> Result<JobNo, Refusal>
         requires running { self.old.ended ≡ false }
         requires few { length self.old.jobs < MAX_JOBS }
         requires few_ops { length ops.now ≤ MAX_OPS }
-        ensures ok { OnOk result (self.new ≡ with_job self.old (new_job task release due ops.now)) }
+        requires collection { MayEnter self.old head ops.now }
+        ensures ok { OnOk result (self.new ≡ with_job self.old (job_of head ops.now)) }
         ensures number { IfOk result (λ number. number ≡ length self.old.jobs) }
         ensures refused { FailsForMemory result }
         ensures err { OnErr result (self.new ≡ self.old) }
     {
         self.queues.reserve()?;
-        let number = self.jobs.push(
-            JobHead {
-                collects: false,
-                task,
-                release,
-                due,
-            },
-            ops,
-        )?;
+        let number = self.jobs.push(&head, ops)?;
+        let JobHead { release, due, .. } = head;
         self.queues.enter(self.clock, number, release, due);
-        Ok(JobNo(number))
-    }
-
-    /// Accepts a collection for a task that has no pending one, under the next number. There are fewer than `MAX_JOBS`.
-    /// Refused with `NoMemory`, the table stays as it was.
-    pub fn add_collection(
-        &mut self,
-        _alloc: Global,
-        task: TaskNo,
-        release: u32,
-        due: u32,
-    ) -> Result<JobNo, Refusal>
-        requires running { self.old.ended ≡ false }
-        requires few { length self.old.jobs < MAX_JOBS }
-        requires task { task < self.old.tasks }
-        requires single { is_collecting self.old.jobs task ≡ false }
-        ensures ok { OnOk result (self.new ≡ with_job self.old (new_collection task release due)) }
-        ensures number { IfOk result (λ number. number ≡ length self.old.jobs) }
-        ensures refused { FailsForMemory result }
-        ensures err { OnErr result (self.new ≡ self.old) }
-    {
-        self.queues.reserve()?;
-        let number = self.jobs.push(
-            JobHead {
-                collects: true,
-                task,
-                release,
-                due,
-            },
-            &CountedOps::none(),
-        )?;
-        self.queues.enter(self.clock, number, release, due);
-        self.collecting[task.0 as usize] = true;
+        mark(&mut self.collecting, head);
         Ok(JobNo(number))
     }
 

@@ -5,10 +5,11 @@
 
 ghost use Rattle.std.specs.Prelude.{◌≡◌, ◌⊎◌, ℕ, ℤ, List, Option, Result, Some, length, IfOk, IfSome, IfNone};
 ghost use Rattle.std.specs.Prelude.{OnOk, OnErr};
+ghost use Rattle.slot_types.specs.declared.events.JobHead.{JobHead};
 ghost use Rattle.slot_types.specs.declared.events.Op.{Op};
 ghost use Rattle.slot_types.specs.declared.refusals.Refusal.{Refusal};
 ghost use Rattle.slot_types.specs.Refusal.{FailsForMemory};
-ghost use Rattle.job_table.specs.Jobs.{new_job, new_collection};
+ghost use Rattle.job_table.specs.Entering.{job_of};
 ghost use Rattle.job_table.specs.Table.{Table, empty_table, with_job};
 ghost use Rattle.job_table.specs.Order.{IsHead, NothingReady};
 ghost use Rattle.job_table.specs.Worst.{IsWorst, NothingDone, lateness_at};
@@ -24,23 +25,13 @@ pub fn making_a_table_has_one_answer()
         (one ≡ other) ⊎ ((one ≡ Err Refusal.NoMemory) ⊎ (other ≡ Err Refusal.NoMemory)) }
 {}
 
-/// Accepting a job or a collection (`add_job`, `add_collection`) has one answer, and leaves one table. Left open is
-/// whether there is memory for it.
+/// Accepting a job or a collection (`add`) has one answer, and leaves one table. Left open is whether there is memory
+/// for it.
 pub fn accepting_has_one_answer()
-    ensures job { (task release due : ℕ) (ops : List Op) (before left right : Table)
+    ensures { (head : JobHead) (ops : List Op) (before left right : Table)
         (one other : Result ℕ Refusal) →
-        OnOk one (left ≡ with_job before (new_job task release due ops)) →
-        OnOk other (right ≡ with_job before (new_job task release due ops)) →
-        IfOk one (λ number. number ≡ length before.jobs) →
-        IfOk other (λ number. number ≡ length before.jobs) →
-        FailsForMemory one → FailsForMemory other →
-        OnErr one (left ≡ before) → OnErr other (right ≡ before) →
-        ((one ≡ other) × (left ≡ right))
-        ⊎ ((one ≡ Err Refusal.NoMemory) ⊎ (other ≡ Err Refusal.NoMemory)) }
-    ensures collection { (task release due : ℕ) (before left right : Table)
-        (one other : Result ℕ Refusal) →
-        OnOk one (left ≡ with_job before (new_collection task release due)) →
-        OnOk other (right ≡ with_job before (new_collection task release due)) →
+        OnOk one (left ≡ with_job before (job_of head ops)) →
+        OnOk other (right ≡ with_job before (job_of head ops)) →
         IfOk one (λ number. number ≡ length before.jobs) →
         IfOk other (λ number. number ≡ length before.jobs) →
         FailsForMemory one → FailsForMemory other →

@@ -6,13 +6,25 @@ use crate::counted_ops::CountedOps;
 use crate::job_table::JobTable;
 use crate::jobs::Job;
 use crate::stages::Stage;
-use slot_types::{JobNo, LentOps, MAX_JOBS, MAX_OPS, Op, PageData, Refusal, TaskNo, Waived};
+use slot_types::{
+    JobHead, JobNo, LentOps, MAX_JOBS, MAX_OPS, Op, PageData, Refusal, TaskNo, Waived,
+};
 use std::alloc::Global;
 use std::test::Fail;
 
+fn head_of(collects: bool, task: TaskNo, release: u32, due: u32) -> JobHead
+    ensures { result ≡ record { collects = collects; task = task; release = release; due = due } }
+{
+    JobHead {
+        collects,
+        task,
+        release,
+        due,
+    }
+}
+
 /// Accepts a job of task 0, where the table takes one.
 fn add_ops(
-    alloc: Global,
     table: &mut JobTable,
     release: u32,
     due: u32,
@@ -23,7 +35,7 @@ fn add_ops(
     }
     match CountedOps::count(&LentOps::list(ops), 1 << 30) {
         Ok(counted) => {
-            let number = table.add_job(alloc, TaskNo(0), release, due, &counted)?;
+            let number = table.add(head_of(false, TaskNo(0), release, due), &counted)?;
             Ok(Some(number.0))
         }
         Err(_) => Ok(None),
@@ -75,18 +87,14 @@ fn carries(table: &mut JobTable, from: u32, numbers: &[u32]) -> bool {
 }
 
 /// Accepts a collection, where the table takes one.
-fn add_collection(
-    alloc: Global,
-    table: &mut JobTable,
-    task: TaskNo,
-) -> Result<Option<u32>, Refusal> {
+fn add_collection(table: &mut JobTable, task: TaskNo) -> Result<Option<u32>, Refusal> {
     if table.ended() || table.len() >= MAX_JOBS || task.0 as usize >= table.tasks() {
         return Ok(None);
     }
     if table.is_collecting(task) {
         return Ok(None);
     }
-    let number = table.add_collection(alloc, task, 0, 9)?;
+    let number = table.add(head_of(true, task, 0, 9), &CountedOps::none())?;
     Ok(Some(number.0))
 }
 
@@ -196,14 +204,12 @@ fn gave(job: &Job, slots: &[u32]) -> bool {
 }
 
 /// Whether a step goes as it says.
-fn goes(table: &mut JobTable, alloc: Global, step: &Step) -> bool {
+fn goes(table: &mut JobTable, step: &Step) -> bool {
     match step {
         Step::Accepts(release, due, ops, number) => {
-            add_ops(alloc, table, *release, *due, *ops) == Ok(Some(*number))
+            add_ops(table, *release, *due, *ops) == Ok(Some(*number))
         }
-        Step::Collects(task, number) => {
-            add_collection(alloc, table, TaskNo(*task)) == Ok(*number)
-        }
+        Step::Collects(task, number) => { add_collection(table, TaskNo(*task)) == Ok(*number) }
         Step::Carries(from, numbers) => carries(table, *from, *numbers),
         Step::Waives(now, number, given) => waives(table, *now, *number, *given),
         Step::TakesBack(number, given) => takes_back(table, *number, *given),
@@ -227,12 +233,12 @@ fn goes(table: &mut JobTable, alloc: Global, step: &Step) -> bool {
 /// The place, from 0, of the first step that goes otherwise than it says, on a new table of so many tasks.
 fn first_wrong(alloc: Global, tasks: u32, steps: &[Step]) -> Result<Option<usize>, Refusal> {
     let mut table = JobTable::new(alloc, tasks)?;
-    Ok(play(&mut table, alloc, steps))
+    Ok(play(&mut table, steps))
 }
 
-fn play(table: &mut JobTable, alloc: Global, steps: &[Step]) -> Option<usize> {
+fn play(table: &mut JobTable, steps: &[Step]) -> Option<usize> {
     for (place, step) in steps.iter().enumerate() {
-        if !goes(table, alloc, step) {
+        if !goes(table, step) {
             return Some(place);
         }
     }

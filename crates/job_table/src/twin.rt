@@ -2,7 +2,9 @@
 
 use crate::counted_ops::CountedOps;
 use crate::job_table::JobTable;
-use slot_types::{JobNo, LentOps, MAX_JOBS, MAX_OPS, Op, OpList, PageData, Refusal, TaskNo};
+use slot_types::{
+    JobHead, JobNo, LentOps, MAX_JOBS, MAX_OPS, Op, OpList, PageData, Refusal, TaskNo,
+};
 use std::alloc::Global;
 use std::test::Fail;
 
@@ -65,7 +67,13 @@ fn accept(
     jobs.reserve(1)?;
     let release = table.clock().saturating_add(draw(seed) % 4);
     let due = release.saturating_add(draw(seed) % 9);
-    let _number = table.add_job(alloc, TaskNo(0), release, due, &counted)?;
+    let head = JobHead {
+        collects: false,
+        task: TaskNo(0),
+        release,
+        due,
+    };
+    let _number = table.add(head, &counted)?;
     jobs.push_reserved(plain);
     Ok(())
 }

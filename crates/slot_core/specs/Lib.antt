@@ -21,3 +21,4 @@ pub mod AcceptedRuns
 pub mod NextSlot
 pub mod NextHeadSteps
 pub mod HeadSlots
+pub mod Entering

@@ -1,12 +1,13 @@
 //! Jobs and collections that arrive at a die.
 
 ghost use Rattle.std.specs.Prelude.{◌≡◌, ◌∷◌, ◌+◌, ◌^◌, ◌<◌, ◌≤◌, true, false, length, IfOk, OnOk, OnErr};
-ghost use Rattle.std.specs.Prelude.{[]};
+ghost use Rattle.std.specs.Prelude.{[], if◌then◌else◌};
 ghost use Rattle.std.specs.Result.{result_err};
 ghost use Rattle.slot_types.specs.Refusal.{FailsForMemory};
 ghost use Rattle.slot_types.specs.declared.replies.Reply.{Reply};
-ghost use Rattle.job_table.specs.Jobs.{new_job, new_collection};
-ghost use Rattle.job_table.specs.Table.{with_job, is_collecting};
+ghost use Rattle.job_table.specs.Table.{with_job};
+ghost use Rattle.job_table.specs.Entering.{MayEnter, job_of};
+ghost use Rattle.slot_core.specs.Entering.{arrival_deed};
 ghost use Rattle.die_log.specs.Model.Work.{is_collecting as collecting};
 ghost use Rattle.die_log.specs.Model.Answers.{refusal_of};
 ghost use Rattle.slot_core.specs.Calls.{IsCall, reply_as};
@@ -15,18 +16,36 @@ use crate::die_core::DieCore;
 use event_log::{Deed, EventLog};
 use flash_die::Nand;
 use job_table::{CountedOps, JobTable};
-use slot_types::{Event, JobNo, LentOps, MAX_JOBS, MAX_OPS, MAX_SLOT, Op, OpList, Refusal, TaskNo};
+use slot_types::{
+    Event, JobHead, JobNo, LentOps, MAX_JOBS, MAX_OPS, MAX_SLOT, Op, OpList, Refusal, TaskNo,
+};
 use std::alloc::Global;
 
-/// Enters an accepted job into the table and the log, or finds no memory and changes neither.
-fn enter_job(
-    alloc: Global,
+/// What the log notes of a job or a collection that was accepted under a number.
+fn deed_of_arrival(collects: bool, number: JobNo) -> Deed
+    ensures { result ≡ arrival_deed collects number }
+{
+    if collects {
+        Deed::Collect { number }
+    } else {
+        Deed::Submit { number }
+    }
+}
+
+/// For how many waivers room is reserved with a job or a collection, so that no slot takes memory for them: a task has
+/// one collection at a time.
+fn waivers_with(collects: bool, table: &JobTable) -> usize
+    ensures { result ≡ (if collects then table.now.tasks else 0) }
+{
+    if collects { table.tasks() } else { 0 }
+}
+
+/// Enters an accepted job or collection into the table and the log, or finds no memory and changes neither.
+fn enter(
     table: &mut JobTable,
     events: &mut EventLog,
     caller: u32,
-    task: TaskNo,
-    release: u32,
-    due: u32,
+    head: JobHead,
     ops: &CountedOps,
     reserved: u32,
 ) -> Result<JobNo, Refusal>
@@ -35,59 +54,26 @@ fn enter_job(
     requires few_events { length events.old.notes + 1 < 2 ^ 32 }
     requires reserved { reserved ≤ events.old.room }
     requires few_ops { length ops.now ≤ MAX_OPS }
-    ensures table { OnOk result (table.new
-        ≡ with_job table.old (new_job task release due ops.now)) }
+    requires collection { MayEnter table.old head ops.now }
+    ensures table { OnOk result (table.new ≡ with_job table.old (job_of head ops.now)) }
     ensures number { IfOk result (λ number. number ≡ length table.old.jobs) }
     ensures logged { IfOk result (λ number.
-        events.new.notes ≡ record { caller = caller; deed = Deed.Submit number; waived = [] }
+        events.new.notes
+        ≡ record { caller = caller; deed = arrival_deed head.collects number; waived = [] }
         ∷ events.old.notes) }
     ensures refused { FailsForMemory result }
     ensures table_stays { OnErr result (table.new ≡ table.old) }
     ensures log_stays { OnErr result (events.new.notes ≡ events.old.notes) }
     ensures marked { events.new.marked ≡ events.old.marked }
     ensures reserved { reserved ≤ events.new.room }
-    ensures waiver_room { events.old.waiver_room ≤ events.new.waiver_room }
-{
-    events.reserve(reserved as usize + 1, 0)?;
-    let number = table.add_job(alloc, task, release, due, ops)?;
-    events.push_reserved(caller, Deed::Submit { number }, &[]);
-    Ok(number)
-}
-
-/// Enters an accepted collection into the table and the log, or finds no memory and changes neither.
-fn enter_collection(
-    alloc: Global,
-    table: &mut JobTable,
-    events: &mut EventLog,
-    caller: u32,
-    task: TaskNo,
-    release: u32,
-    due: u32,
-    reserved: u32,
-) -> Result<JobNo, Refusal>
-    requires running { table.old.ended ≡ false }
-    requires few { length table.old.jobs < MAX_JOBS }
-    requires few_events { length events.old.notes + 1 < 2 ^ 32 }
-    requires reserved { reserved ≤ events.old.room }
-    requires task { task < table.old.tasks }
-    requires single { is_collecting table.old.jobs task ≡ false }
-    ensures table { OnOk result (table.new ≡ with_job table.old (new_collection task release due)) }
-    ensures number { IfOk result (λ number. number ≡ length table.old.jobs) }
-    ensures logged { IfOk result (λ number.
-        events.new.notes ≡ record { caller = caller; deed = Deed.Collect number; waived = [] }
-        ∷ events.old.notes) }
-    ensures refused { FailsForMemory result }
-    ensures table_stays { OnErr result (table.new ≡ table.old) }
-    ensures log_stays { OnErr result (events.new.notes ≡ events.old.notes) }
-    ensures marked { events.new.marked ≡ events.old.marked }
-    ensures reserved { reserved ≤ events.new.room }
-    ensures waiver_room { OnOk result (table.old.tasks ≤ events.new.waiver_room) }
+    ensures waiver_room { OnOk result (
+        (if head.collects then table.old.tasks else 0) ≤ events.new.waiver_room) }
     ensures waiver_room_stays { events.old.waiver_room ≤ events.new.waiver_room }
 {
-    // So that no slot takes memory for waivers: a task has one collection at a time.
-    events.reserve(reserved as usize + 1, table.tasks())?;
-    let number = table.add_collection(alloc, task, release, due)?;
-    events.push_reserved(caller, Deed::Collect { number }, &[]);
+    let collects = head.collects;
+    events.reserve(reserved as usize + 1, waivers_with(collects, table))?;
+    let number = table.add(head, ops)?;
+    events.push_reserved(caller, deed_of_arrival(collects, number), &[]);
     Ok(number)
 }
 
@@ -181,7 +167,7 @@ impl<N: Nand> DieCore<N> {
     /// As `submit`, of operations that the caller keeps, in whichever form.
     pub(crate) fn submit_ops(
         &mut self,
-        alloc: Global,
+        _alloc: Global,
         caller: u32,
         task: TaskNo,
         release: u32,
@@ -199,14 +185,17 @@ impl<N: Nand> DieCore<N> {
             Ok(counted) => counted,
             Err(refusal) => return Err(refusal),
         };
-        match enter_job(
-            alloc,
-            &mut self.table,
-            &mut self.events,
-            caller,
+        let head = JobHead {
+            collects: false,
             task,
             release,
             due,
+        };
+        match enter(
+            &mut self.table,
+            &mut self.events,
+            caller,
+            head,
             &counted,
             self.reserved,
         ) {
@@ -260,7 +249,7 @@ impl<N: Nand> DieCore<N> {
     /// `JobsFull`, where 65,536 were accepted; `NoMemory`.
     pub fn collect(
         &mut self,
-        alloc: Global,
+        _alloc: Global,
         caller: u32,
         task: TaskNo,
         release: u32,
@@ -277,14 +266,18 @@ impl<N: Nand> DieCore<N> {
             Some(refusal) => return Err(refusal),
             None => {}
         }
-        enter_collection(
-            alloc,
-            &mut self.table,
-            &mut self.events,
-            caller,
+        let head = JobHead {
+            collects: true,
             task,
             release,
             due,
+        };
+        enter(
+            &mut self.table,
+            &mut self.events,
+            caller,
+            head,
+            &CountedOps::none(),
             self.reserved,
         )
     }

@@ -4,7 +4,8 @@ use Rattle.slot_types.specs.declared.events.Op.{Op}
 use Rattle.slot_types.specs.declared.pages.PageData.{PageData}
 use Rattle.job_table.specs.declared.rows.Row.{Row}
 use Rattle.job_table.specs.declared.stages.Stage.TheVariants as stages
-use Rattle.job_table.specs.Jobs.{JobRecord, new_record}
+use Rattle.job_table.specs.Jobs.{JobRecord}
+use Rattle.job_table.specs.Entering.{job_of}
 use Rattle.job_table.specs.Flat.{jobs_at}
 use Rattle.job_table.proofs.Laying.{IsBegun, laid_push, room_push, jobs_pushed}
 use Rattle.job_table.proofs.flat_jobs.FlatJobs.push.Goals as goal
@@ -12,9 +13,9 @@ use Rattle.job_table.proofs.flat_jobs.FlatJobs.push.Goals as goal
 pub invariant_of-self-2 : goal.invariant_of-self-2
 invariant_of-self-2 c =
     let row : Row = record {
-      task = c.args.head.task;
-      release = c.args.head.release;
-      due = c.args.head.due;
+      task = c.args.head.now.task;
+      release = c.args.head.now.release;
+      due = c.args.head.now.due;
       first_op = c.len.result;
       first_write = c.writes.result;
       first_place = 0;
@@ -25,7 +26,7 @@ invariant_of-self-2 c =
       read_count = c.reads-2.result;
       reads_done = 0;
       writes_done = 0;
-      collects = c.args.head.collects;
+      collects = c.args.head.now.collects;
     } in
     let begun : IsBegun row c.self.inside.ops c.args.ops.now = record {
       first_op_is = c.len.ensures;
@@ -62,9 +63,9 @@ invariant_of-self-2 c =
 pub returns-clause-ok : goal.returns-clause-ok
 returns-clause-ok c =
     let row : Row = record {
-      task = c.args.head.task;
-      release = c.args.head.release;
-      due = c.args.head.due;
+      task = c.args.head.now.task;
+      release = c.args.head.now.release;
+      due = c.args.head.now.due;
       first_op = c.len.result;
       first_write = c.writes.result;
       first_place = 0;
@@ -75,7 +76,7 @@ returns-clause-ok c =
       read_count = c.reads-2.result;
       reads_done = 0;
       writes_done = 0;
-      collects = c.args.head.collects;
+      collects = c.args.head.now.collects;
     } in
     let begun : IsBegun row c.self.inside.ops c.args.ops.now = record {
       first_op_is = c.len.ensures;
@@ -95,7 +96,7 @@ returns-clause-ok c =
     c.in_ok-reserve-2.ensures.items
     ∙ jobs_pushed c.self.inside.rows.items c.self.inside.ops c.args.ops.now c.self.inside.reads.items c.self.inside.placed row begun c.self.invariant.0
     ∙ ap (λ (l : List JobRecord). l
-    ++ new_record c.args.head.collects c.args.head.task c.args.head.release c.args.head.due c.args.ops.now ∷ []) c.self.view_is
+    ++ job_of c.args.head.now c.args.ops.now ∷ []) c.self.view_is
 
 pub invariant_of-self : goal.invariant_of-self
 invariant_of-self c = grind (arith, common_steps)

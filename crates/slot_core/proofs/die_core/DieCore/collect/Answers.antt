@@ -1,4 +1,4 @@
-use Rattle.std.proofs.Common.{◌≡◌, refl, None, false, sym, ◌∙◌, ap, rules}
+use Rattle.std.proofs.Common.{◌≡◌, refl, None, false, length, arith, sym, ◌∙◌, ap, rules}
 use Rattle.std.specs.Prelude.{IfOk}
 use Rattle.slot_types.specs.declared.events.Event.TheVariants.{Collect}
 use Rattle.slot_types.specs.declared.replies.Reply.TheVariants.{Taken}
@@ -26,15 +26,22 @@ returns-in-Some g c =
     c.args.self.now _ c.in-Some.refusal (rw (← c.self.view_is) (sym c.failed.ensures ∙ c.if-failed.false))
     (refused_answer _ _ _ _ (sym c.collect_refusal.ensures ∙ c.in-Some.is)) (search rules)
 
-pub enter_collection-requires-clause-single : goal.enter_collection-requires-clause-single
-enter_collection-requires-clause-single g c =
+pub enter-requires-clause-collection : goal.enter-requires-clause-collection
+enter-requires-clause-collection g c _ =
     let none : refusal_of (over c.self.inside.volume.accounts.plan c.self.inside.start) (log_of c.self.inside.table c.self.inside.events.notes)
     (Collect c.args.task c.args.release c.args.due) ≡ None =
     ap (λ (d : Core g.row.N.Denot). refusal_of d.start d.log (Collect c.args.task c.args.release c.args.due)) c.self.view_is
     ∙ (sym c.collect_refusal.ensures ∙ c.in-None.is) in
-    collecting_is (over c.self.inside.volume.accounts.plan c.self.inside.start) (log_of c.self.inside.table c.self.inside.events.notes) c.self.inside.table.jobs
-    c.args.task c.self.invariant.0.kept.jobs_are ∙ (may_collect (over c.self.inside.volume.accounts.plan c.self.inside.start)
-    (log_of c.self.inside.table c.self.inside.events.notes) c.args.task c.args.release c.args.due none).single
+    let may = may_collect (over c.self.inside.volume.accounts.plan c.self.inside.start)
+    (log_of c.self.inside.table c.self.inside.events.notes) c.args.task c.args.release c.args.due none in (
+      c.none.ensures,
+      omega (arith, may.task_in, c.self.invariant.0.kept.tasks_are),
+      collecting_is (over c.self.inside.volume.accounts.plan c.self.inside.start) (log_of c.self.inside.table c.self.inside.events.notes)
+          c.self.inside.table.jobs c.args.task c.self.invariant.0.kept.jobs_are ∙ may.single,
+    )
+
+pub enter-requires-clause-few_ops : goal.enter-requires-clause-few_ops
+enter-requires-clause-few_ops g c = omega (arith, ap length c.none.ensures)
 
 pub invariant_of-self : goal.invariant_of-self
 invariant_of-self g c =
@@ -42,28 +49,28 @@ invariant_of-self g c =
     (Collect c.args.task c.args.release c.args.due) ≡ None =
     ap (λ (d : Core g.row.N.Denot). refusal_of d.start d.log (Collect c.args.task c.args.release c.args.due)) c.self.view_is
     ∙ (sym c.collect_refusal.ensures ∙ c.in-None.is) in
-    let entered = collect_enters c.self.inside.start g.N.Nand.blocks c.self.inside.events.notes c.enter_collection.new.events.notes c.self.inside.present
-    c.args.caller c.args.task c.args.release c.args.due c.self.inside.table c.enter_collection.new.table
-    c.self.inside.volume c.enter_collection.result c.self.invariant.0 (sym c.failed.ensures ∙ c.if-failed.false) none
-    c.enter_collection.ensures.table c.enter_collection.ensures.number c.enter_collection.ensures.logged
-    c.enter_collection.ensures.table_stays c.enter_collection.ensures.log_stays in (
+    let entered = collect_enters c.self.inside.start g.N.Nand.blocks c.self.inside.events.notes c.enter.new.events.notes c.self.inside.present
+    c.args.caller c.args.task c.args.release c.args.due c.self.inside.table c.enter.new.table
+    c.self.inside.volume c.enter.result c.self.invariant.0 (sym c.failed.ensures ∙ c.if-failed.false) none
+    (rw c.none.ensures at c.enter.ensures.table) c.enter.ensures.number c.enter.ensures.logged
+    c.enter.ensures.table_stays c.enter.ensures.log_stays in (
       entered,
       record {
-        slots = c.enter_collection.ensures.reserved;
-        waivers = collect_room c.enter_collection.result (over c.self.inside.volume.accounts.plan c.self.inside.start)
-            (log_of c.enter_collection.new.table c.enter_collection.new.events.notes) c.self.inside.table c.enter_collection.new.table
-            c.self.inside.events.waiver_room c.enter_collection.new.events.waiver_room entered.kept.bound entered.kept.exact
+        slots = c.enter.ensures.reserved;
+        waivers = collect_room c.enter.result (over c.self.inside.volume.accounts.plan c.self.inside.start)
+            (log_of c.enter.new.table c.enter.new.events.notes) c.self.inside.table c.enter.new.table
+            c.self.inside.events.waiver_room c.enter.new.events.waiver_room entered.kept.bound entered.kept.exact
             entered.kept.jobs_are c.self.invariant.0.kept.tasks_are
-            c.enter_collection.ensures.waiver_room c.enter_collection.ensures.table_stays c.self.invariant.1.waivers
-            c.enter_collection.ensures.waiver_room_stays;
+            c.enter.ensures.waiver_room c.enter.ensures.table_stays c.self.invariant.1.waivers
+            c.enter.ensures.waiver_room_stays;
       },
-      marks_collect c.enter_collection.result c.self.inside.table c.enter_collection.new.table c.args.task c.args.release c.args.due
-          c.self.inside.events.marked c.enter_collection.new.events.marked c.enter_collection.ensures.table
-          c.enter_collection.ensures.table_stays c.enter_collection.ensures.marked c.self.invariant.2,
+      marks_collect c.enter.result c.self.inside.table c.enter.new.table c.args.task c.args.release c.args.due
+          c.self.inside.events.marked c.enter.new.events.marked (rw c.none.ensures at c.enter.ensures.table)
+          c.enter.ensures.table_stays c.enter.ensures.marked c.self.invariant.2,
     )
 
-pub enter_collection-requires-clause-few_events : goal.enter_collection-requires-clause-few_events
-enter_collection-requires-clause-few_events g c = few_reported (over c.self.inside.volume.accounts.plan c.self.inside.start) c.self.inside.table.jobs
+pub enter-requires-clause-few_events : goal.enter-requires-clause-few_events
+enter-requires-clause-few_events g c = few_reported (over c.self.inside.volume.accounts.plan c.self.inside.start) c.self.inside.table.jobs
     c.self.inside.events.notes c.self.invariant.0.kept.exact c.self.invariant.0.fits
 
 pub returns : goal.returns
@@ -71,24 +78,24 @@ returns g c =
     let runs : c.args.self.now.stopped ≡ false = rw (← c.self.view_is) (sym c.failed.ensures ∙ c.if-failed.false) in
     let none : refusal_of c.args.self.now.start c.args.self.now.log (Collect c.args.task c.args.release c.args.due) ≡ None =
     sym c.collect_refusal.ensures ∙ c.in-None.is in
-    let answered : IfOk c.enter_collection.result (λ number. answer c.args.self.now.start c.args.self.now.log
+    let answered : IfOk c.enter.result (λ number. answer c.args.self.now.start c.args.self.now.log
     (Collect c.args.task c.args.release c.args.due) ≡ Taken number) =
-    rw (← c.self.view_is) (collect_answered _ _ c.self.inside.table c.args.task c.args.release c.args.due c.enter_collection.result
-    (rw (← c.self.view_is) at none) c.self.invariant.0.kept.jobs_are c.enter_collection.ensures.number) in
-    let stays = if_err_both c.enter_collection.result (λ _. c.enter_collection.new.table ≡ c.self.inside.table)
-    (λ _. c.enter_collection.new.events.notes ≡ c.self.inside.events.notes)
-    (λ _. (c.enter_collection.new.table ≡ c.self.inside.table) × (c.enter_collection.new.events.notes ≡ c.self.inside.events.notes))
-    c.enter_collection.ensures.table_stays c.enter_collection.ensures.log_stays (λ refusal table log. (table, log)) in
+    rw (← c.self.view_is) (collect_answered _ _ c.self.inside.table c.args.task c.args.release c.args.due c.enter.result
+    (rw (← c.self.view_is) at none) c.self.invariant.0.kept.jobs_are c.enter.ensures.number) in
+    let stays = if_err_both c.enter.result (λ _. c.enter.new.table ≡ c.self.inside.table)
+    (λ _. c.enter.new.events.notes ≡ c.self.inside.events.notes)
+    (λ _. (c.enter.new.table ≡ c.self.inside.table) × (c.enter.new.events.notes ≡ c.self.inside.events.notes))
+    c.enter.ensures.table_stays c.enter.ensures.log_stays (λ refusal table log. (table, log)) in
     of_result g.N.Nand.ends g.N.Nand.failures g.N.Nand.never_fails c.args.caller (Collect c.args.task c.args.release c.args.due)
-    c.args.self.now _ c.enter_collection.result
-    (if_ok_both c.enter_collection.result _ _ _ answered
-    (collect_logged c.self.inside.table c.enter_collection.new.table c.self.inside.events.notes c.enter_collection.new.events.notes
-    c.args.caller c.args.task c.args.release c.args.due c.enter_collection.result
-    c.self.invariant.0.fits c.enter_collection.ensures.table c.enter_collection.ensures.number c.enter_collection.ensures.logged)
+    c.args.self.now _ c.enter.result
+    (if_ok_both c.enter.result _ _ _ answered
+    (collect_logged c.self.inside.table c.enter.new.table c.self.inside.events.notes c.enter.new.events.notes
+    c.args.caller c.args.task c.args.release c.args.due c.enter.result
+    c.self.invariant.0.fits (rw c.none.ensures at c.enter.ensures.table) c.enter.ensures.number c.enter.ensures.logged)
     (λ number is says. entered g.N.Nand.ends g.N.Nand.failures g.N.Nand.never_fails c.args.caller
     (Collect c.args.task c.args.release c.args.due) c.args.self.now _ number tt runs
     (record { answered = is; logged = rw (says, ← c.self.view_is) refl })))
-    (if_err_both c.enter_collection.result _ _ _ c.enter_collection.ensures.refused stays
+    (if_err_both c.enter.result _ _ _ c.enter.ensures.refused stays
     (λ refusal is same. memory_refused g.N.Nand.ends g.N.Nand.failures g.N.Nand.never_fails c.args.caller
     (Collect c.args.task c.args.release c.args.due) c.args.self.now _ refusal runs (collect_accepts _ _ _ _ _ none) (λ slot. absurd cc) is
     (rw (same.0, same.1, ← c.self.view_is) refl)))

@@ -1,4 +1,4 @@
-use Rattle.std.proofs.Common.{◌≡◌, refl, sym, ◌∙◌, ap, None, arith, rules}
+use Rattle.std.proofs.Common.{◌≡◌, true≢false, refl, sym, ◌∙◌, ap, None, arith, rules}
 use Rattle.std.proofs.lemmas.Grind.{common_steps}
 use Rattle.slot_types.specs.declared.events.Event.TheVariants.{Submit}
 use Rattle.slot_types.specs.Operations.{writes}
@@ -31,51 +31,51 @@ returns-in-Err g c =
     (rw (← c.self.view_is) (sym c.failed.ensures ∙ c.if-failed.false))
     (refused_answer _ _ _ _ (sym c.in-Err.ensures.refusal)) (search rules)
 
-pub returns-in-Err-enter_job : goal.returns-in-Err-enter_job
-returns-in-Err-enter_job g c =
+pub returns-in-Err-enter : goal.returns-in-Err-enter
+returns-in-Err-enter g c =
     memory_refused g.N.Nand.ends g.N.Nand.failures g.N.Nand.never_fails c.args.caller
-    (Submit c.args.task c.args.release c.args.due c.args.ops.now) c.args.self.now _ c.in-Err-enter_job.refusal
+    (Submit c.args.task c.args.release c.args.due c.args.ops.now) c.args.self.now _ c.in-Err-enter.refusal
     (rw (← c.self.view_is) (sym c.failed.ensures ∙ c.if-failed.false))
-    (submit_accepts _ _ _ _ _ _ (sym c.in-Ok.ensures.refusal)) (λ slot. absurd cc) c.in-Err-enter_job.ensures.refused (search rules)
+    (submit_accepts _ _ _ _ _ _ (sym c.in-Ok.ensures.refusal)) (λ slot. absurd cc) c.in-Err-enter.ensures.refused (search rules)
 
-pub invariant_of-self-in-Ok-enter_job : goal.invariant_of-self-in-Ok-enter_job
-invariant_of-self-in-Ok-enter_job g c =
+pub invariant_of-self-in-Ok-enter : goal.invariant_of-self-in-Ok-enter
+invariant_of-self-in-Ok-enter g c =
     let f = c.self.inside in
     let none : refusal_of (over f.volume.accounts.plan c.self.inside.start) (log_of f.table f.events.notes)
     (Submit c.args.task c.args.release c.args.due c.args.ops.now) ≡ None =
     ap (λ (d : Core g.row.N.Denot). refusal_of d.start d.log (Submit c.args.task c.args.release c.args.due c.args.ops.now)) c.self.view_is
     ∙ (sym c.in-Ok.ensures.refusal) in
     let alive = sym c.failed.ensures ∙ c.if-failed.false in
-    let table = rw c.in-Ok.ensures.ops at c.in-Ok-enter_job.ensures.table in
+    let table = rw c.in-Ok.ensures.ops at c.in-Ok-enter.ensures.table in
     let made = admit_made f.volume c.admit.new.self c.args.task _ c.args.ops.now c.admit.result (c.writes.ensures ∙ ap writes c.in-Ok.ensures.ops)
     (tokens_suffice (over f.volume.accounts.plan c.self.inside.start) (log_of f.table f.events.notes) c.args.task c.args.release c.args.due c.args.ops.now
     f.volume.accounts (c.self.invariant.0.kept.flash alive).accounts_are none) c.admit.ensures.ok (c.admit.ensures.accepted alive) in
-    let says = submit_reports f.table c.enter_job.new.table f.events.notes c.enter_job.new.events.notes c.args.caller c.in-Ok-enter_job.number
-    c.args.task c.args.release c.args.due c.args.ops.now table c.in-Ok-enter_job.ensures.number c.in-Ok-enter_job.ensures.logged
+    let says = submit_reports f.table c.enter.new.table f.events.notes c.enter.new.events.notes c.args.caller c.in-Ok-enter.number
+    c.args.task c.args.release c.args.due c.args.ops.now table c.in-Ok-enter.ensures.number c.in-Ok-enter.ensures.logged
     c.self.invariant.0.fits in (
       record {
-        kept = submit_kept c.self.inside.start g.N.Nand.blocks (log_of f.table f.events.notes) (log_of c.enter_job.new.table c.enter_job.new.events.notes)
-            f.present c.args.caller c.in-Ok-enter_job.number c.args.task c.args.release c.args.due c.args.ops.now f.table c.enter_job.new.table
+        kept = submit_kept c.self.inside.start g.N.Nand.blocks (log_of f.table f.events.notes) (log_of c.enter.new.table c.enter.new.events.notes)
+            f.present c.args.caller c.in-Ok-enter.number c.args.task c.args.release c.args.due c.args.ops.now f.table c.enter.new.table
             f.volume c.admit.new.self
-            c.self.invariant.0.kept alive none c.in-Ok-enter_job.ensures.number table made says.0;
+            c.self.invariant.0.kept alive none c.in-Ok-enter.ensures.number table made says.0;
         fits = says.1;
       },
       record {
-        slots = c.in-Ok-enter_job.ensures.reserved;
+        slots = c.in-Ok-enter.ensures.reserved;
         waivers = omega (
           arith,
           c.self.invariant.1.waivers,
-          c.in-Ok-enter_job.ensures.waiver_room,
+          c.in-Ok-enter.ensures.waiver_room_stays,
           ap (λ (t : Table). open_collections t.jobs) table,
           open_job f.table.jobs c.args.task c.args.release c.args.due c.args.ops.now,
         );
       },
-      rw (table, c.in-Ok-enter_job.ensures.marked) (marks_push f.table.jobs
+      rw (table, c.in-Ok-enter.ensures.marked) (marks_push f.table.jobs
           (new_job c.args.task c.args.release c.args.due c.args.ops.now) f.events.marked refl c.self.invariant.2),
     )
 
-pub enter_job-requires-clause-few_ops : goal.enter_job-requires-clause-few_ops
-enter_job-requires-clause-few_ops g c =
+pub enter-requires-clause-few_ops : goal.enter-requires-clause-few_ops
+enter-requires-clause-few_ops g c =
     let f = c.self.inside in
     let none : refusal_of (over f.volume.accounts.plan c.self.inside.start) (log_of f.table f.events.notes)
     (Submit c.args.task c.args.release c.args.due c.args.ops.now) ≡ None =
@@ -85,29 +85,32 @@ enter_job-requires-clause-few_ops g c =
     (accepted_few (over f.volume.accounts.plan c.self.inside.start) (log_of f.table f.events.notes) c.args.task c.args.release c.args.due
     c.args.ops.now none)
 
-pub enter_job-requires-clause-few_events : goal.enter_job-requires-clause-few_events
-enter_job-requires-clause-few_events g c = few_reported (over c.self.inside.volume.accounts.plan c.self.inside.start) c.self.inside.table.jobs c.self.inside.events.notes
+pub enter-requires-clause-collection : goal.enter-requires-clause-collection
+enter-requires-clause-collection g c e = absurd (true≢false (sym e))
+
+pub enter-requires-clause-few_events : goal.enter-requires-clause-few_events
+enter-requires-clause-few_events g c = few_reported (over c.self.inside.volume.accounts.plan c.self.inside.start) c.self.inside.table.jobs c.self.inside.events.notes
     c.self.invariant.0.kept.exact c.self.invariant.0.fits
 
-pub returns-in-Ok-enter_job : goal.returns-in-Ok-enter_job
-returns-in-Ok-enter_job g c =
+pub returns-in-Ok-enter : goal.returns-in-Ok-enter
+returns-in-Ok-enter g c =
     let f = c.self.inside in
     let none : refusal_of (over f.volume.accounts.plan c.self.inside.start) (log_of f.table f.events.notes)
     (Submit c.args.task c.args.release c.args.due c.args.ops.now) ≡ None =
     ap (λ (d : Core g.row.N.Denot). refusal_of d.start d.log (Submit c.args.task c.args.release c.args.due c.args.ops.now)) c.self.view_is
     ∙ (sym c.in-Ok.ensures.refusal) in
     let alive = sym c.failed.ensures ∙ c.if-failed.false in
-    let table = rw c.in-Ok.ensures.ops at c.in-Ok-enter_job.ensures.table in
+    let table = rw c.in-Ok.ensures.ops at c.in-Ok-enter.ensures.table in
     let made = admit_made f.volume c.admit.new.self c.args.task _ c.args.ops.now c.admit.result (c.writes.ensures ∙ ap writes c.in-Ok.ensures.ops)
     (tokens_suffice (over f.volume.accounts.plan c.self.inside.start) (log_of f.table f.events.notes) c.args.task c.args.release c.args.due c.args.ops.now
     f.volume.accounts (c.self.invariant.0.kept.flash alive).accounts_are none) c.admit.ensures.ok (c.admit.ensures.accepted alive) in
-    let says = submit_reports f.table c.enter_job.new.table f.events.notes c.enter_job.new.events.notes c.args.caller c.in-Ok-enter_job.number
-    c.args.task c.args.release c.args.due c.args.ops.now table c.in-Ok-enter_job.ensures.number c.in-Ok-enter_job.ensures.logged
+    let says = submit_reports f.table c.enter.new.table f.events.notes c.enter.new.events.notes c.args.caller c.in-Ok-enter.number
+    c.args.task c.args.release c.args.due c.args.ops.now table c.in-Ok-enter.ensures.number c.in-Ok-enter.ensures.logged
     c.self.invariant.0.fits in
     entered g.N.Nand.ends g.N.Nand.failures g.N.Nand.never_fails c.args.caller
-    (Submit c.args.task c.args.release c.args.due c.args.ops.now) c.args.self.now _ c.in-Ok-enter_job.number tt (rw (← c.self.view_is) alive) (record {
+    (Submit c.args.task c.args.release c.args.due c.args.ops.now) c.args.self.now _ c.in-Ok-enter.number tt (rw (← c.self.view_is) alive) (record {
       answered = rw (← c.self.view_is)
-          (submit_taken _ _ f.table _ _ _ _ _ none c.self.invariant.0.kept.jobs_are c.in-Ok-enter_job.ensures.number);
+          (submit_taken _ _ f.table _ _ _ _ _ none c.self.invariant.0.kept.jobs_are c.in-Ok-enter.ensures.number);
       logged = rw (says.0, made, ← c.self.view_is) refl;
     })
 

@@ -1,28 +1,28 @@
 use Rattle.std.proofs.Common.{◌≡◌, ◌<◌, false, length, refl, sym, subst}
 use Rattle.slot_types.specs.declared.limits.TheConstants.{MAX_JOBS}
-use Rattle.job_table.specs.Jobs.{JobRecord, new_collection}
-use Rattle.job_table.specs.Table.{Table, is_collecting}
+use Rattle.job_table.specs.Table.{Table}
+use Rattle.job_table.specs.Entering.{MayEnter, job_of}
 use Rattle.job_table.proofs.Keyed.{not_waiting, not_ready}
-use Rattle.job_table.proofs.Tables.{has_entered, collection_sound}
-use Rattle.job_table.proofs.job_table.JobTable.add_collection.Goals as goal
+use Rattle.job_table.proofs.Tables.{has_entered}
+use Rattle.job_table.proofs.Entered.{entered_sound}
+use Rattle.job_table.proofs.job_table.JobTable.add.Goals as goal
+
+pub mark-requires : goal.mark-requires
+mark-requires c collects = (subst (λ (t : Table). MayEnter t c.args.head c.args.ops.now) (sym c.self.view_is) c.requires.collection collects).1
 
 pub invariant_of-self-2 : goal.invariant_of-self-2
 invariant_of-self-2 c =
-    let job : JobRecord = new_collection c.args.task c.args.release c.args.due in
     let few = subst (λ (t : Table). length t.jobs < MAX_JOBS) (sym c.self.view_is) c.requires.few in
     let runs = subst (λ (t : Table). t.ended ≡ false) (sym c.self.view_is) c.requires.running in
-    let in_range = subst (λ (t : Table). c.args.task < t.tasks) (sym c.self.view_is) c.requires.task in
-    let single = subst (λ (t : Table). is_collecting t.jobs c.args.task ≡ false) (sym c.self.view_is) c.requires.single in
+    let may = subst (λ (t : Table). MayEnter t c.args.head c.args.ops.now) (sym c.self.view_is) c.requires.collection in
     let waiting = rw (c.in_ok-number.ensures.number, c.in_ok-reserve.ensures.waiting) at c.enter.ensures.waiting in
     let ready = rw (c.in_ok-number.ensures.number, c.in_ok-reserve.ensures.ready) at c.enter.ensures.ready in
     let r = c.self.invariant.running runs in
-    rw (c.in_ok-number.ensures.ok, c.none.ensures, c.task.view_is)
-    (collection_sound c.self.inside.jobs job c.self.inside.clock c.self.inside.ended c.self.inside.collecting.items c.self.inside.queues
-    c.enter.new.self c.self.inside.worst
-    runs few refl refl in_range single
-    (has_entered c.self.inside.jobs job c.self.inside.clock c.self.inside.queues.waiting c.enter.new.self.waiting c.self.inside.queues.ready
-    c.enter.new.self.ready
-    refl waiting ready r.queued r.later)
+    rw (c.in_ok-number.ensures.ok, c.mark.ensures)
+    (entered_sound c.self.inside.jobs c.args.head c.args.ops.now c.self.inside.clock c.self.inside.ended c.self.inside.collecting.items
+    c.self.inside.queues c.enter.new.self c.self.inside.worst runs few may
+    (has_entered c.self.inside.jobs (job_of c.args.head c.args.ops.now) c.self.inside.clock c.self.inside.queues.waiting
+    c.enter.new.self.waiting c.self.inside.queues.ready c.enter.new.self.ready refl waiting ready r.queued r.later)
     c.self.invariant)
 
 pub enter-requires-clause-not_waiting : goal.enter-requires-clause-not_waiting
@@ -30,11 +30,11 @@ enter-requires-clause-not_waiting c =
     let runs = subst (λ (t : Table). t.ended ≡ false) (sym c.self.view_is) c.requires.running in
     let r = c.self.invariant.running runs in
     rw (c.in_ok-reserve.ensures.waiting, c.in_ok-number.ensures.number)
-    (not_waiting c.self.inside.jobs c.self.inside.clock c.self.inside.queues.waiting c.self.inside.queues.ready c.args.release r.queued)
+    (not_waiting c.self.inside.jobs c.self.inside.clock c.self.inside.queues.waiting c.self.inside.queues.ready c.args.head.release r.queued)
 
 pub enter-requires-clause-not_ready : goal.enter-requires-clause-not_ready
 enter-requires-clause-not_ready c =
     let runs = subst (λ (t : Table). t.ended ≡ false) (sym c.self.view_is) c.requires.running in
     let r = c.self.invariant.running runs in
     rw (c.in_ok-reserve.ensures.ready, c.in_ok-number.ensures.number)
-    (not_ready c.self.inside.jobs c.self.inside.clock c.self.inside.queues.waiting c.self.inside.queues.ready c.args.due r.queued)
+    (not_ready c.self.inside.jobs c.self.inside.clock c.self.inside.queues.waiting c.self.inside.queues.ready c.args.head.due r.queued)
