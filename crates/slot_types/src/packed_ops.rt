@@ -1,6 +1,6 @@
 //! Operations in little room.
 
-ghost use Rattle.std.specs.Prelude.{◌≡◌, ◌+◌, ◌-◌, ◌<◌, ◌≤◌, ◌++◌, [], Some, length, take, map, slice_get, slice_range};
+ghost use Rattle.std.specs.Prelude.{◌≡◌, ◌+◌, ◌-◌, ◌<◌, ◌≤◌, ◌∷◌, ◌++◌, [], Some, length, take, map, slice_get, slice_range};
 ghost use Rattle.std.specs.Prelude.{vec_len, vec_capacity, count_by, OnOk, OnErr};
 ghost use Rattle.slot_types.specs.Refusal.{FailsForMemory};
 ghost use Rattle.slot_types.specs.Operations.{is_some_write, page_of, writes};
@@ -163,6 +163,31 @@ impl PackedOps {
             pages: &self.pages[from..to],
             bytes: bytes_between(self.bytes.as_slice(), writes_from, writes_to),
         }
+    }
+
+    /// All operations, lent as they lie.
+    pub fn lend(&self) -> LentOps<'_>
+        ensures { result ≡ self.now }
+    {
+        LentOps {
+            list: &[],
+            kinds: self.kinds.as_slice(),
+            pages: self.pages.as_slice(),
+            bytes: self.bytes.as_slice(),
+        }
+    }
+
+    /// Adds an operation at the end. Refused with `NoMemory`, it isn't added.
+    pub fn push(&mut self, op: Op) -> Result<(), Refusal>
+        ensures ok { OnOk result (self.new ≡ self.old ++ op ∷ []) }
+        ensures refused { FailsForMemory result }
+        ensures err { OnErr result (self.new ≡ self.old) }
+    {
+        self.kinds.reserve(1)?;
+        self.pages.reserve(1)?;
+        self.bytes.reserve(usize::from(op.is_write()))?;
+        push_list(&mut self.kinds, &mut self.pages, &mut self.bytes, &[op]);
+        Ok(())
     }
 
     /// Adds operations, so many of which write. Refused with `NoMemory`, none is added.
