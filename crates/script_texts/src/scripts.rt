@@ -108,9 +108,9 @@ impl<R: Read> ScriptReader<R> {
     }
 
     /// The next item, as [`next`](ScriptReader::next) answers it, but its operations are put into a list of the
-    /// caller's, in place of those that it has and in their memory: a reader that is given one list for all rows takes
-    /// memory for its longest job alone. A collection has no operations. Where there is no item, nothing is said of
-    /// the list.
+    /// caller's, packed or not, in place of those that it has and in their memory: a reader that is given one list for
+    /// all rows takes memory for its longest job alone. A collection has no operations. Where there is no item, nothing
+    /// is said of the list.
     pub fn next_into<O: WordSink<Op>>(&mut self, ops: &mut O) -> Result<Option<RowHead>, Refusal>
         ensures gives { Gives (reading_left R.remaining self.old)
             (reading_left R.remaining self.new) (row_read result (O.items ops.new)) }
