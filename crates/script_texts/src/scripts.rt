@@ -121,7 +121,8 @@ impl<R: Read> ScriptReader<R> {
         ensures row { IfOk result (λ o.
             IfSome o (λ head.
             IsRowFor (dies_of self.old) (slots_of self.old) (row_of head (O.items ops.new)))) }
-        ensures pages { IfOk result (λ o. IfSome o (λ head. RowHasPages (row_of head (O.items ops.new)))) }
+        ensures pages { IfOk result (λ o. IfSome o (λ head.
+            RowHasPages (row_of head (O.items ops.new)))) }
         ensures own { IfOk result (λ o. IfSome o (λ head. HasOwnOps head (O.items ops.new))) }
         ensures dies { dies_of self.new ≡ dies_of self.old }
         ensures slots { slots_of self.new ≡ slots_of self.old }

@@ -53,8 +53,10 @@ fn read_item<R: Read, O: WordSink<Op>>(
     ensures plain { IfOk result (λ _. IsPlain rows.new) }
     ensures line { IfOk result (λ o. IfSome o (λ _. line ≤ 1000001)) }
     ensures die { IfOk result (λ o. IfSome o (λ head. head.die < length lasts.now)) }
-    ensures arrives { IfOk result (λ o. IfSome o (λ head. Arrives slots (row_of head (O.items ops.new)))) }
-    ensures pages { IfOk result (λ o. IfSome o (λ head. RowHasPages (row_of head (O.items ops.new)))) }
+    ensures arrives { IfOk result (λ o. IfSome o (λ head.
+        Arrives slots (row_of head (O.items ops.new)))) }
+    ensures pages { IfOk result (λ o. IfSome o (λ head.
+        RowHasPages (row_of head (O.items ops.new)))) }
     ensures own { IfOk result (λ o. IfSome o (λ head. HasOwnOps head (O.items ops.new))) }
 {
     if !take_row(rows, row)? {
@@ -86,8 +88,10 @@ fn read_first<R: Read, O: WordSink<Op>>(
         (row_read result (O.items ops.new)) }
     ensures plain { IfOk result (λ _. IsPlain rows.new) }
     ensures die { IfOk result (λ o. IfSome o (λ head. head.die < length lasts.now)) }
-    ensures arrives { IfOk result (λ o. IfSome o (λ head. Arrives slots (row_of head (O.items ops.new)))) }
-    ensures pages { IfOk result (λ o. IfSome o (λ head. RowHasPages (row_of head (O.items ops.new)))) }
+    ensures arrives { IfOk result (λ o. IfSome o (λ head.
+        Arrives slots (row_of head (O.items ops.new)))) }
+    ensures pages { IfOk result (λ o. IfSome o (λ head.
+        RowHasPages (row_of head (O.items ops.new)))) }
     ensures own { IfOk result (λ o. IfSome o (λ head. HasOwnOps head (O.items ops.new))) }
 {
     if !take_row(rows, row)? || !heads_script(row) {
@@ -119,8 +123,10 @@ pub fn read_step<R: Read, O: WordSink<Op>>(
     ensures plain { IfOk result (λ _. IsPlain rows.new) }
     ensures line { IfOk result (λ o. IfSome o (λ _. line ≤ 1000001)) }
     ensures die { IfOk result (λ o. IfSome o (λ head. head.die < length lasts.now)) }
-    ensures arrives { IfOk result (λ o. IfSome o (λ head. Arrives slots (row_of head (O.items ops.new)))) }
-    ensures pages { IfOk result (λ o. IfSome o (λ head. RowHasPages (row_of head (O.items ops.new)))) }
+    ensures arrives { IfOk result (λ o. IfSome o (λ head.
+        Arrives slots (row_of head (O.items ops.new)))) }
+    ensures pages { IfOk result (λ o. IfSome o (λ head.
+        RowHasPages (row_of head (O.items ops.new)))) }
     ensures own { IfOk result (λ o. IfSome o (λ head. HasOwnOps head (O.items ops.new))) }
 {
     if line == 1 {

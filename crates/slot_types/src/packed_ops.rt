@@ -59,6 +59,20 @@ fn push_list(kinds: &mut Vec<OpKind>, pages: &mut Vec<u32>, bytes: &mut Vec<Page
     }
 }
 
+/// Adds the bytes of an operation, if it writes. Refused with `NoMemory`, none are added.
+fn push_bytes(bytes: &mut Vec<PageData>, op: Op) -> Result<(), Refusal>
+    ensures ok { OnOk result (bytes.new.items ≡ bytes.old.items ++ bytes_of (op ∷ [])) }
+    ensures refused { FailsForMemory result }
+    ensures err { OnErr result (bytes.new.items ≡ bytes.old.items) }
+{
+    match op {
+        Op::Write(_, page) => bytes.push(page)?,
+        Op::Read(_) => {}
+        Op::Trim(_) => {}
+    }
+    Ok(())
+}
+
 /// Adds items in room that was made.
 fn append<T: Copy>(list: &mut Vec<T>, more: &[T])
     requires { vec_len list.old + length more.now ≤ vec_capacity list.old }
@@ -185,8 +199,9 @@ impl PackedOps {
     {
         self.kinds.reserve(1)?;
         self.pages.reserve(1)?;
-        self.bytes.reserve(usize::from(op.is_write()))?;
-        push_list(&mut self.kinds, &mut self.pages, &mut self.bytes, &[op]);
+        push_bytes(&mut self.bytes, op)?;
+        self.kinds.push_reserved(op.kind());
+        self.pages.push_reserved(op.page());
         Ok(())
     }
 

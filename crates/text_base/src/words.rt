@@ -148,7 +148,8 @@ fn first_word<T: Word + Drop>(text: &[u8]) -> Option<(T, Option<&[u8]>)>
 fn put_all<T: Word + Drop, L: WordSink<T>>(list: &mut L, text: &[u8]) -> Result<bool, Refusal>
     requires { L.items list.old ≡ [] }
     ensures ok { IfOk result (λ whole.
-        if_whole whole (L.items list.new) ≡ all_of T.word_of (slice_split (λ b. b == 32) text.now)) }
+        if_whole whole (L.items list.new)
+        ≡ all_of T.word_of (slice_split (λ b. b == 32) text.now)) }
     ensures refused { FailsForMemory result }
 {
     let mut left = Some(text);
@@ -166,10 +167,7 @@ fn put_all<T: Word + Drop, L: WordSink<T>>(list: &mut L, text: &[u8]) -> Result<
 
 /// Puts what the words of a field say in place of other items, in their memory, and answers whether all of them say
 /// something. An empty field has none.
-pub fn put_list<T: Word + Drop, L: WordSink<T>>(
-    list: &mut L,
-    field: &[u8],
-) -> Result<bool, Refusal>
+pub fn put_list<T: Word + Drop, L: WordSink<T>>(list: &mut L, field: &[u8]) -> Result<bool, Refusal>
     ensures ok { IfOk result (λ whole.
         if_whole whole (L.items list.new) ≡ list_of T.word_of field.now) }
     ensures refused { FailsForMemory result }

@@ -6,22 +6,24 @@ use Rattle.slot_types.proofs.packed_ops.PackedOps.push.Goals as goal
 pub invariant_of-self-2 : goal.invariant_of-self-2
 invariant_of-self-2 c =
     rw (
-      c.push_list.ensures.kinds,
+      c.push_reserved.ensures.items,
       c.in_ok-reserve.ensures.items,
-      c.push_list.ensures.pages,
+      c.kind.ensures,
+      c.push_reserved-2.ensures.items,
       c.in_ok-reserve-2.ensures.items,
-      c.push_list.ensures.bytes,
-      c.in_ok-reserve-3.ensures.items,
+      c.page.ensures,
+      c.in_ok-push_bytes.ensures.ok,
     ) (packed_in _ _ _ _ (joined _ _ _ _ _ _ _ _ c.self.invariant (of_list (c.args.op ∷ []))))
 
 pub returns-clause-ok : goal.returns-clause-ok
 returns-clause-ok c =
     rw (
-      c.push_list.ensures.kinds,
+      c.push_reserved.ensures.items,
       c.in_ok-reserve.ensures.items,
-      c.push_list.ensures.pages,
+      c.kind.ensures,
+      c.push_reserved-2.ensures.items,
       c.in_ok-reserve-2.ensures.items,
-      c.push_list.ensures.bytes,
-      c.in_ok-reserve-3.ensures.items,
+      c.page.ensures,
+      c.in_ok-push_bytes.ensures.ok,
     ) (packed_are _ _ _ _ (joined _ _ _ _ _ _ _ _ c.self.invariant (of_list (c.args.op ∷ [])))
     ∙ ap (λ (l : List Op). l ++ c.args.op ∷ []) c.self.view_is)
