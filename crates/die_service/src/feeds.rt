@@ -276,7 +276,7 @@ impl Feed {
 
     /// Adds a job of these operations, which are lent, that comes before slot `at`; or a collection, which leaves them
     /// aside. Refused with `NoMemory`, the feed stays as it was.
-    pub fn push_lent(&mut self, at: u32, head: JobHead, ops: &[Op]) -> Result<(), Refusal>
+    pub fn push_lent(&mut self, at: u32, head: JobHead, ops: &LentOps) -> Result<(), Refusal>
         ensures ok { OnOk result (self.new
             ≡ self.old ++ record { at = at; event = arrival_of head ops.now } ∷ []) }
         ensures refused { FailsForMemory result }
@@ -285,7 +285,7 @@ impl Feed {
         if head.collects {
             return self.push_row(at, EventHead::Arrive(head), &LentOps::none());
         }
-        self.push_row(at, EventHead::Arrive(head), &LentOps::list(ops))
+        self.push_row(at, EventHead::Arrive(head), ops)
     }
 
     /// The slot before which the event of a place comes.

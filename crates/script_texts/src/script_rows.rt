@@ -11,8 +11,8 @@ ghost use Rattle.text_base.specs.Ops.{ops_of, ops_or};
 ghost use Rattle.text_base.specs.Readings.{Shows};
 
 use csv::ByteRecord;
-use slot_types::{Cause, Event, JobHead, OpList, Refusal, TaskNo};
-use text_base::{field_in, number, put_list};
+use slot_types::{Cause, Event, JobHead, Op, OpList, Refusal, TaskNo};
+use text_base::{WordSink, field_in, number, put_list};
 
 /// What a row of a script asks.
 #[derive(Clone, PartialEq, Eq, Debug, Drop)]
@@ -87,10 +87,10 @@ fn collects_in(row: &ByteRecord, line: u32) -> Result<bool, Refusal>
 }
 
 /// Puts the operations of a field in place of others, in their memory, or says the fault of its record.
-fn put_ops(ops: &mut OpList, field: &[u8], line: u32) -> Result<(), Refusal>
-    ensures { Shows (λ _. ops.new) result (ops_or line (ops_of field.now)) }
+fn put_ops<O: WordSink<Op>>(ops: &mut O, field: &[u8], line: u32) -> Result<(), Refusal>
+    ensures { Shows (λ _. O.items ops.new) result (ops_or line (ops_of field.now)) }
 {
-    if put_list(ops, field)? {
+    if put_list::<Op, O>(ops, field)? {
         Ok(())
     } else {
         Err(Refusal::ScriptRow {
@@ -101,12 +101,12 @@ fn put_ops(ops: &mut OpList, field: &[u8], line: u32) -> Result<(), Refusal>
 }
 
 /// Puts the operations of a row in place of others, in their memory: a collection has none.
-fn put_asked(ops: &mut OpList, head: &RowHead, field: &[u8]) -> Result<(), Refusal>
-    ensures event { Shows (λ _. arrival_of head.now.job ops.new) result
+fn put_asked<O: WordSink<Op>>(ops: &mut O, head: &RowHead, field: &[u8]) -> Result<(), Refusal>
+    ensures event { Shows (λ _. arrival_of head.now.job (O.items ops.new)) result
         (event_of head.now.line head.now.job.collects head.now.job.task head.now.job.release
         head.now.job.due field.now) }
-    ensures pages { OnOk result (AsksPages (arrival_of head.now.job ops.new)) }
-    ensures own { OnOk result (HasOwnOps head.now ops.new) }
+    ensures pages { OnOk result (AsksPages (arrival_of head.now.job (O.items ops.new))) }
+    ensures own { OnOk result (HasOwnOps head.now (O.items ops.new)) }
 {
     if !head.job.collects {
         return put_ops(ops, field, head.line);
@@ -124,19 +124,19 @@ fn put_asked(ops: &mut OpList, head: &RowHead, field: &[u8]) -> Result<(), Refus
 
 /// The head of a row, after rows of its dies that came at these slots; its operations are put in place of others.
 #[tactic(auto, unfolding(crate::specs::ScriptRows::item_of))]
-pub fn take_item(
+pub fn take_item<O: WordSink<Op>>(
     row: &ByteRecord,
     slots: u32,
     lasts: &[u32],
     line: u32,
-    ops: &mut OpList,
+    ops: &mut O,
 ) -> Result<RowHead, Refusal>
     ensures item { Shows (λ head.
-        row_of head ops.new) result (item_of slots lasts.now line (fields_of row.now)) }
+        row_of head (O.items ops.new)) result (item_of slots lasts.now line (fields_of row.now)) }
     ensures die { IfOk result (λ head. head.die < length lasts.now) }
-    ensures arrives { IfOk result (λ head. Arrives slots (row_of head ops.new)) }
-    ensures pages { IfOk result (λ head. RowHasPages (row_of head ops.new)) }
-    ensures own { IfOk result (λ head. HasOwnOps head ops.new) }
+    ensures arrives { IfOk result (λ head. Arrives slots (row_of head (O.items ops.new))) }
+    ensures pages { IfOk result (λ head. RowHasPages (row_of head (O.items ops.new))) }
+    ensures own { IfOk result (λ head. HasOwnOps head (O.items ops.new)) }
 {
     if row.len() != 7 {
         return Err(Refusal::ScriptRow {

@@ -7,10 +7,10 @@ ghost use Rattle.text_base.specs.Plain.{IsPlain};
 use crate::script_rows::{RowHead, ScriptItem};
 use crate::steps::read_step;
 use csv::{ByteRecord, Reader};
-use slot_types::{OpList, Refusal, StorePlan};
+use slot_types::{Op, OpList, Refusal, StorePlan};
 use std::alloc::Global;
 use std::io::Read;
-use text_base::{Bounded, rows_in};
+use text_base::{Bounded, WordSink, rows_in};
 
 /// Reads a script, row by row, in the memory of its longest row.
 ///
@@ -108,24 +108,25 @@ impl<R: Read> ScriptReader<R> {
     }
 
     /// The next item, as [`next`](ScriptReader::next) answers it, but its operations are put into a list of the
-    /// caller's, in place of those that it has and in their memory: a reader that is given one list for all rows takes
-    /// memory for its longest job alone. A collection has no operations. Where there is no item, nothing is said of
-    /// the list.
-    pub fn next_into(&mut self, ops: &mut OpList) -> Result<Option<RowHead>, Refusal>
+    /// caller's, packed or not, in place of those that it has and in their memory: a reader that is given one list for
+    /// all rows takes memory for its longest job alone. A collection has no operations. Where there is no item, nothing
+    /// is said of the list.
+    pub fn next_into<O: WordSink<Op>>(&mut self, ops: &mut O) -> Result<Option<RowHead>, Refusal>
         ensures gives { Gives (reading_left R.remaining self.old)
-            (reading_left R.remaining self.new) (row_read result ops.new) }
+            (reading_left R.remaining self.new) (row_read result (O.items ops.new)) }
         ensures item { Yields (script_left R.remaining self.old) (script_left R.remaining self.new)
-            (row_read result ops.new) }
+            (row_read result (O.items ops.new)) }
         ensures bound { EndsFit (script_fits R.remaining self.old)
-            (script_fits R.remaining self.new) (row_read result ops.new) }
+            (script_fits R.remaining self.new) (row_read result (O.items ops.new)) }
         ensures row { IfOk result (λ o.
             IfSome o (λ head.
-            IsRowFor (dies_of self.old) (slots_of self.old) (row_of head ops.new))) }
-        ensures pages { IfOk result (λ o. IfSome o (λ head. RowHasPages (row_of head ops.new))) }
-        ensures own { IfOk result (λ o. IfSome o (λ head. HasOwnOps head ops.new)) }
+            IsRowFor (dies_of self.old) (slots_of self.old) (row_of head (O.items ops.new)))) }
+        ensures pages { IfOk result (λ o. IfSome o (λ head.
+            RowHasPages (row_of head (O.items ops.new)))) }
+        ensures own { IfOk result (λ o. IfSome o (λ head. HasOwnOps head (O.items ops.new))) }
         ensures dies { dies_of self.new ≡ dies_of self.old }
         ensures slots { slots_of self.new ≡ slots_of self.old }
-        ensures again { Recalls self.old self.new (row_read result ops.new) }
+        ensures again { Recalls self.old self.new (row_read result (O.items ops.new)) }
     {
         if let Some(refusal) = self.refused {
             return Err(refusal);

@@ -1,6 +1,6 @@
 //! Operations in little room.
 
-ghost use Rattle.std.specs.Prelude.{◌≡◌, ◌+◌, ◌-◌, ◌<◌, ◌≤◌, ◌++◌, [], Some, length, take, map, slice_get, slice_range};
+ghost use Rattle.std.specs.Prelude.{◌≡◌, ◌+◌, ◌-◌, ◌<◌, ◌≤◌, ◌∷◌, ◌++◌, [], Some, length, take, map, slice_get, slice_range};
 ghost use Rattle.std.specs.Prelude.{vec_len, vec_capacity, count_by, OnOk, OnErr};
 ghost use Rattle.slot_types.specs.Refusal.{FailsForMemory};
 ghost use Rattle.slot_types.specs.Operations.{is_some_write, page_of, writes};
@@ -57,6 +57,20 @@ fn push_list(kinds: &mut Vec<OpKind>, pages: &mut Vec<u32>, bytes: &mut Vec<Page
             Op::Trim(_) => {}
         }
     }
+}
+
+/// Adds the bytes of an operation, if it writes. Refused with `NoMemory`, none are added.
+fn push_bytes(bytes: &mut Vec<PageData>, op: Op) -> Result<(), Refusal>
+    ensures ok { OnOk result (bytes.new.items ≡ bytes.old.items ++ bytes_of (op ∷ [])) }
+    ensures refused { FailsForMemory result }
+    ensures err { OnErr result (bytes.new.items ≡ bytes.old.items) }
+{
+    match op {
+        Op::Write(_, page) => bytes.push(page)?,
+        Op::Read(_) => {}
+        Op::Trim(_) => {}
+    }
+    Ok(())
 }
 
 /// Adds items in room that was made.
@@ -163,6 +177,32 @@ impl PackedOps {
             pages: &self.pages[from..to],
             bytes: bytes_between(self.bytes.as_slice(), writes_from, writes_to),
         }
+    }
+
+    /// All operations, lent as they lie.
+    pub fn lend(&self) -> LentOps<'_>
+        ensures { result ≡ self.now }
+    {
+        LentOps {
+            list: &[],
+            kinds: self.kinds.as_slice(),
+            pages: self.pages.as_slice(),
+            bytes: self.bytes.as_slice(),
+        }
+    }
+
+    /// Adds an operation at the end. Refused with `NoMemory`, it isn't added.
+    pub fn push(&mut self, op: Op) -> Result<(), Refusal>
+        ensures ok { OnOk result (self.new ≡ self.old ++ op ∷ []) }
+        ensures refused { FailsForMemory result }
+        ensures err { OnErr result (self.new ≡ self.old) }
+    {
+        self.kinds.reserve(1)?;
+        self.pages.reserve(1)?;
+        push_bytes(&mut self.bytes, op)?;
+        self.kinds.push_reserved(op.kind());
+        self.pages.push_reserved(op.page());
+        Ok(())
     }
 
     /// Adds operations, so many of which write. Refused with `NoMemory`, none is added.

@@ -7,7 +7,7 @@ ghost use Rattle.task_script.specs.Feeds.{FailsIn, HasReadRows, rows_dealt};
 
 use crate::rows::DieRows;
 use script_texts::ScriptReader;
-use slot_types::{OpList, Refusal};
+use slot_types::{PackedOps, Refusal};
 use std::alloc::Global;
 use std::io::Read;
 
@@ -38,11 +38,11 @@ fn no_rows(alloc: Global, dies: usize) -> Result<Vec<DieRows>, Refusal>
 }
 
 /// By die the next rows of a script for so many dies, as many as are run at a time, or all that are left: 16,384 at
-/// most. Their operations are read into the list of the caller's.
+/// most. Their operations are read, row by row, into what the caller lends.
 pub fn read_rows<R: Read>(
     alloc: Global,
     script: &mut ScriptReader<R>,
-    ops: &mut OpList,
+    ops: &mut PackedOps,
     dies: usize,
 ) -> Result<ReadRows, Refusal>
     requires dies { dies_of script.old ≡ dies }
@@ -60,7 +60,7 @@ pub fn read_rows<R: Read>(
         match script.next_into(ops) {
             Ok(Some(head)) => {
                 let die = head.die as usize;
-                match rows[die].add(&head, ops.as_slice()) {
+                match rows[die].add(&head, &ops.lend()) {
                     Ok(()) => {}
                     Err(refusal) => return Err(refusal),
                 }

@@ -8,7 +8,7 @@ ghost use Rattle.script_texts.specs.Heads.{row_of};
 
 use die_service::Feed;
 use script_texts::RowHead;
-use slot_types::{Items, Op, Refusal};
+use slot_types::{Items, LentOps, Refusal};
 use std::alloc::Global;
 use std::marker::Model;
 
@@ -54,7 +54,7 @@ impl DieRows {
 
     /// Adds a row of the same die, of its head and its operations; a collection leaves them aside. The only refusal is
     /// for lack of memory.
-    pub fn add(&mut self, head: &RowHead, ops: &[Op]) -> Result<(), Refusal>
+    pub fn add(&mut self, head: &RowHead, ops: &LentOps) -> Result<(), Refusal>
         requires one_die { All (λ row. row.die ≡ head.now.die) self.old }
         ensures ok { OnOk result (self.new ≡ self.old ++ row_of head.now ops.now ∷ []) }
         ensures refused { FailsForMemory result }

@@ -22,7 +22,7 @@ use flash_die::MemoryNand;
 use report_texts::ReportText;
 use script_texts::ScriptReader;
 use slot_core::DieCore;
-use slot_types::{MAX_SLOT, OpList, Refusal, StorePlan};
+use slot_types::{MAX_SLOT, PackedOps, Refusal, StorePlan};
 use std::alloc::Global;
 use std::io::{Read, Write};
 use std::sync::Wait;
@@ -124,8 +124,8 @@ fn run_script<R: Threads + Wait + Sync, S: Read + Drop>(
     let (store, mut passes) = new_store(alloc, plan.as_slice())?;
     let mut progress = no_progress(alloc, plan.len())?;
     let mut reader = ScriptReader::new(alloc, script, plan, slots)?;
-    // The operations of all rows are read into this one list.
-    let mut ops = OpList::new(alloc);
+    // The operations of each row are read into these.
+    let mut ops = PackedOps::new(alloc);
     for _ in 0..u32::MAX {
         let rows = read_rows(alloc, &mut reader, &mut ops, plan.len())?;
         if rows.ended {

@@ -4,7 +4,7 @@ ghost use Rattle.std.specs.Prelude.{All, IfOk};
 ghost use Rattle.die_service.specs.Runs.{AllArrive};
 
 use die_service::{Batch, Feed};
-use slot_types::{JobHead, Op, Refusal, TaskNo};
+use slot_types::{JobHead, LentOps, Op, Refusal, TaskNo};
 use std::alloc::Global;
 
 /// A job of one operation of task 0. It comes before the slot of its release.
@@ -28,7 +28,7 @@ fn feed(alloc: Global, jobs: &[Job]) -> Result<Feed, Refusal>
             release,
             due,
         };
-        feed.push_lent(release, head, &[op])?;
+        feed.push_lent(release, head, &LentOps::list(&[op]))?;
     }
     Ok(feed)
 }

@@ -3,7 +3,7 @@
 use crate::made::{ONES, TWOS};
 use die_service::Feed;
 use slot_core::EventHead;
-use slot_types::{Event, JobHead, Op, OpList, Refusal, TaskNo};
+use slot_types::{Event, JobHead, LentOps, Op, OpList, Refusal, TaskNo};
 use std::alloc::Global;
 use std::test::Fail;
 
@@ -36,7 +36,7 @@ fn mixed(alloc: Global) -> Result<Feed, Refusal> {
     let ops = OpList::from_vec(Vec::from_slice(alloc, &OPS)?);
     feed.push(5, JOB.with_ops(ops))?;
     feed.push(2, Event::Slot)?;
-    feed.push_lent(8, COLLECTION, &OPS)?;
+    feed.push_lent(8, COLLECTION, &LentOps::list(&OPS))?;
     feed.push(8, JOB.with_ops(OpList::new(alloc)))?;
     Ok(feed)
 }
@@ -72,7 +72,7 @@ fn a_feed_gives_back_what_it_was_given(rt: HostRuntime) -> Result<(), Fail> {
 fn coming(alloc: Global, at: &[u32], slot: bool) -> Result<Feed, Refusal> {
     let mut feed = Feed::new(alloc);
     for slot in at {
-        feed.push_lent(*slot, COLLECTION, &[])?;
+        feed.push_lent(*slot, COLLECTION, &LentOps::none())?;
     }
     if slot {
         feed.push(4294967295, Event::Slot)?;

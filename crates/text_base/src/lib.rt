@@ -8,6 +8,7 @@ mod csv_records;
 mod numbers;
 mod ops;
 mod pages;
+mod word_sinks;
 mod words;
 mod writing;
 
@@ -16,5 +17,6 @@ pub use calls::read_again;
 pub use csv_records::{field_in, is_named, rows_in, rows_up_to, take_row};
 pub use numbers::number;
 pub use pages::{page, put_page};
+pub use word_sinks::WordSink;
 pub use words::{count_pages, list, put_list};
 pub use writing::write_whole;

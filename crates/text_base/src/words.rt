@@ -12,6 +12,7 @@ ghost use Rattle.text_base.specs.PageStarts.{BeginsWithPage, FirstIsPage};
 use crate::numbers::{leading_number, number};
 use crate::ops::{leading_op, op};
 use crate::pages::{after_page, leading_page, page};
+use crate::word_sinks::WordSink;
 use slot_types::{Items, JobNo, Op, PageData, Refusal};
 use std::alloc::Global;
 
@@ -144,17 +145,18 @@ fn first_word<T: Word + Drop>(text: &[u8]) -> Option<(T, Option<&[u8]>)>
 }
 
 /// Adds what the words of a text say, up to one that says nothing, and answers whether there is none.
-fn put_all<T: Word + Drop>(items: &mut Items<T>, text: &[u8]) -> Result<bool, Refusal>
-    requires { items.old ≡ [] }
+fn put_all<T: Word + Drop, L: WordSink<T>>(list: &mut L, text: &[u8]) -> Result<bool, Refusal>
+    requires { L.items list.old ≡ [] }
     ensures ok { IfOk result (λ whole.
-        if_whole whole items.new ≡ all_of T.word_of (slice_split (λ b. b == 32) text.now)) }
+        if_whole whole (L.items list.new)
+        ≡ all_of T.word_of (slice_split (λ b. b == 32) text.now)) }
     ensures refused { FailsForMemory result }
 {
     let mut left = Some(text);
     while let Some(text) = left {
         match first_word(text) {
             Some((item, rest)) => {
-                items.push(item)?;
+                list.push(item)?;
                 left = rest;
             }
             None => return Ok(false),
@@ -165,15 +167,16 @@ fn put_all<T: Word + Drop>(items: &mut Items<T>, text: &[u8]) -> Result<bool, Re
 
 /// Puts what the words of a field say in place of other items, in their memory, and answers whether all of them say
 /// something. An empty field has none.
-pub fn put_list<T: Word + Drop>(items: &mut Items<T>, field: &[u8]) -> Result<bool, Refusal>
-    ensures ok { IfOk result (λ whole. if_whole whole items.new ≡ list_of T.word_of field.now) }
+pub fn put_list<T: Word + Drop, L: WordSink<T>>(list: &mut L, field: &[u8]) -> Result<bool, Refusal>
+    ensures ok { IfOk result (λ whole.
+        if_whole whole (L.items list.new) ≡ list_of T.word_of field.now) }
     ensures refused { FailsForMemory result }
 {
-    items.clear();
+    list.clear();
     if field.is_empty() {
         return Ok(true);
     }
-    put_all(items, field)
+    put_all(list, field)
 }
 
 /// What the words of a field say, if all of them say something. An empty field has none.

@@ -8,5 +8,5 @@ pub returns-clause-step : goal.returns-clause-step
 returns-clause-step g c =
     let found : c.in_ok-take_row.field-0 ≡ true = search rules in
     let low : nat_lt 1000001 c.args.line ≡ false = search rules in
-    step-item c.args.slots c.args.lasts.now c.args.line _ _ _ (row_of c.in_ok-head.head c.take_item.new.ops)
+    step-item c.args.slots c.args.lasts.now c.args.line _ _ _ (row_of c.in_ok-head.head (g.O.WordSink.items c.take_item.new.ops))
     (rw found at c.in_ok-take_row.ensures.takes) low c.in_ok-head.ensures.item

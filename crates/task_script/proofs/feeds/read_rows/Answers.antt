@@ -23,7 +23,7 @@ returns-then-len-left-clause-rows g c =
     let row = rw c.in-Ok-Some.field-0-is at c.in-Ok-Some.ensures.row in
     let paged = rw c.in-Ok-Some.field-0-is at c.in-Ok-Some.ensures.pages in
     let step = rw c.in-Ok-Some.field-0-is at c.in-Ok-Some.ensures.item in
-    let added = rw c.as_slice.ensures at c.in-Ok.ensures.ok in
+    let added = rw c.lend.ensures at c.in-Ok.ensures.ok in
     deals_some _ _ _ _ _ (deals_more _ _ _ _ _ _ _ (row_of c.in-Ok-Some.head c.next_into.new.ops) _ _
     (rw (c.loop.invariant.dies, c.loop.invariant.slots) at row) paged
     c.index_mut.ensures.value added refl step c.loop.invariant.dealt)
@@ -37,7 +37,7 @@ returns-clause-few g c = omega (arith, c.loop.invariant.few)
 pub returns-then-len-left-clause-few : goal.returns-then-len-left-clause-few
 returns-then-len-left-clause-few g c =
     let row = rw c.in-Ok-Some.field-0-is at c.in-Ok-Some.ensures.row in
-    let added = rw c.as_slice.ensures at c.in-Ok.ensures.ok in
+    let added = rw c.lend.ensures at c.in-Ok.ensures.ok in
     let few = few_more _ _ _ _ _ _ (row_of c.in-Ok-Some.head c.next_into.new.ops) _ _ _
     (rw (c.loop.invariant.dies, c.loop.invariant.slots) at row)
     c.index_mut.ensures.value added refl c.loop.invariant.dealt c.loop.invariant.few in
@@ -51,7 +51,7 @@ loop-preserved g c =
     let row = rw c.in-Ok-Some.field-0-is at c.in-Ok-Some.ensures.row in
     let paged = rw c.in-Ok-Some.field-0-is at c.in-Ok-Some.ensures.pages in
     let step = rw c.in-Ok-Some.field-0-is at c.in-Ok-Some.ensures.item in
-    let added = rw c.as_slice.ensures at c.in-Ok.ensures.ok in
+    let added = rw c.lend.ensures at c.in-Ok.ensures.ok in
     record {
       dies = c.next_into.ensures.dies ∙ c.loop.invariant.dies;
       slots = c.next_into.ensures.slots ∙ c.loop.invariant.slots;

@@ -9,5 +9,5 @@ abbrev pub decreases-loop-left : goal.decreases-loop-left
 decreases-loop-left g l = size_left (option_map (λ text. text.now) l.left)
 
 abbrev pub invariant-loop-left : goal.invariant-loop-left
-invariant-loop-left g l = front_words l.items (all_of g.T.Word.word_of (words_of (option_map (λ text. text.now) l.left)))
+invariant-loop-left g l = front_words (g.L.WordSink.items l.list) (all_of g.T.Word.word_of (words_of (option_map (λ text. text.now) l.left)))
     ≡ all_of g.T.Word.word_of (slice_split (λ b. b == 32) l.fn.text)
