@@ -40,7 +40,7 @@ pub fn a_run_has_one_answer<N: Nand>()
 {}
 
 /// Telling the outcome of a job or collection (`outcome`) has one answer. Left open is whether there is memory for what
-/// its reads gave; where they gave nothing, nothing is.
+/// its reads gave. Where they gave nothing, no memory is taken, and nothing is left open.
 pub fn telling_an_outcome_has_one_answer()
     ensures { (start : Start) (log : Log) (job : ℕ) (one other : Result Outcome Refusal) →
         IfOk one (λ outcome. outcome_at start log job ≡ Some outcome) →
