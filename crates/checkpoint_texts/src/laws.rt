@@ -34,9 +34,9 @@ pub fn reading_a_checkpoint_has_one_answer()
         → Says (Some read) other → (one ≡ other) ⊎ EndsOutside one ⊎ EndsOutside other }
 {}
 
-/// Writing a checkpoint (`write_checkpoint`) has one answer, where what its writer has is known, and leaves one text there; out of
-/// memory it leaves the writer as it was. Left open is whether there is memory for it, whether the writer fails, and how
-/// much of the text it took then.
+/// Writing a checkpoint (`write_checkpoint`) has one answer, where what its writer has is known, and leaves one text
+/// there; out of memory it leaves the writer as it was. Left open is whether there is memory for it, whether the writer
+/// fails, and how much of the text it took then.
 pub fn writing_a_checkpoint_has_one_answer<W: Write>()
     ensures { (text known : List ℕ) (before left right : W)
         (one other : Result (Unit {0}) Refused) →

@@ -10,7 +10,7 @@ use Rattle.slot_types.specs.declared.refusals.Refusal.{Refusal}
 use Rattle.slot_types.specs.declared.replies.Reply.{Reply}
 use Rattle.slot_types.specs.declared.replies.Reply.TheVariants as replies
 use Rattle.slot_types.specs.declared.replies.SlotReply.{SlotReply}
-use Rattle.slot_types.specs.Arriving.{arrivals_by, arrivals_after}
+use Rattle.slot_types.specs.Arriving.{arrivals_after}
 use Rattle.die_log.specs.Model.Log.{Log}
 use Rattle.die_log.specs.Model.Start.{Start}
 use Rattle.die_log.specs.Model.Answers.{answer, IsAccepted}
@@ -19,7 +19,7 @@ use Rattle.die_service.specs.declared.ends.DieEnd.{DieEnd}
 use Rattle.die_service.specs.declared.feeds.Arrival.{Arrival}
 use Rattle.die_service.specs.declared.refused.RefusedAt.{RefusedAt}
 use Rattle.die_service.specs.PlannedRuns.{IsForMemoryOrFault, RanAlone}
-use Rattle.die_service.specs.Runs.{AskedEvent, asked_event, accepted_by, AreAsked, InClockOrder, comes_at, end_of}
+use Rattle.die_service.specs.Runs.{AskedEvent, asked_event, accepted_by, InClockOrder, comes_at, end_of}
 use Rattle.die_service.proofs.RunAlone as alone
 use Rattle.die_service.proofs.Transcripts.{said_log}
 

@@ -1,10 +1,10 @@
-//! What holds of every log of events and the jobs that it speaks of, and laws of one answer. Each law is a function that
-//! does nothing.
+//! What holds of every log of events and the jobs that it speaks of, and laws of one answer. Each law is a function
+//! that does nothing.
 //!
 //! The premises of a law of one answer are the clauses of a call that decide, said of two answers `one` and `other`,
 //! which leave the logs `left` and `right`, where there was the log `before`.
 
-ghost use Rattle.std.specs.Prelude.{◌≡◌, ◌<◌, ◌≤◌, ◌⊎◌, ℕ, List, Result, IsOk, OnOk, OnErr};
+ghost use Rattle.std.specs.Prelude.{◌≡◌, ◌<◌, ◌≤◌, ◌⊎◌, ℕ, List, Result, IsOk, OnErr};
 ghost use Rattle.slot_types.specs.declared.refusals.Refusal.{Refusal};
 ghost use Rattle.slot_types.specs.Refusal.{FailsForMemory};
 ghost use Rattle.job_table.specs.Jobs.{JobRecord};

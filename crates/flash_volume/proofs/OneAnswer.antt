@@ -1,12 +1,12 @@
 -- What a call of a volume answers and leaves is one, but for a fault of the device.
-use Rattle.std.proofs.Common.{◌≡◌, ◌≢◌, ◌⊎◌, inl, inr, ℕ, ◌+◌, ◌<◌, ◌≤◌, Bool, true, false, List, Option, Some, None, Result, Ok, Err}
+use Rattle.std.proofs.Common.{◌≡◌, ◌≢◌, inl, inr, ℕ, ◌+◌, ◌<◌, ◌≤◌, Bool, true, false, List, Option, Some, None, Result, Ok, Err}
 use Rattle.std.proofs.Common.{refl, sym, ap, ◌∙◌, subst, arith}
-use Rattle.std.specs.Prelude.{is_ok, is_err, IsOk, IsSome, IfOk, IfErr, IfSome, IfNone, OnOk, OnErr, count_by, slice_set, slice_index_or}
+use Rattle.std.specs.Prelude.{is_err, IsOk, IsSome, IfOk, IfSome, IfNone, OnOk, OnErr, count_by, slice_set, slice_index_or}
 use Rattle.std.proofs.lemmas.Bool.{cases_lt}
 use Rattle.slot_types.specs.declared.pages.PageData.{PageData}
 use Rattle.slot_types.specs.declared.pages.Place.{Place}
 use Rattle.slot_types.specs.declared.refusals.Refusal.{Refusal}
-use Rattle.slot_types.specs.declared.refusals.Refusal.TheVariants.{DieStopped, DeviceFault}
+use Rattle.slot_types.specs.declared.refusals.Refusal.TheVariants.{DieStopped}
 use Rattle.slot_types.specs.Places.{place_of, owner_of, is_in}
 use Rattle.flash_die.specs.Flash.{Block, blank, block_at, blocks_after_program, blocks_after_erase_slot}
 use Rattle.flash_die.specs.Calls.{AreOneButForFault}
@@ -18,14 +18,14 @@ use Rattle.flash_volume.specs.declared.collection.Collected.{Collected}
 use Rattle.flash_volume.specs.declared.collection.Collected.TheVariants as does
 use Rattle.flash_volume.specs.declared.collection.CollectStep.{CollectStep}
 use Rattle.flash_volume.specs.declared.collection.CollectStep.TheVariants as steps
-use Rattle.flash_volume.specs.Acts.{Waives, Begins, DoesBegin, HasLeft, IsUnplaced, IsFirstInBlock, Reads, Programs, Erases, Goes, Finishes, Does}
+use Rattle.flash_volume.specs.Acts.{DoesBegin, HasLeft, IsUnplaced, IsFirstInBlock, Erases, Does}
 use Rattle.flash_volume.specs.Cells.{next_cell}
 use Rattle.flash_volume.specs.Faults.{StopsWithDevice}
 use Rattle.flash_volume.specs.Pages.{HasRead, HasWritten, KeepsBooks}
 use Rattle.flash_volume.specs.Picks.{IsCandidate, IsVictim}
 use Rattle.flash_volume.specs.Running.{running_of, with_buffer, copied_of}
 use Rattle.flash_volume.specs.State.{State, trimmed_volume}
-use Rattle.flash_volume.specs.Steps.{ReadsNext, ProgramsNext, ErasesNext, IsCollectStep, IsFirstStep}
+use Rattle.flash_volume.specs.Steps.{IsCollectStep, IsFirstStep}
 
 -- Of the device
 

@@ -3,7 +3,7 @@
 //! Each law is a function that does nothing. Its premises are the clauses of a call that decide, said of two answers
 //! `one` and `other`, which leave the volumes `left` and `right`, where there was the volume `before`.
 
-ghost use Rattle.std.specs.Prelude.{◌≡◌, ◌⊎◌, ◌<◌, ℕ, Bool, true, false, Option, Some, None, Result, IsSome, IsOk, IfOk, IfErr};
+ghost use Rattle.std.specs.Prelude.{◌≡◌, ◌⊎◌, ◌<◌, ℕ, true, false, Option, Some, None, Result, IsSome, IsOk, IfOk, IfErr};
 ghost use Rattle.std.specs.Prelude.{IfSome, IfNone, OnOk, OnErr};
 ghost use Rattle.slot_types.specs.declared.pages.PageData.{PageData};
 ghost use Rattle.slot_types.specs.declared.plans.DiePlan.{DiePlan};
@@ -47,8 +47,8 @@ pub fn reading_a_page_has_one_answer<N: Nand>()
         × (place_of before.places page ≡ None → (one ≡ other) × (left ≡ right)) }
 {}
 
-/// Writing a page (`write`) has one answer, and leaves one volume, whose device has the same cells. Left open is whether
-/// a device that may fail does, and what its pages are then.
+/// Writing a page (`write`) has one answer, and leaves one volume, whose device has the same cells. Left open is
+/// whether a device that may fail does, and what its pages are then.
 pub fn writing_a_page_has_one_answer<N: Nand>()
     ensures { (task page : ℕ) (bytes : PageData) (before left right : State N)
         (one other : Result (Unit {0}) Refusal) →

@@ -28,16 +28,17 @@ pub fn reading_a_report_has_one_answer()
         (one ≡ other) ⊎ EndsOutside one ⊎ EndsOutside other }
 {}
 
-/// Reading the work of a report (`read_work`) has one answer, where its text is known, unless memory or its reader fails.
+/// Reading the work of a report (`read_work`) has one answer, where its text is known, unless memory or its reader
+/// fails.
 pub fn reading_the_work_has_one_answer()
     ensures { (read : Reading) (one other : Result (List DieWork) Refused) →
         SaysWork (Some read) one → SaysWork (Some read) other →
         (one ≡ other) ⊎ EndsOutside one ⊎ EndsOutside other }
 {}
 
-/// Writing a report (`write`, `write_report`) has one answer, where what its writer has is known, and leaves one text there; out of
-/// memory it leaves the writer as it was. Left open is whether there is memory for it, whether the writer fails, and how
-/// much of the text it took then.
+/// Writing a report (`write`, `write_report`) has one answer, where what its writer has is known, and leaves one text
+/// there; out of memory it leaves the writer as it was. Left open is whether there is memory for it, whether the writer
+/// fails, and how much of the text it took then.
 pub fn writing_a_report_has_one_answer<W: Write>()
     ensures { (text known : List ℕ) (before left right : W)
         (one other : Result (Unit {0}) Refused) →

@@ -71,8 +71,8 @@ pub fn reading_the_next_item_has_one_answer<R: Read>()
         answer ≡ Err refusal }
 {}
 
-/// Reading the next item into a list of operations (`next_into`) has one answer, where the text is known, and leaves one
-/// script, and where there is an item one list, unless memory or its reader fails.
+/// Reading the next item into a list of operations (`next_into`) has one answer, where the text is known, and leaves
+/// one script, and where there is an item one list, unless memory or its reader fails.
 pub fn reading_into_a_list_has_one_answer<R: Read>()
     ensures { (all : Reading) (before left right : ScriptReader R)
         (one other : Result (Option RowHead) Refusal) (here there : List Op) →

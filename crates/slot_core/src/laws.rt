@@ -19,8 +19,8 @@ ghost use Rattle.slot_core.specs.declared.outcomes.Outcome.{Outcome};
 use flash_die::Nand;
 use slot_types::Refusal;
 
-/// One call of two dies that agree in all but their devices has one answer, and leaves them so, unless memory is refused
-/// to one of them, or its device fails.
+/// One call of two dies that agree in all but their devices has one answer, and leaves them so, unless memory is
+/// refused to one of them, or its device fails.
 pub fn a_call_has_one_answer<N: Nand>()
     ensures { (caller : ℕ) (event : Event) (one other : Result Reply Refusal)
         (here there left right : Core N) → AreAlike here there →
@@ -29,8 +29,8 @@ pub fn a_call_has_one_answer<N: Nand>()
         ((one ≡ other) × AreAlike left right) ⊎ IsByChance one ⊎ IsByChance other }
 {}
 
-/// One run of two such dies has one list of replies, and leaves them so, unless memory is refused to one of them, or its
-/// device fails.
+/// One run of two such dies has one list of replies, and leaves them so, unless memory is refused to one of them, or
+/// its device fails.
 pub fn a_run_has_one_answer<N: Nand>()
     ensures { (events : List Event) (one other : List Reply) (here there left right : Core N)
         → AreAlike here there →

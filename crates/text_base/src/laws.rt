@@ -69,9 +69,9 @@ pub fn writing_a_text_has_one_answer()
         ⊎ (one ≡ Err Refusal.WriteFault) ⊎ (other ≡ Err Refusal.WriteFault) }
 {}
 
-/// Calling a reader again where it was interrupted (`read_again`) gives the next of its bytes, where they are known, and
-/// leaves the others. Left open are whether the reader fails, how many bytes it gives at once, and how many calls are
-/// left.
+/// Calling a reader again where it was interrupted (`read_again`) gives the next of its bytes, where they are known,
+/// and leaves the others. Left open are whether the reader fails, how many bytes it gives at once, and how many calls
+/// are left.
 pub fn reading_again_has_one_answer<E>()
     ensures { (known here there : List ℕ) (left right : Option (List ℕ)) (one other : Result ℕ E) →
         ReadsAtMost one here → ReadsAtMost other there →

@@ -2,7 +2,6 @@ use Rattle.std.proofs.Common.{◌≡◌, ◌<◌, ◌≤◌, ◌⊎◌, inl, inr
 use Rattle.std.specs.Prelude.{IsOk, OnErr}
 use Rattle.std.proofs.lemmas.Bool.{cases_lt}
 use Rattle.slot_types.specs.declared.refusals.Refusal.{Refusal}
-use Rattle.slot_types.specs.Refusal.{FailsForMemory}
 use Rattle.event_log.specs.NoteRecords.{kept_of}
 use Rattle.event_log.proofs.laws.making_room_has_one_answer.Goals as goal
 

@@ -1,6 +1,5 @@
 use Rattle.std.proofs.Common.{◌≡◌, ◌⊎◌, inl, inr, ℕ, List, ◌++◌, Result, Ok, Err, refl, sym, ◌∙◌}
 use Rattle.std.specs.Prelude.{OnOk, IsErr}
-use Rattle.slot_types.specs.declared.pages.PageData.{PageData}
 use Rattle.text_base.specs.Pages.{page_word}
 use Rattle.text_base.proofs.laws.adding_a_page_has_one_answer.Goals as goal
 
