@@ -1,6 +1,9 @@
 //! What holds of the texts themselves.
 
-ghost use Rattle.std.specs.Prelude.{◌≡◌, ◌≤◌, ◌⊎◌, List, Ok, Result, Some, length};
+ghost use Rattle.std.specs.Prelude.{◌≡◌, ◌≤◌, ◌⊎◌, ℕ, List, Ok, Result, Some, IfErr, OnOk, length};
+ghost use Rattle.std.specs.Io.KnownBytes.{Appends};
+ghost use Rattle.slot_types.specs.declared.refusals.Refusal.{Refusal as Refused};
+ghost use Rattle.text_base.specs.Writing.{AppendsPart};
 ghost use Rattle.checkpoint_texts.specs.CheckpointOf.{checkpoint_of};
 ghost use Rattle.checkpoint_texts.specs.CheckpointText.{checkpoint_text};
 ghost use Rattle.checkpoint_texts.specs.Readings.{Says};
@@ -8,6 +11,9 @@ ghost use Rattle.checkpoint_texts.specs.Refused.{EndsOutside};
 ghost use Rattle.checkpoint_texts.specs.WellFormed.{IsStore};
 ghost use Rattle.checkpoint_texts.specs.declared.fault.TextFault.{TextFault};
 ghost use Rattle.checkpoint_texts.specs.declared.saved.SavedDie.{SavedDie};
+
+use slot_types::Refusal;
+use std::io::Write;
 
 /// The text of a checkpoint reads as the checkpoint: whatever is written of one to eight dies within the limits is read
 /// back the same.
@@ -26,4 +32,27 @@ pub fn checkpoints_fit()
 pub fn reading_a_checkpoint_has_one_answer()
     ensures { (read one other : Result (List SavedDie) TextFault) → Says (Some read) one
         → Says (Some read) other → (one ≡ other) ⊎ EndsOutside one ⊎ EndsOutside other }
+{}
+
+/// Writing a checkpoint (`write_checkpoint`) has one answer, where what its writer has is known, and leaves one text
+/// there; out of memory it leaves the writer as it was. Left open is whether there is memory for it, whether the writer
+/// fails, and how much of the text it took then.
+pub fn writing_a_checkpoint_has_one_answer<W: Write>()
+    ensures { (text known : List ℕ) (before left right : W)
+        (one other : Result (Unit {0}) Refused) →
+        W.contents before ≡ Some known →
+        OnOk one (Appends (W.contents before) (W.contents left) text) →
+        OnOk other (Appends (W.contents before) (W.contents right) text) →
+        (one ≡ Err Refusal.NoMemory → left ≡ before) →
+        (other ≡ Err Refusal.NoMemory → right ≡ before) →
+        (one ≡ Err Refusal.WriteFault
+        → AppendsPart (W.contents before) (W.contents left) text) →
+        (other ≡ Err Refusal.WriteFault
+        → AppendsPart (W.contents before) (W.contents right) text) →
+        IfErr one (λ refusal. (refusal ≡ Refusal.NoMemory) ⊎ (refusal ≡ Refusal.WriteFault)) →
+        IfErr other (λ refusal. (refusal ≡ Refusal.NoMemory) ⊎ (refusal ≡ Refusal.WriteFault)) →
+        OnOk one (OnOk other (W.contents left ≡ W.contents right))
+        × (one ≡ Err Refusal.NoMemory → other ≡ Err Refusal.NoMemory → left ≡ right)
+        × ((one ≡ other) ⊎ (one ≡ Err Refusal.NoMemory) ⊎ (one ≡ Err Refusal.WriteFault)
+        ⊎ (other ≡ Err Refusal.NoMemory) ⊎ (other ≡ Err Refusal.WriteFault)) }
 {}

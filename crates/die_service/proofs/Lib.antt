@@ -15,3 +15,4 @@ pub mod Transcripts
 pub mod SlotCalls
 pub mod RunAlone
 pub mod PlannedFeeds
+pub mod OneRun

@@ -1,5 +1,6 @@
 -- What is known of the log of a die on which nothing was done but one run.
-use Rattle.std.proofs.Common.{◌≡◌, ℕ, List, [], ◌∷◌, ◌++◌, ap, sym, ◌∙◌, subst, take, Bool}
+use Rattle.std.proofs.Common.{◌≡◌, ℕ, List, [], ◌∷◌, ◌++◌, length, ap, sym, ◌∙◌, subst, take, Bool, Err}
+use Rattle.std.proofs.lemmas.List.{length-take-le}
 use Rattle.turn_lock.specs.Log.{calls_by, AllBy}
 use Rattle.die_log.specs.Model.Log.{Log}
 use Rattle.die_log.specs.Model.Answers.{IsExact}
@@ -8,7 +9,9 @@ use Rattle.die_service.specs.declared.feeds.Arrival.{Arrival}
 use Rattle.die_service.specs.Logs.{DieCall, log_of, calls_of}
 use Rattle.die_service.specs.PlannedRuns.{RanAlone}
 use Rattle.slot_core.specs.Calls.{MayRefuse}
-use Rattle.die_service.specs.Runs.{AskedEvent, accepted_by}
+use Rattle.slot_types.specs.declared.events.Event.{Event}
+use Rattle.die_service.specs.declared.refused.RefusedAt.{RefusedAt}
+use Rattle.die_service.specs.Runs.{AskedEvent, asked_event, accepted_by}
 use Rattle.die_service.proofs.LastPasses.{same_plan}
 use Rattle.die_service.proofs.Transcripts.{AreReported, said_log, reported_accepted, own_of_log, front_own}
 use Rattle.die_log.specs.Model.Start.{Start}
@@ -52,3 +55,14 @@ module _ (never_fails : Bool) (slots : ℕ) (start : Start) (feed : List Arrival
         ∙ λ i. calls_by (number_is i) (ap (λ v. v.seen) r.fresh i) ++ accepted_by (number_is i) before)) in
         subst (λ (x : Start × Log). MayRefuse never_fails x.0 x.1 event refused.refusal) (λ i. (start_is i, log_of (these i))) why.reason;
   }
+
+  -- a call was refused after as many entries as were accepted before it
+  pub counted : (before after : List AskedEvent) (event : Event) (refused : RefusedAt) → saids ≡ before ++ asked_event event (Err refused) ∷ after
+      → refused.entries ≡ length (accepted_by 0 before)
+  counted before after event refused is =
+      let why = r.ran.refused before after event refused is in
+      let these : take refused.entries r.last.view.seen
+      ≡ accepted_by 0 before = sym (front_own 0 refused.entries r.last.view.seen all_mine)
+      ∙ (ap (λ n. calls_by n (take refused.entries r.last.view.seen)) (sym number_is) ∙ (why.own
+      ∙ λ i. calls_by (number_is i) (ap (λ v. v.seen) r.fresh i) ++ accepted_by (number_is i) before)) in
+      sym (length-take-le refused.entries r.last.view.seen why.within) ∙ ap length these

@@ -26,6 +26,7 @@ mod drivers;
 pub mod ends;
 pub mod feeds;
 pub mod gate;
+pub mod laws;
 mod opening;
 pub mod promised;
 pub mod queries;

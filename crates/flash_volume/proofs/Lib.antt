@@ -15,3 +15,4 @@ pub mod Resuming
 pub mod FreeBlocks
 pub mod FreeMarks
 pub mod FirstCells
+pub mod OneAnswer

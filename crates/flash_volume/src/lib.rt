@@ -8,6 +8,7 @@ pub mod collection;
 mod faults;
 mod fills;
 mod free_blocks;
+pub mod laws;
 pub mod next_calls;
 mod placed_pages;
 mod resumed;

@@ -17,12 +17,12 @@ one-reading read (Err e) (Ok y) (inr a) b = inl (sym a ∙ b)
 one-reading read (Err e) (Err f) (inr a) (inl m) = inr (inr (ap Err m))
 one-reading read (Err e) (Err f) (inr a) (inr b) = inl (sym a ∙ b)
 
-abbrev dies_read : Result PlanNumbers Refusal → List DiePlan
+abbrev pub dies_read : Result PlanNumbers Refusal → List DiePlan
 dies_read (Ok plan) = dies_of plan
 dies_read (Err e) = []
 
 -- numbers that make a store are refused for nothing that they lack
-not-both : (plan : PlanNumbers) (store : List DiePlan) (refusal : Refusal) → IsStore plan store → RefusesStore plan refusal → ⊥
+pub not-both : (plan : PlanNumbers) (store : List DiePlan) (refusal : Refusal) → IsStore plan store → RefusesStore plan refusal → ⊥
 not-both plan store refusal makes (inl (bad, unshaped)) = unshaped makes.shaped
 not-both plan store refusal makes (inr (bad, (shaped, unusable))) = unusable makes.served
 
@@ -33,7 +33,7 @@ one-cause plan one other (inl (a, unshaped)) (inr (b, (shaped, unusable))) = abs
 one-cause plan one other (inr (a, (shaped, unusable))) (inl (b, unshaped)) = absurd (unshaped shaped)
 one-cause plan one other (inr (a, lacks)) (inr (b, lacks_too)) = a ∙ sym b
 
-one-refusal : (read : Result PlanNumbers Refusal) (one other : Refusal) → RefusesPlan read one → RefusesPlan read other → one ≡ other
+pub one-refusal : (read : Result PlanNumbers Refusal) (one other : Refusal) → RefusesPlan read one → RefusesPlan read other → one ≡ other
 one-refusal (Ok plan) one other a b = one-cause plan one other a b
 one-refusal (Err e) one other a b = a ∙ sym b
 

@@ -1,7 +1,9 @@
 //! What holds of the texts themselves.
 
-ghost use Rattle.std.specs.Prelude.{◌≡◌, ◌⊎◌, List, Ok, Result, Some};
-ghost use Rattle.slot_types.specs.declared.refusals.Refusal.{Refusal};
+ghost use Rattle.std.specs.Prelude.{◌≡◌, ◌⊎◌, ℕ, List, Ok, Result, Some, IfErr, OnOk};
+ghost use Rattle.std.specs.Io.KnownBytes.{Appends};
+ghost use Rattle.slot_types.specs.declared.refusals.Refusal.{Refusal as Refused};
+ghost use Rattle.text_base.specs.Writing.{AppendsPart};
 ghost use Rattle.report_texts.specs.Refused.{EndsOutside};
 ghost use Rattle.report_texts.specs.ReportOf.{Reading, Says, report_of};
 ghost use Rattle.report_texts.specs.ReportText.{report_text};
@@ -9,6 +11,9 @@ ghost use Rattle.report_texts.specs.WellFormed.{IsReport};
 ghost use Rattle.report_texts.specs.ReportWork.{SaysWork};
 ghost use Rattle.report_texts.specs.declared.report_work.DieWork.{DieWork};
 ghost use Rattle.report_texts.specs.declared.reports.DieReport.{DieReport};
+
+use slot_types::Refusal;
+use std::io::Write;
 
 /// The text of a report reads as the report: whatever is written of a report that meets the conditions of reading is
 /// read back the same.
@@ -23,9 +28,33 @@ pub fn reading_a_report_has_one_answer()
         (one ≡ other) ⊎ EndsOutside one ⊎ EndsOutside other }
 {}
 
-/// Reading the work of a report (`read_work`) has one answer, where its text is known, unless memory or its reader fails.
+/// Reading the work of a report (`read_work`) has one answer, where its text is known, unless memory or its reader
+/// fails.
 pub fn reading_the_work_has_one_answer()
-    ensures { (read : Reading) (one other : Result (List DieWork) Refusal) →
+    ensures { (read : Reading) (one other : Result (List DieWork) Refused) →
         SaysWork (Some read) one → SaysWork (Some read) other →
         (one ≡ other) ⊎ EndsOutside one ⊎ EndsOutside other }
+{}
+
+/// Writing a report (`write`, `write_report`) has one answer, where what its writer has is known, and leaves one text
+/// there; out of memory it leaves the writer as it was. Left open is whether there is memory for it, whether the writer
+/// fails, and how much of the text it took then.
+pub fn writing_a_report_has_one_answer<W: Write>()
+    ensures { (text known : List ℕ) (before left right : W)
+        (one other : Result (Unit {0}) Refused) →
+        W.contents before ≡ Some known →
+        OnOk one (Appends (W.contents before) (W.contents left) text) →
+        OnOk other (Appends (W.contents before) (W.contents right) text) →
+        (one ≡ Err Refusal.NoMemory → left ≡ before) →
+        (other ≡ Err Refusal.NoMemory → right ≡ before) →
+        (one ≡ Err Refusal.WriteFault
+        → AppendsPart (W.contents before) (W.contents left) text) →
+        (other ≡ Err Refusal.WriteFault
+        → AppendsPart (W.contents before) (W.contents right) text) →
+        IfErr one (λ refusal. (refusal ≡ Refusal.NoMemory) ⊎ (refusal ≡ Refusal.WriteFault)) →
+        IfErr other (λ refusal. (refusal ≡ Refusal.NoMemory) ⊎ (refusal ≡ Refusal.WriteFault)) →
+        OnOk one (OnOk other (W.contents left ≡ W.contents right))
+        × (one ≡ Err Refusal.NoMemory → other ≡ Err Refusal.NoMemory → left ≡ right)
+        × ((one ≡ other) ⊎ (one ≡ Err Refusal.NoMemory) ⊎ (one ≡ Err Refusal.WriteFault)
+        ⊎ (other ≡ Err Refusal.NoMemory) ⊎ (other ≡ Err Refusal.WriteFault)) }
 {}

@@ -1,6 +1,7 @@
 //! Scripts as texts: their reader.
 #![tactic(auto)]
 
+pub mod laws;
 mod script_rows;
 mod scripts;
 mod steps;

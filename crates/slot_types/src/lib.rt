@@ -4,6 +4,7 @@
 pub mod acts;
 pub mod events;
 pub mod items;
+pub mod laws;
 pub mod lent_ops;
 pub mod limits;
 pub mod numbers;

@@ -5,6 +5,7 @@
 mod bounded;
 mod calls;
 mod csv_records;
+pub mod laws;
 mod numbers;
 mod ops;
 mod pages;

@@ -13,6 +13,7 @@
 
 mod book;
 mod entry;
+pub mod laws;
 mod lock;
 mod noting;
 mod pass;

@@ -1,0 +1,13 @@
+use Rattle.std.proofs.Common.{◌≡◌, ◌⊎◌, inl, inr, ℕ, List, ◌++◌, Result, Ok, Err, refl, sym, ◌∙◌}
+use Rattle.std.specs.Prelude.{OnOk, IsErr}
+use Rattle.text_base.specs.Pages.{page_word}
+use Rattle.text_base.proofs.laws.adding_a_page_has_one_answer.Goals as goal
+
+one_text : {E : Type 0} (text left right : List ℕ) (one other : Result (Unit {0}) E) → OnOk one (left ≡ text) → OnOk other (right ≡ text)
+    → ((one ≡ other) × (left ≡ right)) ⊎ IsErr one ⊎ IsErr other
+one_text text left right (Ok a) (Ok b) is is' = inl (refl, is ∙ sym is')
+one_text text left right (Ok a) (Err e) is is' = inr (inr refl)
+one_text text left right (Err d) other is is' = inr (inl refl)
+
+pub returns : goal.returns
+returns g c = λ page before left right one other. one_text (before ++ page_word page) left right one other
