@@ -1,6 +1,6 @@
 -- An audit of what a reader gives is one of its file.
 use Rattle.std.proofs.Common.{ℕ, List, Bool, Option, None, Some, Result, Ok, Err, inl, inr, ◌∷◌, []}
-use Rattle.std.specs.Prelude.{◌≡◌, if◌then◌else◌}
+use Rattle.std.specs.Prelude.{◌≡◌}
 use Rattle.std.specs.Borrow.{Bor}
 use Rattle.slot_types.specs.declared.refusals.Refusal.{Refusal}
 use Rattle.flash_commands.specs.Files.{FileContents, GivesFile}

@@ -1,3 +1,4 @@
+mod AuditedWork
 mod Audits
 mod EndedSo
 mod Opened
