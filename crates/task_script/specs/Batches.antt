@@ -86,11 +86,11 @@ pub record RanRows (until : ℕ) (rows : List (List ScriptItem)) (ps : List DieP
 pub record CanRun (store : List TableId) (ps : List DiePass) (progress : List Progress) (rows : List (List ScriptItem)) (workers : ℕ)
     : Type 0 where
   pub own : map (λ (p : DiePass). p.lock) ps ≡ store
-  pub rows : length rows ≡ length store
-  pub progress : length progress ≡ length store
+  pub dealt : length rows ≡ length store
+  pub far : length progress ≡ length store
   pub arrive : All (λ items. All (λ item. IsArrival item.event) items) rows
   pub few : rows_counted progress + rows_dealt rows < 2 ^ 64
-  pub workers : (1 ≤ workers) × (workers ≤ 16)
+  pub threads : (1 ≤ workers) × (workers ≤ 16)
 
 -- they were run, up to the last of each die, and counted
 pub record GoesOn (store : List TableId) (ps : List DiePass) (progress : List Progress) (rows : List (List ScriptItem))

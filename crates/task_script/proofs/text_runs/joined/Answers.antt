@@ -8,29 +8,29 @@ use Rattle.task_script.proofs.text_runs.joined.Goals as goal
 
 pub loop-preserved : goal.loop-preserved
 loop-preserved c =
-    let cut : c.loop.left.now ≡ c.in-Some-split_first.at.now ∷ c.in-Some-split_first.later.now = search rules in
+    let cut : c.loop.left.now ≡ c.in-Some.at.now ∷ c.in-Some.later.now = search rules in
     record {
       left = omega (arith, ap length cut, c.loop.invariant.left);
-      count = ap (λ (count : RunCount). joined_after count c.in-Some-split_first.later.now) c.add_all.ensures
+      count = ap (λ (count : RunCount). joined_after count c.in-Some.later.now) c.add_all.ensures
           ∙ (ap (joined_after c.loop.count) (sym cut) ∙ c.loop.invariant.count);
       counted = omega (
         arith,
         ap rows_in c.add_all.ensures,
         ap rows_counted cut,
-        sum_by-cons (λ (p : Progress). rows_in p.count) c.in-Some-split_first.at.now c.in-Some-split_first.later.now,
+        sum_by-cons (λ (p : Progress). rows_in p.count) c.in-Some.at.now c.in-Some.later.now,
         c.loop.invariant.counted,
       );
     }
 
 pub add_all-requires : goal.add_all-requires
 add_all-requires c =
-    let cut : c.loop.left.now ≡ c.in-Some-split_first.at.now ∷ c.in-Some-split_first.later.now = search rules in
+    let cut : c.loop.left.now ≡ c.in-Some.at.now ∷ c.in-Some.later.now = search rules in
     record {
       few = omega (
         arith,
         c.requires.counted,
         ap rows_counted cut,
-        sum_by-cons (λ (p : Progress). rows_in p.count) c.in-Some-split_first.at.now c.in-Some-split_first.later.now,
+        sum_by-cons (λ (p : Progress). rows_in p.count) c.in-Some.at.now c.in-Some.later.now,
         c.loop.invariant.counted,
       );
     }
