@@ -13,5 +13,5 @@ pub mod RowsBack
 pub mod CertsBack
 pub mod ReportsBack
 pub mod WorkLaws
-pub mod WorkReported
+pub mod KeptLaws
 pub mod OneReading

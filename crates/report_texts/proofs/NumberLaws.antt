@@ -1,5 +1,5 @@
 -- The rows of a report are numbered from 0 on each die, and so the rows that certificates are checked against rise.
-use Rattle.std.proofs.Common.{◌≡◌, ℕ, ◌+◌, ◌<◌, ◌==◌, List, [], ◌∷◌, ◌++◌, Bool, true, false, Option, Some, None, length, map, ◌∙◌, subst}
+use Rattle.std.proofs.Common.{◌≡◌, ℕ, ◌+◌, ◌<◌, ◌==◌, List, [], ◌∷◌, ◌++◌, Bool, true, false, Some, length, map, ◌∙◌, subst}
 use Rattle.std.proofs.Common.{inl, inr, arith, zero, suc}
 use Rattle.std.specs.Prelude.{All, if◌then◌else◌}
 use Rattle.std.specs.List.{cons_option, slice_index}
@@ -10,14 +10,13 @@ use Rattle.late_cert.specs.Rows.{RowsRise}
 use Rattle.late_cert.specs.declared.rows.JobRow.{JobRow}
 use Rattle.report_texts.specs.JobRows.{job_row_if, job_rows_of}
 use Rattle.report_texts.specs.Numbering.{AreNumbered, GathersNumbered, IsNumbered, IsNumberedFrom}
-use Rattle.report_texts.specs.ReportOf.{all_dies, gathered_with, if_follows, may_follow, report_on, with_row}
-use Rattle.report_texts.specs.ReportRows.{◌>>=◌, sound_row}
-use Rattle.report_texts.specs.declared.gathered.Gathered.{Gathered}
+use Rattle.report_texts.specs.ReportOf.{Gathered, all_dies, gathered_with, may_follow, report_on, with_row}
 use Rattle.report_texts.specs.declared.report_rows.DieRow.{DieRow}
 use Rattle.report_texts.specs.declared.reports.DieReport.{DieReport}
 use Rattle.report_texts.specs.declared.reports.ReportRow.{ReportRow}
 use Rattle.report_texts.specs.declared.reports.RowKind.{RowKind}
 use Rattle.report_texts.specs.declared.reports.RowKind.TheVariants as kind
+use Rattle.report_texts.proofs.ProgressLaws.{gathered-row}
 
 -- Gathering
 
@@ -48,19 +47,12 @@ numbered-row g x follows h = elim (cases_Bool (x.die == g.die)) [
       rw later (numbered-dies g h, (first, tt))
 ]
 
-numbered-if : (g more : Gathered) (o : Option DieRow) → (o >>= if_follows g) ≡ Some more → GathersNumbered g → GathersNumbered more
-numbered-if g more None e h = absurd (cc e)
-numbered-if g more (Some x) e h = elim (cases_Bool (may_follow g x)) [
-  | inl follows ↦
-      let is : with_row g x ≡ more = cc (rw follows at e) in
-      rw (← is) (numbered-row g x follows h)
-  | inr other ↦ absurd (cc (rw other at e))
-]
-
 -- one more record keeps what is gathered numbered
 pub numbered-more : (g more : Gathered) (fields : List (List ℕ)) → gathered_with g fields ≡ Some more → GathersNumbered g
     → GathersNumbered more
-numbered-more g more fields e h = numbered-if g more (sound_row fields) e h
+numbered-more g more fields e h =
+    let (x, says, follows, is) = gathered-row g more fields e in
+    rw is (numbered-row g x follows h)
 
 -- The rows of jobs
 

@@ -9,10 +9,9 @@ use Rattle.slot_types.specs.declared.refusals.Refusal.{Refusal}
 use Rattle.slot_types.specs.declared.refusals.Refusal.TheVariants.{ReportText}
 use Rattle.text_base.specs.Readings.{IsOutside}
 use Rattle.report_texts.specs.RecordsLeft.{Loses, Stays, hand_of, unless_cert, with_hand}
-use Rattle.report_texts.specs.ReportOf.{Reading, Reads, Says, all_dies, broken_at, certs_for, certs_from, gathered_with, rows_from, with_die}
+use Rattle.report_texts.specs.ReportOf.{Gathered, Reading, Reads, Says, all_dies, broken_at, certs_for, certs_from, gathered_with, rows_from, with_die}
 use Rattle.text_base.specs.CsvRecords.{Fields}
 use Rattle.report_texts.specs.Worst.{is_cert, worst_of}
-use Rattle.report_texts.specs.declared.gathered.Gathered.{Gathered}
 use Rattle.report_texts.specs.declared.reports.DieReport.{DieReport}
 
 -- these dies, and then those that are read

@@ -32,6 +32,12 @@ pub reads-outside : {A : Type 0} (before : List Fields → Reading) (after : A �
 reads-outside before after None new e out = tt
 reads-outside before after (Some records) new e out = inl out
 
+-- no record is taken
+pub reads-same : {A : Type 0} (before : List Fields → Reading) (after : A → List Fields → Reading) (left : Option (List Fields)) (x : A)
+    → ((records : List Fields) → before records ≡ after x records) → Reads before after left left (Ok x)
+reads-same before after None x same = tt
+reads-same before after (Some records) x same = (records, refl, same records)
+
 -- the record at hand is taken
 pub reads-next : {A : Type 0} (before : List Fields → Reading) (after : A → List Fields → Reading) (found : Bool) (fields fields2 : Fields)
     (left new : Option (List Fields)) (x : A)
@@ -110,8 +116,9 @@ fit-end None found left stays none = tt
 fit-end (Some fit) found left stays none = sym (cc (rw none at stays))
 
 -- a text that fits its bound is as short
-pub fit-short : (text : Option (List ℕ)) (fits : Option Bool) → Stays (option_map (is_within 67108864) text) fits
-    → IfSome fits (λ fit. fit ≡ true)
-    → IfSome text (λ bytes. length bytes ≤ 67108864)
-fit-short None fits stays fit = tt
-fit-short (Some text) fits stays fit = within-short 67108864 text (rw stays at fit)
+pub fit-short : {A : Type 0} (r : Result A Refusal) (text : Option (List ℕ)) (fits : Option Bool)
+    → Stays (option_map (is_within 67108864) text) fits → OnOk r (IfSome fits (λ fit. fit ≡ true))
+    → OnOk r (IfSome text (λ bytes. length bytes ≤ 67108864))
+fit-short (Err e) text fits stays fit = tt
+fit-short (Ok x) None fits stays fit = tt
+fit-short (Ok x) (Some text) fits stays fit = within-short 67108864 text (rw stays at fit)

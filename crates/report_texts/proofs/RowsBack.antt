@@ -7,14 +7,13 @@ use Rattle.std.proofs.lemmas.Bool.Decides.{Decides-int_eq}
 use Rattle.std.proofs.lemmas.List.{append-nil}
 use Rattle.csv.specs.Records.{field_at}
 use Rattle.late_cert.specs.Schedule.{lateness_of}
-use Rattle.report_texts.specs.ReportOf.{Reading, all_dies, certs_from, may_follow, no_rows, report_on, rows_from, with_row}
+use Rattle.report_texts.specs.ReportOf.{Gathered, Reading, all_dies, certs_from, may_follow, no_rows, report_on, rows_from, with_row}
 use Rattle.report_texts.specs.ReportRows.{has_outcome, is_done, is_late, is_placed, is_sound, is_timed, kind_in, row_in, sound_row}
 use Rattle.report_texts.specs.ReportText.{cert_record, cert_record_of, die_records, kind_word, row_fields}
 use Rattle.text_base.specs.CsvRecords.{Fields}
 use Rattle.report_texts.specs.WellFormed.{AreDies, AreRows, IsRow, on_die}
 use Rattle.report_texts.specs.Worst.{is_cert}
 use Rattle.late_cert.specs.declared.certificates.Certificate.{Certificate}
-use Rattle.report_texts.specs.declared.gathered.Gathered.{Gathered}
 use Rattle.report_texts.specs.declared.report_rows.DieRow.{DieRow}
 use Rattle.report_texts.specs.declared.reports.DieReport.{DieReport}
 use Rattle.report_texts.specs.declared.reports.ReportRow.{ReportRow}

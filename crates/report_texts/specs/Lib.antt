@@ -9,9 +9,8 @@ pub mod RowNumbers
 pub mod Worst
 pub mod RecordsLeft
 pub mod ReportOf
-pub mod Progress
 pub mod Numbering
 pub mod ReportWork
-pub mod GatheredWork
+pub mod Kept
 pub mod WellFormed
 pub mod Refused

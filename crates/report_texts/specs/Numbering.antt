@@ -1,6 +1,6 @@
 -- The rows of a die are numbered from 0.
 use Rattle.std.specs.Prelude.{◌≡◌, ⊤, ℕ, ◌+◌, List, [], ◌∷◌, All}
-use Rattle.report_texts.specs.declared.gathered.Gathered.{Gathered}
+use Rattle.report_texts.specs.ReportOf.{Gathered}
 use Rattle.report_texts.specs.declared.reports.DieReport.{DieReport}
 use Rattle.report_texts.specs.declared.reports.ReportRow.{ReportRow}
 

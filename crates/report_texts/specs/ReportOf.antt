@@ -9,7 +9,6 @@ use Rattle.text_base.specs.Readings.{IsOutside}
 use Rattle.report_texts.specs.ReportRows.{◌>>=◌, sound_row}
 use Rattle.text_base.specs.CsvRecords.{Fields, rows_of}
 use Rattle.report_texts.specs.Worst.{cert_of, is_cert, worst_of}
-use Rattle.report_texts.specs.declared.gathered.Gathered.{Gathered}
 use Rattle.report_texts.specs.declared.report_certs.Finish.{Finish}
 use Rattle.report_texts.specs.declared.report_rows.DieRow.{DieRow}
 use Rattle.report_texts.specs.declared.reports.DieReport.{DieReport}
@@ -34,17 +33,31 @@ with_die die (Err e) = Err e
 abbrev pub report_on : ℕ → List ReportRow → DieReport
 report_on die rows = record { die = die; rows = rows; cert = None }
 
--- the dies so far, the last with its rows so far
+-- the rows so far: the dies that are done with, and the last with its rows so far
+pub record Gathered : Type 0 where
+  pub done : List DieReport
+  pub die : ℕ
+  pub rows : List ReportRow
+
+-- these dies, and the last if it has rows
+abbrev pub with_last : {D : Type 0} → List D → ℕ → D → List D
+with_last done rows last = done ++ (if rows == 0 then [] else last ∷ [])
+
+-- the dies so far
 abbrev pub all_dies : Gathered → List DieReport
-all_dies g = g.done ++ (if length g.rows == 0 then [] else report_on g.die g.rows ∷ [])
+all_dies g = with_last g.done (length g.rows) (report_on g.die g.rows)
 
 -- no row yet
 abbrev pub no_rows : Gathered
 no_rows = record { done = []; die = 0; rows = [] }
 
--- whether a row may come next: the next number of the same die, or number 0 of a later die
+-- whether a row may come next where the last die has so many rows: the next number of that die, or number 0 of a later
+-- one
+abbrev pub comes_next : ℕ → ℕ → DieRow → Bool
+comes_next die rows x = if x.die == die then x.row.job == rows else nat_lt die x.die && (x.row.job == 0)
+
 abbrev pub may_follow : Gathered → DieRow → Bool
-may_follow g x = if x.die == g.die then x.row.job == length g.rows else nat_lt g.die x.die && (x.row.job == 0)
+may_follow g x = comes_next g.die (length g.rows) x
 
 abbrev pub with_row : Gathered → DieRow → Gathered
 with_row g x =

@@ -1,5 +1,5 @@
 -- A row of a report in two parts: its numbers, and what its reads gave.
-use Rattle.std.specs.Prelude.{ℕ, ◌==◌, ◌&&◌, nat_lt, Bool, List, Option, Some, if◌then◌else◌}
+use Rattle.std.specs.Prelude.{List, Option, Some}
 use Rattle.slot_types.specs.declared.pages.PageData.{PageData}
 use Rattle.report_texts.specs.ReportRows.{◌>>=◌}
 use Rattle.report_texts.specs.declared.report_rows.DieRow.{DieRow}
@@ -43,8 +43,3 @@ numbers_of x = record {
   lateness = x.row.lateness;
   given = x.row.given;
 }
-
--- whether a row may come next where the last die has so many rows: the next number of that die, or number 0 of a later
--- one
-abbrev pub comes_next : ℕ → ℕ → RowNumbers → Bool
-comes_next die rows n = if n.die == die then n.job == rows else nat_lt die n.die && (n.job == 0)

@@ -1,117 +1,129 @@
 //! The rows of a report, gathered by die.
 
-ghost use Rattle.std.specs.Prelude.{◌≡◌, ◌≢◌, ◌≤◌, ◌<◌, length, true, Some, None, IfOk, OnOk, if◌then◌else◌};
+ghost use Rattle.std.specs.Prelude.{◌≡◌, ◌≢◌, ◌≤◌, ◌∷◌, [], map, Some, None, IfOk, OnOk, if◌then◌else◌, option_map};
 ghost use Rattle.csv.specs.Records.{fields_of};
 ghost use Rattle.slot_types.specs.Refusal.{FailsForMemory};
-ghost use Rattle.report_texts.specs.ReportOf.{all_dies, gathered_with, may_follow, no_rows, with_row};
-ghost use Rattle.report_texts.specs.Progress.{progress};
+ghost use Rattle.report_texts.specs.Kept.{kept_row, kept_so_far};
+ghost use Rattle.report_texts.specs.ReportOf.{Gathered, all_dies, comes_next, gathered_with, no_rows, with_last, with_row};
+ghost use Rattle.report_texts.specs.declared.report_rows.DieRow.{DieRow};
 
-use crate::report_rows::{DieRow, read_row};
-use crate::reports::{DieReport, ReportRows};
+use crate::kept_dies::KeptDie;
+use crate::report_rows::DieRow;
 use csv::ByteRecord;
 use slot_types::{Items, Refusal};
 use std::alloc::Global;
 use std::mem;
 
-/// The dies so far: those that are done with, and the last with its rows so far.
+/// What is kept of the dies so far: of those that are done with, and of the last, which has so many rows.
 #[derive(Drop)]
-pub struct Gathered {
-    pub done: Items<DieReport>,
+pub struct KeptSoFar<K> {
+    pub done: Items<K>,
     pub die: u32,
-    pub rows: ReportRows,
+    pub rows: u32,
+    pub last: K,
 }
 
 /// No row yet.
-pub fn no_rows(alloc: Global) -> Gathered
-    ensures { result ≡ no_rows }
+pub fn no_rows<K: KeptDie>(alloc: Global) -> KeptSoFar<K>
+    ensures { result ≡ kept_so_far K.kept_of no_rows }
 {
-    Gathered {
+    KeptSoFar {
         done: Items::new(alloc),
         die: 0,
-        rows: ReportRows::new(alloc),
+        rows: 0,
+        last: K::without_row(alloc, 0),
     }
 }
 
 /// Whether a row may come next.
-fn follows(gathered: &Gathered, next: &DieRow) -> bool
-    ensures { result ≡ may_follow gathered.now next.now }
+fn follows<K>(kept: &KeptSoFar<K>, next: &DieRow) -> bool
+    ensures { result ≡ comes_next kept.now.die kept.now.rows next.now }
 {
-    if next.die == gathered.die {
-        next.row.job.0 as usize == gathered.rows.len()
+    if next.die == kept.die {
+        next.row.job.0 == kept.rows
     } else {
-        gathered.die < next.die && next.row.job.0 == 0
+        kept.die < next.die && next.row.job.0 == 0
     }
 }
 
-/// The dies so far.
-pub fn dies_in(gathered: Gathered) -> Result<Items<DieReport>, Refusal>
-    ensures ok { IfOk result (λ dies. dies ≡ all_dies gathered) }
+/// Puts the last die to those that are done with, if it has rows.
+fn put_last<K: Drop>(done: &mut Items<K>, rows: u32, last: K) -> Result<(), Refusal>
+    ensures ok { OnOk result (done.new ≡ with_last done.old rows last) }
     ensures refused { FailsForMemory result }
 {
-    let Gathered {
-        mut done,
-        die,
-        rows,
-    } = gathered;
-    if !rows.is_empty() {
-        done.push(DieReport {
-            die,
-            rows,
-            cert: None,
-        })?;
+    if rows != 0 {
+        done.push(last)?;
     }
+    Ok(())
+}
+
+/// All dies so far.
+pub fn dies_in<K: KeptDie>(kept: KeptSoFar<K>) -> Result<Items<K>, Refusal>
+    ensures ok { IfOk result (λ dies. dies ≡ with_last kept.done kept.rows kept.last) }
+    ensures refused { FailsForMemory result }
+{
+    let KeptSoFar {
+        mut done,
+        rows,
+        last,
+        ..
+    } = kept;
+    put_last(&mut done, rows, last)?;
     Ok(done)
 }
 
 /// Begins a later die with its first row.
-fn begin(alloc: Global, gathered: &mut Gathered, next: DieRow) -> Result<(), Refusal>
-    requires { next.die ≢ gathered.old.die }
-    ensures ok { OnOk result (gathered.new ≡ with_row gathered.old next) }
+fn begin<K: KeptDie>(alloc: Global, kept: &mut KeptSoFar<K>, next: DieRow) -> Result<(), Refusal>
+    requires { next.die ≢ kept.old.die }
+    ensures ok { (g : Gathered) (x : DieRow) → kept.old ≡ kept_so_far K.kept_of g →
+        next ≡ kept_row K.kept_reads x →
+        OnOk result (kept.new ≡ kept_so_far K.kept_of (with_row g x)) }
     ensures refused { FailsForMemory result }
 {
-    let mut rows = ReportRows::new(alloc);
-    rows.push(next.row)?;
-    let rows = mem::replace(&mut gathered.rows, rows);
-    if !rows.is_empty() {
-        gathered.done.push(DieReport {
-            die: gathered.die,
-            rows,
-            cert: None,
-        })?;
-    }
-    gathered.die = next.die;
+    let mut last = K::without_row(alloc, next.die);
+    last.push(next.row)?;
+    let last = mem::replace(&mut kept.last, last);
+    put_last(&mut kept.done, kept.rows, last)?;
+    kept.die = next.die;
+    kept.rows = 1;
     Ok(())
 }
 
 /// Gathers one more row.
-fn add(alloc: Global, gathered: &mut Gathered, next: DieRow) -> Result<(), Refusal>
-    ensures ok { OnOk result (gathered.new ≡ with_row gathered.old next) }
+fn add<K: KeptDie>(alloc: Global, kept: &mut KeptSoFar<K>, next: DieRow) -> Result<(), Refusal>
+    requires { kept.old.rows ≤ 65536 }
+    ensures ok { (g : Gathered) (x : DieRow) → kept.old ≡ kept_so_far K.kept_of g →
+        next ≡ kept_row K.kept_reads x →
+        OnOk result (kept.new ≡ kept_so_far K.kept_of (with_row g x)) }
     ensures refused { FailsForMemory result }
 {
-    if next.die != gathered.die {
-        return begin(alloc, gathered, next);
+    if next.die != kept.die {
+        return begin(alloc, kept, next);
     }
-    gathered.rows.push(next.row)
+    kept.last.push(next.row)?;
+    kept.rows += 1;
+    Ok(())
 }
 
 /// Gathers one more record, if it is a row that may come next; says whether it is.
-pub fn gather(alloc: Global, gathered: &mut Gathered, fields: &ByteRecord) -> Result<bool, Refusal>
-    requires { length gathered.old.rows ≤ 65536 }
+pub fn gather<K: KeptDie>(
+    alloc: Global,
+    kept: &mut KeptSoFar<K>,
+    fields: &ByteRecord,
+) -> Result<bool, Refusal>
+    requires { kept.old.rows ≤ 65536 }
     ensures row { IfOk result (λ is_row.
-        (if is_row then Some gathered.new else None)
-        ≡ gathered_with gathered.old (fields_of fields.now)) }
-    ensures few { IfOk result (λ is_row. is_row ≡ true → length gathered.new.rows ≤ 65536) }
-    ensures bound { IfOk result (λ is_row. is_row ≡ true → progress gathered.new ≤ 524288) }
-    ensures grows { IfOk result (λ is_row.
-        is_row ≡ true → progress gathered.old < progress gathered.new) }
+        (g : Gathered) → kept.old ≡ kept_so_far K.kept_of g →
+        (if is_row then Some kept.new else None)
+        ≡ option_map (kept_so_far K.kept_of) (gathered_with g (fields_of fields.now))) }
     ensures refused { FailsForMemory result }
 {
-    let Some(next) = read_row(alloc, fields)? else {
+    let Some(next) = K::row_in(alloc, fields)? else {
         return Ok(false);
     };
-    if !follows(gathered, &next) {
+    if !follows(kept, &next) {
         return Ok(false);
     }
-    add(alloc, gathered, next)?;
+    add(alloc, kept, next)?;
     Ok(true)
 }

@@ -2,7 +2,7 @@
 #![tactic(auto)]
 
 mod gathered;
-mod gathered_work;
+mod kept_dies;
 mod laws;
 mod lines;
 mod report_certs;
@@ -14,16 +14,14 @@ mod report_work;
 mod report_writing;
 mod reports;
 mod row_numbers;
-mod work_reading;
 
 pub use laws::{
     reading_a_report_has_one_answer, reading_the_work_has_one_answer, reports_come_back,
     writing_a_report_has_one_answer,
 };
 pub use report_certs::Finish;
-pub use report_reading::read_report;
+pub use report_reading::{read_report, read_work};
 pub use report_work::{DieWork, ReportWork};
 pub use report_writing::{ReportText, write_report};
 pub use reports::{DieReport, Report, ReportRow, ReportRows, RowKind};
 pub use row_numbers::RowNumbers;
-pub use work_reading::read_work;

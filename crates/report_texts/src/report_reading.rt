@@ -1,19 +1,21 @@
-//! Reports read from texts.
+//! Reports read from texts, whole or for their work alone.
 
-ghost use Rattle.std.specs.Prelude.{◌≡◌, ◌≤◌, ℕ, List, true, IfOk, IfSome, OnOk, length, option_map};
+ghost use Rattle.std.specs.Prelude.{◌≡◌, ◌≤◌, List, map, true, IfOk, IfSome, OnOk, length, option_map};
 ghost use Rattle.csv.specs.Records.{fields_of};
+ghost use Rattle.report_texts.specs.Kept.{ReadsCert, ReadsKept, SaysKept};
 ghost use Rattle.report_texts.specs.Numbering.{AreNumbered};
-ghost use Rattle.report_texts.specs.ReportHeader.{is_report_header};
-ghost use Rattle.report_texts.specs.ReportOf.{Reading, Reads, Says, certs_for, certs_from, no_rows, report_from, report_of, rows_from};
-ghost use Rattle.report_texts.specs.ReportOf.{with_die};
 ghost use Rattle.report_texts.specs.RecordsLeft.{IsReady, Stays, record_line, records_fit, records_left};
-ghost use Rattle.text_base.specs.CsvRecords.{Fields};
-ghost use Rattle.report_texts.specs.Worst.{worst_of};
+ghost use Rattle.report_texts.specs.ReportHeader.{is_report_header};
+ghost use Rattle.report_texts.specs.ReportOf.{Reads, Says, certs_from, no_rows, report_from, report_of, rows_from};
+ghost use Rattle.report_texts.specs.ReportWork.{AllRise, SaysWork};
+ghost use Rattle.report_texts.specs.declared.reports.DieReport.{DieReport};
 
 use crate::gathered::{dies_in, gather, no_rows};
-use crate::report_certs::{cert, worst};
+use crate::kept_dies::KeptDie;
+use crate::report_certs::cert;
 use crate::report_records::{Records, records_in};
-use crate::reports::{DieReport, Report};
+use crate::report_work::ReportWork;
+use crate::reports::Report;
 use csv::ByteRecord;
 use slot_types::{Items, Refusal};
 use std::alloc::Global;
@@ -39,7 +41,7 @@ fn heads_report(row: &ByteRecord) -> bool
 }
 
 /// Takes the header.
-pub fn take_header<R: Read>(records: &mut Records<R>) -> Result<(), Refusal>
+fn take_header<R: Read>(records: &mut Records<R>) -> Result<(), Refusal>
     requires ready { IsReady records.old }
     requires first { record_line records.old ≡ 1 }
     ensures read { Reads report_from (λ _.
@@ -59,19 +61,21 @@ pub fn take_header<R: Read>(records: &mut Records<R>) -> Result<(), Refusal>
 }
 
 /// Takes the rows of all dies.
-fn take_rows<R: Read>(alloc: Global, records: &mut Records<R>) -> Result<Items<DieReport>, Refusal>
+fn take_rows<R: Read, K: KeptDie>(
+    alloc: Global,
+    records: &mut Records<R>,
+) -> Result<Items<K>, Refusal>
     requires { IsReady records.old }
-    ensures read { Reads (rows_from no_rows (record_line records.old)) (λ dies.
+    ensures read { ReadsKept K.kept_of (rows_from no_rows (record_line records.old)) (λ dies.
         certs_from dies (record_line records.new))
         (records_left R.remaining records.old) (records_left R.remaining records.new) result }
     ensures fits { OnOk result
         (Stays (records_fit R.remaining records.old) (records_fit R.remaining records.new)) }
     ensures ready { OnOk result (IsReady records.new) }
-    ensures numbered { IfOk result AreNumbered }
 {
-    let mut gathered = no_rows(alloc);
+    let mut kept = no_rows(alloc);
     while let Some(fields) = records.get_row() {
-        if !gather(alloc, &mut gathered, fields)? {
+        if !gather(alloc, &mut kept, fields)? {
             return Err(Refusal::ReportText {
                 line: records.line(),
             });
@@ -81,55 +85,50 @@ fn take_rows<R: Read>(alloc: Global, records: &mut Records<R>) -> Result<Items<D
             Err(refusal) => return Err(refusal),
         }
     }
-    let dies = dies_in(gathered)?;
+    let dies = dies_in(kept)?;
     Ok(dies)
 }
 
 /// Takes the certificate of a die that has a done row.
-fn take_cert<R: Read>(
+fn take_cert<R: Read, K: KeptDie>(
     alloc: Global,
     records: &mut Records<R>,
-    die: &mut DieReport,
+    die: &mut K,
 ) -> Result<(), Refusal>
     requires { IsReady records.old }
-    ensures read { (more : ℕ → List Fields → Reading)
-        → Reads (certs_for die.old more (worst_of die.old.rows) (record_line records.old))
-        (λ _ rest. with_die die.new (more (record_line records.new) rest))
-        (records_left R.remaining records.old)
-        (records_left R.remaining records.new) result }
+    ensures read { (d : DieReport) → die.old ≡ K.kept_of d →
+        ReadsCert K.kept_of d die.new (record_line records.old) (record_line records.new)
+        (records_left R.remaining records.old) (records_left R.remaining records.new) result }
     ensures fits { OnOk result
         (Stays (records_fit R.remaining records.old) (records_fit R.remaining records.new)) }
     ensures ready { OnOk result (IsReady records.new) }
-    ensures rows { OnOk result (die.new.rows ≡ die.old.rows) }
 {
-    let Some(worst) = worst(die.rows.as_slice()) else {
+    let Some(worst) = die.worst() else {
         return Ok(());
     };
     let line = records.line();
     let Some(fields) = records.get() else {
         return Err(Refusal::ReportText { line });
     };
-    let Some(cert) = cert(alloc, fields, die.die, &worst)? else {
+    let Some(cert) = cert(alloc, fields, die.number(), &worst)? else {
         return Err(Refusal::ReportText { line });
     };
-    die.cert = Some(cert);
+    die.certify(cert);
     records.advance()
 }
 
 /// Takes the certificates of all dies, after which no record may stand.
-fn take_certs<R: Read>(
+fn take_certs<R: Read, K: KeptDie>(
     alloc: Global,
     records: &mut Records<R>,
-    dies: Items<DieReport>,
-) -> Result<Report, Refusal>
-    requires ready { IsReady records.old }
-    requires numbered { AreNumbered dies }
-    ensures report { Says
-        (option_map (certs_from dies (record_line records.old))
+    dies: Items<K>,
+) -> Result<Items<K>, Refusal>
+    requires { IsReady records.old }
+    ensures kept { (ds : List DieReport) → dies ≡ map K.kept_of ds → AreNumbered ds →
+        SaysKept K.kept_of (option_map (certs_from ds (record_line records.old))
         (records_left R.remaining records.old)) result }
     ensures fits { OnOk result (IfSome (records_fit R.remaining records.old) (λ fits.
         fits ≡ true)) }
-    ensures numbered { IfOk result AreNumbered }
 {
     let mut dies = dies.into_vec();
     for i in 0..dies.len() {
@@ -144,6 +143,17 @@ fn take_certs<R: Read>(
         });
     }
     Ok(Items::from_vec(dies))
+}
+
+/// Reads a report, and keeps of its dies what `K` does.
+fn read_kept<R: Read + Drop, K: KeptDie>(alloc: Global, reader: R) -> Result<Items<K>, Refusal>
+    ensures kept { SaysKept K.kept_of (option_map report_of (R.remaining reader)) result }
+    ensures bound { OnOk result (IfSome (R.remaining reader) (λ text. length text ≤ 67108864)) }
+{
+    let mut records = records_in(alloc, reader)?;
+    take_header(&mut records)?;
+    let dies = take_rows(alloc, &mut records)?;
+    take_certs(alloc, &mut records, dies)
 }
 
 /// Reads a report, csv as `ScriptReader` reads it, within the same bound.
@@ -165,8 +175,19 @@ pub fn read_report<R: Read + Drop>(alloc: Global, reader: R) -> Result<Report, R
     ensures bound { OnOk result (IfSome (R.remaining reader) (λ text. length text ≤ 67108864)) }
     ensures numbered { IfOk result AreNumbered }
 {
-    let mut records = records_in(alloc, reader)?;
-    take_header(&mut records)?;
-    let dies = take_rows(alloc, &mut records)?;
-    take_certs(alloc, &mut records, dies)
+    read_kept(alloc, reader)
+}
+
+/// Reads the work of a report: of each of its dies the rows that a certificate is checked against, how the worst of
+/// them ended, and the certificate. These rows rise by number. What else a report says is judged, and not kept.
+///
+/// A text is read within the same bound as by [`read_report`], and refused where that refuses it,
+/// with the same refusal, of the same record. NoMemory comes where memory is refused, of which this takes less, and
+/// ReadFault where the reader fails.
+pub fn read_work<R: Read + Drop>(alloc: Global, reader: R) -> Result<ReportWork, Refusal>
+    ensures work { SaysWork (option_map report_of (R.remaining reader)) result }
+    ensures bound { OnOk result (IfSome (R.remaining reader) (λ text. length text ≤ 67108864)) }
+    ensures rise { IfOk result AllRise }
+{
+    read_kept(alloc, reader)
 }

@@ -5,7 +5,7 @@ ghost use Rattle.csv.specs.Records.{fields_of};
 ghost use Rattle.text_base.specs.Fields.{field_or};
 ghost use Rattle.slot_types.specs.Refusal.{FailsForMemory};
 ghost use Rattle.report_texts.specs.ReportRows.{sound_row};
-ghost use Rattle.report_texts.specs.RowNumbers.{row_with};
+ghost use Rattle.report_texts.specs.RowNumbers.{die_row};
 ghost use Rattle.text_base.specs.Words.{list_of};
 ghost use Rattle.text_base.specs.Pages.{page_of};
 
@@ -32,21 +32,24 @@ fn reads(alloc: Global, fields: &ByteRecord) -> Result<Option<Reads>, Refusal>
     list(alloc, field_in(fields, 10))
 }
 
-/// The row of these numbers and reads.
-pub fn row_with(numbers: &RowNumbers, reads: Reads) -> ReportRow
-    ensures { result ≡ row_with numbers.now reads }
+/// The row of these numbers and reads, with its die.
+pub fn die_row(numbers: &RowNumbers, reads: Reads) -> DieRow
+    ensures { result ≡ die_row numbers.now reads }
 {
-    ReportRow {
-        row: numbers.row,
-        job: numbers.job,
-        task: numbers.task,
-        release: numbers.release,
-        due: numbers.due,
-        work: numbers.work,
-        completion: numbers.completion,
-        lateness: numbers.lateness,
-        given: numbers.given,
-        reads,
+    DieRow {
+        die: numbers.die,
+        row: ReportRow {
+            row: numbers.row,
+            job: numbers.job,
+            task: numbers.task,
+            release: numbers.release,
+            due: numbers.due,
+            work: numbers.work,
+            completion: numbers.completion,
+            lateness: numbers.lateness,
+            given: numbers.given,
+            reads,
+        },
     }
 }
 
@@ -67,8 +70,5 @@ pub fn read_row(alloc: Global, fields: &ByteRecord) -> Result<Option<DieRow>, Re
     if !stands(&numbers, reads.len()) {
         return Ok(None);
     }
-    Ok(Some(DieRow {
-        die: numbers.die,
-        row: row_with(&numbers, reads),
-    }))
+    Ok(Some(die_row(&numbers, reads)))
 }

@@ -2,7 +2,7 @@
 
 ghost use Rattle.std.specs.Prelude.{◌≡◌, OnOk};
 ghost use Rattle.slot_types.specs.Refusal.{FailsForMemory};
-ghost use Rattle.report_texts.specs.GatheredWork.{no_work_on, with_work};
+ghost use Rattle.report_texts.specs.ReportWork.{no_work_on, with_work};
 
 use crate::report_certs::{Finish, finish_in, worse_of};
 use crate::reports::ReportRow;
