@@ -1,5 +1,4 @@
 pub mod PlainFields
-pub mod Written
 pub mod PlainRecords
 pub mod TextParts
 pub mod LineLaws

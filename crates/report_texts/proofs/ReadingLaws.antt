@@ -1,5 +1,5 @@
 -- How a report is read, record by record.
-use Rattle.std.proofs.Common.{◌≡◌, ℕ, ◌+◌, ◌<◌, ◌≤◌, List, [], ◌∷◌, ◌++◌, Bool, true, false, Option, Some, None, Result, Ok, Err, length}
+use Rattle.std.proofs.Common.{◌≡◌, ℕ, ◌+◌, ◌<◌, ◌≤◌, List, [], ◌∷◌, ◌++◌, Bool, true, false, Option, Some, None, Ok, Err, length}
 use Rattle.std.proofs.Common.{take, drop, get_or, set, refl, sym, ap, ◌∙◌, ◌⊎◌, inl, inr, append_assoc, arith}
 use Rattle.std.specs.Prelude.{option_map}
 use Rattle.std.proofs.lemmas.Bool.{cases_Bool}
@@ -148,25 +148,12 @@ late : {before here : Reading} (e : Refusal) → before ≡ here → IsOutside e
 late e same (inl out) = inl out
 late e same (inr bad) = inr (same ∙ bad)
 
--- two calls, one after the other, and what they tell
-pub reads-then : {A B : Type 0} (before : List Fields → Reading) (mid : A → List Fields → Reading) (after : B → List Fields → Reading)
-    (o n p : Option (List Fields)) (x : A) (r : Result B Refusal)
-    → Reads before mid o n (Ok x) → Reads (mid x) after n p r → Reads before after o p r
-reads-then before mid after None n p x r one two = tt
-reads-then before mid after (Some records) n p x (Ok y) one two = let t = rw one.1 at two in (t.0, t.1, one.2 ∙ t.2)
-reads-then before mid after (Some records) n p x (Err e) one two = late e (one.2) (rw one.1 at two)
-
 pub says-then : {A : Type 0} (before : List Fields → Reading) (mid : A → List Fields → Reading) (o n : Option (List Fields)) (x : A)
     (r : Reading)
     → Reads before mid o n (Ok x) → Says (option_map (mid x) n) r → Says (option_map before o) r
 says-then before mid None n x r one said = tt
 says-then before mid (Some records) n x (Ok report) one said = one.2 ∙ rw one.1 at said
 says-then before mid (Some records) n x (Err e) one said = late e one.2 (rw one.1 at said)
-
-pub says-fault : {A : Type 0} (before : List Fields → Reading) (mid : A → List Fields → Reading) (o n : Option (List Fields)) (e : Refusal)
-    → Reads before mid o n (Err e) → Says (option_map before o) (Err e)
-says-fault before mid None n e one = tt
-says-fault before mid (Some records) n e one = one
 
 -- what the known records tell, the records of a known text tell
 pub says-text : {A : Type 0} (rows : A → List Fields) (before : List Fields → Reading) (text : Option A) (left : Option (List Fields))

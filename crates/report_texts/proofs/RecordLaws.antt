@@ -1,5 +1,5 @@
 -- What a step does to the records that are left.
-use Rattle.std.proofs.Common.{◌≡◌, ◌≤◌, ℕ, length, List, [], ◌∷◌, Bool, true, false, Option, Some, None, Result, Ok, Err, refl, sym, ap}
+use Rattle.std.proofs.Common.{◌≡◌, ◌≤◌, ℕ, length, List, ◌∷◌, Bool, true, false, Option, Some, None, Result, Ok, Err, refl, sym, ap}
 use Rattle.std.proofs.Common.{◌∙◌, inl, inr}
 use Rattle.std.specs.Prelude.{option_map, OnOk, IfErr, IfSome, ◌+◌}
 use Rattle.slot_types.specs.declared.refusals.Refusal.{Refusal}
@@ -72,13 +72,6 @@ reads-broken before after true fields fields2 (Some rest) new e at bad =
     let is : fields ≡ fields2 = cc at in
     inr (ap (λ f. before (f ∷ rest)) is ∙ bad rest)
 
--- there is no record at hand
-pub reads-none : {A : Type 0} (before : List Fields → Reading) (after : A → List Fields → Reading) (found : Bool) (fields : Fields)
-    (left new : Option (List Fields)) (e : Refusal)
-    → hand_of found fields ≡ None → before [] ≡ Err e → Reads before after (with_hand found fields left) new (Err e)
-reads-none before after true fields left new e at bad = absurd (cc at)
-reads-none before after false fields left new e at bad = inr bad
-
 -- what was read so far, and then a call
 pub reads-on : {A : Type 0} (before here : List Fields → Reading) (after : A → List Fields → Reading)
     (left0 left new : Option (List Fields)) (r : Result A Refusal)
@@ -108,12 +101,6 @@ fit-taken (Some fits) new false keeps = rw keeps refl
 pub fit-lost : (left new : Option Bool) (had found : Bool) → had ≡ true → KeepsFit left new found
     → Stays (with_fit had left) (with_fit found new)
 fit-lost left new had found yes_had keeps = rw yes_had (fit-taken left new found keeps)
-
--- at the end of a text it fits
-pub fit-end : (fits : Option Bool) (found : Bool) (left : Option Bool) → Stays fits (with_fit found left) → found ≡ false
-    → IfSome fits (λ fit. fit ≡ true)
-fit-end None found left stays none = tt
-fit-end (Some fit) found left stays none = sym (cc (rw none at stays))
 
 -- a text that fits its bound is as short
 pub fit-short : {A : Type 0} (r : Result A Refusal) (text : Option (List ℕ)) (fits : Option Bool)
