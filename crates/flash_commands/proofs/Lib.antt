@@ -1,5 +1,5 @@
 mod KindLemmas
 mod Endings
-mod Reported
+pub mod Reported
 mod Judging
 mod Verdicts

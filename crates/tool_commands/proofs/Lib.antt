@@ -1,4 +1,3 @@
-mod AuditedWork
 mod Audits
 mod EndedSo
 mod Opened

@@ -2,7 +2,7 @@ use Rattle.std.proofs.Common.{◌≡◌, Bool, ap, ◌∙◌}
 use Rattle.std.specs.Prelude.{if◌then◌else◌}
 use Rattle.std.specs.List.{list_any}
 use Rattle.flash_commands.specs.Audit.{is_refused_work}
-use Rattle.tool_commands.proofs.AuditedWork.{refused-works, said-report}
+use Rattle.flash_commands.proofs.Reported.{refused-works, said-report}
 use Rattle.tool_commands.proofs.listed_acts.audit_named.Goals as goal
 
 pub returns-clause-audited : goal.returns-clause-audited
