@@ -15,3 +15,4 @@ pub mod ReportsBack
 pub mod WorkLaws
 pub mod WorkReported
 pub mod OneReading
+pub mod PartWriting

@@ -23,7 +23,7 @@ pub use laws::{
 pub use report_certs::Finish;
 pub use report_reading::read_report;
 pub use report_work::{DieWork, ReportWork};
-pub use report_writing::{ReportText, write_report};
+pub use report_writing::{ReportText, write_parts, write_report};
 pub use reports::{DieReport, Report, ReportRow, ReportRows, RowKind};
 pub use row_numbers::RowNumbers;
 pub use work_reading::read_work;
