@@ -14,3 +14,4 @@ pub mod ReportsBack
 pub mod WorkLaws
 pub mod KeptLaws
 pub mod OneReading
+pub mod PartWriting

@@ -1,5 +1,5 @@
 -- The text of a report while it is made.
-use Rattle.std.specs.Prelude.{ℕ, List, ◌∷◌, ◌++◌, map, flat_map}
+use Rattle.std.specs.Prelude.{ℕ, List, [], ◌∷◌, ◌++◌, map, flat_map}
 use Rattle.csv.specs.Writing.{default_writer, row_text}
 use Rattle.late_cert.specs.declared.certificates.Certificate.{Certificate}
 use Rattle.report_texts.specs.ReportText.{cert_fields, cert_record, die_records, header_fields, records_text, row_fields}
@@ -33,3 +33,18 @@ text_so_far dies = record {
 
 abbrev pub whole_text : TextSoFar → List ℕ
 whole_text text = text.rows ++ text.certs
+
+-- Parts of a text, each made by itself
+
+abbrev pub no_lines : TextSoFar
+no_lines = record { rows = []; certs = [] }
+
+abbrev pub rows_of_parts : List TextSoFar → List ℕ
+rows_of_parts parts = flat_map (λ (part : TextSoFar). part.rows) parts
+
+abbrev pub certs_of_parts : List TextSoFar → List ℕ
+certs_of_parts parts = flat_map (λ (part : TextSoFar). part.certs) parts
+
+-- the rows of all parts, and after them their certificates
+abbrev pub joined_text : List TextSoFar → List ℕ
+joined_text parts = rows_of_parts parts ++ certs_of_parts parts

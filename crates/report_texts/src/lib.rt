@@ -22,6 +22,6 @@ pub use laws::{
 pub use report_certs::Finish;
 pub use report_reading::{read_report, read_work};
 pub use report_work::{DieWork, ReportWork};
-pub use report_writing::{ReportText, write_report};
+pub use report_writing::{ReportText, write_parts, write_report};
 pub use reports::{DieReport, Report, ReportRow, ReportRows, RowKind};
 pub use row_numbers::RowNumbers;

@@ -1,11 +1,12 @@
 //! Reports as texts.
 
-ghost use Rattle.std.specs.Prelude.{◌≡◌, ◌⊎◌, [], IfOk, OnOk, IfErr};
+ghost use Rattle.std.specs.Prelude.{◌≡◌, ◌⊎◌, [], IfOk, OnErr, OnOk, IfErr};
 ghost use Rattle.std.specs.Io.KnownBytes.{Appends};
 ghost use Rattle.slot_types.specs.Refusal.{FailsForMemory};
 ghost use Rattle.report_texts.specs.ReportText.{report_text};
 ghost use Rattle.report_texts.specs.RowNumbers.{row_with};
-ghost use Rattle.report_texts.specs.TextSoFar.{cert_added, die_added, row_added, rows_added, text_so_far, whole_text};
+ghost use Rattle.report_texts.specs.TextSoFar.{cert_added, certs_of_parts, die_added, joined_text, no_lines, row_added};
+ghost use Rattle.report_texts.specs.TextSoFar.{rows_added, rows_of_parts, text_so_far, whole_text};
 ghost use Rattle.text_base.specs.Writing.{AppendsPart};
 
 use crate::report_lines::{put_cert, put_header, put_row};
@@ -52,6 +53,16 @@ impl ReportText {
         }
     }
 
+    /// No line: a part of a report's text, which stands after others.
+    pub fn part(alloc: Global) -> ReportText
+        ensures { result ≡ no_lines }
+    {
+        ReportText {
+            rows: Vec::new(alloc),
+            certs: Vec::new(alloc),
+        }
+    }
+
     /// Adds a row: these numbers, and the pages that its reads gave. The only refusal is NoMemory.
     pub fn add_row(&mut self, row: &RowNumbers, reads: &[PageData]) -> Result<(), Refusal>
         ensures ok { OnOk result (self.new
@@ -75,21 +86,11 @@ impl ReportText {
         }
     }
 
-    /// The whole text: the rows, and after them the certificates.
-    fn whole(self) -> Result<Vec<u8>, Refusal>
-        ensures ok { IfOk result (λ text. text.items ≡ whole_text self) }
-        ensures refused { FailsForMemory result }
-    {
-        let mut text = self.rows;
-        text.extend_from_slice(self.certs.as_slice())?;
-        Ok(text)
-    }
-
     /// Writes the text as csv: a header, the rows, and after all of them the certificates. Numbers have no leading
     /// zeros, pages are 32 lower-case hexadecimal digits, each record ends with one line feed, no field is quoted.
     ///
-    /// NoMemory comes before the first byte, and the writer is as it was. WriteFault comes where the writer fails, as
-    /// [`write_whole`] says: a front of the text was then written that isn't the whole.
+    /// It takes no memory. WriteFault comes where the writer fails, as [`write_whole`] says: a front of the text was then
+    /// written that isn't the whole.
     pub fn write<W: Write>(self, writer: &mut W) -> Result<(), Refusal>
         ensures written { OnOk result
             (Appends (W.contents writer.old) (W.contents writer.new) (whole_text self)) }
@@ -99,9 +100,53 @@ impl ReportText {
         ensures refused { IfErr result (λ refusal.
             (refusal ≡ Refusal.NoMemory) ⊎ (refusal ≡ Refusal.WriteFault)) }
     {
-        let text = self.whole()?;
-        write_whole(writer, &text)
+        write_whole(writer, &self.rows)?;
+        write_whole(writer, &self.certs)
     }
+}
+
+/// Writes the rows of all parts.
+fn write_rows<W: Write>(writer: &mut W, parts: &[ReportText]) -> Result<(), Refusal>
+    ensures written { OnOk result
+        (Appends (W.contents writer.old) (W.contents writer.new) (rows_of_parts parts.now)) }
+    ensures part { OnErr result
+        (AppendsPart (W.contents writer.old) (W.contents writer.new) (rows_of_parts parts.now)) }
+    ensures refused { IfErr result (λ refusal. refusal ≡ Refusal.WriteFault) }
+{
+    for part in parts {
+        write_whole(writer, &part.rows)?;
+    }
+    Ok(())
+}
+
+/// Writes the certificates of all parts.
+fn write_certs<W: Write>(writer: &mut W, parts: &[ReportText]) -> Result<(), Refusal>
+    ensures written { OnOk result
+        (Appends (W.contents writer.old) (W.contents writer.new) (certs_of_parts parts.now)) }
+    ensures part { OnErr result
+        (AppendsPart (W.contents writer.old) (W.contents writer.new) (certs_of_parts parts.now)) }
+    ensures refused { IfErr result (λ refusal. refusal ≡ Refusal.WriteFault) }
+{
+    for part in parts {
+        write_whole(writer, &part.certs)?;
+    }
+    Ok(())
+}
+
+/// Writes the text that parts are of, in their order: the rows of all, and after them their certificates. Each part is
+/// written as it is, without a copy of the whole, and no memory is taken.
+///
+/// WriteFault comes where the writer fails, as [`write_whole`] says of each piece: a front of the text was then written
+/// that isn't the whole.
+pub fn write_parts<W: Write>(writer: &mut W, parts: &[ReportText]) -> Result<(), Refusal>
+    ensures written { OnOk result
+        (Appends (W.contents writer.old) (W.contents writer.new) (joined_text parts.now)) }
+    ensures part { OnErr result
+        (AppendsPart (W.contents writer.old) (W.contents writer.new) (joined_text parts.now)) }
+    ensures refused { IfErr result (λ refusal. refusal ≡ Refusal.WriteFault) }
+{
+    write_rows(writer, parts)?;
+    write_certs(writer, parts)
 }
 
 /// A row without what its reads gave.
