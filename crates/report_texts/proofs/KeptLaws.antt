@@ -10,7 +10,7 @@ use Rattle.slot_types.specs.declared.pages.PageData.{PageData}
 use Rattle.slot_types.specs.declared.refusals.Refusal.{Refusal}
 use Rattle.slot_types.specs.declared.refusals.Refusal.TheVariants.{ReportText}
 use Rattle.text_base.specs.CsvRecords.{Fields}
-use Rattle.report_texts.specs.Kept.{ReadsCert, ReadsKept, SaysKept, kept_row, kept_so_far}
+use Rattle.report_texts.specs.KeptDies.{ReadsCert, ReadsKept, SaysKept, kept_row, kept_so_far}
 use Rattle.report_texts.specs.Numbering.{AreNumbered, GathersNumbered, IsNumbered}
 use Rattle.report_texts.specs.RecordsLeft.{Loses, Stays, hand_of, unless_cert, with_hand}
 use Rattle.report_texts.specs.ReportOf.{Gathered, Reading, Reads, Says, all_dies, certs_from, comes_next, gathered_with, may_follow}

@@ -7,7 +7,7 @@ use Rattle.std.proofs.lemmas.Option.{same_Some}
 use Rattle.late_cert.specs.Rows.{RowsRise}
 use Rattle.slot_types.specs.declared.refusals.Refusal.{Refusal}
 use Rattle.report_texts.specs.JobRows.{job_row_if, job_row_of, job_rows_of}
-use Rattle.report_texts.specs.Kept.{SaysKept, kept_row}
+use Rattle.report_texts.specs.KeptDies.{SaysKept, kept_row}
 use Rattle.report_texts.specs.Numbering.{AreNumbered, IsNumbered}
 use Rattle.report_texts.specs.ReportOf.{Reading}
 use Rattle.report_texts.specs.ReportWork.{AllRise, SaysWork, with_work, work_of, works_of}

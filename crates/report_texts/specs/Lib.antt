@@ -11,6 +11,6 @@ pub mod RecordsLeft
 pub mod ReportOf
 pub mod Numbering
 pub mod ReportWork
-pub mod Kept
+pub mod KeptDies
 pub mod WellFormed
 pub mod Refused

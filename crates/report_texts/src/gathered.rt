@@ -3,7 +3,7 @@
 ghost use Rattle.std.specs.Prelude.{◌≡◌, ◌≢◌, ◌≤◌, ◌∷◌, [], map, Some, None, IfOk, OnOk, if◌then◌else◌, option_map};
 ghost use Rattle.csv.specs.Records.{fields_of};
 ghost use Rattle.slot_types.specs.Refusal.{FailsForMemory};
-ghost use Rattle.report_texts.specs.Kept.{kept_row, kept_so_far};
+ghost use Rattle.report_texts.specs.KeptDies.{kept_row, kept_so_far};
 ghost use Rattle.report_texts.specs.ReportOf.{Gathered, all_dies, comes_next, gathered_with, no_rows, with_last, with_row};
 ghost use Rattle.report_texts.specs.declared.report_rows.DieRow.{DieRow};
 

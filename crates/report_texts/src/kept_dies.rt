@@ -4,7 +4,7 @@ ghost use Rattle.std.specs.Prelude.{◌≡◌, ◌∷◌, ◌++◌, [], List, If
 ghost use Rattle.csv.specs.Records.{fields_of};
 ghost use Rattle.slot_types.specs.Refusal.{FailsForMemory};
 ghost use Rattle.slot_types.specs.declared.pages.PageData.{PageData};
-ghost use Rattle.report_texts.specs.Kept.{kept_row};
+ghost use Rattle.report_texts.specs.KeptDies.{kept_row};
 ghost use Rattle.report_texts.specs.ReportOf.{report_on, with_cert};
 ghost use Rattle.report_texts.specs.ReportRows.{sound_row};
 ghost use Rattle.report_texts.specs.ReportWork.{work_of};

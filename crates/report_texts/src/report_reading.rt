@@ -2,7 +2,7 @@
 
 ghost use Rattle.std.specs.Prelude.{◌≡◌, ◌≤◌, List, map, true, IfOk, IfSome, OnOk, length, option_map};
 ghost use Rattle.csv.specs.Records.{fields_of};
-ghost use Rattle.report_texts.specs.Kept.{ReadsCert, ReadsKept, SaysKept};
+ghost use Rattle.report_texts.specs.KeptDies.{ReadsCert, ReadsKept, SaysKept};
 ghost use Rattle.report_texts.specs.Numbering.{AreNumbered};
 ghost use Rattle.report_texts.specs.RecordsLeft.{IsReady, Stays, record_line, records_fit, records_left};
 ghost use Rattle.report_texts.specs.ReportHeader.{is_report_header};
