@@ -36,9 +36,9 @@ pub fn reading_the_work_has_one_answer()
         (one ≡ other) ⊎ EndsOutside one ⊎ EndsOutside other }
 {}
 
-/// Writing a report (`write`, `write_report`) has one answer, where what its writer has is known, and leaves one text
-/// there; out of memory it leaves the writer as it was. Left open is whether there is memory for it, whether the writer
-/// fails, and how much of the text it took then.
+/// Writing a report (`write`, `write_parts`, `write_report`) has one answer, where what its writer has is known, and
+/// leaves one text there; out of memory it leaves the writer as it was. Left open is whether there is memory for it,
+/// whether the writer fails, and how much of the text it took then.
 pub fn writing_a_report_has_one_answer<W: Write>()
     ensures { (text known : List ℕ) (before left right : W)
         (one other : Result (Unit {0}) Refused) →
