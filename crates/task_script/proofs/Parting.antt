@@ -1,6 +1,6 @@
 -- The parts of a report that were made, each by itself, make the report.
 use Rattle.std.proofs.Common.{◌≡◌, ℕ, suc, ◌+◌, ◌<◌, List, [], ◌∷◌, ◌++◌, length, map, get_or, take, drop, Option, Some, refl, ap, sym, ◌∙◌, subst, arith}
-use Rattle.std.proofs.Common.{append_assoc, ◌==◌, true, false, Bool, None}
+use Rattle.std.proofs.Common.{◌==◌, true, false, Bool, None}
 use Rattle.std.specs.Prelude.{IfSome, flat_map, if◌then◌else◌}
 use Rattle.std.specs.List.{filter, reduce}
 use Rattle.std.proofs.lemmas.Bool.Decides.{nat_tests}

@@ -1,8 +1,7 @@
-use Rattle.std.proofs.Common.{◌≡◌, ◌∙◌, ap, length, rules, subst}
+use Rattle.std.proofs.Common.{◌∙◌, rules, subst}
 use Rattle.die_service.proofs.LastPasses.{written}
 use Rattle.task_script.proofs.Parting.{made_length, parts_are}
 use Rattle.task_script.specs.DieTexts.{AreMade}
-use Rattle.task_script.specs.declared.die_texts.DieText.{DieText}
 use Rattle.task_script.proofs.Results.{ok_weaker}
 use Rattle.task_script.proofs.die_texts.parts_of.Goals as goal
 

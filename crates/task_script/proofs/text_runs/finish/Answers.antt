@@ -1,4 +1,4 @@
-use Rattle.std.proofs.Common.{◌≡◌, arith, ap, rules}
+use Rattle.std.proofs.Common.{arith}
 use Rattle.task_script.proofs.Gathering.{closed_length}
 use Rattle.task_script.proofs.text_runs.finish.Goals as goal
 

@@ -1,4 +1,4 @@
-use Rattle.std.proofs.Common.{rules, ◌∙◌, refl, ap, length, arith}
+use Rattle.std.proofs.Common.{rules, ◌∙◌, refl, length, arith}
 use Rattle.std.proofs.lemmas.List.Elements.{All-from_recursion}
 use Rattle.slot_types.specs.declared.refusals.Refusal.{Refusal}
 use Rattle.task_script.proofs.Batching.{all_sole, come_more, dealt_events, fails_by, none_counted, read_as, so_far_none}

@@ -1,4 +1,3 @@
-use Rattle.std.proofs.Common.{Err, inr}
 use Rattle.task_script.proofs.AsPlanned.{runs_as_planned}
 use Rattle.task_script.proofs.Gathering.{runs_text}
 use Rattle.task_script.proofs.InPart.{refuses_or_cuts, runs_in_part}
