@@ -1,11 +1,16 @@
 -- Texts that are written piece by piece, one after the other.
-use Rattle.std.proofs.Common.{◌≡◌, ◌<◌, ◌+◌, ℕ, List, [], ◌∷◌, ◌++◌, length, take, drop, get_or, Option, Result, Ok, Err, OnErr, refl, sym, ap, ◌∙◌, subst, append_assoc}
+use Rattle.std.proofs.Common.{◌≡◌, ◌<◌, ◌+◌, ℕ, List, [], ◌∷◌, ◌++◌, length, take, drop, get_or, Option, Result, Ok, Err, OnErr, refl, sym, ap, ◌∙◌, subst}
 use Rattle.std.proofs.Common.{append-nil, length-append, arith}
 use Rattle.std.specs.Prelude.{flat_map}
 use Rattle.std.specs.Io.KnownBytes.{Appends}
 use Rattle.std.proofs.KnownBytes.{Appends-nil, Appends-trans}
 use Rattle.std.proofs.Math.Seq.{take-append-add}
 use Rattle.std.proofs.lemmas.List.{drop_all, drop_more, take-append-le}
+use Rattle.csv.specs.Writing.{default_writer, row_text}
+use Rattle.report_texts.specs.ReportText.{cert_record, die_records, header_fields, records_text, report_text}
+use Rattle.report_texts.specs.TextSoFar.{TextSoFar, certs_of_parts, joined_text, rows_of_parts, text_so_far}
+use Rattle.report_texts.specs.declared.reports.DieReport.{DieReport}
+use Rattle.report_texts.proofs.TextParts.{whole_is}
 use Rattle.text_base.specs.Writing.{AppendsPart, AppendsUpTo}
 use Rattle.text_base.proofs.WritingLaws.{up-to-more, up-to-whole}
 
@@ -67,3 +72,9 @@ pieces-all f a b xs i above so-far =
 pub on-error-then : {A E : Type 0} (r : Result A E) (P Q : Type 0) → (P → Q) → OnErr r P → OnErr r Q
 on-error-then (Ok x) P Q turn p = p
 on-error-then (Err e) P Q turn p = turn p
+
+-- the header, and after it the lines of all dies, are the text of their report
+pub parts_whole : (parts : List TextSoFar) (report : List DieReport) → rows_of_parts parts ≡ records_text (flat_map die_records report)
+    → certs_of_parts parts ≡ records_text (flat_map cert_record report) → joined_text (text_so_far [] ∷ parts) ≡ report_text report
+parts_whole parts report rows certs =
+    (λ i. (append-nil (row_text default_writer header_fields) i ++ rows i) ++ certs i) ∙ whole_is report (text_so_far report) refl

@@ -185,7 +185,7 @@ all_as_planned slots feed die (plan ∷ plans) (run ∷ runs) arrive bound h = (
 )
 
 -- what is written of a run of a script
-pub runs_as_planned : (text : Option (List ℕ)) (plans : List DiePlan) (slots : ℕ) (said : TextSoFar) (count : RunCount)
+pub runs_as_planned : (text : Option (List ℕ)) (plans : List DiePlan) (slots : ℕ) (said : List TextSoFar) (count : RunCount)
     (old new : Option (List ℕ)) → All MeetsBound plans → (r : RanScript text plans slots said count)
     → Appends old new (report_text r.report) → RunsAsPlanned text plans slots count old new
 unfolding runs_text

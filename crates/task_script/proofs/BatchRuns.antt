@@ -1,15 +1,15 @@
 -- A die that ran its rows in batches, of which no other pass called it, ran them as one.
-use Rattle.std.proofs.Common.{◌≡◌, ℕ, ◌+◌, ◌-◌, ◌<◌, ◌≤◌, max, true, List, [], ◌∷◌, ◌++◌, refl, ap, sym, ◌∙◌, subst, take, drop, arith}
-use Rattle.std.proofs.Common.{append_assoc, length, inl, inr, Some, None, Ok, Err, All}
+use Rattle.std.proofs.Common.{◌≡◌, ℕ, ◌+◌, ◌-◌, ◌≤◌, max, true, List, [], ◌∷◌, ◌++◌, refl, ap, sym, ◌∙◌, subst, take, drop, arith}
+use Rattle.std.proofs.Common.{length, inl, inr, None, Err, All}
 use Rattle.std.proofs.lemmas.Bool.{false≢true}
-use Rattle.std.proofs.lemmas.List.{append-nil, take-append-drop}
+use Rattle.std.proofs.lemmas.List.{take-append-drop}
 use Rattle.std.proofs.lemmas.List.Elements.{All-weaker}
 use Rattle.slot_types.specs.Arrivals.{IsArrival}
 use Rattle.slot_types.specs.declared.plans.DiePlan.{DiePlan}
 use Rattle.slot_types.specs.declared.events.Event.{Event}
 use Rattle.slot_types.specs.declared.refusals.Refusal.{Refusal}
 use Rattle.plan_rules.specs.Bound.{MeetsBound}
-use Rattle.turn_lock.specs.Log.{times, calls_by, AllBy}
+use Rattle.turn_lock.specs.Log.{calls_by, AllBy}
 use Rattle.turn_lock.specs.Views.{first_view, IsSamePass}
 use Rattle.turn_lock.proofs.Counts.{calls_append}
 use Rattle.die_log.specs.Model.Log.{Log, now}
@@ -22,11 +22,10 @@ use Rattle.die_service.proofs.Transcripts.{said_log, reported_accepted, all_own,
 use Rattle.die_service.specs.Drives.{Far}
 use Rattle.die_service.specs.Logs.{DieCall, log_of, calls_of}
 use Rattle.die_service.specs.Passes.{DieView}
-use Rattle.die_service.specs.Runs.{AskedEvent, asked_event, HasRun, InClockOrder, accepted_by, stop_of, refused_from}
+use Rattle.die_service.specs.Runs.{AskedEvent, asked_event, HasRun, accepted_by, stop_of, refused_from}
 use Rattle.die_service.specs.Stores.{DiePass, IsClosedWith}
 use Rattle.die_service.specs.declared.batches.Batch.{Batch}
 use Rattle.die_service.specs.declared.ends.DieEnd.{DieEnd}
-use Rattle.die_service.specs.declared.refused.RefusedAt.{RefusedAt}
 use Rattle.script_texts.specs.declared.script_rows.ScriptItem.{ScriptItem}
 use Rattle.task_script.proofs.BatchCalls.{latest_all, latest_more, calls_join}
 use Rattle.task_script.proofs.Calling.{ran_more}
@@ -37,7 +36,7 @@ use Rattle.task_script.specs.Batches.{HasComeTo, after_batch, batch_of, end_slot
 use Rattle.task_script.specs.DieRuns as run
 use Rattle.task_script.specs.DieRuns.{IsScriptRun, MakesCalls, calls_from, fresh_run, run_at}
 use Rattle.task_script.specs.RowEnds.{ends_from, lines_of}
-use Rattle.task_script.specs.RunCounts.{count_of, counted_after}
+use Rattle.task_script.specs.RunCounts.{counted_after}
 use Rattle.task_script.specs.declared.batches.Progress.{Progress}
 use Rattle.task_script.specs.declared.run_counts.RowEnd.{RowEnd}
 use Rattle.task_script.specs.declared.run_counts.RunCount.{RunCount}

@@ -1,11 +1,10 @@
 -- How the runs of dies are gathered.
-use Rattle.std.proofs.Common.{◌≡◌, ℕ, suc, ◌+◌, ◌<◌, ◌≤◌, max, Bool, true, false, List, [], ◌∷◌, ◌++◌, refl, ap, sym, ◌∙◌}
-use Rattle.std.proofs.Common.{subst, length, map}
-use Rattle.std.proofs.Common.{append_assoc, arith, ◌==◌, Option, None}
-use Rattle.std.specs.Prelude.{if◌then◌else◌, option_map}
+use Rattle.std.proofs.Common.{◌≡◌, ℕ, suc, ◌+◌, ◌<◌, ◌≤◌, max, true, List, [], ◌∷◌, ◌++◌, refl, ap, sym, ◌∙◌}
+use Rattle.std.proofs.Common.{subst, length}
+use Rattle.std.proofs.Common.{append_assoc, arith, Option}
+use Rattle.std.specs.Prelude.{option_map}
 use Rattle.std.specs.Io.KnownBytes.{Appends}
-use Rattle.std.specs.List.{reduce, filter, AllByRecursion, AllZip}
-use Rattle.std.proofs.lemmas.Bool.Decides.{nat_tests}
+use Rattle.std.specs.List.{AllByRecursion, AllZip}
 use Rattle.std.proofs.lemmas.List.{append-nil}
 use Rattle.std.proofs.lemmas.List.Elements.{recursion_from_All}
 use Rattle.slot_types.specs.declared.plans.DiePlan.{DiePlan}
@@ -15,19 +14,14 @@ use Rattle.report_texts.specs.ReportText.{report_text}
 use Rattle.script_texts.specs.Arrivals.{Arrives}
 use Rattle.script_texts.specs.Script.{Script, script_of}
 use Rattle.script_texts.specs.declared.script_rows.ScriptItem.{ScriptItem}
-use Rattle.die_log.specs.Model.Log.{Log, Job, jobs}
-use Rattle.die_log.specs.Model.Rows.{certificate, certificate_for}
-use Rattle.die_log.specs.Model.Work.{is_done, is_worse}
-use Rattle.late_cert.specs.declared.certificates.Certificate.{Certificate}
-use Rattle.report_texts.specs.TextSoFar.{TextSoFar, die_added, text_so_far}
-use Rattle.report_texts.proofs.TextParts.{text_more}
+use Rattle.report_texts.specs.TextSoFar.{TextSoFar, joined_text}
 use Rattle.report_texts.specs.declared.reports.DieReport.{DieReport}
-use Rattle.report_texts.specs.declared.reports.ReportRow.{ReportRow}
 use Rattle.task_script.proofs.BatchRuns.{closed_run, die_start}
 use Rattle.task_script.proofs.Batching.{SoFar, come_more, in_time_more, items_are}
 use Rattle.task_script.proofs.Counting.{counts_join}
+use Rattle.task_script.proofs.Parting.{parts_text}
 use Rattle.task_script.specs.Batches.{Closes, RanRows, HasComeTo, HaveComeTo, joined_after, latest_slot}
-use Rattle.task_script.specs.DieReports.{die_report_of, report_row_of, report_rows_of}
+use Rattle.task_script.specs.DieReports.{die_report_of}
 use Rattle.task_script.specs.DieRuns.{DieRun, run_at}
 use Rattle.task_script.specs.Feeds.{AreInTime, AreItemsOf, HasReadRows, feed_of}
 use Rattle.task_script.specs.RunCounts.{count_of, sum_of_counts}
@@ -37,70 +31,6 @@ use Rattle.task_script.specs.declared.batches.Progress.{Progress}
 use Rattle.task_script.specs.declared.run_counts.RowEnd.{RowEnd}
 use Rattle.task_script.specs.declared.run_counts.RunCount.{RunCount}
 use Rattle.die_log.specs.Model.Start.{Start, fresh}
-
--- Texts
-
--- a text is that of some reports, which the reports of the dies that are left make all
-abbrev pub IsReportedOf : TextSoFar → List DieReport → List DieReport → Type 0
-IsReportedOf text left all = (done : List DieReport) × (text ≡ text_so_far done) × (done ++ left ≡ all)
-
-some_rows : (row : ReportRow) (rows : List ReportRow) → (length (row ∷ rows) == 0) ≡ true → ⊥
-some_rows row rows e = grind (arith, nat_tests)
-
-no_cert : (start : Start) (log : Log) → (length (report_rows_of start log) == 0) ≡ true → certificate start.plan log ≡ None
-no_cert start log none = by (jobs log) refl none
-  where
-    among : List Job → Option Certificate
-    among js = certificate_for start.plan log (reduce (λ best j. if is_worse log j best then j else best) (filter (is_done start.plan log) js))
-
-    by : (js : List Job) → jobs log ≡ js → (length (map (report_row_of start log) (jobs log)) == 0) ≡ true → certificate start.plan log ≡ None
-    by [] e h = ap among e
-    by (j ∷ js) e h = absurd (some_rows (report_row_of start log j) (map (report_row_of start log) js) (rw e at h))
-
--- a die without rows adds nothing
-adds_nothing : (made : DieReport) (text : TextSoFar) → made.rows ≡ [] → made.cert ≡ None → die_added made text ≡ text
-adds_nothing made text rows cert =
-    ap (λ (rs : List ReportRow). die_added (record { die = made.die; rows = rs; cert = made.cert }) text) rows
-    ∙ (ap (λ (c : Option Certificate). die_added (record { die = made.die; rows = []; cert = c }) text) cert
-    ∙ λ i. record { rows = append-nil text.rows i; certs = append-nil text.certs i })
-
-no_rows : (rows : List ReportRow) → (length rows == 0) ≡ true → rows ≡ []
-no_rows [] e = refl
-no_rows (row ∷ rows) e = absurd (some_rows row rows e)
-
--- the lines of one die more
-pub reported_more : {N : Type 0} (die : ℕ) (core : Core N) (dies : List (Core N)) (old new : TextSoFar) (all : List DieReport)
-    → new ≡ die_added (die_report_of core.start core.log die) old → IsReportedOf old (reports_of die (core ∷ dies)) all
-    → IsReportedOf new (reports_of (die + 1) dies) all
-reported_more die core dies old new all added so_far = by (length made.rows == 0) refl
-  where
-    made : DieReport
-    made = die_report_of core.start core.log die
-
-    rest : List DieReport
-    rest = reports_of (die + 1) dies
-
-    by : (b : Bool) → (length made.rows == 0) ≡ b → IsReportedOf new rest all
-    by true e = (
-      so_far.0,
-      added ∙ (adds_nothing made old (no_rows made.rows e) (no_cert core.start core.log e) ∙ so_far.1),
-      rw e at so_far.2,
-    )
-    by false e = (
-      so_far.0 ++ made ∷ [],
-      text_more so_far.0 made old new so_far.1 added,
-      append_assoc so_far.0 (made ∷ []) rest ∙ (rw e at so_far.2),
-    )
-
--- where no die is left the text is that of all
-pub all_reported : (text : TextSoFar) (left all : List DieReport) → left ≡ [] → IsReportedOf text left all → text ≡ text_so_far all
-all_reported text left all none so_far =
-    so_far.1 ∙ ap text_so_far (sym (append-nil so_far.0) ∙ (ap (λ (xs : List DieReport). so_far.0 ++ xs) (sym none) ∙ so_far.2))
-
--- the dies that are left of so many, where all have been looked at
-pub none_left : {A : Type 0} (left : List A) → length left ≡ 0 → left ≡ []
-none_left [] e = refl
-none_left (x ∷ left) e = absurd (omega (arith, e))
 
 -- The runs of dies that were closed
 
@@ -157,9 +87,9 @@ latest_within : (slots : ℕ) (items : List ScriptItem) → AllByRecursion (Arri
 latest_within slots [] arrive = omega arith
 latest_within slots (item ∷ items) arrive = let rest = latest_within slots items arrive.1 in omega (arith, rest, arrive.0.0)
 
--- the text of the reports, and the count, of dies that ran all rows of a script and were closed
+-- the parts of the report, and the count, of dies that ran all rows of a script and were closed
 pub ran_script : (text : Option (List ℕ)) (plans : List DiePlan) (slots : ℕ) (ps : List DiePass) (progress : List Progress)
-    (said : TextSoFar) (count : RunCount) (items : List ScriptItem)
+    (said : List TextSoFar) (count : RunCount) (items : List ScriptItem)
     → AreItemsOf text (length plans) slots items → AreInTime (length plans) slots items
     → HaveComeTo slots (feed_of items) 0 plans ps progress → Closes ps progress said count
     → RanScript text plans slots said count
@@ -172,10 +102,10 @@ ran_script text plans slots ps progress said count items script in_time come c =
       in_time = in_time;
       report = reports_of 0 c.dies;
       ran = record { runs = g.runs; ran = g.ran; reported = g.reported; counted = c.counted ∙ g.counted [] };
-      said_is = c.said;
+      said_is = ap joined_text c.said ∙ parts_text c.dies;
     }
 
-unfoldable pub runs_text : (text : Option (List ℕ)) (plans : List DiePlan) (slots : ℕ) (said : TextSoFar) (count : RunCount)
+unfoldable pub runs_text : (text : Option (List ℕ)) (plans : List DiePlan) (slots : ℕ) (said : List TextSoFar) (count : RunCount)
     (old new : Option (List ℕ)) (r : RanScript text plans slots said count) → Appends old new (report_text r.report)
     → RunsText text plans slots count old new
 runs_text text plans slots said count old new r written = record {
@@ -193,7 +123,7 @@ pub script_ran : (text : Option (List ℕ)) (left new : Option Script) (plans : 
     (before after : List Progress) (rows : List (List ScriptItem))
     (s : SoFar 0 (option_map (script_of (length plans) slots) text) left plans slots ps before)
     (r : HasReadRows left new (length plans) slots rows true) → RanRows slots rows ps before qs after
-    → (said : TextSoFar) (count : RunCount) → Closes qs after said count → RanScript text plans slots said count
+    → (said : List TextSoFar) (count : RunCount) → Closes qs after said count → RanScript text plans slots said count
 script_ran text left new plans slots ps qs before after rows s r ran said count closes =
     ran_script text plans slots qs after said count (s.items ++ r.items)
     (items_are text left (length plans) slots s.items r.items s.read (r.all refl))

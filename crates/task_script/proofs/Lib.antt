@@ -3,6 +3,7 @@ pub mod Calling
 pub mod KeptRows
 pub mod ReadSoFar
 pub mod Dealing
+pub mod Parting
 pub mod Gathering
 pub mod Transcripts
 pub mod FeedRuns
@@ -10,6 +11,7 @@ pub mod BatchCalls
 pub mod Counting
 pub mod BatchRuns
 pub mod Batching
+pub mod ReadingAhead
 pub mod Results
 pub mod Storing
 pub mod ExactPages

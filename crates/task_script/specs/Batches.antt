@@ -1,6 +1,8 @@
 -- Rows of a script that are run on fresh dies, a batch of each die at a time, and how far each die has come.
-use Rattle.std.specs.Prelude.{◌≡◌, ℕ, ◌+◌, ◌-◌, max, true, List, [], ◌∷◌, All, None, length, sum_by}
+use Rattle.std.specs.Prelude.{◌≡◌, ℕ, ◌+◌, ◌-◌, ◌^◌, ◌<◌, ◌≤◌, max, true, List, [], ◌∷◌, All, None, length, map, sum_by}
 use Rattle.std.specs.List.{AllZip}
+use Rattle.atomic_table.specs.Seated.{TableId}
+use Rattle.slot_types.specs.Arrivals.{IsArrival}
 use Rattle.slot_types.specs.declared.plans.DiePlan.{DiePlan}
 use Rattle.flash_die.specs.Memory.{Memory}
 use Rattle.turn_lock.specs.Log.{AllBy}
@@ -13,12 +15,13 @@ use Rattle.die_service.specs.Drives.{Far}
 use Rattle.die_service.specs.Logs.{log_of}
 use Rattle.die_service.specs.Runs.{AskedEvent, HaveRun}
 use Rattle.die_service.specs.Stores.{DiePass, IsClosedWith}
-use Rattle.report_texts.specs.TextSoFar.{TextSoFar, text_so_far}
+use Rattle.report_texts.specs.TextSoFar.{TextSoFar}
 use Rattle.script_texts.specs.declared.script_rows.ScriptItem.{ScriptItem}
 use Rattle.task_script.specs.DieRuns.{MakesCalls, calls_of, fresh_run, run_at}
+use Rattle.task_script.specs.Feeds.{rows_dealt}
 use Rattle.task_script.specs.RowEnds.{arrivals_of, lines_of, ends_from}
 use Rattle.task_script.specs.RunCounts.{count_of, counted_after, rows_in, sum_of_counts}
-use Rattle.task_script.specs.StoreRuns.{reports_of}
+use Rattle.task_script.specs.DieTexts.{report_parts}
 use Rattle.task_script.specs.declared.batches.KeptRows.{KeptRows}
 use Rattle.task_script.specs.declared.batches.Progress.{Progress}
 use Rattle.task_script.specs.declared.run_counts.RowEnd.{RowEnd}
@@ -79,6 +82,23 @@ pub record RanRows (until : ℕ) (rows : List (List ScriptItem)) (ps : List DieP
   pub whole : All (λ end. end.stop ≡ None) ends
   pub after_is : after ≡ progress_after before (kept_of until before rows) ends
 
+-- these rows may be run next on the dies of a store, and so many rows may be counted
+pub record CanRun (store : List TableId) (ps : List DiePass) (progress : List Progress) (rows : List (List ScriptItem)) (workers : ℕ)
+    : Type 0 where
+  pub own : map (λ (p : DiePass). p.lock) ps ≡ store
+  pub dealt : length rows ≡ length store
+  pub far : length progress ≡ length store
+  pub arrive : All (λ items. All (λ item. IsArrival item.event) items) rows
+  pub few : rows_counted progress + rows_dealt rows < 2 ^ 64
+  pub threads : (1 ≤ workers) × (workers ≤ 16)
+
+-- they were run, up to the last of each die, and counted
+pub record GoesOn (store : List TableId) (ps : List DiePass) (progress : List Progress) (rows : List (List ScriptItem))
+    (qs : List DiePass) (after : List Progress) : Type 0 where
+  pub counted : rows_counted after ≡ rows_counted progress + rows_dealt rows
+  pub ran : RanRows 0 rows ps progress qs after
+  pub own : map (λ (p : DiePass). p.lock) qs ≡ store
+
 -- What is known of a die that ran its rows in batches, from the view of its pass: where no other pass called it, these
 -- rows and the slots before this one are its run, and so are the rows counted.
 pub record HasComeTo (plan : DiePlan) (items : List ScriptItem) (slots : ℕ) (p : DiePass) (progress : Progress) : Type 0 where
@@ -110,9 +130,9 @@ joined_after count (at ∷ progress) = joined_after (sum_of_counts count at.coun
 abbrev pub joined_counts : List Progress → RunCount
 joined_counts progress = joined_after (count_of []) progress
 
--- the dies were closed with these passes, this is the text of their reports, and so many rows were counted
-pub record Closes (ps : List DiePass) (progress : List Progress) (text : TextSoFar) (count : RunCount) : Type 0 where
+-- the dies were closed with these passes, these are the parts of their report, and so many rows were counted
+pub record Closes (ps : List DiePass) (progress : List Progress) (parts : List TextSoFar) (count : RunCount) : Type 0 where
   pub dies : List (Core Memory)
   pub closed : AllZip IsClosedWith ps dies
-  pub said : text ≡ text_so_far (reports_of 0 dies)
+  pub said : parts ≡ report_parts dies
   pub counted : count ≡ joined_counts progress

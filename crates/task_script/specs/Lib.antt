@@ -7,6 +7,7 @@ pub mod LogPages
 pub mod TextRuns
 pub mod PlannedRuns
 pub mod StoreRuns
+pub mod DieTexts
 pub mod Batches
 pub mod ExactRuns
 pub use Rattle.text_base.specs.Number

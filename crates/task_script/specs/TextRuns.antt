@@ -7,7 +7,7 @@ use Rattle.slot_types.specs.declared.refusals.Refusal.TheVariants.{WriteFault}
 use Rattle.text_base.specs.Writing.{InPart}
 use Rattle.script_texts.specs.AskedPages.{RowsHavePages}
 use Rattle.report_texts.specs.ReportText.{report_text}
-use Rattle.report_texts.specs.TextSoFar.{TextSoFar, text_so_far}
+use Rattle.report_texts.specs.TextSoFar.{TextSoFar, joined_text}
 use Rattle.script_texts.specs.declared.script_rows.ScriptItem.{ScriptItem}
 use Rattle.report_texts.specs.declared.reports.DieReport.{DieReport}
 use Rattle.task_script.specs.DieReports.{die_report_of}
@@ -76,11 +76,11 @@ pub record DiesHaveRun (slots : ℕ) (feed : ℕ → List ScriptItem) (plans : L
     pub reported : report ≡ reports_from 0 plans runs
     pub counted : count ≡ count_of (ends_of runs)
 
--- each die of the store ran all its slots with its rows of the script, and this is the text of the dies' reports
-pub record RanScript (text : Option (List ℕ)) (plans : List DiePlan) (slots : ℕ) (said : TextSoFar) (count : RunCount) : Type 0 where
+-- each die of the store ran all its slots with its rows of the script, and these are the parts of the dies' report
+pub record RanScript (text : Option (List ℕ)) (plans : List DiePlan) (slots : ℕ) (parts : List TextSoFar) (count : RunCount) : Type 0 where
   pub items : List ScriptItem
   pub script : AreItemsOf text (length plans) slots items
   pub in_time : AreInTime (length plans) slots items
   pub report : List DieReport
   pub ran : DiesHaveRun slots (feed_of items) plans report count
-  pub said_is : said ≡ text_so_far report
+  pub said_is : joined_text parts ≡ report_text report

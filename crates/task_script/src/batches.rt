@@ -26,6 +26,13 @@ pub struct Progress {
     pub count: RunCount,
 }
 
+/// The dies of a store, and how far each has come.
+#[derive(Drop)]
+pub struct RunDies {
+    pub passes: Vec<DiePass<MemoryNand>>,
+    pub progress: Vec<Progress>,
+}
+
 /// What is kept of a batch while it runs.
 #[derive(Drop)]
 pub struct KeptRows {
@@ -152,35 +159,38 @@ fn go_on(
 }
 
 /// Runs these rows on their dies, by so many workers, each die up to its last row, but not less than up to slot
-/// `until`. All rows so far are few enough to be counted. The only refusal is NoMemory, after which nothing is said of
-/// the dies.
+/// `until`. All rows so far are few enough to be counted. The only refusal is NoMemory, after which the dies are given
+/// up.
 pub fn run_rows<R: Threads + Wait + Sync>(
     rt: &R,
     alloc: Global,
     store: &Store<MemoryNand>,
-    passes: &mut Vec<DiePass<MemoryNand>>,
-    progress: &mut Vec<Progress>,
+    dies: RunDies,
     rows: Vec<DieRows>,
     until: u32,
     workers: u32,
-) -> Result<(), Refusal>
-    requires own { map (λ pass. pass.lock) passes.old.items ≡ store.now }
+) -> Result<RunDies, Refusal>
+    requires own { map (λ pass. pass.lock) dies.passes.items ≡ store.now }
     requires rows { length rows.items ≡ length store.now }
-    requires progress { length progress.old.items ≡ length store.now }
+    requires progress { length dies.progress.items ≡ length store.now }
     requires arrive { All (λ items. All (λ item. IsArrival item.event) items) rows.items }
-    requires few { rows_counted progress.old.items + rows_dealt rows.items < 2 ^ 64 }
+    requires few { rows_counted dies.progress.items + rows_dealt rows.items < 2 ^ 64 }
     requires workers { (1 ≤ workers) × (workers ≤ 16) }
-    ensures counted { OnOk result (rows_counted progress.new.items
-        ≡ rows_counted progress.old.items + rows_dealt rows.items) }
-    ensures ran { OnOk result
-        (RanRows until rows.items passes.old.items progress.old.items passes.new.items
-        progress.new.items) }
-    ensures own { map (λ pass. pass.lock) passes.new.items ≡ store.now }
+    ensures counted { IfOk result (λ ran. rows_counted ran.progress.items
+        ≡ rows_counted dies.progress.items + rows_dealt rows.items) }
+    ensures ran { IfOk result (λ ran.
+        RanRows until rows.items dies.passes.items dies.progress.items ran.passes.items
+        ran.progress.items) }
+    ensures own { IfOk result (λ ran. map (λ pass. pass.lock) ran.passes.items ≡ store.now) }
     ensures refused { FailsForMemory result }
 {
+    let RunDies {
+        mut passes,
+        progress,
+    } = dies;
     let (batches, kept) = make_batches(alloc, rows, progress.as_slice(), until)?;
-    let ends = run_batches(rt, store, passes, batches, workers, &FreeGate)?;
+    let ends = run_batches(rt, store, &mut passes, batches, workers, &FreeGate)?;
     none_stopped(ends.as_slice())?;
-    *progress = go_on(alloc, progress.as_slice(), &kept, ends.as_slice())?;
-    Ok(())
+    let progress = go_on(alloc, progress.as_slice(), &kept, ends.as_slice())?;
+    Ok(RunDies { passes, progress })
 }

@@ -4,8 +4,10 @@
 
 mod batches;
 mod die_reports;
+mod die_texts;
 mod feeds;
 mod laws;
+mod read_ahead;
 mod rows;
 mod run_counts;
 mod stores;

@@ -1,110 +1,83 @@
 //! Scripts that are run on the dies of a store.
 
-ghost use Rattle.std.specs.Prelude.{◌≡◌, ◌<◌, ◌≤◌, ◌^◌, ℕ, None, All, length, map, true, IfOk, IfErr, OnErr, OnOk};
+ghost use Rattle.std.specs.Prelude.{◌≡◌, ◌<◌, ◌≤◌, ◌^◌, ℕ, All, length, map, true, IfOk, IfErr, OnErr, OnOk};
 ghost use Rattle.slot_types.specs.Refusal.{FailsForMemory};
 ghost use Rattle.plan_rules.specs.Bound.{MeetsBound};
-ghost use Rattle.report_texts.specs.TextSoFar.{die_added, text_so_far};
 ghost use Rattle.task_script.specs.Batches.{Closes, joined_counts, rows_counted};
-ghost use Rattle.task_script.specs.DieReports.{die_report_of};
 ghost use Rattle.task_script.specs.PlannedRuns.{RunsAsPlanned, RunsSo};
-ghost use Rattle.task_script.specs.StoreRuns.{reports_of};
 ghost use Rattle.task_script.specs.TextRuns.{RanScript, RefusesOrCuts, RefusesText, RunsText};
 ghost use Rattle.task_script.specs.Feeds.{RefusesScript};
 ghost use Rattle.text_base.specs.Writing.{IsNotWhole};
 
-use crate::batches::{Progress, no_progress, run_rows};
-use crate::die_reports::add_die;
-use crate::feeds::read_rows;
+use crate::batches::{Progress, RunDies, no_progress, run_rows};
+use crate::die_texts::parts_of;
+use crate::read_ahead::{read_next, run_and_read};
 use crate::run_counts::RunCount;
 use crate::stores::new_store;
-use die_service::{DiePass, Store, close};
+use die_service::{Store, close};
 use flash_die::MemoryNand;
-use report_texts::ReportText;
+use report_texts::{ReportText, write_parts};
 use script_texts::ScriptReader;
-use slot_core::DieCore;
 use slot_types::{MAX_SLOT, PackedOps, Refusal, StorePlan};
 use std::alloc::Global;
 use std::io::{Read, Write};
 use std::sync::Wait;
 use std::thread::Threads;
 
-/// Dies that carried out their slots: the text of their report, and how many of their rows were accepted and refused.
+/// Dies that carried out their slots: the parts of their report, and how many of their rows were accepted and refused.
 #[derive(Drop)]
 struct RanStore {
-    text: ReportText,
+    parts: Vec<ReportText>,
     count: RunCount,
 }
 
-/// Adds the report of a die, which is given up.
-fn add_last(
-    alloc: Global,
-    text: &mut ReportText,
-    number: u32,
-    die: DieCore<MemoryNand>,
-) -> Result<(), Refusal>
-    ensures ok { OnOk result (text.new
-        ≡ die_added (die_report_of die.start die.log number) text.old) }
-    ensures refused { FailsForMemory result }
-{
-    add_die(alloc, text, number, &die)
-}
-
-/// The report of dies, by number, and the count of their rows. Each die is given up once its lines are made. The only
-/// refusal is NoMemory.
-fn gather(
-    alloc: Global,
-    progress: &[Progress],
-    dies: Vec<DieCore<MemoryNand>>,
-) -> Result<RanStore, Refusal>
-    requires few { length dies.items ≤ 8 }
-    requires progress { length progress.now ≡ length dies.items }
+/// The count of the rows of all dies.
+fn joined(progress: &[Progress]) -> RunCount
     requires counted { rows_counted progress.now < 2 ^ 64 }
-    ensures text { IfOk result (λ ran. ran.text ≡ text_so_far (reports_of 0 dies.items)) }
-    ensures count { IfOk result (λ ran. ran.count ≡ joined_counts progress.now) }
-    ensures refused { FailsForMemory result }
+    ensures { result ≡ joined_counts progress.now }
 {
-    let mut ran = RanStore {
-        text: ReportText::new(alloc)?,
-        count: RunCount::none(),
-    };
-    let mut number = 0;
-    let mut progress = progress;
-    for die in dies {
-        let Some((at, later)) = progress.split_first() else {
+    let mut count = RunCount::none();
+    let mut left = progress;
+    for _ in 0..progress.len() {
+        let Some((at, later)) = left.split_first() else {
             unreachable!()
         };
-        ran.count.add_all(&at.count);
-        add_last(alloc, &mut ran.text, number, die)?;
-        number += 1;
-        progress = later;
+        count.add_all(&at.count);
+        left = later;
     }
-    Ok(ran)
+    count
 }
 
-/// Closes a store whose dies have carried out their slots. The only refusal is NoMemory.
-fn finish<R: Wait>(
+/// Closes a store whose dies have carried out their slots, and makes their report by so many threads. The only refusal
+/// is NoMemory.
+fn finish<R: Threads + Wait + Sync>(
     rt: &R,
     alloc: Global,
     store: Store<MemoryNand>,
-    passes: Vec<DiePass<MemoryNand>>,
-    progress: &[Progress],
+    dies: RunDies,
+    workers: u32,
 ) -> Result<RanStore, Refusal>
-    requires own { map (λ pass. pass.lock) passes.items ≡ store }
-    requires few { length passes.items ≤ 8 }
-    requires progress { length progress.now ≡ length passes.items }
-    requires counted { rows_counted progress.now < 2 ^ 64 }
-    requires sole { All (λ pass. pass.view.sole ≡ true) passes.items }
-    ensures closed { IfOk result (λ ran. Closes passes.items progress.now ran.text ran.count) }
+    requires own { map (λ pass. pass.lock) dies.passes.items ≡ store }
+    requires few { length dies.passes.items ≤ 8 }
+    requires counted { rows_counted dies.progress.items < 2 ^ 64 }
+    requires sole { All (λ pass. pass.view.sole ≡ true) dies.passes.items }
+    requires workers { 1 ≤ workers }
+    ensures closed { IfOk result (λ ran.
+        Closes dies.passes.items dies.progress.items ran.parts.items ran.count) }
     ensures refused { FailsForMemory result }
 {
-    match close(rt, store, passes) {
-        Ok(dies) => gather(alloc, progress, dies),
+    let count = joined(dies.progress.as_slice());
+    match close(rt, store, dies.passes) {
+        Ok(cores) => {
+            let parts = parts_of(rt, alloc, cores, workers)?;
+            Ok(RanStore { parts, count })
+        }
         Err(kept) => Err(kept.refusal),
     }
 }
 
-/// Runs a script on fresh dies in memory, whose rows are read and run batch by batch, so that no more of the script is
-/// kept than one batch of rows.
+/// Runs a script on fresh dies in memory. Its rows are read and run batch by batch: while a batch is run, the next one
+/// is read, so that no more of the script is kept than two batches of rows.
 fn run_script<R: Threads + Wait + Sync, S: Read + Drop>(
     rt: &R,
     alloc: Global,
@@ -118,39 +91,22 @@ fn run_script<R: Threads + Wait + Sync, S: Read + Drop>(
     requires bound { All MeetsBound plan.now }
     requires workers { (1 ≤ workers) × (workers ≤ 16) }
     ensures ran { IfOk result (λ ran.
-        RanScript (S.remaining script) plan.now slots ran.text ran.count) }
+        RanScript (S.remaining script) plan.now slots ran.parts.items ran.count) }
     ensures refused { IfErr result (RefusesScript (S.remaining script) (length plan.now) slots) }
 {
-    let (store, mut passes) = new_store(alloc, plan.as_slice())?;
-    let mut progress = no_progress(alloc, plan.len())?;
-    let mut reader = ScriptReader::new(alloc, script, plan, slots)?;
-    // The operations of each row are read into these.
-    let mut ops = PackedOps::new(alloc);
+    let (store, passes) = new_store(alloc, plan.as_slice())?;
+    let progress = no_progress(alloc, plan.len())?;
+    let reader = ScriptReader::new(alloc, script, plan, slots)?;
+    let mut dies = RunDies { passes, progress };
+    let mut read = read_next(alloc, reader, PackedOps::new(alloc), plan.len())?;
     for _ in 0..u32::MAX {
-        let rows = read_rows(alloc, &mut reader, &mut ops, plan.len())?;
-        if rows.ended {
-            run_rows(
-                rt,
-                alloc,
-                &store,
-                &mut passes,
-                &mut progress,
-                rows.dies,
-                slots,
-                workers,
-            )?;
-            return finish(rt, alloc, store, passes, &progress);
+        if read.rows.ended {
+            let ran = run_rows(rt, alloc, &store, dies, read.rows.dies, slots, workers)?;
+            return finish(rt, alloc, store, ran, workers);
         }
-        run_rows(
-            rt,
-            alloc,
-            &store,
-            &mut passes,
-            &mut progress,
-            rows.dies,
-            0,
-            workers,
-        )?;
+        let (ran, next) = run_and_read(rt, alloc, &store, dies, read, workers)?;
+        dies = ran;
+        read = next;
     }
     // No script has so many rows: each record has a number of its own below 2^32, and a batch has a row.
     Err(Refusal::ReadFault)
@@ -162,13 +118,15 @@ fn run_script<R: Threads + Wait + Sync, S: Read + Drop>(
 /// no event, and doesn't stop the run; it is counted.
 ///
 /// What is written is proved to be the report read off the exact logs of the accepted rows and the slots, whatever the
-/// number of workers. May wait for the workers.
+/// number of workers. By one worker no thread is started; by more, each batch of rows is run by so many, while this
+/// thread reads the next one, and so many make the lines of the report, die by die. A thread that can't be started is
+/// done without. May wait for the workers.
 ///
 /// So is this: on a die whose rows keep its plan, with times that pass their test, no lateness in the report is above
 /// 0, and no row is refused but out of memory, or after one that was.
 ///
 /// Rows are read and run batch by batch, so that the script is never kept whole: what is kept of it are the rows of a
-/// batch.
+/// batch, and of the next one. A die is given up once its lines are made.
 ///
 /// It ends with the first fault of the script, as [`ScriptReader`](crate::ScriptReader) says it; with `ReadFault`; or
 /// with `NoMemory`. Nothing is written before the whole script was read and run, and nothing with these. `WriteFault`
@@ -203,7 +161,7 @@ pub fn run_text<R: Threads + Wait + Sync, S: Read + Drop, W: Write>(
         (RunsSo (S.remaining script) plan.now slots) writer.old writer.new) }
 {
     let ran = run_script(rt, alloc, plan, script, slots, workers)?;
-    match ran.text.write(writer) {
+    match write_parts(writer, ran.parts.as_slice()) {
         Ok(()) => Ok(ran.count),
         Err(refusal) => Err(refusal),
     }

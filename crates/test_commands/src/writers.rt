@@ -1,7 +1,7 @@
 //! Writers that take a few bytes a call, and fail: what they took by then, and what is reported.
 
 use crate::printed::{AUDIT, PLAN_COMMAND, Printed, acted};
-use example_texts::{PLAN, TWO_REPORT};
+use example_texts::{PLAN, REPORT, TWO_REPORT};
 use flash_commands::{Command, act};
 use std::alloc::Global;
 use std::io;
@@ -136,14 +136,58 @@ fn calls_for<R: Threads + Wait + Sync>(
     bytes.checked_add(most)?.checked_sub(1)?.checked_div(most)
 }
 
+/// The texts that the built-in run's report is written as: the header, the rows of its die, and their certificate.
+const REPORT_PARTS: [&str; 3] = [
+    "row,die,job,task,release,due,work,completion,lateness,given,items\n",
+    "job,0,0,0,0,2,1,1,-1,,\njob,0,1,0,1,3,1,2,-1,,11111111111111111111111111111111\n",
+    "cert,0,0,,0,2,,1,-1,,0\n",
+];
+
+/// How many bytes of these texts a slow writer takes.
+fn taken(alloc: Global, most: usize, calls: usize, end: End) -> usize {
+    let mut out = Slow {
+        text: Vec::new(alloc),
+        most,
+        calls_left: calls,
+        end,
+    };
+    for part in REPORT_PARTS {
+        if out.write_all(part.as_bytes()).is_err() {
+            return out.text.len();
+        }
+    }
+    out.text.len()
+}
+
+/// Whether the report is cut where these texts are, at each call in turn, until it is written whole.
+fn is_cut_by_parts<R: Threads + Wait + Sync>(rt: &R, alloc: Global, most: usize, end: End) -> bool {
+    for calls in 0..1000 {
+        let bytes = taken(alloc, most, calls, end);
+        let printed = slowly(rt, alloc, Command::Alone, b"", most, calls, end);
+        if bytes == REPORT.len() {
+            return printed.is(REPORT, "", 0);
+        }
+        if !is_cut(&printed, REPORT.as_bytes(), bytes) {
+            return false;
+        }
+    }
+    false
+}
+
+#[test]
+fn a_writer_that_fails_took_a_part_of_a_report(rt: HostRuntime) {
+    let alloc = rt.alloc();
+    for most in [1, 7, 16, 1000] {
+        for end in [End::Fails, End::TakesNothing] {
+            assert!(rt; is_cut_by_parts(&rt, alloc, most, end), "{most} bytes a call");
+        }
+    }
+}
+
 #[test]
 fn a_writer_that_fails_took_a_part(rt: HostRuntime) {
     let alloc = rt.alloc();
-    for (command, text) in [
-        (PLAN_COMMAND, PLAN),
-        (AUDIT, TWO_REPORT),
-        (Command::Alone, ""),
-    ] {
+    for (command, text) in [(PLAN_COMMAND, PLAN), (AUDIT, TWO_REPORT)] {
         for most in [1, 7, 16, 1000] {
             let calls = calls_for(&rt, alloc, command, text.as_bytes(), most);
             for end in [End::Fails, End::TakesNothing] {

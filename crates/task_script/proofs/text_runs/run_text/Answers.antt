@@ -1,5 +1,3 @@
-use Rattle.std.proofs.Common.{ap, Err}
-use Rattle.report_texts.proofs.TextParts.{whole_is}
 use Rattle.task_script.proofs.AsPlanned.{runs_as_planned}
 use Rattle.task_script.proofs.Gathering.{runs_text}
 use Rattle.task_script.proofs.InPart.{refuses_or_cuts, runs_in_part}
@@ -8,24 +6,22 @@ use Rattle.task_script.proofs.text_runs.run_text.Goals as goal
 pub returns-in-Ok-clause-ran : goal.returns-in-Ok-clause-ran
 returns-in-Ok-clause-ran g c =
     let r = c.in_ok-ran.ensures.ran in
-    runs_text _ c.args.plan.now c.args.slots _ _ _ _ r (rw (whole_is r.report _ r.said_is) at c.in-Ok.ensures.written)
+    runs_text _ c.args.plan.now c.args.slots _ _ _ _ r (rw (c.as_slice.ensures.value, r.said_is) at c.in-Ok.ensures.written)
 
 pub returns-in-Ok-clause-planned : goal.returns-in-Ok-clause-planned
 returns-in-Ok-clause-planned g c =
     let r = c.in_ok-ran.ensures.ran in
     runs_as_planned _ c.args.plan.now c.args.slots _ _ _ _ c.requires.bound r
-    (rw (whole_is r.report _ r.said_is) at c.in-Ok.ensures.written)
+    (rw (c.as_slice.ensures.value, r.said_is) at c.in-Ok.ensures.written)
 
-pub returns-in-Err-clause-part : goal.returns-in-Err-clause-part
-returns-in-Err-clause-part g c =
+pub returns-clause-part : goal.returns-clause-part
+returns-clause-part g c =
     let r = c.in_ok-ran.ensures.ran in
-    runs_in_part g.W.Write.contents _ c.args.plan.now c.args.slots _ _ _ _ c.in-Err.refusal c.requires.bound r
-    (λ is. c.in-Err.ensures.memory (ap Err is)) (λ is. rw (whole_is r.report _ r.said_is) at (c.in-Err.ensures.part (ap Err is)))
-    c.in-Err.ensures.refused
+    runs_in_part g.W.Write.contents _ c.args.plan.now c.args.slots _ _ _ _ c.requires.bound r
+    (rw (c.as_slice.ensures.value, r.said_is) at c.in-Err.ensures.part)
 
-pub returns-in-Err-clause-cut : goal.returns-in-Err-clause-cut
-returns-in-Err-clause-cut g c =
+pub returns-clause-cut : goal.returns-clause-cut
+returns-clause-cut g c =
     let r = c.in_ok-ran.ensures.ran in
     refuses_or_cuts g.W.Write.contents _ c.args.plan.now c.args.slots _ _ _ _ c.in-Err.refusal c.requires.bound r
-    (λ is. c.in-Err.ensures.memory (ap Err is)) (λ is. rw (whole_is r.report _ r.said_is) at (c.in-Err.ensures.part (ap Err is)))
-    c.in-Err.ensures.refused
+    (rw (c.as_slice.ensures.value, r.said_is) at c.in-Err.ensures.part) c.in-Err.ensures.refused

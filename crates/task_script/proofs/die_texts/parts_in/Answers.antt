@@ -1,0 +1,17 @@
+use Rattle.std.proofs.Common.{rules, ◌≡◌, ◌<◌, ◌∙◌, Some, arith, ap, length, map}
+use Rattle.std.proofs.lemmas.List.{drop-set-lt}
+use Rattle.std.proofs.lemmas.Grind.{drop_more_same}
+use Rattle.task_script.proofs.Parting.{taken_more}
+use Rattle.task_script.proofs.die_texts.parts_in.Goals as goal
+
+pub loop-made-preserved : goal.loop-made-preserved
+loop-made-preserved c =
+    let said : c.made-item.result.text ≡ Some c.in-Some.part = search rules in
+    let inside : c.loop-made.made-index < length c.loop-made.texts = search rules in
+    record {
+      parts = ap (map Some) c.in_ok-push-2.ensures.items
+          ∙ taken_more _ _ _ c.args.texts.now c.loop-made.texts c.loop-made.made-index c.made-item.result c.loop-made-test.true inside
+          c.loop-made.invariant.left c.made-item.is said c.loop-made.invariant.parts;
+      left = drop-set-lt _ c.loop-made.texts c.loop-made.made-index _ (omega arith)
+          ∙ drop_more_same c.loop-made.texts c.args.texts.now c.loop-made.made-index c.loop-made.invariant.left;
+    }

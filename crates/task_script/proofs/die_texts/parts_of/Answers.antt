@@ -1,0 +1,14 @@
+use Rattle.std.proofs.Common.{◌∙◌, rules, subst}
+use Rattle.die_service.proofs.LastPasses.{written}
+use Rattle.task_script.proofs.Parting.{made_length, parts_are}
+use Rattle.task_script.specs.DieTexts.{AreMade}
+use Rattle.task_script.proofs.Results.{ok_weaker}
+use Rattle.task_script.proofs.die_texts.parts_of.Goals as goal
+
+pub returns-clause-ok : goal.returns-clause-ok
+returns-clause-ok g c =
+    let made = subst (λ xs. AreMade 0 xs c.make_all.new.texts) c.as_mut_slice.ensures.value c.make_all.ensures in
+    let same = made_length 0 _ _ made in
+    let whole = c.as_mut_slice-2.ensures.value ∙ written c.in_ok-texts.texts.len c.in_ok-texts.texts.items c.make_all.new.texts same (search rules) in
+    ok_weaker _ _ c.parts_in.result (λ parts gathered. parts_are _ _ c.make_all.new.texts _ c.in_ok-texts.ensures.ok made (rw whole at gathered))
+    c.parts_in.ensures.ok
