@@ -1,8 +1,10 @@
 //! What holds of the reports of exact logs, and of runs.
 
-ghost use Rattle.std.specs.Prelude.{◌≡◌, ◌≤◌, ℕ, List, Option, All, Ok, length};
+ghost use Rattle.std.specs.Prelude.{◌≡◌, ◌≢◌, ◌≤◌, ◌⊎◌, ℕ, List, Option, Some, All, Ok, Result, IfOk, IfErr, OnOk, IsErrAnd, length};
 ghost use Rattle.plan_rules.specs.Bound.{MeetsBound};
 ghost use Rattle.slot_types.specs.declared.plans.DiePlan.{DiePlan};
+ghost use Rattle.slot_types.specs.declared.refusals.Refusal.{Refusal as Refused};
+ghost use Rattle.text_base.specs.Readings.{IsOutside};
 ghost use Rattle.report_texts.specs.ReportOf.{report_of};
 ghost use Rattle.report_texts.specs.ReportText.{report_text};
 ghost use Rattle.report_texts.specs.WellFormed.{IsReport};
@@ -11,8 +13,10 @@ ghost use Rattle.task_script.specs.DieRuns.{DieRun, IsScriptRun};
 ghost use Rattle.task_script.specs.ExactRuns.{AreExact};
 ghost use Rattle.task_script.specs.Feeds.{AllArrive};
 ghost use Rattle.task_script.specs.PlannedRuns.{RowsGoAsPlanned, RowsKeepPlan};
-ghost use Rattle.task_script.specs.TextRuns.{RunsText, reports_from};
+ghost use Rattle.task_script.specs.TextRuns.{RunsText, RefusesText, ends_of, reports_from};
 ghost use Rattle.task_script.specs.declared.run_counts.RunCount.{RunCount};
+
+use slot_types::Refusal;
 
 /// The report of the exact logs of at most eight dies meets the conditions of reading, so it is read back from its
 /// text. The plan of each die meets its bound, and its jobs were asked to write pages of sixteen bytes.
@@ -43,4 +47,21 @@ pub fn planned_runs_go_as_planned()
         → MeetsBound plan →
         AllArrive slots items → RowsKeepPlan plan slots items → IsScriptRun plan slots items run
         → RowsGoAsPlanned plan run }
+{}
+
+/// Running a script (`run_text`) has one answer, where its text and what the writer has are known, and leaves one
+/// report there. Left open is whether there is memory, for the run or for a row, and whether the reader or the writer
+/// fails.
+pub fn running_a_script_has_one_answer()
+    ensures { (text known : List ℕ) (plans : List DiePlan) (slots : ℕ)
+        (left right : Option (List ℕ)) (one other : Result RunCount Refused) →
+        IfOk one (λ count. (ran : RunsText (Some text) plans slots count (Some known) left)
+        × All (λ end. end.refusal ≢ Some Refusal.NoMemory) (ends_of ran.runs)) →
+        IfOk other (λ count. (ran : RunsText (Some text) plans slots count (Some known) right)
+        × All (λ end. end.refusal ≢ Some Refusal.NoMemory) (ends_of ran.runs)) →
+        IfErr one (RefusesText (Some text) (length plans) slots) →
+        IfErr other (RefusesText (Some text) (length plans) slots) →
+        ((one ≡ other) × OnOk one (left ≡ right))
+        ⊎ IsErrAnd one (λ refusal. IsOutside refusal ⊎ (refusal ≡ Refusal.WriteFault))
+        ⊎ IsErrAnd other (λ refusal. IsOutside refusal ⊎ (refusal ≡ Refusal.WriteFault)) }
 {}

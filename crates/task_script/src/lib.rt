@@ -14,7 +14,10 @@ mod stores;
 mod text_runs;
 
 pub use die_reports::add_die;
-pub use laws::{exact_reports_come_back, planned_runs_go_as_planned, run_reports_come_back};
+pub use laws::{
+    exact_reports_come_back, planned_runs_go_as_planned, run_reports_come_back,
+    running_a_script_has_one_answer,
+};
 pub use plan_texts::read_plan;
 pub use report_texts::{
     DieReport, DieWork, Finish, Report, ReportRow, ReportRows, ReportWork, RowKind, read_report,
