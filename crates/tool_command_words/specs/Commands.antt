@@ -1,5 +1,5 @@
 -- What a command asks for that clap met.
-use Rattle.std.specs.Prelude.{◌&&◌, ◌||◌, List, codes, Option, Some, None, is_some, option_map, if◌then◌else◌}
+use Rattle.std.specs.Prelude.{ℕ, ◌&&◌, ◌||◌, List, codes, Option, Some, None, is_some, option_map, if◌then◌else◌}
 use Rattle.std.specs.Str.{bytes_eq}
 use Rattle.clap.specs.Words.{Row, Text, all_of, first_of}
 use Rattle.tool_command_words.specs.Asked.{CommandText, Explain, Fit, Arrivals, Keeps, Wear, Report, Draw, Compare, Run, RequestText, One, Listed}
@@ -28,36 +28,39 @@ arrivals_of rows = do
   load ← first_of (codes "load") rows >>= number_upto
   Some (Arrivals plan slots seed (bytes_eq fills (codes "true")) (bytes_eq phases (codes "true")) jitter load)
 
-abbrev pub keeps_of : List Row → Option CommandText
-keeps_of rows = do
+-- what a command on a plan, a script and a number of slots comes to
+abbrev pub on_script : List Row → (Text → Text → ℕ → Option CommandText) → Option CommandText
+on_script rows next = do
   plan ← first_of (codes "PLAN") rows
   script ← first_of (codes "SCRIPT") rows
   slots ← first_of (codes "slots") rows >>= number_upto
-  Some (Keeps plan script slots)
+  next plan script slots
+
+abbrev pub keeps_from : Text → Text → ℕ → Option CommandText
+keeps_from plan script slots = Some (Keeps plan script slots)
+
+abbrev pub keeps_of : List Row → Option CommandText
+keeps_of rows = on_script rows keeps_from
+
+abbrev pub wear_from : Text → Text → ℕ → Option CommandText
+wear_from plan script slots = Some (Wear plan script slots)
 
 abbrev pub wear_of : List Row → Option CommandText
-wear_of rows = do
-  plan ← first_of (codes "PLAN") rows
-  script ← first_of (codes "SCRIPT") rows
-  slots ← first_of (codes "slots") rows >>= number_upto
-  Some (Wear plan script slots)
+wear_of rows = on_script rows wear_from
 
-abbrev pub report_of : List Row → Option CommandText
-report_of rows = do
-  plan ← first_of (codes "PLAN") rows
-  script ← first_of (codes "SCRIPT") rows
-  slots ← first_of (codes "slots") rows >>= number_upto
+abbrev pub report_from : List Row → Text → Text → ℕ → Option CommandText
+report_from rows plan script slots = do
   endurance ← first_of (codes "endurance") rows >>= number_upto
   slot_us ← first_of (codes "slot-us") rows >>= number_upto
   as_csv ← first_of (codes "csv") rows
   fail ← fail_of rows
   Some (Report plan script slots endurance slot_us (bytes_eq as_csv (codes "true")) fail)
 
-abbrev pub draw_of : List Row → Option CommandText
-draw_of rows = do
-  plan ← first_of (codes "PLAN") rows
-  script ← first_of (codes "SCRIPT") rows
-  slots ← first_of (codes "slots") rows >>= number_upto
+abbrev pub report_of : List Row → Option CommandText
+report_of rows = on_script rows (report_from rows)
+
+abbrev pub draw_from : List Row → Text → Text → ℕ → Option CommandText
+draw_from rows plan script slots = do
   die ← first_of (codes "die") rows >>= number_upto
   first ← first_of (codes "from") rows >>= number_upto
   end ← first_of (codes "to") rows >>= number_upto
@@ -66,11 +69,11 @@ draw_of rows = do
   fail ← fail_of rows
   Some (Draw plan script slots die first end (bytes_eq worst (codes "true")) (bytes_eq as_text (codes "true")) fail)
 
-abbrev pub compare_of : List Row → Option CommandText
-compare_of rows = do
-  plan ← first_of (codes "PLAN") rows
-  script ← first_of (codes "SCRIPT") rows
-  slots ← first_of (codes "slots") rows >>= number_upto
+abbrev pub draw_of : List Row → Option CommandText
+draw_of rows = on_script rows (draw_from rows)
+
+abbrev pub compare_from : List Row → Text → Text → ℕ → Option CommandText
+compare_from rows plan script slots = do
   first ← first_of (codes "from") rows >>= number_upto
   pool ← first_of (codes "pool") rows >>= number_upto
   as_csv ← first_of (codes "csv") rows
@@ -79,14 +82,17 @@ compare_of rows = do
   task ← first_of (codes "task") rows >>= number_upto
   Some (Compare plan script slots first pool (bytes_eq as_csv (codes "true")) (bytes_eq draws (codes "true")) die task)
 
-abbrev pub run_of : List Row → Option CommandText
-run_of rows = do
-  plan ← first_of (codes "PLAN") rows
-  script ← first_of (codes "SCRIPT") rows
-  slots ← first_of (codes "slots") rows >>= number_upto
+abbrev pub compare_of : List Row → Option CommandText
+compare_of rows = on_script rows (compare_from rows)
+
+abbrev pub run_from : List Row → Text → Text → ℕ → Option CommandText
+run_from rows plan script slots = do
   fail ← fail_of rows
   if is_some fail && (is_some (first_of (codes "from") rows) || is_some (first_of (codes "to") rows)) then None
       else Some (Run plan script slots (first_of (codes "from") rows) (first_of (codes "to") rows) fail)
+
+abbrev pub run_of : List Row → Option CommandText
+run_of rows = on_script rows (run_from rows)
 
 abbrev pub command_named : Text → List Row → Option CommandText
 command_named name rows =

@@ -1,7 +1,7 @@
 -- The words that the program takes, as clap reads them.
-use Rattle.std.specs.Prelude.{codes, Bool, true, Some}
+use Rattle.std.specs.Prelude.{◌≡◌, codes, Bool, false, true, Some}
 use Rattle.clap.specs.declared.builder.action.ArgAction.TheVariants.{Append}
-use Rattle.clap.specs.Words.{App, Rule, Text, new_app, with_rule, with_subcommand}
+use Rattle.clap.specs.Words.{App, Rule, Text, app_of, new_app, with_rule, with_subcommand}
 use Rattle.clap.specs.declared.builder.command.Command.{Command}
 use Rattle.clap.specs.declared.builder.command.Command.TheViews.{out-Command}
 use Rattle.command_arguments.specs.Arguments.{default_rule, flag_rule, needed_rule, option_rule, required_rule, slots_rule}
@@ -38,9 +38,13 @@ pool_rule = default_rule (codes "pool") (codes "4")
 abbrev pub output_rule : Rule
 output_rule = record (default_rule (codes "output") (codes "-")) { short = Some 111 }
 
+-- a command that may write to a file, and be quiet
+abbrev pub written : App → App
+written command = with_rule (with_rule command output_rule) (flag_rule (codes "quiet"))
+
 -- a program with one more command, which may write to a file, and be quiet
 abbrev pub with_command : App → App → App
-with_command program command = with_subcommand program (with_rule (with_rule command output_rule) (flag_rule (codes "quiet"))).top
+with_command program command = with_subcommand program (written command).top
 
 -- one file or more
 abbrev pub list_rule : Text → Rule
@@ -49,6 +53,10 @@ list_rule id = record (required_rule id) { action = Some Append }
 -- `--fail-at DIE:K`
 abbrev pub fail_rule : Rule
 fail_rule = option_rule (codes "fail-at")
+
+-- a command on a plan and a script
+abbrev pub on_files : App → App
+on_files command = with_rule (with_rule command (required_rule (codes "PLAN"))) (required_rule (codes "SCRIPT"))
 
 abbrev pub explain_app : App
 explain_app = with_rule (with_rule (new_app (codes "explain")) (required_rule (codes "PLAN"))) (option_rule (codes "from"))
@@ -72,19 +80,19 @@ abbrev pub import_app : App
 import_app = with_rule (with_rule import_trace_app due_rule) (flag_rule (codes "plan"))
 
 abbrev pub wear_files_app : App
-wear_files_app = with_rule (with_rule (new_app (codes "wear")) (required_rule (codes "PLAN"))) (required_rule (codes "SCRIPT"))
+wear_files_app = on_files (new_app (codes "wear"))
 
 abbrev pub wear_app : App
 wear_app = with_rule wear_files_app slots_rule
 
 abbrev pub keeps_files_app : App
-keeps_files_app = with_rule (with_rule (new_app (codes "keeps")) (required_rule (codes "PLAN"))) (required_rule (codes "SCRIPT"))
+keeps_files_app = on_files (new_app (codes "keeps"))
 
 abbrev pub keeps_app : App
 keeps_app = with_rule keeps_files_app slots_rule
 
 abbrev pub report_files_app : App
-report_files_app = with_rule (with_rule (new_app (codes "report")) (required_rule (codes "PLAN"))) (required_rule (codes "SCRIPT"))
+report_files_app = on_files (new_app (codes "report"))
 
 abbrev pub report_run_app : App
 report_run_app = with_rule (with_rule report_files_app slots_rule) (flag_rule (codes "csv"))
@@ -93,7 +101,7 @@ abbrev pub report_app : App
 report_app = with_rule (with_rule (with_rule report_run_app (count_rule (codes "endurance"))) (count_rule (codes "slot-us"))) fail_rule
 
 abbrev pub draw_files_app : App
-draw_files_app = with_rule (with_rule (new_app (codes "draw")) (required_rule (codes "PLAN"))) (required_rule (codes "SCRIPT"))
+draw_files_app = on_files (new_app (codes "draw"))
 
 abbrev pub draw_run_app : App
 draw_run_app = with_rule (with_rule draw_files_app slots_rule) die_rule
@@ -105,7 +113,7 @@ abbrev pub draw_app : App
 draw_app = with_rule (with_rule (with_rule draw_window_app (flag_rule (codes "worst"))) (flag_rule (codes "text"))) fail_rule
 
 abbrev pub compare_files_app : App
-compare_files_app = with_rule (with_rule (new_app (codes "compare")) (required_rule (codes "PLAN"))) (required_rule (codes "SCRIPT"))
+compare_files_app = on_files (new_app (codes "compare"))
 
 abbrev pub compare_run_app : App
 compare_run_app = with_rule (with_rule (with_rule compare_files_app slots_rule) from_rule) pool_rule
@@ -117,7 +125,7 @@ abbrev pub compare_app : App
 compare_app = with_rule (with_rule compare_forms_app die_rule) (count_rule (codes "task"))
 
 abbrev pub run_files_app : App
-run_files_app = with_rule (with_rule (new_app (codes "run")) (required_rule (codes "PLAN"))) (required_rule (codes "SCRIPT"))
+run_files_app = on_files (new_app (codes "run"))
 
 abbrev pub run_app : App
 run_app = with_rule (with_rule (with_rule (with_rule run_files_app slots_rule) (option_rule (codes "from"))) (option_rule (codes "to"))) fail_rule
@@ -137,3 +145,8 @@ flashplan_app = with_command (with_command (with_command (with_command (with_com
 -- whether a command has an argument that is global
 abbrev pub has_globals : Command → Bool
 has_globals c = (out-Command c).has_globals
+
+-- a command with these words, none of which holds for its subcommands, too
+pub record IsCommand (command : Command) (app : App) : Type 0 where
+  pub words : app_of command ≡ app
+  pub local : has_globals command ≡ false

@@ -1,7 +1,7 @@
 //! What may be asked for.
 
 /// From which call on the device of which die is to fail.
-#[derive(Clone, Copy, PartialEq, Eq, Debug, Drop)]
+#[derive(Clone, Copy, PartialEq, Eq, Drop)]
 pub struct FailingDie {
     /// The die, from 0 to 1,048,576; it needn't be there.
     pub die: u32,
@@ -10,7 +10,7 @@ pub struct FailingDie {
 }
 
 /// What the words of a command line ask for. Files stand by their names.
-#[derive(Clone, Copy, PartialEq, Eq, Debug)]
+#[derive(Clone, Copy, PartialEq, Eq)]
 pub enum Command<'a> {
     /// Explain a plan.
     Explain {
@@ -115,7 +115,7 @@ pub enum Command<'a> {
 }
 
 /// What is done with several files of a kind.
-#[derive(Clone, Copy, PartialEq, Eq, Debug)]
+#[derive(Clone, Copy, PartialEq, Eq)]
 pub enum ListCommand {
     /// Audit reports.
     Audit,

@@ -1,14 +1,15 @@
 //! What a command asks for that clap met.
 
-ghost use Rattle.std.specs.Prelude.{◌≡◌, IfOk, IfSome, option_map};
-ghost use Rattle.clap.specs.Words.{found_of, rows_of};
-ghost use Rattle.tool_command_words.specs.Asked.{FitsRun, RequestFits, text_of_command, text_of_request};
+ghost use Rattle.std.specs.Prelude.{◌≡◌, ◌≤◌, ℕ, IfOk, IfSome, Option, option_and_then, option_map};
+ghost use Rattle.clap.specs.Words.{Text, found_of, rows_of};
+ghost use Rattle.tool_command_words.specs.Asked.{CommandText, FitsRun, RequestFits, text_of_command, text_of_request};
 ghost use Rattle.tool_command_words.specs.Commands.{arrivals_of, audit_of, command_named, compare_of, draw_of, explain_of, fit_of, import_in, import_of};
-ghost use Rattle.tool_command_words.specs.Commands.{keeps_of, report_of, request_named, run_of, wear_of};
+ghost use Rattle.tool_command_words.specs.Commands.{keeps_of, on_script, report_of, request_named, run_of, wear_of};
 
 use crate::asked::{Command, ListCommand, Request};
-use crate::values::{fail, number_in, value, values};
+use crate::values::{fail, number_at, value, values};
 use clap::ArgMatches;
+use slot_types::MAX_SLOT;
 use std::alloc::{AllocError, Global};
 
 /// The command `explain` that was met.
@@ -37,12 +38,12 @@ fn arrivals<'a>(met: &ArgMatches<'a>) -> Option<Command<'a>>
     ensures fits { IfSome result FitsRun }
 {
     let plan = value(met, "PLAN")?;
-    let slots = number_in(value(met, "slots")?)?;
-    let seed = number_in(value(met, "seed")?)?;
+    let slots = number_at(met, "slots")?;
+    let seed = number_at(met, "seed")?;
     let fills = value(met, "fill")? == "true";
     let phases = value(met, "phases")? == "true";
-    let jitter = number_in(value(met, "jitter")?)?;
-    let load = number_in(value(met, "load")?)?;
+    let jitter = number_at(met, "jitter")?;
+    let load = number_at(met, "load")?;
     Some(Command::Arrivals {
         plan,
         slots,
@@ -54,14 +55,25 @@ fn arrivals<'a>(met: &ArgMatches<'a>) -> Option<Command<'a>>
     })
 }
 
+/// The plan, the script and the number of slots of a command that runs a script.
+fn scripted<'a>(met: &ArgMatches<'a>) -> Option<(&'a str, &'a str, u32)>
+    ensures scripted { (next : Text → Text → ℕ → Option CommandText) →
+        on_script (rows_of (found_of met.now)) next
+        ≡ option_and_then (λ s. next s.0.now s.1.now s.2) result }
+    ensures fits { IfSome result (λ s. s.2 ≤ MAX_SLOT) }
+{
+    let plan = value(met, "PLAN")?;
+    let script = value(met, "SCRIPT")?;
+    let slots = number_at(met, "slots")?;
+    Some((plan, script, slots))
+}
+
 /// The command `keeps` that was met.
 fn keeps<'a>(met: &ArgMatches<'a>) -> Option<Command<'a>>
     ensures keeps { option_map text_of_command result ≡ keeps_of (rows_of (found_of met.now)) }
     ensures fits { IfSome result FitsRun }
 {
-    let plan = value(met, "PLAN")?;
-    let script = value(met, "SCRIPT")?;
-    let slots = number_in(value(met, "slots")?)?;
+    let (plan, script, slots) = scripted(met)?;
     Some(Command::Keeps {
         plan,
         script,
@@ -74,9 +86,7 @@ fn wear<'a>(met: &ArgMatches<'a>) -> Option<Command<'a>>
     ensures wear { option_map text_of_command result ≡ wear_of (rows_of (found_of met.now)) }
     ensures fits { IfSome result FitsRun }
 {
-    let plan = value(met, "PLAN")?;
-    let script = value(met, "SCRIPT")?;
-    let slots = number_in(value(met, "slots")?)?;
+    let (plan, script, slots) = scripted(met)?;
     Some(Command::Wear {
         plan,
         script,
@@ -89,11 +99,9 @@ fn report<'a>(met: &ArgMatches<'a>) -> Option<Command<'a>>
     ensures report { option_map text_of_command result ≡ report_of (rows_of (found_of met.now)) }
     ensures fits { IfSome result FitsRun }
 {
-    let plan = value(met, "PLAN")?;
-    let script = value(met, "SCRIPT")?;
-    let slots = number_in(value(met, "slots")?)?;
-    let endurance = number_in(value(met, "endurance")?)?;
-    let slot_us = number_in(value(met, "slot-us")?)?;
+    let (plan, script, slots) = scripted(met)?;
+    let endurance = number_at(met, "endurance")?;
+    let slot_us = number_at(met, "slot-us")?;
     let as_csv = value(met, "csv")? == "true";
     let fail = fail(met)?;
     Some(Command::Report {
@@ -112,12 +120,10 @@ fn draw<'a>(met: &ArgMatches<'a>) -> Option<Command<'a>>
     ensures draw { option_map text_of_command result ≡ draw_of (rows_of (found_of met.now)) }
     ensures fits { IfSome result FitsRun }
 {
-    let plan = value(met, "PLAN")?;
-    let script = value(met, "SCRIPT")?;
-    let slots = number_in(value(met, "slots")?)?;
-    let die = number_in(value(met, "die")?)?;
-    let from = number_in(value(met, "from")?)?;
-    let to = number_in(value(met, "to")?)?;
+    let (plan, script, slots) = scripted(met)?;
+    let die = number_at(met, "die")?;
+    let from = number_at(met, "from")?;
+    let to = number_at(met, "to")?;
     let worst = value(met, "worst")? == "true";
     let as_text = value(met, "text")? == "true";
     let fail = fail(met)?;
@@ -139,15 +145,13 @@ fn compare<'a>(met: &ArgMatches<'a>) -> Option<Command<'a>>
     ensures compare { option_map text_of_command result ≡ compare_of (rows_of (found_of met.now)) }
     ensures fits { IfSome result FitsRun }
 {
-    let plan = value(met, "PLAN")?;
-    let script = value(met, "SCRIPT")?;
-    let slots = number_in(value(met, "slots")?)?;
-    let from = number_in(value(met, "from")?)?;
-    let pool = number_in(value(met, "pool")?)?;
+    let (plan, script, slots) = scripted(met)?;
+    let from = number_at(met, "from")?;
+    let pool = number_at(met, "pool")?;
     let as_csv = value(met, "csv")? == "true";
     let draws = value(met, "draw")? == "true";
-    let die = number_in(value(met, "die")?)?;
-    let task = number_in(value(met, "task")?)?;
+    let die = number_at(met, "die")?;
+    let task = number_at(met, "task")?;
     Some(Command::Compare {
         plan,
         script,
@@ -166,9 +170,7 @@ fn run<'a>(met: &ArgMatches<'a>) -> Option<Command<'a>>
     ensures run { option_map text_of_command result ≡ run_of (rows_of (found_of met.now)) }
     ensures fits { IfSome result FitsRun }
 {
-    let plan = value(met, "PLAN")?;
-    let script = value(met, "SCRIPT")?;
-    let slots = number_in(value(met, "slots")?)?;
+    let (plan, script, slots) = scripted(met)?;
     let from = value(met, "from");
     let to = value(met, "to");
     let fail = fail(met)?;
@@ -201,8 +203,8 @@ fn audit<'a>(alloc: Global, met: &ArgMatches<'a>) -> Result<Option<Request<'a>>,
 fn import_in(met: &ArgMatches<'_>) -> Option<ListCommand>
     ensures { result ≡ import_in (rows_of (found_of met.now)) }
 {
-    let slot_us = number_in(value(met, "slot-us")?)?;
-    let due = number_in(value(met, "due")?)?;
+    let slot_us = number_at(met, "slot-us")?;
+    let due = number_at(met, "due")?;
     let as_plan = value(met, "plan")? == "true";
     Some(ListCommand::Import {
         slot_us,

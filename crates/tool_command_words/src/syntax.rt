@@ -1,9 +1,9 @@
 //! The words that the program takes. Each command has a file of its own.
 
 ghost use Rattle.std.specs.Prelude.{◌≡◌, false, codes, IfOk};
-ghost use Rattle.clap.specs.Words.{app_of, rule_of};
+ghost use Rattle.clap.specs.Words.{App, app_of, rule_of};
 ghost use Rattle.command_arguments.specs.Arguments.{flag_rule};
-ghost use Rattle.tool_command_words.specs.Syntax.{flashplan_app, has_globals, named_app, output_rule, with_command};
+ghost use Rattle.tool_command_words.specs.Syntax.{IsCommand, flashplan_app, named_app, output_rule, with_command, written};
 
 mod arrivals;
 mod audit;
@@ -13,6 +13,7 @@ mod explain;
 mod fit;
 mod import;
 mod keeps;
+mod parts;
 mod report;
 mod run;
 mod shared;
@@ -28,6 +29,7 @@ use explain::explain_words;
 use fit::fit_words;
 use import::import_words;
 use keeps::keeps_words;
+use parts::with_arg;
 use report::report_words;
 use run::run_words;
 use std::alloc::{AllocError, Global};
@@ -70,44 +72,46 @@ fn quiet<'a>(alloc: Global) -> Arg<'a>
     flag(alloc, "quiet", "Show no progress on a terminal")
 }
 
-/// A program with one more command, which may write to a file.
+/// A command that may write to a file, and be quiet.
+fn written<'a>(
+    alloc: Global,
+    command: Result<Command<'a>, AllocError>,
+) -> Result<Command<'a>, AllocError>
+    ensures { (app : App) → IfOk command.entry (λ c. IsCommand c app)
+        → IfOk result (λ c. IsCommand c (written app)) }
+{
+    let saved = with_arg(command, output(alloc));
+    with_arg(saved, quiet(alloc))
+}
+
+/// A program with one more command, which may write to a file. Where there was no memory for one of them, there is none
+/// for both: so what puts the program together frees nothing.
 fn with_command<'a>(
     alloc: Global,
-    program: Command<'a>,
-    command: Command<'a>,
+    program: Result<Command<'a>, AllocError>,
+    command: Result<Command<'a>, AllocError>,
 ) -> Result<Command<'a>, AllocError>
-    requires { has_globals command ≡ false }
-    ensures { IfOk result (λ c.
-        app_of c ≡ with_command (app_of program.entry) (app_of command.entry)) }
+    ensures { (whole one : App) → IfOk program.entry (λ c. app_of c ≡ whole)
+        → IfOk command.entry (λ c. IsCommand c one)
+        → IfOk result (λ c. app_of c ≡ with_command whole one) }
 {
-    let whole = command.arg(output(alloc))?.arg(quiet(alloc))?;
-    program.subcommand(whole)
+    let whole = written(alloc, command)?;
+    program?.subcommand(whole)
 }
 
 /// The words of the program.
 pub fn program_words<'a>(alloc: Global) -> Result<Command<'a>, AllocError>
     ensures { IfOk result (λ c. app_of c ≡ flashplan_app) }
 {
-    let explain = explain_words(alloc)?;
-    let fit = fit_words(alloc)?;
-    let with_explain = with_command(alloc, name(alloc), explain)?;
-    let arrivals = arrivals_words(alloc)?;
-    let with_fit = with_command(alloc, with_explain, fit)?;
-    let with_arrivals = with_command(alloc, with_fit, arrivals)?;
-    let keeps = keeps_words(alloc)?;
-    let with_keeps = with_command(alloc, with_arrivals, keeps)?;
-    let wear = wear_words(alloc)?;
-    let report = report_words(alloc)?;
-    let with_wear = with_command(alloc, with_keeps, wear)?;
-    let draw = draw_words(alloc)?;
-    let with_report = with_command(alloc, with_wear, report)?;
-    let compare = compare_words(alloc)?;
-    let with_draw = with_command(alloc, with_report, draw)?;
-    let import = import_words(alloc)?;
-    let with_compare = with_command(alloc, with_draw, compare)?;
-    let run = run_words(alloc)?;
-    let with_import = with_command(alloc, with_compare, import)?;
-    let audit = audit_words(alloc)?;
-    let with_run = with_command(alloc, with_import, run)?;
-    with_command(alloc, with_run, audit)
+    let explaining = with_command(alloc, Ok(name(alloc)), explain_words(alloc));
+    let fitting = with_command(alloc, explaining, fit_words(alloc));
+    let arriving = with_command(alloc, fitting, arrivals_words(alloc));
+    let keeping = with_command(alloc, arriving, keeps_words(alloc));
+    let wearing = with_command(alloc, keeping, wear_words(alloc));
+    let reporting = with_command(alloc, wearing, report_words(alloc));
+    let drawing = with_command(alloc, reporting, draw_words(alloc));
+    let comparing = with_command(alloc, drawing, compare_words(alloc));
+    let importing = with_command(alloc, comparing, import_words(alloc));
+    let running = with_command(alloc, importing, run_words(alloc));
+    with_command(alloc, running, audit_words(alloc))
 }

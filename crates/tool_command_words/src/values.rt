@@ -1,6 +1,6 @@
 //! The values of arguments, as clap met them.
 
-ghost use Rattle.std.specs.Prelude.{◌≡◌, ◌≤◌, ◌<◌, IfOk, IfSome, length, map, option_map, position};
+ghost use Rattle.std.specs.Prelude.{◌≡◌, ◌≤◌, ◌<◌, IfOk, IfSome, length, map, option_and_then, option_map, position};
 ghost use Rattle.clap.specs.Words.{all_of, first_of, found_of, rows_of};
 ghost use Rattle.tool_command_words.specs.Values.{fail_of, fail_upto, is_colon, number_upto};
 
@@ -55,6 +55,15 @@ pub(crate) fn number_in(text: &str) -> Option<u32>
     ensures few { IfSome result (λ n. n ≤ MAX_SLOT) }
 {
     number_of(text.as_bytes())
+}
+
+/// The number that an argument has, if it is at most 1,048,576.
+pub(crate) fn number_at(met: &ArgMatches<'_>, id: &str) -> Option<u32>
+    ensures number { result
+        ≡ option_and_then number_upto (first_of id.now (rows_of (found_of met.now))) }
+    ensures few { IfSome result (λ n. n ≤ MAX_SLOT) }
+{
+    number_in(value(met, id)?)
 }
 
 /// The place of the first colon.

@@ -1,10 +1,11 @@
 //! The command `arrivals`.
 
 ghost use Rattle.std.specs.Prelude.{◌≡◌, false, codes, IfOk};
-ghost use Rattle.clap.specs.Words.{app_of, rule_of};
+ghost use Rattle.clap.specs.Words.{rule_of};
 ghost use Rattle.command_arguments.specs.Arguments.{default_rule, flag_rule};
-ghost use Rattle.tool_command_words.specs.Syntax.{arrivals_app, arrivals_drawn_app, arrivals_run_app, count_rule, has_globals, load_rule};
+ghost use Rattle.tool_command_words.specs.Syntax.{IsCommand, arrivals_app, arrivals_drawn_app, arrivals_run_app, count_rule, load_rule};
 
+use crate::syntax::parts::{command, with_arg};
 use clap::{Arg, Command};
 use command_arguments::{defaulted, flag, plan_file, slots};
 use std::alloc::{AllocError, Global};
@@ -89,33 +90,28 @@ fn load<'a>(alloc: Global) -> Arg<'a>
 
 /// The command `arrivals`, with what it makes.
 fn arrivals_run<'a>(alloc: Global) -> Result<Command<'a>, AllocError>
-    ensures app { IfOk result (λ c. app_of c ≡ arrivals_run_app) }
-    ensures local { IfOk result (λ c. has_globals c ≡ false) }
+    ensures { IfOk result (λ c. IsCommand c arrivals_run_app) }
 {
-    Command::new(alloc, "arrivals")
-        .about(
-            "Write the script of all that a plan's tasks may ask for, none of which is then late or refused",
-        )
-        .after_help(ARRIVALS_HELP)
-        .arg(plan_file(alloc))?
-        .arg(slots(alloc))
+    let about =
+        "Write the script of all that a plan's tasks may ask for, none of which is then late or refused";
+    let command = command(alloc, "arrivals", about, ARRIVALS_HELP);
+    let planned = with_arg(Ok(command), plan_file(alloc));
+    with_arg(planned, slots(alloc))
 }
 
 /// The command `arrivals`, with what it draws.
 fn arrivals_drawn<'a>(alloc: Global) -> Result<Command<'a>, AllocError>
-    ensures app { IfOk result (λ c. app_of c ≡ arrivals_drawn_app) }
-    ensures local { IfOk result (λ c. has_globals c ≡ false) }
+    ensures { IfOk result (λ c. IsCommand c arrivals_drawn_app) }
 {
-    arrivals_run(alloc)?.arg(seed(alloc))?.arg(fill(alloc))
+    let seeded = with_arg(arrivals_run(alloc), seed(alloc));
+    with_arg(seeded, fill(alloc))
 }
 
 /// The command `arrivals`.
 pub(crate) fn arrivals_words<'a>(alloc: Global) -> Result<Command<'a>, AllocError>
-    ensures app { IfOk result (λ c. app_of c ≡ arrivals_app) }
-    ensures local { IfOk result (λ c. has_globals c ≡ false) }
+    ensures { IfOk result (λ c. IsCommand c arrivals_app) }
 {
-    arrivals_drawn(alloc)?
-        .arg(phases(alloc))?
-        .arg(jitter(alloc))?
-        .arg(load(alloc))
+    let phased = with_arg(arrivals_drawn(alloc), phases(alloc));
+    let late = with_arg(phased, jitter(alloc));
+    with_arg(late, load(alloc))
 }

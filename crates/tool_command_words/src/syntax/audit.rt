@@ -1,9 +1,9 @@
 //! The command `audit`.
 
-ghost use Rattle.std.specs.Prelude.{◌≡◌, false, IfOk};
-ghost use Rattle.clap.specs.Words.{app_of};
-ghost use Rattle.tool_command_words.specs.Syntax.{audit_app, has_globals};
+ghost use Rattle.std.specs.Prelude.{IfOk};
+ghost use Rattle.tool_command_words.specs.Syntax.{IsCommand, audit_app};
 
+use crate::syntax::parts::{command, with_arg};
 use crate::syntax::shared::files;
 use clap::Command;
 use std::alloc::{AllocError, Global};
@@ -18,15 +18,13 @@ Example: flashplan audit monday.csv tuesday.csv";
 
 /// The command `audit`.
 pub(crate) fn audit_words<'a>(alloc: Global) -> Result<Command<'a>, AllocError>
-    ensures app { IfOk result (λ c. app_of c ≡ audit_app) }
-    ensures local { IfOk result (λ c. has_globals c ≡ false) }
+    ensures { IfOk result (λ c. IsCommand c audit_app) }
 {
-    Command::new(alloc, "audit")
-        .about("Check the certificate of each die of several reports")
-        .after_help(AUDIT_HELP)
-        .arg(files(
-            alloc,
-            "REPORT",
-            "The reports, as run prints them; - is standard input",
-        ))
+    let about = "Check the certificate of each die of several reports";
+    let reports = files(
+        alloc,
+        "REPORT",
+        "The reports, as run prints them; - is standard input",
+    );
+    with_arg(Ok(command(alloc, "audit", about, AUDIT_HELP)), reports)
 }

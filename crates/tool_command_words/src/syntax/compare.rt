@@ -1,13 +1,14 @@
 //! The command `compare`.
 
 ghost use Rattle.std.specs.Prelude.{◌≡◌, false, codes, IfOk};
-ghost use Rattle.clap.specs.Words.{app_of, rule_of};
+ghost use Rattle.clap.specs.Words.{rule_of};
 ghost use Rattle.command_arguments.specs.Arguments.{flag_rule};
-ghost use Rattle.tool_command_words.specs.Syntax.{compare_app, compare_files_app, compare_forms_app, compare_run_app, count_rule, from_rule, has_globals, pool_rule};
+ghost use Rattle.tool_command_words.specs.Syntax.{IsCommand, compare_app, compare_files_app, compare_forms_app, compare_run_app, count_rule, from_rule, pool_rule};
 
+use crate::syntax::parts::{command, on_files, with_arg};
 use crate::syntax::shared::{csv, die};
 use clap::{Arg, Command};
-use command_arguments::{defaulted, flag, plan_file, script_file, slots};
+use command_arguments::{defaulted, flag, slots};
 use std::alloc::{AllocError, Global};
 
 /// What a comparison prints.
@@ -72,39 +73,33 @@ fn task<'a>(alloc: Global) -> Arg<'a>
 
 /// The command `compare`, with its files.
 fn compare_files<'a>(alloc: Global) -> Result<Command<'a>, AllocError>
-    ensures app { IfOk result (λ c. app_of c ≡ compare_files_app) }
-    ensures local { IfOk result (λ c. has_globals c ≡ false) }
+    ensures { IfOk result (λ c. IsCommand c compare_files_app) }
 {
-    Command::new(alloc, "compare")
-        .about("Run a script on a store and by plain layers, and tell how late its jobs were")
-        .after_help(COMPARE_HELP)
-        .arg(plan_file(alloc))?
-        .arg(script_file(alloc))
+    let about = "Run a script on a store and by plain layers, and tell how late its jobs were";
+    on_files(alloc, command(alloc, "compare", about, COMPARE_HELP))
 }
 
 /// The command `compare`, with what it measures.
 fn compare_run<'a>(alloc: Global) -> Result<Command<'a>, AllocError>
-    ensures app { IfOk result (λ c. app_of c ≡ compare_run_app) }
-    ensures local { IfOk result (λ c. has_globals c ≡ false) }
+    ensures { IfOk result (λ c. IsCommand c compare_run_app) }
 {
-    compare_files(alloc)?
-        .arg(slots(alloc))?
-        .arg(counted(alloc))?
-        .arg(pool(alloc))
+    let long = with_arg(compare_files(alloc), slots(alloc));
+    let begun = with_arg(long, counted(alloc));
+    with_arg(begun, pool(alloc))
 }
 
 /// The command `compare`, with how it tells what it found.
 fn compare_forms<'a>(alloc: Global) -> Result<Command<'a>, AllocError>
-    ensures app { IfOk result (λ c. app_of c ≡ compare_forms_app) }
-    ensures local { IfOk result (λ c. has_globals c ≡ false) }
+    ensures { IfOk result (λ c. IsCommand c compare_forms_app) }
 {
-    compare_run(alloc)?.arg(csv(alloc))?.arg(drawn(alloc))
+    let told = with_arg(compare_run(alloc), csv(alloc));
+    with_arg(told, drawn(alloc))
 }
 
 /// The command `compare`.
 pub(crate) fn compare_words<'a>(alloc: Global) -> Result<Command<'a>, AllocError>
-    ensures app { IfOk result (λ c. app_of c ≡ compare_app) }
-    ensures local { IfOk result (λ c. has_globals c ≡ false) }
+    ensures { IfOk result (λ c. IsCommand c compare_app) }
 {
-    compare_forms(alloc)?.arg(die(alloc))?.arg(task(alloc))
+    let of_a_die = with_arg(compare_forms(alloc), die(alloc));
+    with_arg(of_a_die, task(alloc))
 }

@@ -1,14 +1,20 @@
 //! The command `draw`.
 
 ghost use Rattle.std.specs.Prelude.{◌≡◌, false, codes, IfOk};
-ghost use Rattle.clap.specs.Words.{app_of, rule_of};
+ghost use Rattle.clap.specs.Words.{rule_of};
 ghost use Rattle.command_arguments.specs.Arguments.{flag_rule};
-ghost use Rattle.tool_command_words.specs.Syntax.{draw_app, draw_files_app, draw_run_app, draw_window_app, from_rule, has_globals, to_rule};
+ghost use Rattle.tool_command_words.specs.Syntax.{IsCommand, draw_app, draw_files_app, draw_run_app, draw_window_app, from_rule, to_rule};
 
+use crate::syntax::parts::{command, on_files, with_arg};
 use crate::syntax::shared::{die, fail_at};
 use clap::{Arg, Command};
-use command_arguments::{defaulted, flag, plan_file, script_file, slots};
+use command_arguments::{defaulted, flag, slots};
 use std::alloc::{AllocError, Global};
+
+/// How a picture is drawn, as SVG and as text.
+const DRAW_HELP: &str =
+    "Example: flashplan draw plan.toml script.csv --slots 1000 --from 200 --to 300 > run.svg
+         flashplan draw plan.toml script.csv --slots 1000 --worst --text";
 
 /// Where the picture begins.
 fn first<'a>(alloc: Global) -> Arg<'a>
@@ -64,42 +70,33 @@ fn as_text<'a>(alloc: Global) -> Arg<'a>
 
 /// The command `draw`, with its files.
 fn draw_files<'a>(alloc: Global) -> Result<Command<'a>, AllocError>
-    ensures app { IfOk result (λ c. app_of c ≡ draw_files_app) }
-    ensures local { IfOk result (λ c. has_globals c ≡ false) }
+    ensures { IfOk result (λ c. IsCommand c draw_files_app) }
 {
-    Command::new(alloc, "draw")
-        .about("Run a script on a die, and draw what its slots carried, as an SVG picture")
-        .after_help(
-            "Example: flashplan draw plan.toml script.csv --slots 1000 --from 200 --to 300 > run.svg\n         \
-             flashplan draw plan.toml script.csv --slots 1000 --worst --text",
-        )
-        .arg(plan_file(alloc))?
-        .arg(script_file(alloc))
+    let about = "Run a script on a die, and draw what its slots carried, as an SVG picture";
+    on_files(alloc, command(alloc, "draw", about, DRAW_HELP))
 }
 
 /// The command `draw`, with what it runs.
 fn draw_run<'a>(alloc: Global) -> Result<Command<'a>, AllocError>
-    ensures app { IfOk result (λ c. app_of c ≡ draw_run_app) }
-    ensures local { IfOk result (λ c. has_globals c ≡ false) }
+    ensures { IfOk result (λ c. IsCommand c draw_run_app) }
 {
-    draw_files(alloc)?.arg(slots(alloc))?.arg(die(alloc))
+    let long = with_arg(draw_files(alloc), slots(alloc));
+    with_arg(long, die(alloc))
 }
 
 /// The command `draw`, with the slots that are asked for.
 fn draw_window<'a>(alloc: Global) -> Result<Command<'a>, AllocError>
-    ensures app { IfOk result (λ c. app_of c ≡ draw_window_app) }
-    ensures local { IfOk result (λ c. has_globals c ≡ false) }
+    ensures { IfOk result (λ c. IsCommand c draw_window_app) }
 {
-    draw_run(alloc)?.arg(first(alloc))?.arg(end(alloc))
+    let begun = with_arg(draw_run(alloc), first(alloc));
+    with_arg(begun, end(alloc))
 }
 
 /// The command `draw`.
 pub(crate) fn draw_words<'a>(alloc: Global) -> Result<Command<'a>, AllocError>
-    ensures app { IfOk result (λ c. app_of c ≡ draw_app) }
-    ensures local { IfOk result (λ c. has_globals c ≡ false) }
+    ensures { IfOk result (λ c. IsCommand c draw_app) }
 {
-    draw_window(alloc)?
-        .arg(worst(alloc))?
-        .arg(as_text(alloc))?
-        .arg(fail_at(alloc))
+    let chosen = with_arg(draw_window(alloc), worst(alloc));
+    let told = with_arg(chosen, as_text(alloc));
+    with_arg(told, fail_at(alloc))
 }

@@ -1,9 +1,9 @@
 //! The command `explain`.
 
-ghost use Rattle.std.specs.Prelude.{◌≡◌, false, IfOk};
-ghost use Rattle.clap.specs.Words.{app_of};
-ghost use Rattle.tool_command_words.specs.Syntax.{explain_app, has_globals};
+ghost use Rattle.std.specs.Prelude.{IfOk};
+ghost use Rattle.tool_command_words.specs.Syntax.{IsCommand, explain_app};
 
+use crate::syntax::parts::{command, with_arg};
 use crate::syntax::shared::begun_from;
 use clap::Command;
 use command_arguments::plan_file;
@@ -11,12 +11,15 @@ use std::alloc::{AllocError, Global};
 
 /// The command `explain`.
 pub(crate) fn explain_words<'a>(alloc: Global) -> Result<Command<'a>, AllocError>
-    ensures app { IfOk result (λ c. app_of c ≡ explain_app) }
-    ensures local { IfOk result (λ c. has_globals c ≡ false) }
+    ensures { IfOk result (λ c. IsCommand c explain_app) }
 {
-    Command::new(alloc, "explain")
-        .about("Tell in sentences whether a store's plan is accepted, and what would mend it")
-        .after_help("Example: flashplan explain plan.toml")
-        .arg(plan_file(alloc))?
-        .arg(begun_from(alloc))
+    let about = "Tell in sentences whether a store's plan is accepted, and what would mend it";
+    let command = command(
+        alloc,
+        "explain",
+        about,
+        "Example: flashplan explain plan.toml",
+    );
+    let planned = with_arg(Ok(command), plan_file(alloc));
+    with_arg(planned, begun_from(alloc))
 }

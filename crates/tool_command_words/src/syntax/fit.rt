@@ -1,9 +1,9 @@
 //! The command `fit`.
 
-ghost use Rattle.std.specs.Prelude.{◌≡◌, false, IfOk};
-ghost use Rattle.clap.specs.Words.{app_of};
-ghost use Rattle.tool_command_words.specs.Syntax.{fit_app, has_globals};
+ghost use Rattle.std.specs.Prelude.{IfOk};
+ghost use Rattle.tool_command_words.specs.Syntax.{IsCommand, fit_app};
 
+use crate::syntax::parts::{command, with_arg};
 use clap::Command;
 use command_arguments::required;
 use std::alloc::{AllocError, Global};
@@ -18,16 +18,13 @@ Example: flashplan fit part.toml > plan.toml";
 
 /// The command `fit`.
 pub(crate) fn fit_words<'a>(alloc: Global) -> Result<Command<'a>, AllocError>
-    ensures app { IfOk result (λ c. app_of c ≡ fit_app) }
-    ensures local { IfOk result (λ c. has_globals c ≡ false) }
+    ensures { IfOk result (λ c. IsCommand c fit_app) }
 {
+    let about = "Find a plan for a part and its tasks, which passes its test";
     let sheet = required(
         alloc,
         "DATASHEET",
         "What a part's datasheet says, and what the tasks need, a TOML file; - is standard input",
     );
-    Command::new(alloc, "fit")
-        .about("Find a plan for a part and its tasks, which passes its test")
-        .after_help(FIT_HELP)
-        .arg(sheet)
+    with_arg(Ok(command(alloc, "fit", about, FIT_HELP)), sheet)
 }

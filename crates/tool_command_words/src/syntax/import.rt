@@ -1,10 +1,11 @@
 //! The command `import`.
 
 ghost use Rattle.std.specs.Prelude.{◌≡◌, false, codes, IfOk};
-ghost use Rattle.clap.specs.Words.{app_of, rule_of};
+ghost use Rattle.clap.specs.Words.{rule_of};
 ghost use Rattle.command_arguments.specs.Arguments.{flag_rule, needed_rule};
-ghost use Rattle.tool_command_words.specs.Syntax.{due_rule, has_globals, import_app, import_trace_app};
+ghost use Rattle.tool_command_words.specs.Syntax.{IsCommand, due_rule, import_app, import_trace_app};
 
+use crate::syntax::parts::{command, with_arg};
 use crate::syntax::shared::files;
 use clap::{Arg, Command};
 use command_arguments::{defaulted, flag, needed};
@@ -61,25 +62,22 @@ fn as_plan<'a>(alloc: Global) -> Arg<'a>
 
 /// The command `import`, with its trace.
 fn import_trace<'a>(alloc: Global) -> Result<Command<'a>, AllocError>
-    ensures app { IfOk result (λ c. app_of c ≡ import_trace_app) }
-    ensures local { IfOk result (λ c. has_globals c ≡ false) }
+    ensures { IfOk result (λ c. IsCommand c import_trace_app) }
 {
+    let about = "Write the script, or the plan, of traces of fio's requests";
     let traces = files(
         alloc,
         "TRACE",
         "The requests of a die, as fio logs them; - is standard input",
     );
-    Command::new(alloc, "import")
-        .about("Write the script, or the plan, of traces of fio's requests")
-        .after_help(IMPORT_HELP)
-        .arg(traces)?
-        .arg(slot_length(alloc))
+    let traced = with_arg(Ok(command(alloc, "import", about, IMPORT_HELP)), traces);
+    with_arg(traced, slot_length(alloc))
 }
 
 /// The command `import`.
 pub(crate) fn import_words<'a>(alloc: Global) -> Result<Command<'a>, AllocError>
-    ensures app { IfOk result (λ c. app_of c ≡ import_app) }
-    ensures local { IfOk result (λ c. has_globals c ≡ false) }
+    ensures { IfOk result (λ c. IsCommand c import_app) }
 {
-    import_trace(alloc)?.arg(due(alloc))?.arg(as_plan(alloc))
+    let timed = with_arg(import_trace(alloc), due(alloc));
+    with_arg(timed, as_plan(alloc))
 }

@@ -1,34 +1,30 @@
 //! The command `keeps`.
 
-ghost use Rattle.std.specs.Prelude.{◌≡◌, false, IfOk};
-ghost use Rattle.clap.specs.Words.{app_of};
-ghost use Rattle.tool_command_words.specs.Syntax.{has_globals, keeps_app, keeps_files_app};
+ghost use Rattle.std.specs.Prelude.{IfOk};
+ghost use Rattle.tool_command_words.specs.Syntax.{IsCommand, keeps_app, keeps_files_app};
 
+use crate::syntax::parts::{command, on_files, with_arg};
 use clap::Command;
-use command_arguments::{plan_file, script_file, slots};
+use command_arguments::slots;
 use std::alloc::{AllocError, Global};
+
+/// What the status says.
+const KEEPS_HELP: &str = "Ends with 0 where it keeps them, and with 3 where it doesn't.
+
+Example: flashplan keeps plan.toml script.csv --slots 1000";
 
 /// The command `keeps`, with its files.
 fn keeps_files<'a>(alloc: Global) -> Result<Command<'a>, AllocError>
-    ensures app { IfOk result (λ c. app_of c ≡ keeps_files_app) }
-    ensures local { IfOk result (λ c. has_globals c ≡ false) }
+    ensures { IfOk result (λ c. IsCommand c keeps_files_app) }
 {
-    Command::new(alloc, "keeps")
-        .about(
-            "Tell whether a script keeps the plans of its dies, and if not, what breaks them first",
-        )
-        .after_help(
-            "Ends with 0 where it keeps them, and with 3 where it doesn't.\n\n\
-             Example: flashplan keeps plan.toml script.csv --slots 1000",
-        )
-        .arg(plan_file(alloc))?
-        .arg(script_file(alloc))
+    let about =
+        "Tell whether a script keeps the plans of its dies, and if not, what breaks them first";
+    on_files(alloc, command(alloc, "keeps", about, KEEPS_HELP))
 }
 
 /// The command `keeps`.
 pub(crate) fn keeps_words<'a>(alloc: Global) -> Result<Command<'a>, AllocError>
-    ensures app { IfOk result (λ c. app_of c ≡ keeps_app) }
-    ensures local { IfOk result (λ c. has_globals c ≡ false) }
+    ensures { IfOk result (λ c. IsCommand c keeps_app) }
 {
-    keeps_files(alloc)?.arg(slots(alloc))
+    with_arg(keeps_files(alloc), slots(alloc))
 }

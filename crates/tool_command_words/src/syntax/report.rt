@@ -1,12 +1,13 @@
 //! The command `report`.
 
 ghost use Rattle.std.specs.Prelude.{◌≡◌, false, codes, IfOk};
-ghost use Rattle.clap.specs.Words.{app_of, rule_of};
-ghost use Rattle.tool_command_words.specs.Syntax.{count_rule, has_globals, report_app, report_files_app, report_run_app};
+ghost use Rattle.clap.specs.Words.{rule_of};
+ghost use Rattle.tool_command_words.specs.Syntax.{IsCommand, count_rule, report_app, report_files_app, report_run_app};
 
+use crate::syntax::parts::{command, on_files, with_arg};
 use crate::syntax::shared::{csv, fail_at};
 use clap::{Arg, Command};
-use command_arguments::{defaulted, plan_file, script_file, slots};
+use command_arguments::{defaulted, slots};
 use std::alloc::{AllocError, Global};
 
 /// How often a block may be erased.
@@ -39,33 +40,27 @@ fn slot_us<'a>(alloc: Global) -> Arg<'a>
 
 /// The command `report`, with its files.
 fn report_files<'a>(alloc: Global) -> Result<Command<'a>, AllocError>
-    ensures app { IfOk result (λ c. app_of c ≡ report_files_app) }
-    ensures local { IfOk result (λ c. has_globals c ≡ false) }
+    ensures { IfOk result (λ c. IsCommand c report_files_app) }
 {
-    Command::new(alloc, "report")
-        .about("Run a script on a store, and tell what it came to, by die and task")
-        .after_help(
-            "Example: flashplan report plan.toml script.csv --slots 1000 --endurance 3000 --slot-us 1000",
-        )
-        .arg(plan_file(alloc))?
-        .arg(script_file(alloc))
+    let about = "Run a script on a store, and tell what it came to, by die and task";
+    let example =
+        "Example: flashplan report plan.toml script.csv --slots 1000 --endurance 3000 --slot-us 1000";
+    on_files(alloc, command(alloc, "report", about, example))
 }
 
 /// The command `report`, with what it runs.
 fn report_run<'a>(alloc: Global) -> Result<Command<'a>, AllocError>
-    ensures app { IfOk result (λ c. app_of c ≡ report_run_app) }
-    ensures local { IfOk result (λ c. has_globals c ≡ false) }
+    ensures { IfOk result (λ c. IsCommand c report_run_app) }
 {
-    report_files(alloc)?.arg(slots(alloc))?.arg(csv(alloc))
+    let long = with_arg(report_files(alloc), slots(alloc));
+    with_arg(long, csv(alloc))
 }
 
 /// The command `report`.
 pub(crate) fn report_words<'a>(alloc: Global) -> Result<Command<'a>, AllocError>
-    ensures app { IfOk result (λ c. app_of c ≡ report_app) }
-    ensures local { IfOk result (λ c. has_globals c ≡ false) }
+    ensures { IfOk result (λ c. IsCommand c report_app) }
 {
-    report_run(alloc)?
-        .arg(endurance(alloc))?
-        .arg(slot_us(alloc))?
-        .arg(fail_at(alloc))
+    let worn = with_arg(report_run(alloc), endurance(alloc));
+    let timed = with_arg(worn, slot_us(alloc));
+    with_arg(timed, fail_at(alloc))
 }

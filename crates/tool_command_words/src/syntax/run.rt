@@ -1,13 +1,14 @@
 //! The command `run`.
 
 ghost use Rattle.std.specs.Prelude.{◌≡◌, false, codes, IfOk};
-ghost use Rattle.clap.specs.Words.{app_of, rule_of};
+ghost use Rattle.clap.specs.Words.{rule_of};
 ghost use Rattle.command_arguments.specs.Arguments.{option_rule};
-ghost use Rattle.tool_command_words.specs.Syntax.{has_globals, run_app, run_files_app};
+ghost use Rattle.tool_command_words.specs.Syntax.{IsCommand, run_app, run_files_app};
 
+use crate::syntax::parts::{command, on_files, with_arg};
 use crate::syntax::shared::{begun_from, fail_at};
 use clap::{Arg, Command};
-use command_arguments::{option, plan_file, script_file, slots};
+use command_arguments::{option, slots};
 use std::alloc::{AllocError, Global};
 
 /// What a run on dies in memory does with checkpoints.
@@ -38,26 +39,19 @@ fn saved_to<'a>(alloc: Global) -> Arg<'a>
 
 /// The command `run`, with its files.
 fn run_files<'a>(alloc: Global) -> Result<Command<'a>, AllocError>
-    ensures app { IfOk result (λ c. app_of c ≡ run_files_app) }
-    ensures local { IfOk result (λ c. has_globals c ≡ false) }
+    ensures { IfOk result (λ c. IsCommand c run_files_app) }
 {
-    Command::new(alloc, "run")
-        .about(
-            "Run a script on a store, from a checkpoint and to a checkpoint, and print its report",
-        )
-        .after_help(RUN_HELP)
-        .arg(plan_file(alloc))?
-        .arg(script_file(alloc))
+    let about =
+        "Run a script on a store, from a checkpoint and to a checkpoint, and print its report";
+    on_files(alloc, command(alloc, "run", about, RUN_HELP))
 }
 
 /// The command `run`.
 pub(crate) fn run_words<'a>(alloc: Global) -> Result<Command<'a>, AllocError>
-    ensures app { IfOk result (λ c. app_of c ≡ run_app) }
-    ensures local { IfOk result (λ c. has_globals c ≡ false) }
+    ensures { IfOk result (λ c. IsCommand c run_app) }
 {
-    run_files(alloc)?
-        .arg(slots(alloc))?
-        .arg(begun_from(alloc))?
-        .arg(saved_to(alloc))?
-        .arg(fail_at(alloc))
+    let long = with_arg(run_files(alloc), slots(alloc));
+    let begun = with_arg(long, begun_from(alloc));
+    let ended = with_arg(begun, saved_to(alloc));
+    with_arg(ended, fail_at(alloc))
 }

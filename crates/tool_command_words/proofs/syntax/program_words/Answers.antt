@@ -1,23 +1,15 @@
-use Rattle.std.proofs.Common.{◌≡◌, ◌∙◌, ap, subst}
-use Rattle.std.specs.Prelude.{IfOk}
-use Rattle.clap.specs.Words.{App, app_of}
-use Rattle.tool_command_words.specs.Syntax.{with_command}
 use Rattle.tool_command_words.proofs.syntax.program_words.Goals as goal
-
-with_both : (p q c d : App) → p ≡ q → c ≡ d → with_command p c ≡ with_command q d
-with_both p q c d e f = ap (λ x. with_command x c) e ∙ ap (λ (x : App). with_command q x) f
 
 pub returns : goal.returns
 returns c =
-    let explained = c.in_ok-with_explain.ensures ∙ with_both _ _ _ _ c.name.ensures c.in_ok-explain.ensures.app in
-    let fitted = c.in_ok-with_fit.ensures ∙ with_both _ _ _ _ explained c.in_ok-fit.ensures.app in
-    let arriving = c.in_ok-with_arrivals.ensures ∙ with_both _ _ _ _ fitted c.in_ok-arrivals.ensures.app in
-    let keeping = c.in_ok-with_keeps.ensures ∙ with_both _ _ _ _ arriving c.in_ok-keeps.ensures.app in
-    let wearing = c.in_ok-with_wear.ensures ∙ with_both _ _ _ _ keeping c.in_ok-wear.ensures.app in
-    let reporting = c.in_ok-with_report.ensures ∙ with_both _ _ _ _ wearing c.in_ok-report.ensures.app in
-    let drawing = c.in_ok-with_draw.ensures ∙ with_both _ _ _ _ reporting c.in_ok-draw.ensures.app in
-    let comparing = c.in_ok-with_compare.ensures ∙ with_both _ _ _ _ drawing c.in_ok-compare.ensures.app in
-    let importing = c.in_ok-with_import.ensures ∙ with_both _ _ _ _ comparing c.in_ok-import.ensures.app in
-    let running = c.in_ok-with_run.ensures ∙ with_both _ _ _ _ importing c.in_ok-run.ensures.app in
-    subst (λ (a : App). IfOk c.with_command-11.result (λ c'. app_of c' ≡ a)) (with_both _ _ _ _ running c.in_ok-audit.ensures.app)
-    c.with_command-11.ensures
+    let explaining = c.with_command-explaining.ensures _ _ c.name.ensures c.explain_words.ensures in
+    let fitting = c.with_command-fitting.ensures _ _ explaining c.fit_words.ensures in
+    let arriving = c.with_command-arriving.ensures _ _ fitting c.arrivals_words.ensures in
+    let keeping = c.with_command-keeping.ensures _ _ arriving c.keeps_words.ensures in
+    let wearing = c.with_command-wearing.ensures _ _ keeping c.wear_words.ensures in
+    let reporting = c.with_command-reporting.ensures _ _ wearing c.report_words.ensures in
+    let drawing = c.with_command-drawing.ensures _ _ reporting c.draw_words.ensures in
+    let comparing = c.with_command-comparing.ensures _ _ drawing c.compare_words.ensures in
+    let importing = c.with_command-importing.ensures _ _ comparing c.import_words.ensures in
+    let running = c.with_command-running.ensures _ _ importing c.run_words.ensures in
+    c.with_command.ensures _ _ running c.audit_words.ensures

@@ -1,0 +1,12 @@
+use Rattle.std.proofs.Common.{◌≡◌, ◌∙◌, None, rules, sym, option_map}
+use Rattle.tool_command_words.specs.Asked.{text_of_command}
+use Rattle.tool_command_words.specs.Commands.{wear_from}
+use Rattle.tool_command_words.proofs.commands.wear.Goals as goal
+
+pub returns-in_err-plan-clause-wear : goal.returns-in_err-plan-clause-wear
+returns-in_err-plan-clause-wear c =
+    let none : option_map text_of_command c.from_residual.result ≡ None = search rules in
+    none ∙ sym (c.in_err-plan.ensures.scripted _)
+
+pub returns-clause-wear : goal.returns-clause-wear
+returns-clause-wear c = sym (c.in_ok-plan.ensures.scripted wear_from)
