@@ -1,7 +1,7 @@
 -- How the runs of dies are gathered.
-use Rattle.std.proofs.Common.{◌≡◌, ℕ, suc, ◌+◌, ◌<◌, ◌≤◌, max, true, List, [], ◌∷◌, ◌++◌, refl, ap, sym, ◌∙◌}
+use Rattle.std.proofs.Common.{◌≡◌, ℕ, suc, ◌+◌, ◌<◌, ◌≤◌, max, Bool, true, false, List, [], ◌∷◌, ◌++◌, refl, ap, sym, ◌∙◌}
 use Rattle.std.proofs.Common.{subst, length}
-use Rattle.std.proofs.Common.{append_assoc, arith, Option}
+use Rattle.std.proofs.Common.{append_assoc, arith, ◌==◌, Option}
 use Rattle.std.specs.Prelude.{option_map}
 use Rattle.std.specs.Io.KnownBytes.{Appends}
 use Rattle.std.specs.List.{AllByRecursion, AllZip}
@@ -14,12 +14,13 @@ use Rattle.report_texts.specs.ReportText.{report_text}
 use Rattle.script_texts.specs.Arrivals.{Arrives}
 use Rattle.script_texts.specs.Script.{Script, script_of}
 use Rattle.script_texts.specs.declared.script_rows.ScriptItem.{ScriptItem}
-use Rattle.report_texts.specs.TextSoFar.{TextSoFar, joined_text}
+use Rattle.report_texts.specs.TextSoFar.{TextSoFar, die_added, joined_text, text_so_far}
+use Rattle.report_texts.proofs.TextParts.{text_more}
 use Rattle.report_texts.specs.declared.reports.DieReport.{DieReport}
 use Rattle.task_script.proofs.BatchRuns.{closed_run, die_start}
 use Rattle.task_script.proofs.Batching.{SoFar, come_more, in_time_more, items_are}
 use Rattle.task_script.proofs.Counting.{counts_join}
-use Rattle.task_script.proofs.Parting.{parts_text}
+use Rattle.task_script.proofs.Parting.{adds_nothing, no_cert, no_rows, parts_text}
 use Rattle.task_script.specs.Batches.{Closes, RanRows, HasComeTo, HaveComeTo, joined_after, latest_slot}
 use Rattle.task_script.specs.DieReports.{die_report_of}
 use Rattle.task_script.specs.DieRuns.{DieRun, run_at}
@@ -31,6 +32,41 @@ use Rattle.task_script.specs.declared.batches.Progress.{Progress}
 use Rattle.task_script.specs.declared.run_counts.RowEnd.{RowEnd}
 use Rattle.task_script.specs.declared.run_counts.RunCount.{RunCount}
 use Rattle.die_log.specs.Model.Start.{Start, fresh}
+
+-- Texts
+
+-- a text is that of some reports, which the reports of the dies that are left make all
+abbrev pub IsReportedOf : TextSoFar → List DieReport → List DieReport → Type 0
+IsReportedOf text left all = (done : List DieReport) × (text ≡ text_so_far done) × (done ++ left ≡ all)
+
+-- the lines of one die more
+pub reported_more : {N : Type 0} (die : ℕ) (core : Core N) (dies : List (Core N)) (old new : TextSoFar) (all : List DieReport)
+    → new ≡ die_added (die_report_of core.start core.log die) old → IsReportedOf old (reports_of die (core ∷ dies)) all
+    → IsReportedOf new (reports_of (die + 1) dies) all
+reported_more die core dies old new all added so_far = by (length made.rows == 0) refl
+  where
+    made : DieReport
+    made = die_report_of core.start core.log die
+
+    rest : List DieReport
+    rest = reports_of (die + 1) dies
+
+    by : (b : Bool) → (length made.rows == 0) ≡ b → IsReportedOf new rest all
+    by true e = (
+      so_far.0,
+      added ∙ (adds_nothing made old (no_rows made.rows e) (no_cert core.start core.log e) ∙ so_far.1),
+      rw e at so_far.2,
+    )
+    by false e = (
+      so_far.0 ++ made ∷ [],
+      text_more so_far.0 made old new so_far.1 added,
+      append_assoc so_far.0 (made ∷ []) rest ∙ (rw e at so_far.2),
+    )
+
+-- where no die is left the text is that of all
+pub all_reported : (text : TextSoFar) (left all : List DieReport) → left ≡ [] → IsReportedOf text left all → text ≡ text_so_far all
+all_reported text left all none so_far =
+    so_far.1 ∙ ap text_so_far (sym (append-nil so_far.0) ∙ (ap (λ (xs : List DieReport). so_far.0 ++ xs) (sym none) ∙ so_far.2))
 
 -- The runs of dies that were closed
 

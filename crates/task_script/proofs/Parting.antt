@@ -103,7 +103,7 @@ parts_are dies olds news (part ∷ parts) were made are =
 some_rows : (row : ReportRow) (rows : List ReportRow) → (length (row ∷ rows) == 0) ≡ true → ⊥
 some_rows row rows e = grind (arith, nat_tests)
 
-no_cert : (start : Start) (log : Log) → (length (report_rows_of start log) == 0) ≡ true → certificate start.plan log ≡ None
+pub no_cert : (start : Start) (log : Log) → (length (report_rows_of start log) == 0) ≡ true → certificate start.plan log ≡ None
 no_cert start log none = by (jobs log) refl none
   where
     among : List Job → Option Certificate
@@ -114,13 +114,13 @@ no_cert start log none = by (jobs log) refl none
     by (j ∷ js) e h = absurd (some_rows (report_row_of start log j) (map (report_row_of start log) js) (rw e at h))
 
 -- a die without rows adds nothing
-adds_nothing : (made : DieReport) (text : TextSoFar) → made.rows ≡ [] → made.cert ≡ None → die_added made text ≡ text
+pub adds_nothing : (made : DieReport) (text : TextSoFar) → made.rows ≡ [] → made.cert ≡ None → die_added made text ≡ text
 adds_nothing made text rows cert =
     ap (λ (rs : List ReportRow). die_added (record { die = made.die; rows = rs; cert = made.cert }) text) rows
     ∙ (ap (λ (c : Option Certificate). die_added (record { die = made.die; rows = []; cert = c }) text) cert
     ∙ λ i. record { rows = append-nil text.rows i; certs = append-nil text.certs i })
 
-no_rows : (rows : List ReportRow) → (length rows == 0) ≡ true → rows ≡ []
+pub no_rows : (rows : List ReportRow) → (length rows == 0) ≡ true → rows ≡ []
 no_rows [] e = refl
 no_rows (row ∷ rows) e = absurd (some_rows row rows e)
 
