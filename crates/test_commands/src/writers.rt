@@ -179,7 +179,10 @@ fn a_writer_that_fails_took_a_part_of_a_report(rt: HostRuntime) {
     let alloc = rt.alloc();
     for most in [1, 7, 16, 1000] {
         for end in [End::Fails, End::TakesNothing] {
-            assert!(rt; is_cut_by_parts(&rt, alloc, most, end), "{most} bytes a call");
+            assert!(rt;
+                is_cut_by_parts(&rt, alloc, most, end),
+                "{most} bytes a call"
+            );
         }
     }
 }
