@@ -1,7 +1,7 @@
 -- How the dies of a checkpoint are gathered, record by record.
 use Rattle.std.specs.Prelude.{ℕ, ◌==◌, ◌&&◌, Bool, nat_lt, not, List, [], ◌∷◌, ◌++◌, length, Ok, if◌then◌else◌}
 use Rattle.text_base.specs.CsvRecords.{Fields}
-use Rattle.checkpoint_texts.specs.Readings.{◌>>=◌, broken}
+use Rattle.checkpoint_texts.specs.Readings.{◌>>=◌, broken_field}
 use Rattle.checkpoint_texts.specs.Records.{Says, item_of}
 use Rattle.checkpoint_texts.specs.declared.fault.RecordFault.TheVariants as fault
 use Rattle.checkpoint_texts.specs.declared.gathered.Gathered.{Gathered}
@@ -24,12 +24,12 @@ has_none xs = length xs == 0
 -- then its tasks, and then its number and its spare pages
 abbrev pub with_item : ℕ → Gathered → Item → Says Gathered
 with_item n g (Page page) =
-    if has_none g.blocks && has_none g.balances then Ok (record g { pages = g.pages ++ page ∷ [] }) else broken n 1 fault.Order
-with_item n g (Block block) = if has_none g.balances then Ok (record g { blocks = g.blocks ++ block ∷ [] }) else broken n 1 fault.Order
+    if has_none g.blocks && has_none g.balances then Ok (record g { pages = g.pages ++ page ∷ [] }) else broken_field n 1 fault.Order
+with_item n g (Block block) = if has_none g.balances then Ok (record g { blocks = g.blocks ++ block ∷ [] }) else broken_field n 1 fault.Order
 with_item n g (Task balance) = Ok (record g { balances = g.balances ++ balance ∷ [] })
 with_item n g (Die number spare) =
     if (number == length g.done) && nat_lt number 8 then Ok (between (g.done ++ die_at_hand g spare ∷ []))
-    else broken n 2 fault.Die
+    else broken_field n 2 fault.Die
 
 -- what is gathered with one more record, which has this number
 abbrev pub with_record : ℕ → Gathered → Fields → Says Gathered

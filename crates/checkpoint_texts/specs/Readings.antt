@@ -11,12 +11,12 @@ abbrev pub ◌>>=◌ : {A B : Type 0} → Result A TextFault → (A → Result B
 (Err e) >>= f = Err e
 
 -- this field of this record is at fault
-abbrev pub broken : {A : Type 0} → ℕ → ℕ → RecordFault → Result A TextFault
-broken record_no field fault = Err (Broken record_no field fault)
+abbrev pub broken_field : {A : Type 0} → ℕ → ℕ → RecordFault → Result A TextFault
+broken_field record_no field fault = Err (Broken record_no field fault)
 
 -- the value, or that fault
 abbrev pub or_broken : {A : Type 0} → ℕ → ℕ → RecordFault → Option A → Result A TextFault
-or_broken record_no field fault None = broken record_no field fault
+or_broken record_no field fault None = broken_field record_no field fault
 or_broken record_no field fault (Some x) = Ok x
 
 -- no fault of a text: memory ran out, or the reader failed

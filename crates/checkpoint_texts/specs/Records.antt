@@ -8,7 +8,7 @@ use Rattle.text_base.specs.CsvRecords.{Fields}
 use Rattle.text_base.specs.Fields.{field_or, has_text}
 use Rattle.text_base.specs.Number.{number_of}
 use Rattle.text_base.specs.Pages.{page_of}
-use Rattle.checkpoint_texts.specs.Readings.{◌>>=◌, broken, or_broken}
+use Rattle.checkpoint_texts.specs.Readings.{◌>>=◌, broken_field, or_broken}
 use Rattle.checkpoint_texts.specs.declared.fault.RecordFault.TheVariants as fault
 use Rattle.checkpoint_texts.specs.declared.fault.TextFault.{TextFault}
 use Rattle.checkpoint_texts.specs.declared.items.Item.{Item}
@@ -19,8 +19,8 @@ abbrev pub Says : Type 0 → Type 0
 Says A = Result A TextFault
 
 -- a record has so many fields, or the first that is missing or too many is at fault
-abbrev pub counted : ℕ → Fields → ℕ → Says ⊤
-counted n fields count = if length fields == count then Ok tt else broken n (min (length fields) count + 1) fault.Fields
+abbrev pub check_count : ℕ → Fields → ℕ → Says ⊤
+check_count n fields count = if length fields == count then Ok tt else broken_field n (min (length fields) count + 1) fault.Fields
 
 -- the number in the field after so many
 abbrev pub number_at : ℕ → Fields → ℕ → Says ℕ
@@ -40,7 +40,7 @@ place_at n fields =
 
 -- the bytes of a page that lies in a cell
 abbrev pub bytes_in : ℕ → List ℕ → Option Place → Says (Option PageData)
-bytes_in n field None = broken n 4 fault.Bytes
+bytes_in n field None = broken_field n 4 fault.Bytes
 bytes_in n field (Some place) = or_broken n 4 fault.Bytes (page_of field) >>= (λ page. Ok (Some page))
 
 -- an empty field has no bytes
@@ -48,24 +48,24 @@ abbrev pub bytes_at : ℕ → Fields → Option Place → Says (Option PageData)
 bytes_at n fields place = if is_empty fields 3 then Ok None else bytes_in n (field_or fields 3) place
 
 abbrev pub page_item : ℕ → Fields → Says Item
-page_item n fields = counted n fields 4 >>= (λ _. do
+page_item n fields = check_count n fields 4 >>= (λ _. do
   place ← place_at n fields
   bytes ← bytes_at n fields place
   Ok (Page (record { place = place; bytes = bytes })))
 
 abbrev pub block_item : ℕ → Fields → Says Item
-block_item n fields = counted n fields 3 >>= (λ _. do
+block_item n fields = check_count n fields 3 >>= (λ _. do
   filled ← number_at n fields 1
   erases ← number_at n fields 2
   Ok (Block (record { filled = filled; erases = erases })))
 
 abbrev pub task_item : ℕ → Fields → Says Item
-task_item n fields = counted n fields 2 >>= (λ _. do
+task_item n fields = check_count n fields 2 >>= (λ _. do
   balance ← number_at n fields 1
   Ok (Task balance))
 
 abbrev pub die_item : ℕ → Fields → Says Item
-die_item n fields = counted n fields 3 >>= (λ _. do
+die_item n fields = check_count n fields 3 >>= (λ _. do
   die ← number_at n fields 1
   spare ← number_at n fields 2
   Ok (Die die spare))
@@ -77,4 +77,4 @@ item_of n fields =
     else if has_text (field_at fields 0) (codes "block") then block_item n fields
     else if has_text (field_at fields 0) (codes "task") then task_item n fields
     else if has_text (field_at fields 0) (codes "die") then die_item n fields
-    else broken n 1 fault.Kind
+    else broken_field n 1 fault.Kind

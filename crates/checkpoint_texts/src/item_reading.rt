@@ -2,7 +2,7 @@
 
 ghost use Rattle.std.specs.Prelude.{◌≡◌, ◌≤◌};
 ghost use Rattle.csv.specs.Records.{fields_of};
-ghost use Rattle.checkpoint_texts.specs.Records.{block_item, bytes_at, counted, die_item, is_empty, item_of, number_at, page_item, place_at};
+ghost use Rattle.checkpoint_texts.specs.Records.{block_item, bytes_at, check_count, die_item, is_empty, item_of, number_at, page_item, place_at};
 ghost use Rattle.checkpoint_texts.specs.Records.{task_item};
 
 use crate::fault::{RecordFault, TextFault};
@@ -77,7 +77,7 @@ fn bytes_in(
 /// Refuses a record that doesn't have so many fields.
 pub fn check_count(line: u32, fields: &ByteRecord, count: usize) -> Result<(), TextFault>
     requires { count ≤ 4 }
-    ensures { result ≡ counted line (fields_of fields.now) count }
+    ensures { result ≡ check_count line (fields_of fields.now) count }
 {
     if fields.len() == count {
         return Ok(());

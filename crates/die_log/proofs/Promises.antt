@@ -11,7 +11,7 @@ use Rattle.late_cert.proofs.Binds.{binds}
 use Rattle.late_cert.proofs.Faults.{certificate-verdict}
 use Rattle.die_log.specs.Model.Log.{Log, Job, waived_collections}
 use Rattle.die_log.specs.Model.Flash.{free}
-use Rattle.die_log.specs.Model.Work.{worst, owed}
+use Rattle.die_log.specs.Model.Work.{worst, owed_writes}
 use Rattle.die_log.specs.Model.Answers.{IsExact}
 use Rattle.die_log.specs.Results.Legal.{IsLegal, IsLegalEntry, IsLegalReply, IsLegalRun, IsLegalAct}
 use Rattle.die_log.specs.Model.Rows.{rows, certificate, certificate_for, IsCertified}
@@ -43,7 +43,7 @@ pub legal_act : (start : Start) (log : Log) (s : SlotReply) (past : Log) (number
     → (j : Job) × IsLegalAct start past (waived_collections past ++ s.waived) j number act
 legal_act start log s past number act h has ran = subst (IsLegalRun start past s.waived) ran (legal_slot start log s past h has).1
 
-owed_fits : (start : Start) (moment : Log) → IsLegal start moment → owed moment ≤ free start moment
+owed_fits : (start : Start) (moment : Log) → IsLegal start moment → owed_writes moment ≤ free start moment
 owed_fits start [] h = omega arith
 owed_fits start (e ∷ past) h = h.1.room
 

@@ -15,7 +15,7 @@ use Rattle.slot_types.specs.Operations.{writes}
 use Rattle.die_log.specs.Model.Log.{Log, Job, Carried, jobs, job_at, acts, work, is_waived}
 use Rattle.die_log.specs.Model.Flash.{Cells, cells, cells_after, block_at, contents, contents_after, cells_after_program_in, open_block, ran_by}
 use Rattle.die_log.specs.Model.Start.{Start, blank_page}
-use Rattle.die_log.specs.Model.Work.{is_done, owed}
+use Rattle.die_log.specs.Model.Work.{is_done, owed_writes}
 use Rattle.die_log.specs.Model.Answers.{IsExact, reply_if_accepted, refusals}
 use Rattle.die_log.specs.Invariants.TrueAccounts.{at_task, left_of, lent_of, held_of, lent_to, is_pending, copied_of, HasTaskAndOps}
 use Rattle.die_log.specs.Invariants.RunningCollections.{RunsOnBlock}
@@ -197,7 +197,7 @@ module _ (start : Start) (log : Log) (bound : IsOpening start) (exact : IsExact 
   none_lent_to task = sum_zero (λ j. at_task j.task (lent_of start.plan (λ n. acts n log) (is_waived log) j) task) (jobs log)
       (λ k j e. ap (λ n. at_task j.task n task) (none_lent k j e) ∙ at_none j.task task)
 
-  none_owed : owed log ≡ 0
+  none_owed : owed_writes log ≡ 0
   none_owed = sum_zero (λ j. writes (drop (work j.number log) j.ops)) (jobs log) (λ k j e. left k j j.collects e refl)
 
   pub quiet_opens : IsOpening (renewed_start start log)

@@ -144,6 +144,7 @@ impl EventLog {
         ensures succeeds { events ≤ self.old.room → waivers ≤ self.old.waiver_room → IsOk result }
         ensures refused { FailsForMemory result }
         ensures events { self.new.notes ≡ self.old.notes }
+        ensures kept { self.new.kept ≡ self.old.kept }
         ensures marked { self.new.marked ≡ self.old.marked }
         ensures err { OnErr result (self.new ≡ self.old) }
     {
@@ -162,6 +163,7 @@ impl EventLog {
         ensures no_less_for_waivers { self.old.waiver_room ≤ self.new.waiver_room }
         ensures refused { FailsForMemory result }
         ensures events { self.new.notes ≡ self.old.notes }
+        ensures kept { self.new.kept ≡ self.old.kept }
         ensures marked { self.new.marked ≡ self.old.marked }
         ensures err { OnErr result (self.new ≡ self.old) }
     {

@@ -41,7 +41,7 @@ pub fn records_are_counted()
 
 /// Making room (`reserve`) leaves one log in all but its room, and where it is refused one log. It has one answer, too,
 /// where there is that room already. Left open are whether there is memory for more, and how much room beyond what was
-/// asked for is made. How many records a log keeps is what `kept` says of it.
+/// asked for is made.
 pub fn making_room_has_one_answer<T>()
     ensures log { (events waivers : ℕ) (before left right : Events)
         (one other : Result (Unit {0}) Refusal) →
@@ -50,7 +50,7 @@ pub fn making_room_has_one_answer<T>()
         FailsForMemory one → FailsForMemory other →
         left.notes ≡ before.notes → right.notes ≡ before.notes →
         left.marked ≡ before.marked → right.marked ≡ before.marked →
-        left.kept ≡ kept_of left.notes → right.kept ≡ kept_of right.notes →
+        left.kept ≡ before.kept → right.kept ≡ before.kept →
         OnErr one (left ≡ before) → OnErr other (right ≡ before) →
         (left.notes ≡ right.notes) × (left.marked ≡ right.marked) × (left.kept ≡ right.kept)
         × ((one ≡ other) ⊎ (before.room < events) ⊎ (before.waiver_room < waivers))

@@ -35,7 +35,7 @@ use Rattle.job_table.specs.Table.{Table}
 use Rattle.die_log.specs.Model.Log.{Log, Job, Carried, acts, job_at, jobs, now, waived_collections, is_waived, work}
 use Rattle.die_log.specs.Model.Flash as flash
 use Rattle.die_log.specs.Model.Flash.{Block, Cells, cells, content, free, block_at, free_block, ran_by, open_block}
-use Rattle.die_log.specs.Model.Work.{owed}
+use Rattle.die_log.specs.Model.Work.{owed_writes}
 use Rattle.die_log.specs.Model.Accounts.{accounts}
 use Rattle.die_log.specs.Model.Answers.{answer, reply_if_accepted, act_for, block_for, Choice, choice, slot_reply, reply_with}
 use Rattle.die_log.specs.Invariants.TrueAccounts.{held_of, lent_to}
@@ -172,7 +172,7 @@ pub write_finds : (start : Start) (log : Log) (ws : List Waived) (t : Table) (n 
 write_finds start log ws t n j op job next is =
     let agree = job.both.1.true_accounts.agree in
     let held = hold_positive start.plan (accounts start log) (λ k. acts k log)
-    (lent_to start.plan (λ k. acts k log) (is_waived log) (jobs log)) (owed log) (free start log) (jobs log) j
+    (lent_to start.plan (λ k. acts k log) (is_waived log) (jobs log)) (owed_writes log) (free start log) (jobs log) j
     op agree job.limits.task job.own_at next is in
     omega (
       arith,
@@ -180,7 +180,7 @@ write_finds start log ws t n j op job next is =
       one_le_sum (accounts start log).holds j.task (omega (arith, job.limits.task, agree.holds_len)),
       agree.owed_is,
       owed_fits start (accounts start log) (held_of (λ k. acts k log) (jobs log))
-          (lent_to start.plan (λ k. acts k log) (is_waived log) (jobs log)) (owed log) (free start log) agree,
+          (lent_to start.plan (λ k. acts k log) (is_waived log) (jobs log)) (owed_writes log) (free start log) agree,
     )
 
 -- The slot

@@ -36,7 +36,7 @@ use Rattle.die_log.specs.Model.Log.{Log, Job, Carried, jobs, job_at, carried_slo
 use Rattle.die_log.specs.Model.Flash as flash
 use Rattle.die_log.specs.Model.Flash.{cells, contents, free}
 use Rattle.slot_types.specs.Operations.{is_write}
-use Rattle.die_log.specs.Model.Work.{is_done, are_all, owed}
+use Rattle.die_log.specs.Model.Work.{is_done, are_all, owed_writes}
 use Rattle.die_log.specs.Model.Accounts.{accounts}
 use Rattle.die_log.specs.Model.Answers.{answer, reply_if_accepted, IsAccepted, refusal_of, Choice, choice, slot_reply, reply_with, act_for, act_of_op}
 use Rattle.die_log.specs.Invariants.TrueAccounts.{held_of, lent_to, HasTaskAndOps as IsOfPlan}
@@ -224,7 +224,7 @@ took_op start blocks_of log present caller ws t n v w turn h plain d = rw d.turn
     some_free is =
         let agree = job.both.1.true_accounts.agree in
         let held = hold_positive v.accounts.plan (accounts (over v.accounts.plan start) log) (λ k. acts k log)
-        (lent_to v.accounts.plan (λ k. acts k log) (is_waived log) (jobs log)) (owed log) (free (over v.accounts.plan start) log) (jobs log) h.job
+        (lent_to v.accounts.plan (λ k. acts k log) (is_waived log) (jobs log)) (owed_writes log) (free (over v.accounts.plan start) log) (jobs log) h.job
         d.op agree job.limits.task job.own_at d.next is in
         omega (
           arith,
@@ -232,7 +232,7 @@ took_op start blocks_of log present caller ws t n v w turn h plain d = rw d.turn
           one_le_sum (accounts (over v.accounts.plan start) log).holds h.job.task (omega (arith, job.limits.task, agree.holds_len)),
           agree.owed_is,
           owed_fits (over v.accounts.plan start) (accounts (over v.accounts.plan start) log) (held_of (λ k. acts k log) (jobs log))
-              (lent_to v.accounts.plan (λ k. acts k log) (is_waived log) (jobs log)) (owed log) (free (over v.accounts.plan start) log) agree,
+              (lent_to v.accounts.plan (λ k. acts k log) (is_waived log) (jobs log)) (owed_writes log) (free (over v.accounts.plan start) log) agree,
         )
 
 -- The head's step

@@ -16,7 +16,7 @@ use Rattle.job_table.specs.Table.{Table, work_at, work_of}
 use Rattle.job_table.specs.Order as table
 use Rattle.die_log.specs.Model.Log.{Log, Job, Carried, jobs, job_at, carried_slots, act_of, acts, waived_collections, is_waived, work, now}
 use Rattle.die_log.specs.Model.Flash.{Block, cells, block_at, free_block, free}
-use Rattle.die_log.specs.Model.Work.{is_done, is_ready, ready, least, owed}
+use Rattle.die_log.specs.Model.Work.{is_done, is_ready, ready, least, owed_writes}
 use Rattle.die_log.specs.Model.Accounts.{accounts, after_waiver, after_waivers}
 use Rattle.die_log.specs.Invariants.TrueAccounts.{lent_to, is_pending}
 use Rattle.die_log.specs.Results.Legal.{is_among}
@@ -140,7 +140,7 @@ op_fits start blocks_of log ws t n j v bound h flash plain = record {
   held = λ is. subst (λ (l : List ℕ). 0 < slice_index l j.task)
       (sym (ap (λ (a : Accounts). a.holds) flash.accounts_are ∙ holds_stay log ws (accounts (over v.accounts.plan start) log)))
       (hold_positive v.accounts.plan (accounts (over v.accounts.plan start) log) (λ k. acts k log)
-      (lent_to v.accounts.plan (λ k. acts k log) (is_waived log) (jobs log)) (owed log) (free (over v.accounts.plan start) log) (jobs log) j next.0
+      (lent_to v.accounts.plan (λ k. acts k log) (is_waived log) (jobs log)) (owed_writes log) (free (over v.accounts.plan start) log) (jobs log) j next.0
       h.both.1.true_accounts.agree
       h.limits.task h.own_at next.1 is);
 }

@@ -39,12 +39,12 @@ abbrev pub output_rule : Rule
 output_rule = record (default_rule (codes "output") (codes "-")) { short = Some 111 }
 
 -- a command that may write to a file, and be quiet
-abbrev pub written : App → App
-written command = with_rule (with_rule command output_rule) (flag_rule (codes "quiet"))
+abbrev pub with_output : App → App
+with_output command = with_rule (with_rule command output_rule) (flag_rule (codes "quiet"))
 
 -- a program with one more command, which may write to a file, and be quiet
 abbrev pub with_command : App → App → App
-with_command program command = with_subcommand program (written command).top
+with_command program command = with_subcommand program (with_output command).top
 
 -- one file or more
 abbrev pub list_rule : Text → Rule

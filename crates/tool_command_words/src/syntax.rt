@@ -3,7 +3,7 @@
 ghost use Rattle.std.specs.Prelude.{◌≡◌, false, codes, IfOk};
 ghost use Rattle.clap.specs.Words.{App, app_of, rule_of};
 ghost use Rattle.command_arguments.specs.Arguments.{flag_rule};
-ghost use Rattle.tool_command_words.specs.Syntax.{IsCommand, flashplan_app, named_app, output_rule, with_command, written};
+ghost use Rattle.tool_command_words.specs.Syntax.{IsCommand, flashplan_app, named_app, output_rule, with_command, with_output};
 
 mod arrivals;
 mod audit;
@@ -73,12 +73,12 @@ fn quiet<'a>(alloc: Global) -> Arg<'a>
 }
 
 /// A command that may write to a file, and be quiet.
-fn written<'a>(
+fn with_output<'a>(
     alloc: Global,
     command: Result<Command<'a>, AllocError>,
 ) -> Result<Command<'a>, AllocError>
     ensures { (app : App) → IfOk command.entry (λ c. IsCommand c app)
-        → IfOk result (λ c. IsCommand c (written app)) }
+        → IfOk result (λ c. IsCommand c (with_output app)) }
 {
     let saved = with_arg(command, output(alloc));
     with_arg(saved, quiet(alloc))
@@ -95,7 +95,7 @@ fn with_command<'a>(
         → IfOk command.entry (λ c. IsCommand c one)
         → IfOk result (λ c. app_of c ≡ with_command whole one) }
 {
-    let whole = written(alloc, command)?;
+    let whole = with_output(alloc, command)?;
     program?.subcommand(whole)
 }
 

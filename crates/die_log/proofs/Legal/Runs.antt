@@ -15,7 +15,7 @@ use Rattle.slot_types.specs.declared.events.Event.TheVariants as events
 use Rattle.slot_types.specs.declared.replies.Waived.{Waived}
 use Rattle.die_log.specs.Model.Log.{Log, Job, jobs, acts, work, waived_collections}
 use Rattle.die_log.specs.Model.Flash.{ran_by, Cells, cells, free}
-use Rattle.die_log.specs.Model.Work.{are_all, is_done, is_ready, ready, victim_of, owed}
+use Rattle.die_log.specs.Model.Work.{are_all, is_done, is_ready, ready, victim_of, owed_writes}
 use Rattle.die_log.specs.Model.Accounts.{accounts}
 use Rattle.die_log.specs.Model.Answers.{Choice, choice, reply_if_accepted, victim, block_for, buffer_after, is_placed_in, collect_act, act_of_op, act_for}
 use Rattle.die_log.specs.Model.Answers.{reply_with, slot_reply, refusals}
@@ -172,7 +172,7 @@ pub entry_legal : (start : Start) (past : Log) (caller : ℕ) (event : Event) �
     → AllByRecursion (λ c. c.0 ≡ false) (refusals start past event)
     → FindsVictim start past → FindsBy start past (ran_by (reply_if_accepted start past event))
     → AreWaivers start.plan past (waived_collections past) (accounts start past) (choice start past).waived
-    → owed (entry caller event (reply_if_accepted start past event) ∷ past) ≤ free start (entry caller event (reply_if_accepted start past event) ∷ past)
+    → owed_writes (entry caller event (reply_if_accepted start past event) ∷ past) ≤ free start (entry caller event (reply_if_accepted start past event) ∷ past)
     → IsLegalEntry start past (entry caller event (reply_if_accepted start past event))
 entry_legal start past caller event more s none victims finds waivers room = record {
   numbered = numbered start past event;

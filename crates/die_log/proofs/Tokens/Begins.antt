@@ -5,7 +5,7 @@ use Rattle.slot_types.specs.declared.plans.DiePlan.{DiePlan}
 use Rattle.slot_types.specs.declared.replies.Waived.{Waived}
 use Rattle.die_log.specs.Model.Log.{Log, Job, jobs, now, acts, waived_collections, is_waived, work}
 use Rattle.die_log.specs.Model.Flash.{cells, valid, free}
-use Rattle.die_log.specs.Model.Work.{is_done, is_ready, ready, owed}
+use Rattle.die_log.specs.Model.Work.{is_done, is_ready, ready, owed_writes}
 use Rattle.plan_rules.specs.Accounts.{Accounts}
 use Rattle.die_log.specs.Model.Accounts.{accounts, after_waivers}
 use Rattle.die_log.specs.Invariants.TrueAccounts.{reserve_full}
@@ -46,8 +46,8 @@ pub fresh_finds : (start : Start) (past : Log) (ws : List Waived) (j : Job) → 
     → (v : ℕ) × (victim start past ≡ Some v) × (valid (cells start past) v ≤ reserve_full start.plan)
 fresh_finds start past ws j bound h c waivers waits unwaivable is fresh =
     let a : Accounts = after_waivers past ws (accounts start past) in
-    let few = few_free start.plan a _ _ (owed past) (free start past)
-    (agree_waivers start past (waived_collections past) (accounts start past) ws _ _ (owed past) (free start past) h.taken h.agree waivers)
+    let few = few_free start.plan a _ _ (owed_writes past) (free start past)
+    (agree_waivers start past (waived_collections past) (accounts start past) ws _ _ (owed_writes past) (free start past) h.taken h.agree waivers)
     (too_few start.plan past a j unwaivable is fresh) in
     let t = takable start past j bound h c.sound waits.known (is_pending_if start.plan past j waits.ready is) fresh few
     (λ i k e. (all_at (HasTaskAndOps start.plan) (jobs past) k i h.taken e).task) in

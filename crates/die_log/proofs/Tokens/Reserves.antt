@@ -3,7 +3,7 @@ use Rattle.std.proofs.Common.{◌≡◌, ℕ, ◌+◌, ◌<◌, ◌≤◌, ◌==
 use Rattle.slot_types.specs.declared.plans.DiePlan.{DiePlan}
 use Rattle.plan_rules.specs.Bound.{fmax_of}
 use Rattle.die_log.specs.Model.Log.{Log, Job, jobs, job_at, acts, is_waived}
-use Rattle.die_log.specs.Model.Work.{owed}
+use Rattle.die_log.specs.Model.Work.{owed_writes}
 use Rattle.plan_rules.specs.Accounts.{Accounts}
 use Rattle.die_log.specs.Model.Accounts.{accounts}
 use Rattle.die_log.specs.Invariants.TrueAccounts.{reserve_full}

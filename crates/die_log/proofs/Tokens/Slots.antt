@@ -14,7 +14,7 @@ use Rattle.slot_types.specs.declared.replies.Waived.{Waived}
 use Rattle.die_log.specs.Model.Log.{Log, Job, Carried, jobs, job_at, carried_slots, now, waived_collections, act_of, acts, work, is_waived}
 use Rattle.die_log.specs.Model.Flash.{free}
 use Rattle.slot_types.specs.Operations.{writes}
-use Rattle.die_log.specs.Model.Work.{is_done, owed}
+use Rattle.die_log.specs.Model.Work.{is_done, owed_writes}
 use Rattle.plan_rules.specs.Accounts.{Accounts}
 use Rattle.plan_rules.specs.Accounts as moves
 use Rattle.die_log.specs.Model.Accounts.{accounts, after_act, after_waiver, after_waivers}
@@ -123,8 +123,8 @@ keeps_idle start past caller slot ws finished h c are =
     record {
       agree = agree_same start.plan (after_waivers past ws (accounts start past)) (held_of own (jobs past))
           (lent_to start.plan own (is_waived past) (jobs past)) (held_of own' (jobs past)) (lent_to start.plan own' (is_waived log) (jobs past))
-          (owed past) (free start past) (owed log) (free start log)
-          (agree_waivers start past (waived_collections past) (accounts start past) ws _ _ (owed past) (free start past) h.taken h.agree are)
+          (owed_writes past) (free start past) (owed_writes log) (free start log)
+          (agree_waivers start past (waived_collections past) (accounts start past) ws _ _ (owed_writes past) (free start past) h.taken h.agree are)
           (held_same own own' (jobs past) (λ k i e. ap (λ (l : List Act). writes (drop (length l) i.ops)) (same i.number)))
           (lent_idle start.plan own own' (is_waived past) (is_waived log) (λ n. is_among n ws) (jobs past) w same)
           (sum_same (left_of own) (left_of own') (jobs past)
@@ -171,8 +171,8 @@ was_pending start past ws j act h is =
 -- the accounts before the act
 pub before_act : (start : Start) (past : Log) (ws : List Waived) (j : Job) (act : Act) → IsTurn start past ws j act
     → AccountsAgree start.plan (after_waivers past ws (accounts start past)) (held_of (λ n. acts n past) (jobs past))
-    (lent_to start.plan (λ n. acts n past) (is_waived past) (jobs past)) (owed past) (free start past)
-before_act start past ws j act h = agree_waivers start past (waived_collections past) (accounts start past) ws _ _ (owed past) (free start past)
+    (lent_to start.plan (λ n. acts n past) (is_waived past) (jobs past)) (owed_writes past) (free start past)
+before_act start past ws j act h = agree_waivers start past (waived_collections past) (accounts start past) ws _ _ (owed_writes past) (free start past)
     h.true_before.taken h.true_before.agree h.waivers
 
 pub of_job : (start : Start) (past : Log) (ws : List Waived) (j : Job) (act : Act) → IsTurn start past ws j act → HasTaskAndOps start.plan j
@@ -183,7 +183,7 @@ pub from_act : (start : Start) (past : Log) (caller slot : ℕ) (ws : List Waive
     → IsTurn start past ws j act
     → (let log : Log = slot_entry caller slot ws (Some (j.number, act)) finished ∷ past in
     AccountsAgree start.plan (after_act start.plan (Some j) (acts j.number past) act (after_waivers past ws (accounts start past)))
-    (held_of (λ n. acts n log) (jobs past)) (lent_to start.plan (λ n. acts n log) (is_waived log) (jobs past)) (owed log) (free start log))
+    (held_of (λ n. acts n log) (jobs past)) (lent_to start.plan (λ n. acts n log) (is_waived log) (jobs past)) (owed_writes log) (free start log))
     → AreTrueAccounts start (slot_entry caller slot ws (Some (j.number, act)) finished ∷ past)
 from_act start past caller slot ws finished j act h agree =
     let log : Log = slot_entry caller slot ws (Some (j.number, act)) finished ∷ past in
@@ -191,7 +191,7 @@ from_act start past caller slot ws finished j act h agree =
     let a = ran_acts caller slot ws finished past j.number act in
     record {
       agree = subst (λ o. AccountsAgree start.plan (after_act start.plan o (acts j.number past) act (after_waivers past ws (accounts start past)))
-          (held_of (λ n. acts n log) (jobs past)) (lent_to start.plan (λ n. acts n log) (is_waived log) (jobs past)) (owed log) (free start log))
+          (held_of (λ n. acts n log) (jobs past)) (lent_to start.plan (λ n. acts n log) (is_waived log) (jobs past)) (owed_writes log) (free start log))
           (sym h.waits.known) agree;
       taken = h.true_before.taken;
       one_each = λ t. omega (

@@ -10,7 +10,7 @@ use Rattle.slot_types.specs.declared.events.Event.TheVariants as events
 use Rattle.die_log.specs.Model.Log.{Log, Job, jobs, acts, is_waived}
 use Rattle.die_log.specs.Model.Flash.{free}
 use Rattle.slot_types.specs.Operations.{writes}
-use Rattle.die_log.specs.Model.Work.{are_all, owed, is_copy_program}
+use Rattle.die_log.specs.Model.Work.{are_all, owed_writes, is_copy_program}
 use Rattle.die_log.specs.Model.Accounts.{accounts}
 use Rattle.die_log.specs.Model.Answers.{IsExact, reply_if_accepted, refusals, balance}
 use Rattle.die_log.proofs.Legality.{entry}
@@ -68,10 +68,10 @@ keeps_submit start past caller task release due ops exact h refused =
     let old = held_of own (jobs past) in
     record {
       agree = agree_same start.plan _ (held_of own (jobs past ++ j ∷ [])) (lent_to start.plan own (is_waived past) (jobs past))
-          (held_of own (jobs past ++ j ∷ [])) (lent_to start.plan own (is_waived past) (jobs past ++ j ∷ [])) (owed past + writes ops)
+          (held_of own (jobs past ++ j ∷ [])) (lent_to start.plan own (is_waived past) (jobs past ++ j ∷ [])) (owed_writes past + writes ops)
           (free start past) _ (free start past)
           (agree_admitted start.plan (accounts start past) old (lent_to start.plan own (is_waived past) (jobs past)) (held_of own (jobs past ++ j ∷ []))
-          (owed past) (free start past) task (writes ops) h.agree within has
+          (owed_writes past) (free start past) task (writes ops) h.agree within has
           (λ t. sum_by_push (λ i. at_task i.task (left_of own i) t) (jobs past) j ∙ ap (λ n. old t + at_task task n t) left))
           (λ t. refl)
           (λ t. omega (arith, sum_by_push (λ i. at_task i.task (lent_of start.plan own (is_waived past) i) t) (jobs past) j, at_none task t))
@@ -104,7 +104,7 @@ keeps_collect start past caller task release due exact h refused =
     (λ i e. turned i.collects (i.task == task) (not (are_all start.plan i (own i.number))) (not (gone i.number)) e) refused.1.1.1.0 in
     record {
       agree = agree_same start.plan (accounts start past) (held_of own (jobs past)) (lent_to start.plan own gone (jobs past))
-          (held_of own (jobs past ++ j ∷ [])) (lent_to start.plan own gone (jobs past ++ j ∷ [])) (owed past) (free start past) _ (free start past)
+          (held_of own (jobs past ++ j ∷ [])) (lent_to start.plan own gone (jobs past ++ j ∷ [])) (owed_writes past) (free start past) _ (free start past)
           h.agree
           (λ t. omega (
             arith,

@@ -13,7 +13,7 @@ use Rattle.slot_types.specs.declared.replies.Waived.{Waived}
 use Rattle.die_log.specs.Model.Log.{Log, Job, jobs, acts, is_waived, work}
 use Rattle.die_log.specs.Model.Flash.{cells, free, free_in, block_at, block_after_erase_slot}
 use Rattle.slot_types.specs.Operations.{is_write}
-use Rattle.die_log.specs.Model.Work.{are_all, is_erase, is_copy_program, owed}
+use Rattle.die_log.specs.Model.Work.{are_all, is_erase, is_copy_program, owed_writes}
 use Rattle.plan_rules.specs.Accounts.{Accounts, accounts_after_collection}
 use Rattle.die_log.specs.Model.Accounts.{accounts, after_waivers}
 use Rattle.die_log.specs.Results.Legal.{is_among, Does, FindsFree}
@@ -48,7 +48,7 @@ lent_fits start a held lent owed free task g h few =
 -- the turn of a job: with this many writes carried
 record LeavesJob (plan : DiePlan) (past : Log) (log : Log) (j : Job) (d : ℕ) : Type 0 where
   held : (t : ℕ) → held_of (λ n. acts n past) (jobs past) t ≡ held_of (λ n. acts n log) (jobs past) t + at_task j.task d t
-  owed_is : owed past ≡ sum_by (left_of (λ n. acts n log)) (jobs past) + d
+  owed_is : owed_writes past ≡ sum_by (left_of (λ n. acts n log)) (jobs past) + d
   lent : (t : ℕ) → lent_to plan (λ n. acts n past) (is_waived past) (jobs past) t
       ≡ lent_to plan (λ n. acts n log) (is_waived log) (jobs past) t
 
@@ -80,7 +80,7 @@ leaves_job start past caller slot ws finished j act op h is e =
 -- the turn of a collection: nothing is written for a job, and it is still pending or not
 record LeavesCollection (plan : DiePlan) (past : Log) (log : Log) (j : Job) (act : Act) (is_over : Bool) : Type 0 where
   held : (t : ℕ) → held_of (λ n. acts n past) (jobs past) t ≡ held_of (λ n. acts n log) (jobs past) t
-  owed_is : owed past ≡ sum_by (left_of (λ n. acts n log)) (jobs past)
+  owed_is : owed_writes past ≡ sum_by (left_of (λ n. acts n log)) (jobs past)
   before : lent_of plan (λ n. acts n past) (is_waived past) j ≡ count_by is_copy_program (acts j.number past)
   after : lent_of plan (λ n. acts n log) (is_waived log) j
       ≡ some_if (not is_over) (count_by is_copy_program (acts j.number past) + one_if (is_copy_program act))
@@ -150,7 +150,7 @@ turn_read start past caller slot ws finished j page bytes h k = by_op k.op k.nex
         let log : Log = turn_log past caller slot ws finished j (does.Read page bytes) in
         from_act start past caller slot ws finished j (does.Read page bytes) h (
         agree_same start.plan (after_waivers past ws (accounts start past)) _ _ (held_of (λ n. acts n log) (jobs past))
-        (lent_to start.plan (λ n. acts n log) (is_waived log) (jobs past)) (owed past) (free start past) (owed log) (free start log)
+        (lent_to start.plan (λ n. acts n log) (is_waived log) (jobs past)) (owed_writes past) (free start past) (owed_writes log) (free start log)
         (before_act start past ws j (does.Read page bytes) h) (λ t. omega (arith, l.held t, at_none j.task t)) l.lent
         (omega (arith, l.owed_is)) refl
         )
@@ -169,14 +169,14 @@ turn_write start past caller slot ws finished j page bytes bound h k = by_op k.o
         let l = leaves_job start past caller slot ws finished j act (asks.Write p b) h k.job e in
         let log : Log = turn_log past caller slot ws finished j act in
         let before = before_act start past ws j act h in
-        let some : 0 < free start past = omega (arith, l.owed_is, owed_fits start _ _ _ (owed past) (free start past) before) in (
+        let some : 0 < free start past = omega (arith, l.owed_is, owed_fits start _ _ _ (owed_writes past) (free start past) before) in (
           from_act start past caller slot ws finished j act h (
               agree_same start.plan _ (held_of (λ n. acts n log) (jobs past)) (lent_to start.plan (λ n. acts n past) (is_waived past) (jobs past))
-              (held_of (λ n. acts n log) (jobs past)) (lent_to start.plan (λ n. acts n log) (is_waived log) (jobs past)) (owed log)
-              (free start log) (owed log) (free start log)
+              (held_of (λ n. acts n log) (jobs past)) (lent_to start.plan (λ n. acts n log) (is_waived log) (jobs past)) (owed_writes log)
+              (free start log) (owed_writes log) (free start log)
               (agree_written start.plan (after_waivers past ws (accounts start past)) (held_of (λ n. acts n past) (jobs past))
-              (lent_to start.plan (λ n. acts n past) (is_waived past) (jobs past)) (held_of (λ n. acts n log) (jobs past)) (owed past)
-              (free start past) j.task (owed log) (free start log)
+              (lent_to start.plan (λ n. acts n past) (is_waived past) (jobs past)) (held_of (λ n. acts n log) (jobs past)) (owed_writes past)
+              (free start past) j.task (owed_writes log) (free start log)
               before (of_job start past ws j act h).task l.held l.owed_is
               (sym (program_free start.plan page (cells start past) (omega (arith, bound.bound.shape.some_pages)) h.serve.sound some)))
               (λ t. refl) l.lent refl refl
@@ -198,7 +198,7 @@ turn_trim start past caller slot ws finished j page h k = by_op k.op k.next k.do
         let log : Log = turn_log past caller slot ws finished j (does.Trim page) in
         from_act start past caller slot ws finished j (does.Trim page) h (
         agree_same start.plan (after_waivers past ws (accounts start past)) _ _ (held_of (λ n. acts n log) (jobs past))
-        (lent_to start.plan (λ n. acts n log) (is_waived log) (jobs past)) (owed past) (free start past) (owed log) (free start log)
+        (lent_to start.plan (λ n. acts n log) (is_waived log) (jobs past)) (owed_writes past) (free start past) (owed_writes log) (free start log)
         (before_act start past ws j (does.Trim page) h) (λ t. omega (arith, l.held t, at_none j.task t)) l.lent (omega (arith, l.owed_is))
         refl
         )
@@ -216,7 +216,7 @@ turn_copy_read start past caller slot ws finished j page h is =
     let a = ran_acts caller slot ws finished past j.number act in
     from_act start past caller slot ws finished j act h (
     agree_same start.plan (after_waivers past ws (accounts start past)) _ _ (held_of own' (jobs past))
-    (lent_to start.plan own' (is_waived log) (jobs past)) (owed past) (free start past) (owed log) (free start log)
+    (lent_to start.plan own' (is_waived log) (jobs past)) (owed_writes past) (free start past) (owed_writes log) (free start log)
     (before_act start past ws j act h) l.held
     (λ t. omega (
       arith,
@@ -245,12 +245,12 @@ turn_copy start past caller slot ws finished j page bound h is =
     (was_pending start past ws j act h is) in
     let few : lent_to start.plan own (is_waived past) (jobs past) j.task
     < reserve_full start.plan = omega (arith, alone, h.serve.few_copies j page h.waits.known h.waits.ready h.does_it) in
-    let some : 0 < free start past = lent_fits start _ _ _ (owed past) (free start past) j.task before within few in (
+    let some : 0 < free start past = lent_fits start _ _ _ (owed_writes past) (free start past) j.task before within few in (
       from_act start past caller slot ws finished j act h (
           agree_same start.plan _ (held_of own (jobs past)) (lent_to start.plan own' (is_waived log) (jobs past)) (held_of own' (jobs past))
-          (lent_to start.plan own' (is_waived log) (jobs past)) (owed past) (free start log) (owed log) (free start log)
+          (lent_to start.plan own' (is_waived log) (jobs past)) (owed_writes past) (free start log) (owed_writes log) (free start log)
           (agree_copied start.plan (after_waivers past ws (accounts start past)) (held_of own (jobs past))
-          (lent_to start.plan own (is_waived past) (jobs past)) (lent_to start.plan own' (is_waived log) (jobs past)) (owed past) (free start past)
+          (lent_to start.plan own (is_waived past) (jobs past)) (lent_to start.plan own' (is_waived log) (jobs past)) (owed_writes past) (free start past)
           j.task (free start log)
           before within few
           (lent_more start.plan own own' (is_waived past) (is_waived log) (λ n. is_among n ws) (jobs past) j act 1 h.serve.numbered h.waits.known
@@ -287,7 +287,7 @@ erase_by : (start : Start) (past : Log) (caller slot : ℕ) (ws : List Waived) (
     → are_all start.plan j (acts j.number past ++ does.Erase b ∷ []) ≡ is_over
     → (let log : Log = turn_log past caller slot ws finished j (does.Erase b) in
     AccountsAgree start.plan (after_erase start.plan j (acts j.number past) (after_waivers past ws (accounts start past)) is_over)
-    (held_of (λ n. acts n log) (jobs past)) (lent_to start.plan (λ n. acts n log) (is_waived log) (jobs past)) (owed log) (free start log))
+    (held_of (λ n. acts n log) (jobs past)) (lent_to start.plan (λ n. acts n log) (is_waived log) (jobs past)) (owed_writes log) (free start log))
 erase_by start past caller slot ws finished j b true bound h is all =
     let act : Act = does.Erase b in
     let log : Log = turn_log past caller slot ws finished j act in
@@ -297,9 +297,9 @@ erase_by start past caller slot ws finished j b true bound h is all =
     let w = slot_waives start caller slot ws (Some (j.number, act)) finished past h.serve.numbered h.waivers in
     let a = ran_acts caller slot ws finished past j.number act in
     agree_same start.plan _ (held_of own (jobs past)) (lent_to start.plan own' (is_waived log) (jobs past)) (held_of own' (jobs past))
-    (lent_to start.plan own' (is_waived log) (jobs past)) (owed past) (free start log) (owed log) (free start log)
+    (lent_to start.plan own' (is_waived log) (jobs past)) (owed_writes past) (free start log) (owed_writes log) (free start log)
     (agree_settled start.plan (after_waivers past ws (accounts start past)) (held_of own (jobs past))
-    (lent_to start.plan own (is_waived past) (jobs past)) (lent_to start.plan own' (is_waived log) (jobs past)) (owed past) (free start past) j.task
+    (lent_to start.plan own (is_waived past) (jobs past)) (lent_to start.plan own' (is_waived log) (jobs past)) (owed_writes past) (free start past) j.task
     (copied_of own j) (free start log)
     (before_act start past ws j act h) bound.bound.limits.alpha_fits (of_job start past ws j act h).task
     (lent_less start.plan own own' (is_waived past) (is_waived log) (λ n. is_among n ws) (jobs past) j act (copied_of own j) h.serve.numbered
@@ -315,7 +315,7 @@ erase_by start past caller slot ws finished j b false bound h is all =
     let w = slot_waives start caller slot ws (Some (j.number, act)) finished past h.serve.numbered h.waivers in
     let a = ran_acts caller slot ws finished past j.number act in
     agree_same start.plan (after_waivers past ws (accounts start past)) _ _ (held_of own' (jobs past))
-    (lent_to start.plan own' (is_waived log) (jobs past)) (owed past) (free start past) (owed log) (free start log)
+    (lent_to start.plan own' (is_waived log) (jobs past)) (owed_writes past) (free start past) (owed_writes log) (free start log)
     (before_act start past ws j act h) l.held
     (λ t. omega (
       arith,

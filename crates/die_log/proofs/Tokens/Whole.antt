@@ -8,7 +8,7 @@ use Rattle.slot_types.specs.declared.replies.Reply.TheVariants as replies
 use Rattle.slot_types.specs.declared.replies.Waived.{Waived}
 use Rattle.die_log.specs.Model.Log.{Log, Job, jobs, job_at, now, waived_collections}
 use Rattle.die_log.specs.Model.Flash.{free}
-use Rattle.die_log.specs.Model.Work.{owed}
+use Rattle.die_log.specs.Model.Work.{owed_writes}
 use Rattle.die_log.specs.Model.Accounts.{accounts}
 use Rattle.die_log.specs.Model.Answers.{IsExact, reply_if_accepted, refusals, choice, slot_reply, reply_with, act_for}
 use Rattle.die_log.specs.Results.Legal.{AreWaivers}
@@ -69,5 +69,5 @@ keeps start past caller (events.Collect task release due) bound exact h c none =
 keeps start past caller events.Slot bound exact h c none = (keeps_slot start past caller bound h c).0
 
 -- no more is owed than is free
-pub owed_is_free : (start : Start) (log : Log) → AreTrueAccounts start log → owed log ≤ free start log
-owed_is_free start log h = owed_fits start (accounts start log) _ _ (owed log) (free start log) h.agree
+pub owed_is_free : (start : Start) (log : Log) → AreTrueAccounts start log → owed_writes log ≤ free start log
+owed_is_free start log h = owed_fits start (accounts start log) _ _ (owed_writes log) (free start log) h.agree

@@ -4,7 +4,7 @@ use Rattle.slot_types.specs.declared.events.Event.{Event}
 use Rattle.die_log.specs.Model.Log.{Log, now, waived_collections}
 use Rattle.die_log.specs.Model.Flash.{cells, valid_pages, free}
 use Rattle.die_log.specs.Model.Accounts.{accounts}
-use Rattle.die_log.specs.Model.Work.{completion, owed}
+use Rattle.die_log.specs.Model.Work.{completion, owed_writes}
 use Rattle.die_log.specs.Model.Answers.{run, answer}
 use Rattle.die_log.proofs.Worked.Plans.{tight, amounts, submit, collect, slot, put, numbers, worst_of, programs}
 
@@ -57,7 +57,7 @@ tokens : accounts tight full ≡ amounts tight.plan 0 0 0 2
 unfolding answer
 tokens = refl
 
-left_free : (now full ∷ free tight full ∷ owed full ∷ []) ≡ 19 ∷ 2 ∷ 0 ∷ []
+left_free : (now full ∷ free tight full ∷ owed_writes full ∷ []) ≡ 19 ∷ 2 ∷ 0 ∷ []
 unfolding answer
 left_free = refl
 

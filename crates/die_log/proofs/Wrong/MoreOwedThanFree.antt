@@ -3,7 +3,7 @@ use Rattle.std.proofs.Common.{◌≡◌, [], ◌∷◌, refl, arith}
 use Rattle.slot_types.specs.declared.acts.Act.TheVariants as does
 use Rattle.die_log.specs.Model.Log.{Log}
 use Rattle.die_log.specs.Model.Flash.{free}
-use Rattle.die_log.specs.Model.Work.{owed}
+use Rattle.die_log.specs.Model.Work.{owed_writes}
 use Rattle.die_log.specs.Model.Answers.{answer}
 use Rattle.die_log.specs.Results.Legal.{IsLegal}
 use Rattle.die_log.proofs.Worked.Plans.{tight, put, bytes}
@@ -17,7 +17,7 @@ two_free : free tight promised ≡ 2
 unfolding answer
 two_free = refl
 
-three_owed : owed promised ≡ 3
+three_owed : owed_writes promised ≡ 3
 unfolding answer
 three_owed = refl
 

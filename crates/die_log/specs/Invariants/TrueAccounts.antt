@@ -9,7 +9,7 @@ use Rattle.plan_rules.specs.Accounts.{Accounts}
 use Rattle.die_log.specs.Model.Log.{Log, Job, jobs, acts, is_waived}
 use Rattle.die_log.specs.Model.Flash.{free}
 use Rattle.slot_types.specs.Operations.{writes}
-use Rattle.die_log.specs.Model.Work.{are_all, is_copy_program, owed}
+use Rattle.die_log.specs.Model.Work.{are_all, is_copy_program, owed_writes}
 use Rattle.die_log.specs.Model.Accounts.{accounts}
 use Rattle.die_log.specs.Model.Start.{Start}
 
@@ -73,7 +73,7 @@ pub record HasTaskAndOps (plan : DiePlan) (j : Job) : Type 0 where
 -- nor waived, and no waived one has an act
 pub record AreTrueAccounts (start : Start) (log : Log) : Type 0 where
   pub agree : AccountsAgree start.plan (accounts start log) (held_of (λ n. acts n log) (jobs log))
-      (lent_to start.plan (λ n. acts n log) (is_waived log) (jobs log)) (owed log) (free start log)
+      (lent_to start.plan (λ n. acts n log) (is_waived log) (jobs log)) (owed_writes log) (free start log)
   pub taken : AllByRecursion (HasTaskAndOps start.plan) (jobs log)
   pub one_each : (task : ℕ) → pending_of start.plan (λ n. acts n log) (is_waived log) (jobs log) task ≤ 1
   pub idle_waived : (number : ℕ) → is_waived log number ≡ true → acts number log ≡ []

@@ -109,5 +109,5 @@ victim_of start number (e ∷ past) = shown_by start past (victim_of start numbe
 -- Owed
 
 -- the writes of accepted jobs that are not yet carried
-abbrev pub owed : Log → ℕ
-owed log = sum_by (λ j. writes (drop (work j.number log) j.ops)) (jobs log)
+abbrev pub owed_writes : Log → ℕ
+owed_writes log = sum_by (λ j. writes (drop (work j.number log) j.ops)) (jobs log)

@@ -16,7 +16,7 @@ use Rattle.slot_types.specs.declared.replies.Waived.{Waived}
 use Rattle.slot_types.specs.declared.replies.Entry.{Entry}
 use Rattle.die_log.specs.Model.Log.{Log, Job, Carried, jobs, job_at, now, waived_collections, acts, work}
 use Rattle.die_log.specs.Model.Flash.{cells, content, block_at, block_of_page, valid, free, ran_by}
-use Rattle.die_log.specs.Model.Work.{is_erase, is_done, is_ready, victim_of, shown_by, owed}
+use Rattle.die_log.specs.Model.Work.{is_erase, is_done, is_ready, victim_of, shown_by, owed_writes}
 use Rattle.plan_rules.specs.Accounts.{Accounts, given_of}
 use Rattle.plan_rules.specs.Accounts as moves
 use Rattle.die_log.specs.Model.Accounts.{accounts}
@@ -165,7 +165,7 @@ pub record IsLegalEntry (start : Start) (past : Log) (e : Entry) : Type 0 where
   pub numbered : IsNumbered past e.event e.reply
   pub in_time : ArrivesInTime past e.event
   pub slot : IsLegalReply start past e.reply
-  pub room : owed (e ∷ past) ≤ free start (e ∷ past)
+  pub room : owed_writes (e ∷ past) ≤ free start (e ∷ past)
 
 abbrev pub IsLegal : Start → Log → Type 0
 IsLegal start [] = Unit {0}

@@ -11,7 +11,7 @@ use Rattle.late_cert.specs.Schedule.{IsLeastLate}
 use Rattle.late_cert.specs.BusyInterval.{CarriesLeastKeys}
 use Rattle.die_log.specs.Model.Log.{Log, Job, jobs, waived_collections, acts, work}
 use Rattle.die_log.specs.Model.Flash.{content, free}
-use Rattle.die_log.specs.Model.Work.{is_copy_program, owed}
+use Rattle.die_log.specs.Model.Work.{is_copy_program, owed_writes}
 use Rattle.die_log.specs.Model.Accounts.{accounts}
 use Rattle.die_log.specs.Model.Answers.{IsExact}
 use Rattle.die_log.specs.Results.Legal.{ArrivesInTime, AreWaivers, FindsFree, NothingWaits, IsLegal}
@@ -48,7 +48,7 @@ pub record KeepsPromises (start : Start) (log : Log) : Type 0 where
       ≡ Some (number, does.Read page bytes) → bytes ≡ content start past page
   pub programs : (s : SlotReply) (past : Log) (number : ℕ) (act : Act) → HasSlot log s past → s.ran ≡ Some (number, act)
       → FindsFree start past act
-  pub room : (moment : Log) → HasMoment log moment → owed moment ≤ free start moment
+  pub room : (moment : Log) → HasMoment log moment → owed_writes moment ≤ free start moment
   pub never_idle : (s : SlotReply) (past : Log) → HasSlot log s past → s.ran ≡ None → NothingWaits start.plan past s.waived
   pub waivers : (s : SlotReply) (past : Log) → HasSlot log s past → AreWaivers start.plan past (waived_collections past) (accounts start past) s.waived
   pub least_keys : (moment : Log) → HasMoment log moment → CarriesLeastKeys (rows start.plan moment) (carried_numbers moment)

@@ -1,8 +1,7 @@
-use Rattle.std.proofs.Common.{◌≡◌, ◌<◌, ◌≤◌, ◌⊎◌, inl, inr, ℕ, Result, Ok, Err, refl, sym, ap, ◌∙◌}
+use Rattle.std.proofs.Common.{◌≡◌, ◌<◌, ◌≤◌, ◌⊎◌, inl, inr, ℕ, Result, Ok, Err, refl, sym, ◌∙◌}
 use Rattle.std.specs.Prelude.{IsOk, OnErr}
 use Rattle.std.proofs.lemmas.Bool.{cases_lt}
 use Rattle.slot_types.specs.declared.refusals.Refusal.{Refusal}
-use Rattle.event_log.specs.NoteRecords.{kept_of}
 use Rattle.event_log.proofs.laws.making_room_has_one_answer.Goals as goal
 
 -- two calls that aren't refused have one answer
@@ -39,7 +38,7 @@ pub returns-clause-log : goal.returns-clause-log
 returns-clause-log g c = λ events waivers before left right one other well well' fails fails' notes notes' marked marked' kept kept' so so'. (
   notes ∙ sym notes',
   marked ∙ sym marked',
-  kept ∙ (ap kept_of (notes ∙ sym notes') ∙ sym kept'),
+  kept ∙ sym kept',
   one_or_shorter events before.room waivers before.waiver_room one other well well',
   left_so before left right one other so so',
 )

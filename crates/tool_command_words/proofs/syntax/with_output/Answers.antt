@@ -1,4 +1,4 @@
-use Rattle.tool_command_words.proofs.syntax.written.Goals as goal
+use Rattle.tool_command_words.proofs.syntax.with_output.Goals as goal
 
 pub returns : goal.returns
 returns c app made =
