@@ -1,9 +1,9 @@
 //! What holds of the texts themselves.
 
-ghost use Rattle.std.specs.Prelude.{◌≡◌, ◌≤◌, ◌⊎◌, ℕ, List, Ok, Result, Some, IfErr, OnOk, length};
+ghost use Rattle.std.specs.Prelude.{◌≡◌, ◌≤◌, ◌⊎◌, ◌↔◌, ℕ, List, Ok, Result, Some, true, false, IfErr, OnOk, length};
 ghost use Rattle.std.specs.Io.KnownBytes.{Appends};
 ghost use Rattle.slot_types.specs.declared.refusals.Refusal.{Refusal as Refused};
-ghost use Rattle.text_base.specs.Writing.{AppendsPart};
+ghost use Rattle.text_base.specs.Writing.{AppendsPart, KeepsFlag, SetsFlag};
 ghost use Rattle.checkpoint_texts.specs.CheckpointOf.{checkpoint_of};
 ghost use Rattle.checkpoint_texts.specs.CheckpointText.{checkpoint_text};
 ghost use Rattle.checkpoint_texts.specs.Readings.{Says};
@@ -13,7 +13,7 @@ ghost use Rattle.checkpoint_texts.specs.declared.fault.TextFault.{TextFault};
 ghost use Rattle.checkpoint_texts.specs.declared.saved.SavedDie.{SavedDie};
 
 use slot_types::Refusal;
-use std::io::Write;
+use text_base::Output;
 
 /// The text of a checkpoint reads as the checkpoint: whatever is written of one to eight dies within the limits is read
 /// back the same.
@@ -36,9 +36,10 @@ pub fn reading_a_checkpoint_has_one_answer()
 
 /// Writing a checkpoint (`write_checkpoint`) has one answer, where what its writer has is known, and leaves one text
 /// there; out of memory it leaves the writer as it was. Left open is whether there is memory for it, whether the writer
-/// fails, and how much of the text it took then.
-pub fn writing_a_checkpoint_has_one_answer<W: Write>()
-    ensures { (text known : List ℕ) (before left right : W)
+/// fails, and how much of the text it took then. Where its flag is known, and wasn't set, WriteFault is answered exactly
+/// where the flag was set, so that of two answers with the same flag memory alone is left open.
+pub fn writing_a_checkpoint_has_one_answer<W: Output>()
+    ensures written { (text known : List ℕ) (before left right : W)
         (one other : Result (Unit {0}) Refused) →
         W.contents before ≡ Some known →
         OnOk one (Appends (W.contents before) (W.contents left) text) →
@@ -55,4 +56,19 @@ pub fn writing_a_checkpoint_has_one_answer<W: Write>()
         × (one ≡ Err Refusal.NoMemory → other ≡ Err Refusal.NoMemory → left ≡ right)
         × ((one ≡ other) ⊎ (one ≡ Err Refusal.NoMemory) ⊎ (one ≡ Err Refusal.WriteFault)
         ⊎ (other ≡ Err Refusal.NoMemory) ⊎ (other ≡ Err Refusal.WriteFault)) }
+    ensures flagged { (before left right : W) (one other : Result (Unit {0}) Refused) →
+        W.has_failed before ≡ Some false →
+        OnOk one (KeepsFlag (W.has_failed before) (W.has_failed left)) →
+        OnOk other (KeepsFlag (W.has_failed before) (W.has_failed right)) →
+        (one ≡ Err Refusal.NoMemory → left ≡ before) →
+        (other ≡ Err Refusal.NoMemory → right ≡ before) →
+        (one ≡ Err Refusal.WriteFault
+        → SetsFlag (W.has_failed before) (W.has_failed left)) →
+        (other ≡ Err Refusal.WriteFault
+        → SetsFlag (W.has_failed before) (W.has_failed right)) →
+        IfErr one (λ refusal. (refusal ≡ Refusal.NoMemory) ⊎ (refusal ≡ Refusal.WriteFault)) →
+        IfErr other (λ refusal. (refusal ≡ Refusal.NoMemory) ⊎ (refusal ≡ Refusal.WriteFault)) →
+        (W.has_failed left ≡ W.has_failed right →
+        (one ≡ other) ⊎ (one ≡ Err Refusal.NoMemory) ⊎ (other ≡ Err Refusal.NoMemory))
+        × ((one ≡ Err Refusal.WriteFault) ↔ (W.has_failed left ≡ Some true)) }
 {}

@@ -5,7 +5,7 @@ ghost use Rattle.std.specs.Io.KnownBytes.{Appends};
 ghost use Rattle.csv.specs.Writing.{default_writer, row_text};
 ghost use Rattle.slot_types.specs.Refusal.{FailsForMemory};
 ghost use Rattle.report_texts.specs.ReportText.{records_text};
-ghost use Rattle.text_base.specs.Writing.{AppendsPart};
+ghost use Rattle.text_base.specs.Writing.{AppendsPart, KeepsFlag, SetsFlag};
 ghost use Rattle.checkpoint_texts.specs.CheckpointText.{block_record, checkpoint_text, die_records, page_record, task_record};
 
 use crate::lines::{put_block, put_end, put_header, put_saved_page, put_task};
@@ -14,8 +14,7 @@ use die_checkpoint::BlockCounts;
 use slot_types::Refusal;
 use std::alloc::Global;
 use std::io;
-use std::io::Write;
-use text_base::write_whole;
+use text_base::{Output, write_whole};
 
 fn put_pages(text: &mut Vec<u8>, pages: &[SavedPage]) -> io::Result<()>
     ensures { OnOk result (text.new.items ≡ text.old.items ++ flat_map (λ page.
@@ -86,9 +85,9 @@ fn text_of(alloc: Global, store: &SavedStore) -> Result<Vec<u8>, Refusal>
 /// have no leading zeros, pages are 32 lower-case hexadecimal digits, each record ends with one line feed, no field is
 /// quoted.
 ///
-/// NoMemory comes before the first byte, and the writer is as it was. WriteFault comes where the writer fails, as
-/// [`write_whole`] says: a front of the text was then written that isn't the whole.
-pub fn write_checkpoint<W: Write>(
+/// NoMemory comes before the first byte, and the writer is as it was. WriteFault comes exactly where the writer fails,
+/// as [`write_whole`] says: a front of the text was then written that isn't the whole.
+pub fn write_checkpoint<W: Output>(
     alloc: Global,
     writer: &mut W,
     store: &SavedStore,
@@ -96,9 +95,13 @@ pub fn write_checkpoint<W: Write>(
     requires few { length store.now ≤ 8 }
     ensures written { OnOk result
         (Appends (W.contents writer.old) (W.contents writer.new) (checkpoint_text store.now)) }
+    ensures works { OnOk result
+        (KeepsFlag (W.has_failed writer.old) (W.has_failed writer.new)) }
     ensures memory { result ≡ Err Refusal.NoMemory → writer.new ≡ writer.old }
     ensures part { result ≡ Err Refusal.WriteFault
         → AppendsPart (W.contents writer.old) (W.contents writer.new) (checkpoint_text store.now) }
+    ensures failed { result ≡ Err Refusal.WriteFault
+        → SetsFlag (W.has_failed writer.old) (W.has_failed writer.new) }
     ensures refused { IfErr result (λ refusal.
         (refusal ≡ Refusal.NoMemory) ⊎ (refusal ≡ Refusal.WriteFault)) }
 {

@@ -1,7 +1,7 @@
 -- Texts that are written piece by piece, one after the other.
 use Rattle.std.proofs.Common.{◌≡◌, ◌<◌, ◌+◌, ℕ, List, [], ◌∷◌, ◌++◌, length, take, drop, get_or, Option, Result, Ok, Err, OnErr, refl, sym, ap, ◌∙◌, subst}
 use Rattle.std.proofs.Common.{append-nil, length-append, arith}
-use Rattle.std.specs.Prelude.{flat_map}
+use Rattle.std.specs.Prelude.{OnOk, flat_map}
 use Rattle.std.specs.Io.KnownBytes.{Appends}
 use Rattle.std.proofs.KnownBytes.{Appends-nil, Appends-trans}
 use Rattle.std.proofs.Math.Seq.{take-append-add}
@@ -72,6 +72,11 @@ pieces-all f a b xs i above so-far =
 pub on-error-then : {A E : Type 0} (r : Result A E) (P Q : Type 0) → (P → Q) → OnErr r P → OnErr r Q
 on-error-then (Ok x) P Q turn p = p
 on-error-then (Err e) P Q turn p = turn p
+
+-- and so after none
+pub on-ok-then : {A E : Type 0} (r : Result A E) (P Q : Type 0) → (P → Q) → OnOk r P → OnOk r Q
+on-ok-then (Ok x) P Q turn p = turn p
+on-ok-then (Err e) P Q turn p = p
 
 -- the header, and after it the lines of all dies, are the text of their report
 pub parts_whole : (parts : List TextSoFar) (report : List DieReport) → rows_of_parts parts ≡ records_text (flat_map die_records report)

@@ -1,9 +1,9 @@
 //! What holds of the texts themselves.
 
-ghost use Rattle.std.specs.Prelude.{◌≡◌, ◌⊎◌, ℕ, List, Ok, Result, Some, IfErr, OnOk};
+ghost use Rattle.std.specs.Prelude.{◌≡◌, ◌⊎◌, ◌↔◌, ℕ, List, Ok, Result, Some, true, false, IfErr, OnOk};
 ghost use Rattle.std.specs.Io.KnownBytes.{Appends};
 ghost use Rattle.slot_types.specs.declared.refusals.Refusal.{Refusal as Refused};
-ghost use Rattle.text_base.specs.Writing.{AppendsPart};
+ghost use Rattle.text_base.specs.Writing.{AppendsPart, KeepsFlag, SetsFlag};
 ghost use Rattle.report_texts.specs.Refused.{EndsOutside};
 ghost use Rattle.report_texts.specs.ReportOf.{Reading, Says, report_of};
 ghost use Rattle.report_texts.specs.ReportText.{report_text};
@@ -13,7 +13,7 @@ ghost use Rattle.report_texts.specs.declared.report_work.DieWork.{DieWork};
 ghost use Rattle.report_texts.specs.declared.reports.DieReport.{DieReport};
 
 use slot_types::Refusal;
-use std::io::Write;
+use text_base::Output;
 
 /// The text of a report reads as the report: whatever is written of a report that meets the conditions of reading is
 /// read back the same.
@@ -38,9 +38,10 @@ pub fn reading_the_work_has_one_answer()
 
 /// Writing a report (`write`, `write_parts`, `write_report`) has one answer, where what its writer has is known, and
 /// leaves one text there; out of memory it leaves the writer as it was. Left open is whether there is memory for it,
-/// whether the writer fails, and how much of the text it took then.
-pub fn writing_a_report_has_one_answer<W: Write>()
-    ensures { (text known : List ℕ) (before left right : W)
+/// whether the writer fails, and how much of the text it took then. Where its flag is known, and wasn't set, WriteFault
+/// is answered exactly where the flag was set, so that of two answers with the same flag memory alone is left open.
+pub fn writing_a_report_has_one_answer<W: Output>()
+    ensures written { (text known : List ℕ) (before left right : W)
         (one other : Result (Unit {0}) Refused) →
         W.contents before ≡ Some known →
         OnOk one (Appends (W.contents before) (W.contents left) text) →
@@ -57,4 +58,19 @@ pub fn writing_a_report_has_one_answer<W: Write>()
         × (one ≡ Err Refusal.NoMemory → other ≡ Err Refusal.NoMemory → left ≡ right)
         × ((one ≡ other) ⊎ (one ≡ Err Refusal.NoMemory) ⊎ (one ≡ Err Refusal.WriteFault)
         ⊎ (other ≡ Err Refusal.NoMemory) ⊎ (other ≡ Err Refusal.WriteFault)) }
+    ensures flagged { (before left right : W) (one other : Result (Unit {0}) Refused) →
+        W.has_failed before ≡ Some false →
+        OnOk one (KeepsFlag (W.has_failed before) (W.has_failed left)) →
+        OnOk other (KeepsFlag (W.has_failed before) (W.has_failed right)) →
+        (one ≡ Err Refusal.NoMemory → left ≡ before) →
+        (other ≡ Err Refusal.NoMemory → right ≡ before) →
+        (one ≡ Err Refusal.WriteFault
+        → SetsFlag (W.has_failed before) (W.has_failed left)) →
+        (other ≡ Err Refusal.WriteFault
+        → SetsFlag (W.has_failed before) (W.has_failed right)) →
+        IfErr one (λ refusal. (refusal ≡ Refusal.NoMemory) ⊎ (refusal ≡ Refusal.WriteFault)) →
+        IfErr other (λ refusal. (refusal ≡ Refusal.NoMemory) ⊎ (refusal ≡ Refusal.WriteFault)) →
+        (W.has_failed left ≡ W.has_failed right →
+        (one ≡ other) ⊎ (one ≡ Err Refusal.NoMemory) ⊎ (other ≡ Err Refusal.NoMemory))
+        × ((one ≡ Err Refusal.WriteFault) ↔ (W.has_failed left ≡ Some true)) }
 {}

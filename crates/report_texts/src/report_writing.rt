@@ -7,7 +7,7 @@ ghost use Rattle.report_texts.specs.ReportText.{report_text};
 ghost use Rattle.report_texts.specs.RowNumbers.{row_with};
 ghost use Rattle.report_texts.specs.TextSoFar.{cert_added, certs_of_parts, die_added, joined_text, no_lines, row_added};
 ghost use Rattle.report_texts.specs.TextSoFar.{rows_added, rows_of_parts, text_so_far, whole_text};
-ghost use Rattle.text_base.specs.Writing.{AppendsPart};
+ghost use Rattle.text_base.specs.Writing.{AppendsPart, KeepsFlag, SetsFlag};
 
 use crate::report_lines::{put_cert, put_header, put_row};
 use crate::reports::{DieReport, Report, ReportRow};
@@ -15,9 +15,8 @@ use crate::row_numbers::RowNumbers;
 use late_cert::Certificate;
 use slot_types::{PageData, Refusal};
 use std::alloc::Global;
-use std::io::Write;
 use std::marker::Model;
-use text_base::write_whole;
+use text_base::{Output, write_whole};
 
 /// The text of a report while it is made: a line for each row as it comes, and the certificates, which stand after all
 /// rows. It keeps no row and no page but as text.
@@ -89,14 +88,18 @@ impl ReportText {
     /// Writes the text as csv: a header, the rows, and after all of them the certificates. Numbers have no leading
     /// zeros, pages are 32 lower-case hexadecimal digits, each record ends with one line feed, no field is quoted.
     ///
-    /// It takes no memory. WriteFault comes where the writer fails, as [`write_whole`] says: a front of the text was then
-    /// written that isn't the whole.
-    pub fn write<W: Write>(self, writer: &mut W) -> Result<(), Refusal>
+    /// It takes no memory. WriteFault comes exactly where the writer fails, as [`write_whole`] says: a front of the text
+    /// was then written that isn't the whole.
+    pub fn write<W: Output>(self, writer: &mut W) -> Result<(), Refusal>
         ensures written { OnOk result
             (Appends (W.contents writer.old) (W.contents writer.new) (whole_text self)) }
+        ensures works { OnOk result
+            (KeepsFlag (W.has_failed writer.old) (W.has_failed writer.new)) }
         ensures memory { result ≡ Err Refusal.NoMemory → writer.new ≡ writer.old }
         ensures part { result ≡ Err Refusal.WriteFault
             → AppendsPart (W.contents writer.old) (W.contents writer.new) (whole_text self) }
+        ensures failed { result ≡ Err Refusal.WriteFault
+            → SetsFlag (W.has_failed writer.old) (W.has_failed writer.new) }
         ensures refused { IfErr result (λ refusal.
             (refusal ≡ Refusal.NoMemory) ⊎ (refusal ≡ Refusal.WriteFault)) }
     {
@@ -106,11 +109,15 @@ impl ReportText {
 }
 
 /// Writes the rows of all parts.
-fn write_rows<W: Write>(writer: &mut W, parts: &[ReportText]) -> Result<(), Refusal>
+fn write_rows<W: Output>(writer: &mut W, parts: &[ReportText]) -> Result<(), Refusal>
     ensures written { OnOk result
         (Appends (W.contents writer.old) (W.contents writer.new) (rows_of_parts parts.now)) }
+    ensures works { OnOk result
+        (KeepsFlag (W.has_failed writer.old) (W.has_failed writer.new)) }
     ensures part { OnErr result
         (AppendsPart (W.contents writer.old) (W.contents writer.new) (rows_of_parts parts.now)) }
+    ensures failed { OnErr result
+        (SetsFlag (W.has_failed writer.old) (W.has_failed writer.new)) }
     ensures refused { IfErr result (λ refusal. refusal ≡ Refusal.WriteFault) }
 {
     for part in parts {
@@ -120,11 +127,15 @@ fn write_rows<W: Write>(writer: &mut W, parts: &[ReportText]) -> Result<(), Refu
 }
 
 /// Writes the certificates of all parts.
-fn write_certs<W: Write>(writer: &mut W, parts: &[ReportText]) -> Result<(), Refusal>
+fn write_certs<W: Output>(writer: &mut W, parts: &[ReportText]) -> Result<(), Refusal>
     ensures written { OnOk result
         (Appends (W.contents writer.old) (W.contents writer.new) (certs_of_parts parts.now)) }
+    ensures works { OnOk result
+        (KeepsFlag (W.has_failed writer.old) (W.has_failed writer.new)) }
     ensures part { OnErr result
         (AppendsPart (W.contents writer.old) (W.contents writer.new) (certs_of_parts parts.now)) }
+    ensures failed { OnErr result
+        (SetsFlag (W.has_failed writer.old) (W.has_failed writer.new)) }
     ensures refused { IfErr result (λ refusal. refusal ≡ Refusal.WriteFault) }
 {
     for part in parts {
@@ -136,13 +147,17 @@ fn write_certs<W: Write>(writer: &mut W, parts: &[ReportText]) -> Result<(), Ref
 /// Writes the text that parts are of, in their order: the rows of all, and after them their certificates. Each part is
 /// written as it is, without a copy of the whole, and no memory is taken.
 ///
-/// WriteFault comes where the writer fails, as [`write_whole`] says of each piece: a front of the text was then written
-/// that isn't the whole.
-pub fn write_parts<W: Write>(writer: &mut W, parts: &[ReportText]) -> Result<(), Refusal>
+/// WriteFault comes exactly where the writer fails, as [`write_whole`] says of each piece: a front of the text was then
+/// written that isn't the whole.
+pub fn write_parts<W: Output>(writer: &mut W, parts: &[ReportText]) -> Result<(), Refusal>
     ensures written { OnOk result
         (Appends (W.contents writer.old) (W.contents writer.new) (joined_text parts.now)) }
+    ensures works { OnOk result
+        (KeepsFlag (W.has_failed writer.old) (W.has_failed writer.new)) }
     ensures part { OnErr result
         (AppendsPart (W.contents writer.old) (W.contents writer.new) (joined_text parts.now)) }
+    ensures failed { OnErr result
+        (SetsFlag (W.has_failed writer.old) (W.has_failed writer.new)) }
     ensures refused { IfErr result (λ refusal. refusal ≡ Refusal.WriteFault) }
 {
     write_rows(writer, parts)?;
@@ -204,12 +219,16 @@ fn text_of(alloc: Global, report: &Report) -> Result<ReportText, Refusal>
 }
 
 /// Writes a report as csv, as [`ReportText::write`] says, with the same refusals.
-pub fn write_report<W: Write>(alloc: Global, writer: &mut W, report: &Report) -> Result<(), Refusal>
+pub fn write_report<W: Output>(alloc: Global, writer: &mut W, report: &Report) -> Result<(), Refusal>
     ensures written { OnOk result
         (Appends (W.contents writer.old) (W.contents writer.new) (report_text report.now)) }
+    ensures works { OnOk result
+        (KeepsFlag (W.has_failed writer.old) (W.has_failed writer.new)) }
     ensures memory { result ≡ Err Refusal.NoMemory → writer.new ≡ writer.old }
     ensures part { result ≡ Err Refusal.WriteFault
         → AppendsPart (W.contents writer.old) (W.contents writer.new) (report_text report.now) }
+    ensures failed { result ≡ Err Refusal.WriteFault
+        → SetsFlag (W.has_failed writer.old) (W.has_failed writer.new) }
     ensures refused { IfErr result (λ refusal.
         (refusal ≡ Refusal.NoMemory) ⊎ (refusal ≡ Refusal.WriteFault)) }
 {

@@ -2,9 +2,6 @@
 use Rattle.std.specs.Prelude.{◌≡◌, ◌==◌, ◌⊎◌, ⊤, ℕ, ◌<◌, ◌+◌, if◌then◌else◌, List, [], ◌∷◌, flat_map, length, Option}
 use Rattle.std.specs.Io.KnownBytes.{Appends}
 use Rattle.slot_types.specs.declared.plans.DiePlan.{DiePlan}
-use Rattle.slot_types.specs.declared.refusals.Refusal.{Refusal}
-use Rattle.slot_types.specs.declared.refusals.Refusal.TheVariants.{WriteFault}
-use Rattle.text_base.specs.Writing.{InPart}
 use Rattle.script_texts.specs.AskedPages.{RowsHavePages}
 use Rattle.report_texts.specs.ReportText.{report_text}
 use Rattle.report_texts.specs.TextSoFar.{TextSoFar, joined_text}
@@ -12,7 +9,7 @@ use Rattle.script_texts.specs.declared.script_rows.ScriptItem.{ScriptItem}
 use Rattle.report_texts.specs.declared.reports.DieReport.{DieReport}
 use Rattle.task_script.specs.DieReports.{die_report_of}
 use Rattle.task_script.specs.DieRuns.{DieRun, IsScriptRun}
-use Rattle.task_script.specs.Feeds.{AreInTime, AreItemsOf, RefusesScript, feed_of}
+use Rattle.task_script.specs.Feeds.{AreInTime, AreItemsOf, feed_of}
 use Rattle.task_script.specs.RunCounts.{count_of}
 use Rattle.task_script.specs.declared.run_counts.RowEnd.{RowEnd}
 use Rattle.task_script.specs.declared.run_counts.RunCount.{RunCount}
@@ -48,23 +45,6 @@ pub record RunsText (text : Option (List ℕ)) (plans : List DiePlan) (slots : �
     pub ran : AreRuns slots (feed_of items) 0 plans runs
     pub counted : count ≡ count_of (ends_of runs)
     pub written : Appends old new (report_text (reports_from 0 plans runs))
-
--- Refusals
-
--- the script is refused; or memory ran out; or the writer failed
-abbrev pub RefusesText : Option (List ℕ) → ℕ → ℕ → Refusal → Type 0
-RefusesText text dies slots refusal = RefusesScript text dies slots refusal ⊎ (refusal ≡ WriteFault)
-
--- the writer failed, and took a front of what prints so, and not the whole
-pub record IsCut {W : Type 0} (contents : W → Option (List ℕ)) (prints : Option (List ℕ) → Option (List ℕ) → Type 0) (old new : W)
-    (refusal : Refusal) : Type 0 where
-  pub refusal_is : refusal ≡ WriteFault
-  pub part : InPart prints (contents old) (contents new)
-
--- a refusal comes so, and nothing was written; or the writer failed
-abbrev pub RefusesOrCuts : {W : Type 0} → (W → Option (List ℕ)) → (Refusal → Type 0)
-    → (Option (List ℕ) → Option (List ℕ) → Type 0) → W → W → Refusal → Type 0
-RefusesOrCuts contents refuses prints old new refusal = (refuses refusal × (new ≡ old)) ⊎ IsCut contents prints old new refusal
 
 -- While the dies run
 

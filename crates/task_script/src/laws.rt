@@ -1,22 +1,24 @@
 //! What holds of the reports of exact logs, and of runs.
 
-ghost use Rattle.std.specs.Prelude.{◌≡◌, ◌≢◌, ◌≤◌, ◌⊎◌, ℕ, List, Option, Some, All, Ok, Result, IfOk, IfErr, OnOk, IsErrAnd, length};
+ghost use Rattle.std.specs.Prelude.{◌≡◌, ◌≢◌, ◌≤◌, ◌⊎◌, ℕ, List, Option, Some, false, All, Ok, Result, IfOk, IfErr, OnOk, IsErrAnd, length};
 ghost use Rattle.plan_rules.specs.Bound.{MeetsBound};
 ghost use Rattle.slot_types.specs.declared.plans.DiePlan.{DiePlan};
 ghost use Rattle.slot_types.specs.declared.refusals.Refusal.{Refusal as Refused};
 ghost use Rattle.text_base.specs.Readings.{IsOutside};
+ghost use Rattle.text_base.specs.Writing.{KeepsFlag, RefusesOrCuts};
 ghost use Rattle.report_texts.specs.ReportOf.{report_of};
 ghost use Rattle.report_texts.specs.ReportText.{report_text};
 ghost use Rattle.report_texts.specs.WellFormed.{IsReport};
 ghost use Rattle.script_texts.specs.declared.script_rows.ScriptItem.{ScriptItem};
 ghost use Rattle.task_script.specs.DieRuns.{DieRun, IsScriptRun};
 ghost use Rattle.task_script.specs.ExactRuns.{AreExact};
-ghost use Rattle.task_script.specs.Feeds.{AllArrive};
-ghost use Rattle.task_script.specs.PlannedRuns.{RowsGoAsPlanned, RowsKeepPlan};
-ghost use Rattle.task_script.specs.TextRuns.{RunsText, RefusesText, ends_of, reports_from};
+ghost use Rattle.task_script.specs.Feeds.{AllArrive, RefusesScript};
+ghost use Rattle.task_script.specs.PlannedRuns.{RowsGoAsPlanned, RowsKeepPlan, RunsSo};
+ghost use Rattle.task_script.specs.TextRuns.{RunsText, ends_of, reports_from};
 ghost use Rattle.task_script.specs.declared.run_counts.RunCount.{RunCount};
 
 use slot_types::Refusal;
+use text_base::Output;
 
 /// The report of the exact logs of at most eight dies meets the conditions of reading, so it is read back from its
 /// text. The plan of each die meets its bound, and its jobs were asked to write pages of sixteen bytes.
@@ -51,17 +53,41 @@ pub fn planned_runs_go_as_planned()
 
 /// Running a script (`run_text`) has one answer, where its text and what the writer has are known, and leaves one
 /// report there. Left open is whether there is memory, for the run or for a row, and whether the reader or the writer
-/// fails.
-pub fn running_a_script_has_one_answer()
-    ensures { (text known : List ℕ) (plans : List DiePlan) (slots : ℕ)
-        (left right : Option (List ℕ)) (one other : Result RunCount Refused) →
-        IfOk one (λ count. (ran : RunsText (Some text) plans slots count (Some known) left)
+/// fails. Where the writer's flag is known, and wasn't set, two answers that leave the same flag differ by memory or the
+/// reader alone.
+pub fn running_a_script_has_one_answer<W: Output>()
+    ensures written { (text known : List ℕ) (plans : List DiePlan) (slots : ℕ)
+        (before left right : W) (one other : Result RunCount Refused) →
+        W.contents before ≡ Some known →
+        IfOk one (λ count.
+        (ran : RunsText (Some text) plans slots count (W.contents before) (W.contents left))
         × All (λ end. end.refusal ≢ Some Refusal.NoMemory) (ends_of ran.runs)) →
-        IfOk other (λ count. (ran : RunsText (Some text) plans slots count (Some known) right)
+        IfOk other (λ count.
+        (ran : RunsText (Some text) plans slots count (W.contents before) (W.contents right))
         × All (λ end. end.refusal ≢ Some Refusal.NoMemory) (ends_of ran.runs)) →
-        IfErr one (RefusesText (Some text) (length plans) slots) →
-        IfErr other (RefusesText (Some text) (length plans) slots) →
-        ((one ≡ other) × OnOk one (left ≡ right))
+        IfErr one (RefusesOrCuts W.contents W.has_failed
+        (RefusesScript (Some text) (length plans) slots) (RunsSo (Some text) plans slots) before left) →
+        IfErr other (RefusesOrCuts W.contents W.has_failed
+        (RefusesScript (Some text) (length plans) slots) (RunsSo (Some text) plans slots) before right) →
+        ((one ≡ other) × OnOk one (W.contents left ≡ W.contents right))
         ⊎ IsErrAnd one (λ refusal. IsOutside refusal ⊎ (refusal ≡ Refusal.WriteFault))
         ⊎ IsErrAnd other (λ refusal. IsOutside refusal ⊎ (refusal ≡ Refusal.WriteFault)) }
+    ensures flagged { (text known : List ℕ) (plans : List DiePlan) (slots : ℕ)
+        (before left right : W) (one other : Result RunCount Refused) →
+        W.contents before ≡ Some known → W.has_failed before ≡ Some false →
+        IfOk one (λ count.
+        (ran : RunsText (Some text) plans slots count (W.contents before) (W.contents left))
+        × All (λ end. end.refusal ≢ Some Refusal.NoMemory) (ends_of ran.runs)) →
+        IfOk other (λ count.
+        (ran : RunsText (Some text) plans slots count (W.contents before) (W.contents right))
+        × All (λ end. end.refusal ≢ Some Refusal.NoMemory) (ends_of ran.runs)) →
+        OnOk one (KeepsFlag (W.has_failed before) (W.has_failed left)) →
+        OnOk other (KeepsFlag (W.has_failed before) (W.has_failed right)) →
+        IfErr one (RefusesOrCuts W.contents W.has_failed
+        (RefusesScript (Some text) (length plans) slots) (RunsSo (Some text) plans slots) before left) →
+        IfErr other (RefusesOrCuts W.contents W.has_failed
+        (RefusesScript (Some text) (length plans) slots) (RunsSo (Some text) plans slots) before right) →
+        W.has_failed left ≡ W.has_failed right →
+        ((one ≡ other) × OnOk one (W.contents left ≡ W.contents right))
+        ⊎ IsErrAnd one IsOutside ⊎ IsErrAnd other IsOutside }
 {}

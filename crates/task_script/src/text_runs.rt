@@ -1,13 +1,13 @@
 //! Scripts that are run on the dies of a store.
 
-ghost use Rattle.std.specs.Prelude.{◌≡◌, ◌<◌, ◌≤◌, ◌^◌, ℕ, All, length, map, true, IfOk, IfErr, OnErr, OnOk};
+ghost use Rattle.std.specs.Prelude.{◌≡◌, ◌<◌, ◌≤◌, ◌^◌, ℕ, All, length, map, true, IfOk, IfErr, OnOk};
 ghost use Rattle.slot_types.specs.Refusal.{FailsForMemory};
 ghost use Rattle.plan_rules.specs.Bound.{MeetsBound};
 ghost use Rattle.task_script.specs.Batches.{Closes, joined_counts, rows_counted};
 ghost use Rattle.task_script.specs.PlannedRuns.{RunsAsPlanned, RunsSo};
-ghost use Rattle.task_script.specs.TextRuns.{RanScript, RefusesOrCuts, RefusesText, RunsText};
+ghost use Rattle.task_script.specs.TextRuns.{RanScript, RunsText};
 ghost use Rattle.task_script.specs.Feeds.{RefusesScript};
-ghost use Rattle.text_base.specs.Writing.{IsNotWhole};
+ghost use Rattle.text_base.specs.Writing.{KeepsFlag, RefusesOrCuts};
 
 use crate::batches::{Progress, RunDies, no_progress, run_rows};
 use crate::die_texts::parts_of;
@@ -20,9 +20,10 @@ use report_texts::{ReportText, write_parts};
 use script_texts::ScriptReader;
 use slot_types::{MAX_SLOT, PackedOps, Refusal, StorePlan};
 use std::alloc::Global;
-use std::io::{Read, Write};
+use std::io::Read;
 use std::sync::Wait;
 use std::thread::Threads;
+use text_base::Output;
 
 /// Dies that carried out their slots: the parts of their report, and how many of their rows were accepted and refused.
 #[derive(Drop)]
@@ -130,8 +131,8 @@ fn run_script<R: Threads + Wait + Sync, S: Read + Drop>(
 ///
 /// It ends with the first fault of the script, as [`ScriptReader`](crate::ScriptReader) says it; with `ReadFault`; or
 /// with `NoMemory`. Nothing is written before the whole script was read and run, and nothing with these. `WriteFault`
-/// comes where the writer fails: a front of the report was then written that isn't the whole.
-pub fn run_text<R: Threads + Wait + Sync, S: Read + Drop, W: Write>(
+/// comes exactly where the writer fails: a front of the report was then written that isn't the whole.
+pub fn run_text<R: Threads + Wait + Sync, S: Read + Drop, W: Output>(
     rt: &R,
     alloc: Global,
     plan: &StorePlan,
@@ -151,13 +152,11 @@ pub fn run_text<R: Threads + Wait + Sync, S: Read + Drop, W: Write>(
     ensures planned { IfOk result (λ count.
         RunsAsPlanned (S.remaining script) plan.now slots count (W.contents writer.old)
         (W.contents writer.new)) }
-    ensures refused { IfErr result (RefusesText (S.remaining script) (length plan.now) slots) }
-    ensures unwritten { IfErr result (λ refusal.
-        (refusal ≡ Refusal.WriteFault → ⊥) → writer.new ≡ writer.old) }
-    ensures part { OnErr result
-        (IsNotWhole W.contents (RunsSo (S.remaining script) plan.now slots) writer.old writer.new) }
-    ensures cut { IfErr result
-        (RefusesOrCuts W.contents (RefusesScript (S.remaining script) (length plan.now) slots)
+    ensures works { OnOk result
+        (KeepsFlag (W.has_failed writer.old) (W.has_failed writer.new)) }
+    ensures refused { IfErr result
+        (RefusesOrCuts W.contents W.has_failed
+        (RefusesScript (S.remaining script) (length plan.now) slots)
         (RunsSo (S.remaining script) plan.now slots) writer.old writer.new) }
 {
     let ran = run_script(rt, alloc, plan, script, slots, workers)?;

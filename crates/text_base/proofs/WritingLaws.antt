@@ -1,16 +1,25 @@
 -- Writing a text goes on where it stopped, and what isn't left at the end was written.
-use Rattle.std.proofs.Common.{◌≡◌, ◌<◌, ℕ, List, [], ◌++◌, length, take, Option, Result, Ok, Err, OnErr, sym, ap, ◌∙◌, subst, append_assoc}
+use Rattle.std.proofs.Common.{◌≡◌, ◌<◌, ℕ, ◌-◌, List, [], ◌++◌, length, take, drop, Bool, Option, None, Some, Result, Ok, Err, OnErr, refl, sym, ap, ◌∙◌, subst, append_assoc}
 use Rattle.std.proofs.Common.{append-nil, length-append, arith}
 use Rattle.std.specs.Io.KnownBytes.{Appends, Keeps}
 use Rattle.std.proofs.KnownBytes.{Appends-kept, Appends-trans}
 use Rattle.std.proofs.Math.Seq.{take-append_seam}
-use Rattle.text_base.specs.Writing.{AppendsPart, AppendsUpTo}
+use Rattle.std.proofs.lemmas.List.{length-drop, take-append-drop, take_all}
+use Rattle.text_base.specs.Writing.{AppendsPart, AppendsUpTo, KeepsFlag, SetsFlag}
 
 -- one more call
 pub up-to-more : (a b c : Option (List ℕ)) (text left rest : List ℕ) → AppendsUpTo a b text left → AppendsUpTo b c left rest
     → AppendsUpTo a c text rest
 up-to-more a b c text left rest (front, parts, took) (more, split, takes) =
     (front ++ more, parts ∙ ap (λ l. front ++ l) split ∙ sym (append_assoc front more rest), Appends-trans a b c front more took takes)
+
+-- a call that takes the front of what is left, and the slice of what is left then
+pub up-to-taken : (a b c : Option (List ℕ)) (text left : List ℕ) (n : ℕ) → AppendsUpTo a b text left → Appends b c (take n left)
+    → AppendsUpTo a c text (take (length left - n) (drop n left))
+up-to-taken a b c text left n up takes =
+    let rest : take (length left - n) (drop n left) ≡ drop n left =
+    take_all (length left - n) (drop n left) (omega (arith, length-drop n left)) in
+    up-to-more a b c text left _ up (take n left, sym (ap (λ l. take n left ++ l) rest ∙ take-append-drop n left), takes)
 
 -- where nothing is left, the whole is written
 pub up-to-whole : (a b : Option (List ℕ)) (text left : List ℕ) → AppendsUpTo a b text left → left ≡ [] → Appends a b text
@@ -29,3 +38,17 @@ up-to-part a b c text left (front, parts, took) some kept =
 pub on-error : {A E : Type 0} (r : Result A E) (P : Type 0) → P → OnErr r P
 on-error (Ok x) P p = tt
 on-error (Err e) P p = p
+
+-- before the first call each flag is as it was
+pub flag-kept : (a : Option Bool) → KeepsFlag a a
+flag-kept None = tt
+flag-kept (Some flag) = refl
+
+-- after calls that kept a flag it is what the next one makes of it
+pub flag-kept-then : (a b c : Option Bool) → KeepsFlag a b → KeepsFlag b c → KeepsFlag a c
+flag-kept-then None b c kept more = tt
+flag-kept-then (Some flag) b c kept more = subst (λ known. KeepsFlag known c) kept more
+
+pub flag-set-then : (a b c : Option Bool) → KeepsFlag a b → SetsFlag b c → SetsFlag a c
+flag-set-then None b c kept set = tt
+flag-set-then (Some flag) b c kept set = subst (λ known. SetsFlag known c) kept set

@@ -1,6 +1,8 @@
--- How much of a text a writer took.
-use Rattle.std.specs.Prelude.{◌≡◌, ◌⊎◌, ℕ, ◌<◌, List, [], ◌++◌, length, take, Option, Some}
+-- How much of a text a writer took, and whether it failed.
+use Rattle.std.specs.Prelude.{◌≡◌, ◌⊎◌, ⊤, ℕ, ◌<◌, List, [], ◌++◌, length, take, Bool, true, Option, None, Some}
 use Rattle.std.specs.Io.KnownBytes.{Appends}
+use Rattle.slot_types.specs.declared.refusals.Refusal.{Refusal}
+use Rattle.slot_types.specs.declared.refusals.Refusal.TheVariants.{WriteFault}
 
 -- known bytes grew by a front of a text that isn't the whole of it
 abbrev pub AppendsPart : Option (List ℕ) → Option (List ℕ) → List ℕ → Type 0
@@ -10,6 +12,16 @@ AppendsPart old new text = (n : ℕ) × (n < length text) × Appends old new (ta
 abbrev pub AppendsUpTo : Option (List ℕ) → Option (List ℕ) → List ℕ → List ℕ → Type 0
 AppendsUpTo old new text left = (front : List ℕ) × (text ≡ front ++ left) × Appends old new front
 
+-- a flag that is known stays as it was
+abbrev pub KeepsFlag : Option Bool → Option Bool → Type 0
+KeepsFlag None new = ⊤
+KeepsFlag (Some flag) new = new ≡ Some flag
+
+-- a flag that is known is set
+abbrev pub SetsFlag : Option Bool → Option Bool → Type 0
+SetsFlag None new = ⊤
+SetsFlag (Some flag) new = new ≡ Some true
+
 -- of what prints so after nothing a front was written, and not the whole
 abbrev pub InPart : (Option (List ℕ) → Option (List ℕ) → Type 0) → Option (List ℕ) → Option (List ℕ) → Type 0
 InPart prints old new = (whole : List ℕ) × prints (Some []) (Some whole) × AppendsPart old new whole
@@ -17,3 +29,16 @@ InPart prints old new = (whole : List ℕ) × prints (Some []) (Some whole) × A
 -- nothing was written, or not the whole
 abbrev pub IsNotWhole : {W : Type 0} → (W → Option (List ℕ)) → (Option (List ℕ) → Option (List ℕ) → Type 0) → W → W → Type 0
 IsNotWhole contents prints old new = (new ≡ old) ⊎ InPart prints (contents old) (contents new)
+
+-- the writer failed, and took a front of what prints so, and not the whole
+pub record IsCut {W : Type 0} (contents : W → Option (List ℕ)) (has_failed : W → Option Bool)
+    (prints : Option (List ℕ) → Option (List ℕ) → Type 0) (old new : W) (refusal : Refusal) : Type 0 where
+  pub refusal_is : refusal ≡ WriteFault
+  pub failed : SetsFlag (has_failed old) (has_failed new)
+  pub part : InPart prints (contents old) (contents new)
+
+-- a refusal comes so, and nothing was written; or the writer failed
+abbrev pub RefusesOrCuts : {W : Type 0} → (W → Option (List ℕ)) → (W → Option Bool) → (Refusal → Type 0)
+    → (Option (List ℕ) → Option (List ℕ) → Type 0) → W → W → Refusal → Type 0
+RefusesOrCuts contents has_failed refuses prints old new refusal =
+    (refuses refusal × (new ≡ old)) ⊎ IsCut contents has_failed prints old new refusal

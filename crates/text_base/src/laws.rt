@@ -4,7 +4,7 @@
 //! `one` and `other`. What was known before is `known`, or `all`; the calls leave `left` and `right`, and put what they
 //! read into `here` and `there`.
 
-ghost use Rattle.std.specs.Prelude.{◌≡◌, ◌⊎◌, ◌++◌, ℕ, Bool, false, true, List, Option, Some, Result, Ok, take};
+ghost use Rattle.std.specs.Prelude.{◌≡◌, ◌⊎◌, ◌↔◌, ◌++◌, ℕ, Bool, false, true, List, Option, Some, Result, Ok, take};
 ghost use Rattle.std.specs.Prelude.{IfOk, IfErr, OnOk, OnErr, IsErr, IsErrAnd};
 ghost use Rattle.std.specs.Io.{ReadsAtMost};
 ghost use Rattle.std.specs.Io.KnownBytes.{Appends, ReadConsumes};
@@ -16,7 +16,7 @@ ghost use Rattle.text_base.specs.CsvRecordsLeft.{KeepsFit};
 ghost use Rattle.text_base.specs.Pages.{page_word};
 ghost use Rattle.text_base.specs.Readings.{IsOutside};
 ghost use Rattle.text_base.specs.Words.{if_whole, list_of};
-ghost use Rattle.text_base.specs.Writing.{AppendsPart};
+ghost use Rattle.text_base.specs.Writing.{AppendsPart, KeepsFlag, SetsFlag};
 
 use slot_types::Refusal;
 
@@ -56,9 +56,10 @@ pub fn putting_a_list_has_one_answer<T>()
 {}
 
 /// Writing a text (`write_whole`) has one answer, where what its writer has is known, and leaves one text there. Left
-/// open is whether the writer fails, and how much of the text it took then.
+/// open is whether the writer fails, and how much of the text it took then. Where its flag is known, and wasn't set, two
+/// answers that leave the same flag are the same: WriteFault is answered exactly where the flag was set.
 pub fn writing_a_text_has_one_answer()
-    ensures { (text known : List ℕ) (left right : Option (List ℕ))
+    ensures written { (text known : List ℕ) (left right : Option (List ℕ))
         (one other : Result (Unit {0}) Refusal) →
         OnOk one (Appends (Some known) left text) → OnOk other (Appends (Some known) right text) →
         OnErr one (AppendsPart (Some known) left text) →
@@ -67,6 +68,13 @@ pub fn writing_a_text_has_one_answer()
         IfErr other (λ refusal. refusal ≡ Refusal.WriteFault) →
         ((one ≡ other) × OnOk one (left ≡ right))
         ⊎ (one ≡ Err Refusal.WriteFault) ⊎ (other ≡ Err Refusal.WriteFault) }
+    ensures flagged { (left right : Option Bool) (one other : Result (Unit {0}) Refusal) →
+        OnOk one (KeepsFlag (Some false) left) → OnOk other (KeepsFlag (Some false) right) →
+        OnErr one (SetsFlag (Some false) left) → OnErr other (SetsFlag (Some false) right) →
+        IfErr one (λ refusal. refusal ≡ Refusal.WriteFault) →
+        IfErr other (λ refusal. refusal ≡ Refusal.WriteFault) →
+        ((left ≡ right → one ≡ other)
+        × ((one ≡ Err Refusal.WriteFault) ↔ (left ≡ Some true))) }
 {}
 
 /// Calling a reader again where it was interrupted (`read_again`) gives the next of its bytes, where they are known,

@@ -1,4 +1,4 @@
-use Rattle.std.proofs.Common.{◌≡◌, ◌≢◌, ◌⊎◌, inl, inr, ℕ, ◌+◌, List, [], ◌∷◌, ◌++◌, All, length, Option, Some, None, Result, Ok, Err}
+use Rattle.std.proofs.Common.{◌≡◌, ◌≢◌, ◌⊎◌, inl, inr, ℕ, ◌+◌, Bool, true, false, List, [], ◌∷◌, ◌++◌, All, length, Option, Some, None, Result, Ok, Err}
 use Rattle.std.proofs.Common.{refl, sym, ap, ◌∙◌, subst, append_assoc, append-nil}
 use Rattle.std.specs.Prelude.{IfOk, IfErr, OnOk, IsErrAnd}
 use Rattle.std.specs.List.{AllByRecursion}
@@ -14,15 +14,17 @@ use Rattle.die_log.specs.Model.Log.{Log}
 use Rattle.die_log.specs.Model.Start.{fresh}
 use Rattle.die_log.specs.Model.Answers.{answer, IsAccepted}
 use Rattle.text_base.specs.Readings.{IsOutside}
+use Rattle.text_base.specs.Writing.{KeepsFlag, RefusesOrCuts, SetsFlag}
 use Rattle.report_texts.specs.ReportText.{report_text}
 use Rattle.script_texts.specs.Script.{Script, script_of}
 use Rattle.script_texts.specs.declared.script_rows.ScriptItem.{ScriptItem}
 use Rattle.task_script.specs.declared.run_counts.RowEnd.{RowEnd}
 use Rattle.task_script.specs.declared.run_counts.RunCount.{RunCount}
 use Rattle.task_script.specs.DieRuns.{DieRun, ScriptCall, Row, Slot, Ends, MakesCalls, calls_of, end_of, fresh_run}
-use Rattle.task_script.specs.Feeds.{feed_of}
+use Rattle.task_script.specs.Feeds.{RefusesScript, feed_of}
+use Rattle.task_script.specs.PlannedRuns.{RunsSo}
 use Rattle.task_script.specs.RunCounts.{count_of}
-use Rattle.task_script.specs.TextRuns.{AreRuns, RefusesText, RunsText, ends_of, reports_from}
+use Rattle.task_script.specs.TextRuns.{AreRuns, RunsText, ends_of, reports_from}
 use Rattle.task_script.proofs.laws.running_a_script_has_one_answer.Goals as goal
 
 -- no row was refused out of memory
@@ -133,49 +135,108 @@ one_fault script d e is is' = cc
 read_or_refused : (script : Script) (xs : List ScriptItem) (e : Refusal) → script ≡ Ok xs → script ≡ Err e → ⊥
 read_or_refused script xs e is is' = absurd (cc)
 
-one_appended : (known text : List ℕ) (left right : Option (List ℕ)) → Appends (Some known) left text → Appends (Some known) right text
+one_appended : (known text : List ℕ) (old left right : Option (List ℕ)) → old ≡ Some known → Appends old left text → Appends old right text
     → left ≡ right
-one_appended known text None right h k = absurd h
-one_appended known text (Some a) None h k = absurd k
-one_appended known text (Some a) (Some b) h k = ap (λ (l : List ℕ). Some l) (h ∙ sym k)
+one_appended known text None left right is h k = absurd (cc is)
+one_appended known text (Some a) None right is h k = absurd h
+one_appended known text (Some a) (Some b) None is h k = absurd k
+one_appended known text (Some a) (Some b) (Some d) is h k = ap (λ (l : List ℕ). Some l) (h ∙ sym k)
 
-module _ (text known : List ℕ) (plans : List DiePlan) (slots : ℕ) (left right : Option (List ℕ)) where
-  one_run : (one other : RunCount) (ran : RunsText (Some text) plans slots one (Some known) left)
-      (again : RunsText (Some text) plans slots other (Some known) right) → All IsLogs (ends_of ran.runs) → All IsLogs (ends_of again.runs)
-      → (one ≡ other) × (left ≡ right)
-  one_run one other ran again logs logs' =
+-- what a flag that wasn't set is then
+
+fresh_flag : (old new : Option Bool) → old ≡ Some false → KeepsFlag old new → new ≡ Some false
+fresh_flag None new is h = absurd (cc is)
+fresh_flag (Some flag) new is h = h ∙ is
+
+set_flag : (old new : Option Bool) → old ≡ Some false → SetsFlag old new → new ≡ Some true
+set_flag None new is h = absurd (cc is)
+set_flag (Some flag) new is h = h
+
+not_flag : (left right : Option Bool) → left ≡ Some false → right ≡ Some true → left ≡ right → ⊥
+not_flag left right kept set same = absurd (cc (sym kept ∙ (same ∙ set)))
+
+module _ {W : Type 0} (contents : W → Option (List ℕ)) (has_failed : W → Option Bool) (text known : List ℕ) (plans : List DiePlan) (slots : ℕ)
+    (before left right : W) (known_is : contents before ≡ Some known) where
+  abbrev Runs : W → RunCount → Type 0
+  Runs new count =
+      (ran : RunsText (Some text) plans slots count (contents before) (contents new)) × All IsLogs (ends_of ran.runs)
+
+  abbrev Refuses : W → Refusal → Type 0
+  Refuses new refusal =
+      RefusesOrCuts contents has_failed (RefusesScript (Some text) (length plans) slots) (RunsSo (Some text) plans slots) before new refusal
+
+  one_run : (one other : RunCount) → Runs left one → Runs right other → (one ≡ other) × (contents left ≡ contents right)
+  one_run one other (ran, logs) (again, logs') =
       let items : again.items ≡ ran.items = one_items (script_of (length plans) slots text) again.items ran.items again.script ran.script in
       let runs : ran.runs ≡ again.runs =
       one_store slots (feed_of ran.items) 0 plans ran.runs again.runs ran.ran
       (subst (λ (l : List ScriptItem). AreRuns slots (feed_of l) 0 plans again.runs) items again.ran)
       (recursion_from_All IsLogs (ends_of ran.runs) logs) (recursion_from_All IsLogs (ends_of again.runs) logs') in (
         ran.counted ∙ (ap (λ (l : List DieRun). count_of (ends_of l)) runs ∙ sym again.counted),
-        one_appended known (report_text (reports_from 0 plans again.runs)) left right
-            (subst (λ (l : List DieRun). Appends (Some known) left (report_text (reports_from 0 plans l))) runs ran.written) again.written,
+        one_appended known (report_text (reports_from 0 plans again.runs)) (contents before) (contents left) (contents right) known_is
+            (subst (λ (l : List DieRun). Appends (contents before) (contents left) (report_text (reports_from 0 plans l))) runs ran.written)
+            again.written,
       )
 
   abbrev IsByChance : Refusal → Type 0
   IsByChance refusal = IsOutside refusal ⊎ (refusal ≡ WriteFault)
 
-  one_answer : (one other : Result RunCount Refusal)
-      → IfOk one (λ count. (ran : RunsText (Some text) plans slots count (Some known) left) × All IsLogs (ends_of ran.runs))
-      → IfOk other (λ count. (ran : RunsText (Some text) plans slots count (Some known) right) × All IsLogs (ends_of ran.runs))
-      → IfErr one (RefusesText (Some text) (length plans) slots) → IfErr other (RefusesText (Some text) (length plans) slots)
-      → ((one ≡ other) × OnOk one (left ≡ right)) ⊎ IsErrAnd one IsByChance ⊎ IsErrAnd other IsByChance
+  one_answer : (one other : Result RunCount Refusal) → IfOk one (Runs left) → IfOk other (Runs right) → IfErr one (Refuses left)
+      → IfErr other (Refuses right)
+      → ((one ≡ other) × OnOk one (contents left ≡ contents right)) ⊎ IsErrAnd one IsByChance ⊎ IsErrAnd other IsByChance
   one_answer (Ok a) (Ok b) h k r r' =
-      let both = one_run a b h.0 k.0 h.1 k.1 in inl (ap Ok both.0, both.1)
-  one_answer (Err d) other h k (inl (inl out)) r' = inr (inl (inl out))
-  one_answer (Err d) other h k (inr fault) r' = inr (inl (inr fault))
-  one_answer (Ok a) (Err e) h k r (inl (inl out)) = inr (inr (inl out))
-  one_answer (Ok a) (Err e) h k r (inr fault) = inr (inr (inr fault))
-  one_answer (Ok a) (Err e) h k r (inl (inr is)) =
+      let both = one_run a b h k in inl (ap Ok both.0, both.1)
+  one_answer (Err d) other h k (inl (inl out, same)) r' = inr (inl (inl out))
+  one_answer (Err d) other h k (inr cut) r' = inr (inl (inr cut.refusal_is))
+  one_answer (Ok a) (Err e) h k r (inl (inl out, same)) = inr (inr (inl out))
+  one_answer (Ok a) (Err e) h k r (inr cut) = inr (inr (inr cut.refusal_is))
+  one_answer (Ok a) (Err e) h k r (inl (inr is, same)) =
       absurd (read_or_refused (script_of (length plans) slots text) h.0.items e h.0.script is)
-  one_answer (Err d) (Ok b) h k (inl (inr is)) r' =
+  one_answer (Err d) (Ok b) h k (inl (inr is, same)) r' =
       absurd (read_or_refused (script_of (length plans) slots text) k.0.items d k.0.script is)
-  one_answer (Err d) (Err e) h k (inl (inr is)) (inl (inl out)) = inr (inr (inl out))
-  one_answer (Err d) (Err e) h k (inl (inr is)) (inr fault) = inr (inr (inr fault))
-  one_answer (Err d) (Err e) h k (inl (inr is)) (inl (inr is')) =
+  one_answer (Err d) (Err e) h k (inl (inr is, same)) (inl (inl out, same')) = inr (inr (inl out))
+  one_answer (Err d) (Err e) h k (inl (inr is, same)) (inr cut) = inr (inr (inr cut.refusal_is))
+  one_answer (Err d) (Err e) h k (inl (inr is, same)) (inl (inr is', same')) =
       inl (ap Err (one_fault (script_of (length plans) slots text) d e is is'), tt)
 
-pub returns : goal.returns
-returns c = λ text known plans slots left right one other. one_answer text known plans slots left right one other
+  kept_flag : (fresh : has_failed before ≡ Some false) (new : W) → KeepsFlag (has_failed before) (has_failed new)
+      → has_failed new ≡ Some false
+  kept_flag fresh new = fresh_flag (has_failed before) (has_failed new) fresh
+
+  cut_flag : (fresh : has_failed before ≡ Some false) (new : W) → SetsFlag (has_failed before) (has_failed new)
+      → has_failed new ≡ Some true
+  cut_flag fresh new = set_flag (has_failed before) (has_failed new) fresh
+
+  one_by_flag : (one other : Result RunCount Refusal) → has_failed before ≡ Some false → IfOk one (Runs left) → IfOk other (Runs right)
+      → OnOk one (KeepsFlag (has_failed before) (has_failed left)) → OnOk other (KeepsFlag (has_failed before) (has_failed right))
+      → IfErr one (Refuses left) → IfErr other (Refuses right) → has_failed left ≡ has_failed right
+      → ((one ≡ other) × OnOk one (contents left ≡ contents right)) ⊎ IsErrAnd one IsOutside ⊎ IsErrAnd other IsOutside
+  one_by_flag (Ok a) (Ok b) fresh h k f f' r r' flags =
+      let both = one_run a b h k in inl (ap Ok both.0, both.1)
+  one_by_flag (Err d) other fresh h k f f' (inl (inl out, same)) r' flags = inr (inl out)
+  one_by_flag (Ok a) (Err e) fresh h k f f' r (inl (inl out, same)) flags = inr (inr out)
+  one_by_flag (Ok a) (Err e) fresh h k f f' r (inl (inr is, same)) flags =
+      absurd (read_or_refused (script_of (length plans) slots text) h.0.items e h.0.script is)
+  one_by_flag (Ok a) (Err e) fresh h k f f' r (inr cut) flags =
+      absurd (not_flag (has_failed left) (has_failed right) (kept_flag fresh left f) (cut_flag fresh right cut.failed) flags)
+  one_by_flag (Err d) (Ok b) fresh h k f f' (inl (inr is, same)) r' flags =
+      absurd (read_or_refused (script_of (length plans) slots text) k.0.items d k.0.script is)
+  one_by_flag (Err d) (Ok b) fresh h k f f' (inr cut) r' flags =
+      absurd (not_flag (has_failed right) (has_failed left) (kept_flag fresh right f') (cut_flag fresh left cut.failed) (sym flags))
+  one_by_flag (Err d) (Err e) fresh h k f f' (inl (inr is, same)) (inl (inl out, same')) flags = inr (inr out)
+  one_by_flag (Err d) (Err e) fresh h k f f' (inr cut) (inl (inl out, same')) flags = inr (inr out)
+  one_by_flag (Err d) (Err e) fresh h k f f' (inl (inr is, same)) (inl (inr is', same')) flags =
+      inl (ap Err (one_fault (script_of (length plans) slots text) d e is is'), tt)
+  one_by_flag (Err d) (Err e) fresh h k f f' (inl (inr is, same)) (inr cut) flags =
+      absurd (not_flag (has_failed left) (has_failed right) (ap has_failed same ∙ fresh) (cut_flag fresh right cut.failed) flags)
+  one_by_flag (Err d) (Err e) fresh h k f f' (inr cut) (inl (inr is', same')) flags =
+      absurd (not_flag (has_failed right) (has_failed left) (ap has_failed same' ∙ fresh) (cut_flag fresh left cut.failed) (sym flags))
+  one_by_flag (Err d) (Err e) fresh h k f f' (inr cut) (inr cut') flags = inl (ap Err (cut.refusal_is ∙ sym cut'.refusal_is), tt)
+
+pub returns-clause-written : goal.returns-clause-written
+returns-clause-written g c text known plans slots before left right one other is =
+    one_answer g.W.Write.contents g.W.Output.has_failed text known plans slots before left right is one other
+
+pub returns-clause-flagged : goal.returns-clause-flagged
+returns-clause-flagged g c text known plans slots before left right one other is fresh =
+    one_by_flag g.W.Write.contents g.W.Output.has_failed text known plans slots before left right is one other fresh

@@ -1,18 +1,19 @@
 use Rattle.std.proofs.Common.{rules, ◌<◌, length}
-use Rattle.text_base.proofs.WritingLaws.{on-error, up-to-more, up-to-part}
-use Rattle.std.proofs.KnownBytes.{Keeps-refl}
+use Rattle.text_base.proofs.WritingLaws.{flag-kept-then, flag-set-then, on-error, up-to-part, up-to-taken}
 use Rattle.text_base.proofs.writing.write_whole.Goals as goal
 
-pub returns-in_err-left-clause-part : goal.returns-in_err-left-clause-part
-returns-in_err-left-clause-part g c =
-    let some : 0 < length c.loop-call.left.now = search rules in
-    on-error c.from_residual.result _ (up-to-part _ _ _ c.args.text.now c.loop-call.left.now c.loop-call.invariant some
-    c.in_err-left.ensures.none)
+pub returns-in_err-n-clause-part : goal.returns-in_err-n-clause-part
+returns-in_err-n-clause-part g c =
+    let some : 0 < length c.loop-left.left.now = search rules in
+    on-error c.from_residual.result _ (up-to-part _ _ _ c.args.text.now c.loop-left.left.now c.loop-left.invariant.0 some
+    c.in_err-n.ensures.none)
 
-pub loop-call-preserved : goal.loop-call-preserved
-loop-call-preserved g c = up-to-more _ _ _ _ _ _ c.loop-call.invariant c.in_ok-left.ensures.left
+pub returns-in_err-n-clause-failed : goal.returns-in_err-n-clause-failed
+returns-in_err-n-clause-failed g c =
+    on-error c.from_residual.result _ (flag-set-then _ _ _ c.loop-left.invariant.1 c.in_err-n.ensures.failed)
 
-pub returns-else-is_empty-2-clause-part : goal.returns-else-is_empty-2-clause-part
-returns-else-is_empty-2-clause-part g c =
-    let some : 0 < length c.loop-call.left.now = search rules in
-    up-to-part _ _ _ c.args.text.now c.loop-call.left.now c.loop-call.invariant some (Keeps-refl (g.W.Write.contents c.loop-call.writer))
+pub loop-left-preserved : goal.loop-left-preserved
+loop-left-preserved g c = (
+  up-to-taken _ _ _ _ _ _ c.loop-left.invariant.0 c.in_ok-n.ensures.taken,
+  flag-kept-then _ _ _ c.loop-left.invariant.1 c.in_ok-n.ensures.works,
+)
