@@ -1,7 +1,7 @@
 //! A command line of either program that is carried out.
 
 use crate::shelves::Shelved;
-use flash_commands::{Fault, Folder, act, end, open};
+use flash_commands::{Fault, Folder, Output, act, end, open};
 use std::alloc::{AllocError, Global};
 use std::io;
 use std::io::Write;
@@ -38,7 +38,7 @@ fn show<W: Write, E: Write>(out: &mut W, err: &mut E, error: clap::Error) -> io:
 }
 
 /// Carries out the words of `flashrec`.
-fn record<R: Threads + Wait + Sync, D: Folder, W: Write, E: Write>(
+fn record<R: Threads + Wait + Sync, D: Folder, W: Output, E: Write>(
     rt: &R,
     alloc: Global,
     folder: &D,
@@ -56,7 +56,7 @@ fn record<R: Threads + Wait + Sync, D: Folder, W: Write, E: Write>(
 }
 
 /// Carries out the words of `flashplan`.
-fn design<D: Folder, W: Write, E: Write>(
+fn design<D: Folder, W: Output, E: Write>(
     alloc: Global,
     folder: &D,
     words: &[String],

@@ -8,6 +8,7 @@ use std::alloc::Global;
 use std::fs;
 use std::rt::Files;
 use task_script::add_die;
+use text_base::Flagged;
 
 /// What each closed die did since its log began, by its number: a row for each job and collection, and the certificate
 /// of the worst. It is read off the dies' logs, whatever their device is.
@@ -31,7 +32,7 @@ pub(crate) fn write_report<R: Files>(
 ) -> Result<(), Refusal> {
     let text = report_of(alloc, dies)?;
     match fs::create(rt, name) {
-        Ok(mut file) => text.write(&mut file),
+        Ok(file) => text.write(&mut Flagged::new(file)),
         Err(_) => Err(Refusal::WriteFault),
     }
 }

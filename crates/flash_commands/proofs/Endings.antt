@@ -1,13 +1,14 @@
 -- An outcome with the status of a refusal is one.
-use Rattle.std.proofs.Common.{◌≡◌, ℕ, List, [], Option, Some, Result, Ok, Err, IfErr, arith, inl, inr}
+use Rattle.std.proofs.Common.{◌≡◌, ℕ, List, [], Bool, Option, Some, Result, Ok, Err, IfErr, arith, inl, inr}
 use Rattle.std.specs.Prelude.{length}
 use Rattle.slot_types.specs.declared.plans.DiePlan.{DiePlan}
 use Rattle.slot_types.specs.declared.refusals.Refusal.{Refusal}
 use Rattle.plan_texts.specs.PlanReading.{IsStoreOf}
-use Rattle.task_script.specs.TextRuns.{RefusesText}
+use Rattle.task_script.specs.Feeds.{RefusesScript}
+use Rattle.task_script.specs.PlannedRuns.{RunsSo}
 use Rattle.task_script.specs.declared.run_counts.RunCount.{RunCount}
-use Rattle.text_base.specs.Writing.{IsNotWhole}
-use Rattle.flash_commands.specs.Acts.{IsFaultOf, IsRefusedFor, IsUnwritten, PrintsSome, Refuses, RefusesRun}
+use Rattle.text_base.specs.Writing.{IsCut, RefusesOrCuts}
+use Rattle.flash_commands.specs.Acts.{IsFaultOf, IsRefusedFor, PrintsRun, PrintsSome, Refuses, RefusesRun}
 use Rattle.flash_commands.specs.Faults.{outcome_status}
 use Rattle.flash_commands.specs.declared.commands.Command.{Command}
 use Rattle.flash_commands.specs.declared.faults.Fault.{Fault}
@@ -22,29 +23,43 @@ refusal-of P (Err (Words error)) p ends = absurd p
 refusal-of P (Err NotText) p ends = absurd p
 refusal-of P (Err Certificate) p ends = absurd (omega (arith, ends))
 
-not-whole-as : {W : Type 0} (contents : W → Option (List ℕ)) (P Q : Option (List ℕ) → Option (List ℕ) → Type 0) (old new : W)
-    → ((a b : Option (List ℕ)) → P a b → Q a b) → IsNotWhole contents P old new → IsNotWhole contents Q old new
-not-whole-as contents P Q old new turn (inl same) = inl same
-not-whole-as contents P Q old new turn (inr (whole, prints, part)) = inr (whole, turn (Some []) (Some whole) prints, part)
+cut-as : {W : Type 0} (contents : W → Option (List ℕ)) (has_failed : W → Option Bool) (P Q : Option (List ℕ) → Option (List ℕ) → Type 0)
+    (old new : W) (refusal : Refusal) → ((a b : Option (List ℕ)) → P a b → Q a b) → IsCut contents has_failed P old new refusal
+    → IsCut contents has_failed Q old new refusal
+cut-as contents has_failed P Q old new refusal turn cut =
+    let (whole, prints, part) = cut.part in
+    record { refusal_is = cut.refusal_is; failed = cut.failed; part = (whole, turn (Some []) (Some whole) prints, part) }
 
--- the refusal of a command, of which three things are said
-pub refused-for : {W : Type 0} (contents : W → Option (List ℕ)) (c : Command) (first second : Option (List ℕ)) (old new : W)
+refuses-as : {W : Type 0} (contents : W → Option (List ℕ)) (has_failed : W → Option Bool) (R S : Refusal → Type 0)
+    (P Q : Option (List ℕ) → Option (List ℕ) → Type 0) (old new : W) (refusal : Refusal)
+    → (R refusal → S refusal) → ((a b : Option (List ℕ)) → P a b → Q a b) → RefusesOrCuts contents has_failed R P old new refusal
+    → RefusesOrCuts contents has_failed S Q old new refusal
+refuses-as contents has_failed R S P Q old new refusal why turn (inl (refuses, same)) = inl (why refuses, same)
+refuses-as contents has_failed R S P Q old new refusal why turn (inr cut) =
+    inr (cut-as contents has_failed P Q old new refusal turn cut)
+
+-- the refusal of a command
+pub refused-for : {W : Type 0} (contents : W → Option (List ℕ)) (has_failed : W → Option Bool) (c : Command)
+    (first second : Option (List ℕ)) (old new : W)
     (P : Option (List ℕ) → Option (List ℕ) → Type 0) (done : Result (Unit {0}) Fault)
     → ((a b : Option (List ℕ)) → P a b → PrintsSome c first second a b)
-    → IfErr done (IsFaultOf (Refuses c first second)) → IfErr done (IsFaultOf (IsUnwritten old new))
-    → IfErr done (IsFaultOf (λ _. IsNotWhole contents P old new)) → IfErr done (IsFaultOf (IsRefusedFor contents c first second old new))
-refused-for contents c first second old new P (Ok x) turn why unwritten part = tt
-refused-for contents c first second old new P (Err (Refused refusal)) turn why unwritten part = record {
-  why = why;
-  unwritten = unwritten;
-  part = not-whole-as contents P (PrintsSome c first second) old new turn part;
-}
-refused-for contents c first second old new P (Err (Words error)) turn why unwritten part = why
-refused-for contents c first second old new P (Err NotText) turn why unwritten part = why
-refused-for contents c first second old new P (Err Certificate) turn why unwritten part = tt
+    → IfErr done (IsFaultOf (RefusesOrCuts contents has_failed (Refuses c first second) P old new))
+    → IfErr done (IsFaultOf (IsRefusedFor contents has_failed c first second old new))
+refused-for contents has_failed c first second old new P (Ok x) turn refuses = tt
+refused-for contents has_failed c first second old new P (Err (Refused refusal)) turn refuses =
+    refuses-as contents has_failed (Refuses c first second) (Refuses c first second) P (PrintsSome c first second) old new refusal
+    (λ why. why) turn refuses
+refused-for contents has_failed c first second old new P (Err (Words error)) turn refuses = refuses
+refused-for contents has_failed c first second old new P (Err NotText) turn refuses = refuses
+refused-for contents has_failed c first second old new P (Err Certificate) turn refuses = tt
 
 -- a run is refused as its script is, for the dies of the plan that was read
-pub refuses-run : (plan script : Option (List ℕ)) (slots : ℕ) (store : List DiePlan) (done : Result RunCount Refusal)
-    → IsStoreOf plan store → IfErr done (RefusesText script (length store) slots) → IfErr done (RefusesRun plan script slots)
-refuses-run plan script slots store (Ok count) read why = tt
-refuses-run plan script slots store (Err refusal) read why = inr (store, read, why)
+pub refuses-run : {W : Type 0} (contents : W → Option (List ℕ)) (has_failed : W → Option Bool) (plan script : Option (List ℕ)) (slots : ℕ)
+    (store : List DiePlan) (old new : W) (done : Result RunCount Refusal) → IsStoreOf plan store
+    → IfErr done (RefusesOrCuts contents has_failed (RefusesScript script (length store) slots) (RunsSo script store slots) old new)
+    → IfErr done (RefusesOrCuts contents has_failed (RefusesRun plan script slots) (PrintsRun plan script slots) old new)
+refuses-run contents has_failed plan script slots store old new (Ok count) read refuses = tt
+refuses-run contents has_failed plan script slots store old new (Err refusal) read refuses =
+    refuses-as contents has_failed (RefusesScript script (length store) slots) (RefusesRun plan script slots) (RunsSo script store slots)
+    (PrintsRun plan script slots) old new refusal (λ why. inr (store, read, why))
+    (λ a b (count, planned). record { store = store; read = read; count = count; as_planned = planned }) refuses

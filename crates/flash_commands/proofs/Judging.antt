@@ -8,9 +8,9 @@ use Rattle.late_cert.specs.declared.certificates.Certificate.{Certificate}
 use Rattle.late_cert.specs.declared.rows.JobRow.{JobRow}
 use Rattle.slot_types.specs.declared.refusals.Refusal.{Refusal}
 use Rattle.report_texts.specs.JobRows.{job_rows_of}
-use Rattle.text_base.specs.Writing.{InPart, IsNotWhole}
+use Rattle.text_base.specs.Writing.{InPart, RefusesOrCuts}
 use Rattle.report_texts.specs.declared.reports.DieReport.{DieReport}
-use Rattle.flash_commands.specs.Acts.{FindsRefused, HasThree, IsRefused, Prints, PrintsAudit, PrintsSome, SaysRefused}
+use Rattle.flash_commands.specs.Acts.{FindsRefused, HasThree, IsRefused, Prints, PrintsAudit, PrintsSome, Refuses, SaysRefused}
 use Rattle.flash_commands.specs.Audit.{audit_status, audit_text, cert_line, is_refused}
 use Rattle.flash_commands.specs.declared.commands.Command.{Command}
 use Rattle.flash_commands.specs.declared.commands.Command.TheVariants as command
@@ -83,18 +83,21 @@ not-three : (A : Type 0) (status : ℕ) → (status ≡ 1) ⊎ (A × (status ≡
 not-three A status (inl one) three = omega (arith, one, three)
 not-three A status (inr (a, zero)) three = omega (arith, zero, three)
 
-seen-by : {W : Type 0} (contents : W → Option (List ℕ)) (P : Option (List ℕ) → Option (List ℕ) → Type 0) (old new : W)
-    → IsNotWhole contents P old new
-    → (contents new ≡ contents old) ⊎ InPart P (contents old) (contents new)
-seen-by contents P old new (inl same) = inl (ap contents same)
-seen-by contents P old new (inr part) = inr part
+seen-by : {W : Type 0} (contents : W → Option (List ℕ)) (has_failed : W → Option Bool) (R : Refusal → Type 0)
+    (P : Option (List ℕ) → Option (List ℕ) → Type 0) (old new : W) (refusal : Refusal)
+    → RefusesOrCuts contents has_failed R P old new refusal → (contents new ≡ contents old) ⊎ InPart P (contents old) (contents new)
+seen-by contents has_failed R P old new refusal (inl (why, same)) = inl (ap contents same)
+seen-by contents has_failed R P old new refusal (inr cut) = inr cut.part
 
-pub has-three : {W : Type 0} (contents : W → Option (List ℕ)) (c : Command) (first second : Option (List ℕ)) (old new : W) (status : ℕ)
-    → (status ≡ 1) ⊎ Prints c first second (contents old) (contents new) status → (status ≡ 1 → IsRefused contents c first second old new)
+pub has-three : {W : Type 0} (contents : W → Option (List ℕ)) (has_failed : W → Option Bool) (c : Command)
+    (first second : Option (List ℕ)) (old new : W) (status : ℕ)
+    → (status ≡ 1) ⊎ Prints c first second (contents old) (contents new) status
+    → (status ≡ 1 → IsRefused contents has_failed c first second old new)
     → HasThree c first (contents old) (contents new) status
-has-three contents (command.Audit report) first second old new status printed refused =
+has-three contents has_failed (command.Audit report) first second old new status printed refused =
     says-refused first (contents old) (contents new) status printed
-    (λ one. seen-by contents (PrintsSome (command.Audit report) first second) old new (refused one).1.part)
-has-three contents (command.Plan plan) first second old new status printed refused = not-three _ status printed
-has-three contents (command.Run plan script slots workers) first second old new status printed refused = not-three _ status printed
-has-three contents command.Alone first second old new status printed refused = not-three _ status printed
+    (λ one. seen-by contents has_failed (Refuses (command.Audit report) first second) (PrintsSome (command.Audit report) first second)
+    old new (refused one).0 (refused one).1)
+has-three contents has_failed (command.Plan plan) first second old new status printed refused = not-three _ status printed
+has-three contents has_failed (command.Run plan script slots workers) first second old new status printed refused = not-three _ status printed
+has-three contents has_failed command.Alone first second old new status printed refused = not-three _ status printed

@@ -1,21 +1,18 @@
 -- What a command prints, and its status; and what it leaves where it is refused.
-use Rattle.std.specs.Prelude.{◌≡◌, ◌≢◌, ◌↔◌, ◌++◌, ⊤, ℕ, true, length, List, Option, Some, IfSome, Ok, Err, ◌⊎◌}
+use Rattle.std.specs.Prelude.{◌≡◌, ◌≢◌, ◌↔◌, ◌++◌, ⊤, ℕ, Bool, true, length, List, Option, Some, IfSome, Ok, Err, ◌⊎◌}
 use Rattle.std.specs.List.{list_any}
 use Rattle.std.specs.Io.KnownBytes.{Appends}
 use Rattle.slot_types.specs.declared.plans.DiePlan.{DiePlan}
 use Rattle.slot_types.specs.declared.refusals.Refusal.{Refusal}
-use Rattle.slot_types.specs.declared.refusals.Refusal.TheVariants.{WriteFault}
 use Rattle.plan_texts.specs.PlanReading.{IsStoreOf, RefusesPlanOf}
-use Rattle.plan_texts.specs.PlanText.{plan_of}
 use Rattle.text_base.specs.Readings.{IsOutside}
 use Rattle.report_texts.specs.ReportOf.{report_of}
-use Rattle.plan_texts.specs.Stores.{RefusesPlan}
-use Rattle.text_base.specs.Writing.{IsNotWhole}
+use Rattle.text_base.specs.Writing.{RefusesOrCuts}
 use Rattle.report_texts.specs.declared.reports.DieReport.{DieReport}
 use Rattle.flash_commands.specs.Audit.{audit_status, audit_text, is_refused}
 use Rattle.flash_commands.specs.Figures.{plan_text}
 use Rattle.task_script.specs.PlannedRuns.{RunsAsPlanned}
-use Rattle.task_script.specs.TextRuns.{RefusesText}
+use Rattle.task_script.specs.Feeds.{RefusesScript}
 use Rattle.task_script.specs.declared.run_counts.RunCount.{RunCount}
 use Rattle.example_texts.specs.declared.built_in.TheConstants.{PLAN, SCRIPT, SLOTS}
 use Rattle.flash_commands.specs.declared.commands.Command.{Command}
@@ -27,17 +24,9 @@ use Rattle.flash_commands.specs.declared.faults.Fault.TheVariants.{Certificate, 
 abbrev pub IsReportOf : Option (List ℕ) → List DieReport → Type 0
 IsReportOf text report = IfSome text (λ bytes. report_of bytes ≡ Ok report)
 
--- memory ran out, or a reader or a writer failed
-abbrev pub IsHostFault : Refusal → Type 0
-IsHostFault refusal = IsOutside refusal ⊎ (refusal ≡ WriteFault)
-
--- why no report is audited
+-- why no report is audited: memory ran out, or the reader failed, or the text has it
 abbrev pub RefusesAudit : Option (List ℕ) → Refusal → Type 0
-RefusesAudit text refusal = IsHostFault refusal ⊎ IfSome text (λ bytes. report_of bytes ≡ Err refusal)
-
--- why no plan's figures are shown
-abbrev pub RefusesFigures : Option (List ℕ) → Refusal → Type 0
-RefusesFigures text refusal = IsHostFault refusal ⊎ IfSome text (λ bytes. RefusesPlan (plan_of bytes) refusal)
+RefusesAudit text refusal = IsOutside refusal ⊎ IfSome text (λ bytes. report_of bytes ≡ Err refusal)
 
 -- the audit of the report that was read is printed, and this is its status
 abbrev pub PrintsAudit : Option (List ℕ) → Option (List ℕ) → Option (List ℕ) → ℕ → Type 0
@@ -64,7 +53,7 @@ pub record PrintsRun (plan script : Option (List ℕ)) (slots : ℕ) (old new : 
 -- why nothing is run: the plan is refused, which is read first; or the script is, for the dies of the plan that was read
 abbrev pub RefusesRun : Option (List ℕ) → Option (List ℕ) → ℕ → Refusal → Type 0
 RefusesRun plan script slots refusal =
-    RefusesPlanOf plan refusal ⊎ ((store : List DiePlan) × IsStoreOf plan store × RefusesText script (length store) slots refusal)
+    RefusesPlanOf plan refusal ⊎ ((store : List DiePlan) × IsStoreOf plan store × RefusesScript script (length store) slots refusal)
 
 -- a command printed what it is to print of what it read, and this is its status
 abbrev pub Prints : Command → Option (List ℕ) → Option (List ℕ) → Option (List ℕ) → Option (List ℕ) → ℕ → Type 0
@@ -76,27 +65,24 @@ Prints command.Alone first second old new status = PrintsRun (Some PLAN.now) (So
 -- why a command is refused
 abbrev pub Refuses : Command → Option (List ℕ) → Option (List ℕ) → Refusal → Type 0
 Refuses (command.Audit report) first second refusal = RefusesAudit first refusal
-Refuses (command.Plan plan) first second refusal = RefusesFigures first refusal
+Refuses (command.Plan plan) first second refusal = RefusesPlanOf first refusal
 Refuses (command.Run plan script slots workers) first second refusal = RefusesRun first second slots.count refusal
 Refuses command.Alone first second refusal = RefusesRun (Some PLAN.now) (Some SCRIPT.now) SLOTS refusal
-
--- a refusal other than the writer's own leaves the writer as it was
-abbrev pub IsUnwritten : {W : Type 0} → W → W → Refusal → Type 0
-IsUnwritten old new refusal = (refusal ≡ WriteFault → ⊥) → new ≡ old
 
 -- what a command prints, whatever its status
 abbrev pub PrintsSome : Command → Option (List ℕ) → Option (List ℕ) → Option (List ℕ) → Option (List ℕ) → Type 0
 PrintsSome c first second old new = (status : ℕ) × Prints c first second old new status
 
--- why a command is refused, and that nothing was written, or not the whole
-pub record IsRefusedFor {W : Type 0} (contents : W → Option (List ℕ)) (c : Command) (first second : Option (List ℕ)) (old new : W)
-    (refusal : Refusal) : Type 0 where
-  pub why : Refuses c first second refusal
-  pub unwritten : IsUnwritten old new refusal
-  pub part : IsNotWhole contents (PrintsSome c first second) old new
+-- why a command is refused, and nothing was written; or its writer failed, and took a front of what it prints
+abbrev pub IsRefusedFor : {W : Type 0} → (W → Option (List ℕ)) → (W → Option Bool) → Command → Option (List ℕ) → Option (List ℕ)
+    → W → W → Refusal → Type 0
+IsRefusedFor contents has_failed c first second old new refusal =
+    RefusesOrCuts contents has_failed (Refuses c first second) (PrintsSome c first second) old new refusal
 
-abbrev pub IsRefused : {W : Type 0} → (W → Option (List ℕ)) → Command → Option (List ℕ) → Option (List ℕ) → W → W → Type 0
-IsRefused contents c first second old new = (refusal : Refusal) × IsRefusedFor contents c first second old new refusal
+abbrev pub IsRefused : {W : Type 0} → (W → Option (List ℕ)) → (W → Option Bool) → Command → Option (List ℕ) → Option (List ℕ)
+    → W → W → Type 0
+IsRefused contents has_failed c first second old new =
+    (refusal : Refusal) × IsRefusedFor contents has_failed c first second old new refusal
 
 -- so much of a fault: it is a refusal, of which these say why it comes and what it leaves; or a refused certificate
 abbrev pub IsFaultOf : (Refusal → Type 0) → Fault → Type 0

@@ -1,10 +1,11 @@
 //! Commands that are carried out.
 
-ghost use Rattle.std.specs.Prelude.{◌≡◌, ◌≤◌, ◌⊎◌, IfOk, IfErr, OnErr, OnOk, if◌then◌else◌};
-ghost use Rattle.flash_commands.specs.Acts.{AuditsSome, HasThree, IsFaultOf, IsRefused, IsRefusedFor, IsUnwritten, Prints, PrintsAudit};
-ghost use Rattle.flash_commands.specs.Acts.{PrintsFigures, PrintsRun, RefusesAudit, RefusesFigures, RefusesRun};
+ghost use Rattle.std.specs.Prelude.{◌≡◌, ◌≤◌, ◌⊎◌, IfOk, IfErr, OnOk, if◌then◌else◌};
+ghost use Rattle.flash_commands.specs.Acts.{AuditsSome, HasThree, IsFaultOf, IsRefused, IsRefusedFor, Prints, PrintsAudit};
+ghost use Rattle.flash_commands.specs.Acts.{PrintsFigures, PrintsRun, RefusesAudit, RefusesRun};
+ghost use Rattle.plan_texts.specs.PlanReading.{RefusesPlanOf};
 ghost use Rattle.flash_commands.specs.Faults.{outcome_status};
-ghost use Rattle.text_base.specs.Writing.{IsNotWhole};
+ghost use Rattle.text_base.specs.Writing.{KeepsFlag, RefusesOrCuts};
 
 use crate::audits::audit_by_threads;
 use crate::commands::Command;
@@ -19,20 +20,20 @@ use std::io::{Read, Write};
 use std::sync::Wait;
 use std::thread::Threads;
 use task_script::{RunCount, run_text};
-use text_base::write_whole;
+use text_base::{Output, write_whole};
 
 /// Prints the figures of a plan.
-fn print_figures<R: Read + Drop, W: Write>(
+fn print_figures<R: Read + Drop, W: Output>(
     alloc: Global,
     first: R,
     out: &mut W,
 ) -> Result<(), Refusal>
     ensures printed { OnOk result
         (PrintsFigures (R.remaining first) (W.contents out.old) (W.contents out.new)) }
-    ensures refused { IfErr result (RefusesFigures (R.remaining first)) }
-    ensures unwritten { IfErr result (IsUnwritten out.old out.new) }
-    ensures part { OnErr result
-        (IsNotWhole W.contents (PrintsFigures (R.remaining first)) out.old out.new) }
+    ensures works { OnOk result (KeepsFlag (W.has_failed out.old) (W.has_failed out.new)) }
+    ensures refused { IfErr result
+        (RefusesOrCuts W.contents W.has_failed (RefusesPlanOf (R.remaining first))
+        (PrintsFigures (R.remaining first)) out.old out.new) }
 {
     let store = read_plan_from(alloc, first)?;
     let text = figures_text(alloc, &store)?;
@@ -41,7 +42,7 @@ fn print_figures<R: Read + Drop, W: Write>(
 
 /// Prints the audit of a report, and says whether a certificate is refused. Its dies are judged by as many threads as
 /// have work, at most four.
-fn print_audit<T: Threads + Sync, R: Read + Drop, W: Write>(
+fn print_audit<T: Threads + Sync, R: Read + Drop, W: Output>(
     rt: &T,
     alloc: Global,
     first: R,
@@ -50,10 +51,10 @@ fn print_audit<T: Threads + Sync, R: Read + Drop, W: Write>(
     ensures printed { IfOk result (λ refused.
         PrintsAudit (R.remaining first) (W.contents out.old) (W.contents out.new)
         (if refused then 3 else 0)) }
-    ensures refused { IfErr result (RefusesAudit (R.remaining first)) }
-    ensures unwritten { IfErr result (IsUnwritten out.old out.new) }
-    ensures part { OnErr result
-        (IsNotWhole W.contents (AuditsSome (R.remaining first)) out.old out.new) }
+    ensures works { OnOk result (KeepsFlag (W.has_failed out.old) (W.has_failed out.new)) }
+    ensures refused { IfErr result
+        (RefusesOrCuts W.contents W.has_failed (RefusesAudit (R.remaining first))
+        (AuditsSome (R.remaining first)) out.old out.new) }
 {
     let work = read_work(alloc, first)?;
     let audit = audit_by_threads(rt, alloc, &work)?;
@@ -62,7 +63,7 @@ fn print_audit<T: Threads + Sync, R: Read + Drop, W: Write>(
 }
 
 /// Runs a script on the store of a plan, and prints its report.
-fn print_run<R: Threads + Wait + Sync, F: Read + Drop, S: Read + Drop, W: Write>(
+fn print_run<R: Threads + Wait + Sync, F: Read + Drop, S: Read + Drop, W: Output>(
     rt: &R,
     alloc: Global,
     first: F,
@@ -76,11 +77,11 @@ fn print_run<R: Threads + Wait + Sync, F: Read + Drop, S: Read + Drop, W: Write>
     ensures printed { OnOk result
         (PrintsRun (F.remaining first) (S.remaining second) slots (W.contents out.old)
         (W.contents out.new)) }
-    ensures refused { IfErr result (RefusesRun (F.remaining first) (S.remaining second) slots) }
-    ensures unwritten { IfErr result (IsUnwritten out.old out.new) }
-    ensures part { OnErr result
-        (IsNotWhole W.contents (PrintsRun (F.remaining first) (S.remaining second) slots) out.old
-        out.new) }
+    ensures works { OnOk result (KeepsFlag (W.has_failed out.old) (W.has_failed out.new)) }
+    ensures refused { IfErr result
+        (RefusesOrCuts W.contents W.has_failed
+        (RefusesRun (F.remaining first) (S.remaining second) slots)
+        (PrintsRun (F.remaining first) (S.remaining second) slots) out.old out.new) }
 {
     let store = read_plan_from(alloc, first)?;
     run_text(rt, alloc, &store, second, out, slots, workers)
@@ -95,7 +96,7 @@ fn report_refused<E: Write>(err: &mut E, count: &RunCount) {
 }
 
 /// Runs a script on the store of a plan, or says why not.
-fn run<R: Threads + Wait + Sync, F: Read + Drop, S: Read + Drop, W: Write, E: Write>(
+fn run<R: Threads + Wait + Sync, F: Read + Drop, S: Read + Drop, W: Output, E: Write>(
     rt: &R,
     alloc: Global,
     first: F,
@@ -110,12 +111,12 @@ fn run<R: Threads + Wait + Sync, F: Read + Drop, S: Read + Drop, W: Write, E: Wr
     ensures printed { (outcome_status result ≡ 1)
         ⊎ (PrintsRun (F.remaining first) (S.remaining second) slots (W.contents out.old)
         (W.contents out.new) × (outcome_status result ≡ 0)) }
-    ensures refused { IfErr result
-        (IsFaultOf (RefusesRun (F.remaining first) (S.remaining second) slots)) }
-    ensures unwritten { IfErr result (IsFaultOf (IsUnwritten out.old out.new)) }
-    ensures part { IfErr result (IsFaultOf (λ _.
-        IsNotWhole W.contents (PrintsRun (F.remaining first) (S.remaining second) slots) out.old
-        out.new)) }
+    ensures works { (outcome_status result ≡ 1)
+        ⊎ KeepsFlag (W.has_failed out.old) (W.has_failed out.new) }
+    ensures refused { IfErr result (IsFaultOf
+        (RefusesOrCuts W.contents W.has_failed
+        (RefusesRun (F.remaining first) (S.remaining second) slots)
+        (PrintsRun (F.remaining first) (S.remaining second) slots) out.old out.new)) }
 {
     let count = print_run(rt, alloc, first, second, slots, workers, out)?;
     report_refused(err, &count);
@@ -123,21 +124,22 @@ fn run<R: Threads + Wait + Sync, F: Read + Drop, S: Read + Drop, W: Write, E: Wr
 }
 
 /// Shows the figures of a plan, or says why not.
-fn figures<R: Read + Drop, W: Write>(alloc: Global, first: R, out: &mut W) -> Result<(), Fault>
+fn figures<R: Read + Drop, W: Output>(alloc: Global, first: R, out: &mut W) -> Result<(), Fault>
     ensures printed { (outcome_status result ≡ 1)
         ⊎ (PrintsFigures (R.remaining first) (W.contents out.old) (W.contents out.new)
         × (outcome_status result ≡ 0)) }
-    ensures refused { IfErr result (IsFaultOf (RefusesFigures (R.remaining first))) }
-    ensures unwritten { IfErr result (IsFaultOf (IsUnwritten out.old out.new)) }
-    ensures part { IfErr result (IsFaultOf (λ _.
-        IsNotWhole W.contents (PrintsFigures (R.remaining first)) out.old out.new)) }
+    ensures works { (outcome_status result ≡ 1)
+        ⊎ KeepsFlag (W.has_failed out.old) (W.has_failed out.new) }
+    ensures refused { IfErr result (IsFaultOf
+        (RefusesOrCuts W.contents W.has_failed (RefusesPlanOf (R.remaining first))
+        (PrintsFigures (R.remaining first)) out.old out.new)) }
 {
     print_figures(alloc, first, out)?;
     Ok(())
 }
 
 /// Audits a report, or says why not.
-fn audit<T: Threads + Sync, R: Read + Drop, W: Write>(
+fn audit<T: Threads + Sync, R: Read + Drop, W: Output>(
     rt: &T,
     alloc: Global,
     first: R,
@@ -146,10 +148,11 @@ fn audit<T: Threads + Sync, R: Read + Drop, W: Write>(
     ensures printed { (outcome_status result ≡ 1)
         ⊎ PrintsAudit (R.remaining first) (W.contents out.old) (W.contents out.new)
         (outcome_status result) }
-    ensures refused { IfErr result (IsFaultOf (RefusesAudit (R.remaining first))) }
-    ensures unwritten { IfErr result (IsFaultOf (IsUnwritten out.old out.new)) }
-    ensures part { IfErr result (IsFaultOf (λ _.
-        IsNotWhole W.contents (AuditsSome (R.remaining first)) out.old out.new)) }
+    ensures works { (outcome_status result ≡ 1)
+        ⊎ KeepsFlag (W.has_failed out.old) (W.has_failed out.new) }
+    ensures refused { IfErr result (IsFaultOf
+        (RefusesOrCuts W.contents W.has_failed (RefusesAudit (R.remaining first))
+        (AuditsSome (R.remaining first)) out.old out.new)) }
 {
     if print_audit(rt, alloc, first, out)? {
         return Err(Fault::Certificate);
@@ -162,8 +165,9 @@ fn audit<T: Threads + Sync, R: Read + Drop, W: Write>(
 ///
 /// What it prints is what [`act`] says. `Certificate` comes exactly where a report was read and audited, its audit is
 /// printed whole, and some certificate is refused; any other error is a refusal. A refusal leaves `out` as it was,
-/// but for `WriteFault`: `out` then took a front of what was to be printed, and not the whole.
-pub fn carry_out<R: Threads + Wait + Sync, F: Read + Drop, S: Read + Drop, W: Write, E: Write>(
+/// but for `WriteFault`, which comes exactly where `out` failed: it then took a front of what was to be printed, and not
+/// the whole.
+pub fn carry_out<R: Threads + Wait + Sync, F: Read + Drop, S: Read + Drop, W: Output, E: Write>(
     rt: &R,
     alloc: Global,
     command: Command<'_>,
@@ -175,10 +179,11 @@ pub fn carry_out<R: Threads + Wait + Sync, F: Read + Drop, S: Read + Drop, W: Wr
     ensures printed { (outcome_status result ≡ 1)
         ⊎ Prints command.entry (F.remaining first) (S.remaining second) (W.contents out.old)
         (W.contents out.new) (outcome_status result) }
+    ensures works { (outcome_status result ≡ 1)
+        ⊎ KeepsFlag (W.has_failed out.old) (W.has_failed out.new) }
     ensures refused { IfErr result
-        (IsFaultOf (IsRefusedFor W.contents command.entry (F.remaining first) (S.remaining second)
-        out.old
-        out.new)) }
+        (IsFaultOf (IsRefusedFor W.contents W.has_failed command.entry (F.remaining first)
+        (S.remaining second) out.old out.new)) }
 {
     match command {
         Command::Alone => {
@@ -213,7 +218,7 @@ pub fn carry_out<R: Threads + Wait + Sync, F: Read + Drop, S: Read + Drop, W: Wr
 /// Each text for `out` is made whole before its first byte. A refusal is reported in a line to `err`, as
 /// `error 19 ScriptRow 6 Fields`, and the status is 1: nothing was written to `out`, or `out` failed before it had the
 /// whole text. Where `err` fails, that is passed over. Neither is flushed. A run may wait for its workers.
-pub fn act<R: Threads + Wait + Sync, F: Read + Drop, S: Read + Drop, W: Write, E: Write>(
+pub fn act<R: Threads + Wait + Sync, F: Read + Drop, S: Read + Drop, W: Output, E: Write>(
     rt: &R,
     alloc: Global,
     command: Command<'_>,
@@ -228,9 +233,10 @@ pub fn act<R: Threads + Wait + Sync, F: Read + Drop, S: Read + Drop, W: Write, E
         result }
     ensures three { HasThree command.entry (F.remaining first) (W.contents out.old)
         (W.contents out.new) result }
+    ensures works { (result ≡ 1) ⊎ KeepsFlag (W.has_failed out.old) (W.has_failed out.new) }
     ensures refused { result ≡ 1
-        → IsRefused W.contents command.entry (F.remaining first) (S.remaining second) out.old
-        out.new }
+        → IsRefused W.contents W.has_failed command.entry (F.remaining first) (S.remaining second)
+        out.old out.new }
 {
     let done = carry_out(rt, alloc, command, first, second, out, err);
     end(err, done)

@@ -25,3 +25,4 @@ pub use hints::{Texts, report_more};
 pub use progress::{Shown, Watched, WatchedDisk};
 pub use record_lines::line_of_record;
 pub use run_numbers::{Slots, Workers};
+pub use text_base::{Flagged, Output};

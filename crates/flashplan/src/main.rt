@@ -10,6 +10,7 @@ use std::alloc::Global;
 use std::io::{IsTerminal, Write};
 use std::process::ExitCode;
 use std::rt::{Clock, Files};
+use text_base::{Flagged, Output};
 use tool_command_words::{Asked, read_words};
 use tool_commands::{act_asked, slots_of, texts_of};
 use whole_files::DiskShelf;
@@ -24,7 +25,7 @@ fn shown_of(asked: &Asked<'_>, is_terminal: bool) -> Shown {
 
 /// Carries out what is asked for on the files of the system, and answers the status. `more` gets, where that is a
 /// terminal, what it is shown beside what `err` gets.
-fn carry_out<R: Files + Clock + Eprint, W: Write, E: Write + Drop>(
+fn carry_out<R: Files + Clock + Eprint, W: Output, E: Write + Drop>(
     rt: &R,
     alloc: Global,
     asked: &Asked<'_>,
@@ -47,7 +48,7 @@ fn carry_out<R: Files + Clock + Eprint, W: Write, E: Write + Drop>(
 
 fn main(rt: HostRuntime) -> ExitCode {
     let alloc = rt.alloc();
-    let (mut out, mut err) = (rt.stdout(), rt.stderr());
+    let (mut out, mut err) = (Flagged::new(rt.stdout()), rt.stderr());
     let is_terminal = err.is_terminal();
     let status = match own_words(&rt, alloc, "flashplan") {
         Ok(words) => match read_words(alloc, words.as_slice()) {

@@ -5,7 +5,7 @@ use std::alloc::Global;
 use std::fs;
 use std::fs::OpenFile;
 use std::rt::Files;
-use text_base::write_whole;
+use text_base::{Flagged, write_whole};
 use tool_commands::Shelf;
 
 /// The files of the system.
@@ -24,11 +24,11 @@ impl<'a, R: Files> DiskShelf<'a, R> {
     /// Writes a text into a file of this name, which is new or cut, down to the disk.
     fn fill(&self, name: &str, text: &[u8]) -> Result<(), Refusal> {
         let mut file = match fs::create(self.files, name) {
-            Ok(file) => file,
+            Ok(file) => Flagged::new(file),
             Err(_) => return Err(Refusal::WriteFault),
         };
         write_whole(&mut file, text)?;
-        match file.sync_all() {
+        match file.get_ref().sync_all() {
             Ok(()) => Ok(()),
             Err(_) => Err(Refusal::WriteFault),
         }

@@ -3,7 +3,7 @@
 
 pub use flash_commands::{Command, act, read_words};
 use flash_commands::{
-    Fault, Heard, Shown, Texts, WatchedDisk, end, open, own_words, report_more, show,
+    Fault, Flagged, Heard, Shown, Texts, WatchedDisk, end, open, own_words, report_more, show,
 };
 use std::io::IsTerminal;
 use std::process::ExitCode;
@@ -30,7 +30,7 @@ fn texts_of(command: Command<'_>) -> Texts<'_> {
 
 fn main(rt: HostRuntime) -> ExitCode {
     let alloc = rt.alloc();
-    let (mut out, mut err) = (rt.stdout(), rt.stderr());
+    let (mut out, mut err) = (Flagged::new(rt.stdout()), rt.stderr());
     let is_terminal = err.is_terminal();
     let shown = if is_terminal {
         Shown::Bytes

@@ -7,6 +7,7 @@ use std::alloc::Global;
 use std::io;
 use std::io::Write;
 use std::test::Fail;
+use text_base::Flagged;
 
 /// A die of six blocks of four pages with five logical pages, of which page 0 was written and then page 2, and page 0
 /// again: its first cell is stale. The last page's bytes aren't kept. The second die never wrote.
@@ -176,10 +177,10 @@ impl Write for Full {
 fn a_writer_that_fails_is_reported(rt: HostRuntime) -> Result<(), Fail> {
     let alloc = rt.alloc();
     let store = store(alloc)?;
-    let mut full = Full { left: 7 };
+    let mut full = Flagged::new(Full { left: 7 });
     if store.len() <= 8 {
         let said = write_checkpoint(alloc, &mut full, &store);
-        assert!(rt; said == Err(slot_types::Refusal::WriteFault));
+        assert!(rt; said == Err(slot_types::Refusal::WriteFault) && full.has_failed());
     }
     Ok(())
 }

@@ -2,7 +2,7 @@
 
 use crate::printed::{AUDIT, PLAN_COMMAND, Printed, acted};
 use example_texts::{PLAN, REPORT, TWO_REPORT};
-use flash_commands::{Command, act};
+use flash_commands::{Command, Flagged, act};
 use std::alloc::Global;
 use std::io;
 use std::io::{ErrorKind, Write};
@@ -78,16 +78,16 @@ fn slowly<R: Threads + Wait + Sync>(
     calls: usize,
     end: End,
 ) -> Printed {
-    let mut out = Slow {
+    let mut out = Flagged::new(Slow {
         text: Vec::new(alloc),
         most,
         calls_left: calls,
         end,
-    };
+    });
     let mut err = Vec::new(alloc);
     let status = act(rt, alloc, command, text, io::empty(), &mut out, &mut err);
     Printed {
-        out: out.text,
+        out: out.into_inner().text,
         err,
         status,
     }
@@ -221,10 +221,10 @@ fn an_interrupted_call_is_made_again(rt: HostRuntime) {
     let alloc = rt.alloc();
     for (command, text) in [(PLAN_COMMAND, PLAN), (AUDIT, TWO_REPORT)] {
         let whole = acted(&rt, alloc, command, text.as_bytes());
-        let mut out = Stuttering {
+        let mut out = Flagged::new(Stuttering {
             text: Vec::new(alloc),
             interrupted: false,
-        };
+        });
         let mut err = Vec::new(alloc);
         let status = act(
             &rt,
@@ -236,7 +236,7 @@ fn an_interrupted_call_is_made_again(rt: HostRuntime) {
             &mut err,
         );
         assert!(rt; status == 0 && err.is_empty());
-        assert!(rt; out.text.as_slice() == whole.out.as_slice());
+        assert!(rt; out.get_ref().text.as_slice() == whole.out.as_slice());
     }
 }
 

@@ -10,6 +10,7 @@ use std::env::Env;
 use std::io;
 use std::io::Write;
 use task_script::{ScriptReader, read_plan, read_report, write_report};
+use text_base::Flagged;
 
 /// Compares what it is given with a report, and takes no memory.
 #[derive(Drop)]
@@ -98,15 +99,15 @@ fn a_script_is_read_again(rt: HostRuntime) {
 /// Whether a report is read and written again as it was. A writing that is refused for memory writes nothing, and is
 /// made again where memory is scarce.
 fn is_copied<R: Env>(rt: &R, alloc: Global) -> Result<bool, Refusal> {
-    let mut writer = uncompared();
+    let mut writer = Flagged::new(uncompared());
     let report = read_report(alloc, TWO_REPORT.as_bytes())?;
     match write_report(alloc, &mut writer, &report) {
-        Err(Refusal::NoMemory) if is_scarce(rt) && writer.taken == 0 => {
+        Err(Refusal::NoMemory) if is_scarce(rt) && writer.get_ref().taken == 0 => {
             write_report(alloc, &mut writer, &report)?
         }
         answer => answer?,
     }
-    Ok(writer.is_whole())
+    Ok(writer.get_ref().is_whole())
 }
 
 #[test]

@@ -1,10 +1,12 @@
 use crate::answers::{report_refusal, script_refusal, work_refusal};
 use example_texts::{TWO_REPORT, TWO_SCRIPT};
 use slot_types::{Cause, Refusal};
+use std::alloc::Global;
 use std::io;
 use std::io::{ErrorKind, Read, Write};
 use std::test::Fail;
 use task_script::{read_report, write_report};
+use text_base::Flagged;
 
 /// Gives a text seven bytes a call. The call of this number, from 1, fails, and those after it don't.
 #[derive(Drop)]
@@ -37,6 +39,13 @@ impl<'a> Read for Faulty<'a> {
 pub struct Choppy {
     pub text: Vec<u8>,
     pub calls: u32,
+}
+
+pub fn choppy(alloc: Global, calls: u32) -> Flagged<Choppy> {
+    Flagged::new(Choppy {
+        text: Vec::new(alloc),
+        calls,
+    })
 }
 
 impl Write for Choppy {
@@ -104,10 +113,7 @@ fn a_failing_writer_is_a_write_fault(rt: HostRuntime) -> Result<(), Fail> {
     let alloc = rt.alloc();
     let report = read_report(alloc, TWO_REPORT.as_bytes())?;
     for calls in 1..100 {
-        let mut writer = Choppy {
-            text: Vec::new(alloc),
-            calls,
-        };
+        let mut writer = choppy(alloc, calls);
         let answer = write_report(alloc, &mut writer, &report);
         let whole = TWO_REPORT.len().div_ceil(7) < calls as usize;
         assert!(rt;
@@ -120,9 +126,10 @@ fn a_failing_writer_is_a_write_fault(rt: HostRuntime) -> Result<(), Fail> {
             "{calls}"
         );
         assert!(rt;
-            TWO_REPORT.as_bytes().starts_with(writer.text.as_slice()),
+            TWO_REPORT.as_bytes().starts_with(writer.get_ref().text.as_slice()),
             "{calls}"
         );
+        assert!(rt; writer.has_failed() != whole, "{calls}");
     }
     Ok(())
 }

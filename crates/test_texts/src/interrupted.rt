@@ -11,6 +11,7 @@ use std::sync::Wait;
 use std::test::Fail;
 use std::thread::Threads;
 use task_script::{RunCount, read_plan, read_report, run_text, write_report};
+use text_base::Flagged;
 
 /// Gives a text so many bytes a call, and is interrupted as often ahead of each.
 #[derive(Drop)]
@@ -47,6 +48,13 @@ impl<'a> Read for Interrupted<'a> {
 struct Halting {
     text: Vec<u8>,
     halted: bool,
+}
+
+fn halting(alloc: Global) -> Flagged<Halting> {
+    Flagged::new(Halting {
+        text: Vec::new(alloc),
+        halted: false,
+    })
 }
 
 impl Write for Halting {
@@ -91,22 +99,17 @@ fn an_interrupted_report_is_read_and_written(rt: HostRuntime) -> Result<(), Fail
     let alloc = rt.alloc();
     for (a_call, times) in [(1, 1), (7, 3), (4096, 1)] {
         let report = read_report(alloc, reader_of(TWO_REPORT, a_call, times))?;
-        let mut writer = Halting {
-            text: Vec::new(alloc),
-            halted: false,
-        };
+        let mut writer = halting(alloc);
         write_report(alloc, &mut writer, &report)?;
-        assert_eq!(rt; writer.text.as_slice(), TWO_REPORT.as_bytes());
+        assert!(rt; !writer.has_failed());
+        assert_eq!(rt; writer.into_inner().text.as_slice(), TWO_REPORT.as_bytes());
     }
     Ok(())
 }
 
 /// What a run of an interrupted script writes to a writer that is interrupted, too.
 fn run<R: Threads + Wait + Sync>(rt: &R, alloc: Global) -> (Result<RunCount, Refusal>, Vec<u8>) {
-    let mut writer = Halting {
-        text: Vec::new(alloc),
-        halted: false,
-    };
+    let mut writer = halting(alloc);
     let ended = match read_plan(alloc, TWO_DIES.as_bytes()) {
         Ok(plan) => {
             let script = reader_of(TWO_SCRIPT, 7, 2);
@@ -114,7 +117,7 @@ fn run<R: Threads + Wait + Sync>(rt: &R, alloc: Global) -> (Result<RunCount, Ref
         }
         Err(refusal) => Err(refusal),
     };
-    (ended, writer.text)
+    (ended, writer.into_inner().text)
 }
 
 #[test]

@@ -1,16 +1,17 @@
 //! Runs whose reader or writer fails at a call.
 
-use crate::faults::{Choppy, failing_at};
+use crate::faults::{choppy, failing_at};
 use example_texts::{TWO_DIES, TWO_REPORT, TWO_SCRIPT};
 use slot_types::Refusal;
 use std::alloc::Global;
-use std::io::{Read, Write};
+use std::io::Read;
 use std::sync::Wait;
 use std::thread::Threads;
 use task_script::{RunCount, read_plan, run_text};
+use text_base::Output;
 
 /// What a run answers on two dies for five slots by one worker, with its writer.
-fn run<R: Threads + Wait + Sync, S: Read + Drop, W: Write>(
+fn run<R: Threads + Wait + Sync, S: Read + Drop, W: Output>(
     rt: &R,
     alloc: Global,
     script: S,
@@ -65,16 +66,14 @@ fn a_failing_reader_writes_nothing(rt: HostRuntime) {
 fn a_failing_writer_is_reported(rt: HostRuntime) {
     let alloc = rt.alloc();
     for calls in 1..30 {
-        let mut writer = Choppy {
-            text: Vec::new(alloc),
-            calls,
-        };
+        let mut writer = choppy(alloc, calls);
         let ended = run(&rt, alloc, REFUSED.as_bytes(), &mut writer);
+        assert!(rt; writer.has_failed() == (calls <= 13), "{calls}");
         if calls <= 13 {
             assert!(rt; ended == Err(Refusal::WriteFault), "{calls}");
         } else {
             assert!(rt; ended == Ok(counted(1, 3, Some((2, 6)))), "{calls}");
-            assert_eq!(rt; writer.text.as_slice(), WAITING.as_bytes());
+            assert_eq!(rt; writer.get_ref().text.as_slice(), WAITING.as_bytes());
         }
     }
 }

@@ -12,6 +12,7 @@ use crate::keeping::act_keeps;
 use crate::runs::{act_draw, act_report, act_wear};
 use std::alloc::Global;
 use std::io::{Read, Write};
+use text_base::Output;
 use tool_command_words::{Command, FailingDie};
 use tool_plain_layers::Marks;
 use tool_plan_arrivals::Manner;
@@ -67,7 +68,7 @@ fn failing_in(fail: Option<FailingDie>) -> Option<FailAt> {
 /// No more of the plan is read than 1,048,577 bytes. Where a text is refused, memory runs out, or a reader or `out`
 /// fails, that is reported in a line to `err`, as `error 21 ReadFault`, and the status is 1; where `out` fails nothing
 /// is reported. Where `err` fails, that is passed over.
-pub fn act<P: Read + Drop, S: Read + Drop, C: Read + Drop, K: Shelf, W: Write, E: Write>(
+pub fn act<P: Read + Drop, S: Read + Drop, C: Read + Drop, K: Shelf, W: Output, E: Write>(
     alloc: Global,
     command: Command<'_>,
     plan: P,

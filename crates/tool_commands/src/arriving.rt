@@ -9,7 +9,7 @@ use plan_texts::read_plan_from;
 use slot_types::{MAX_SLOT, Refusal, StorePlan};
 use std::alloc::Global;
 use std::io::{Read, Write};
-use text_base::write_whole;
+use text_base::{Output, write_whole};
 use tool_plan_arrivals::{Fault as Unplanned, Manner, arrivals, full_from};
 
 /// What is reported beside a plan that has no arrivals.
@@ -17,7 +17,7 @@ const WANTED: &str =
     "arrivals wants a plan with times (version 2) that is accepted: flashplan explain says more";
 
 /// Prints the script of a plan's arrivals, which is made whole before its first byte.
-fn print_arrivals<R: Read + Drop, W: Write>(
+fn print_arrivals<R: Read + Drop, W: Output>(
     alloc: Global,
     plan: R,
     slots: u32,
@@ -88,7 +88,7 @@ fn end_unplanned<E: Write>(err: &mut E, fault: Unplanned) -> u8
 /// Prints the script of a plan's arrivals, whole. Answers the status: 0, or 1 where something was refused, which is
 /// reported: nothing was written then, or not the whole.
 #[tactic(auto, using(crate::proofs::EndedSo::ends))]
-pub fn act_arrivals<R: Read + Drop, W: Write, E: Write>(
+pub fn act_arrivals<R: Read + Drop, W: Output, E: Write>(
     alloc: Global,
     plan: R,
     slots: u32,

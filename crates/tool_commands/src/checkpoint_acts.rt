@@ -10,6 +10,7 @@ use plan_texts::read_plan_from;
 use slot_types::{MAX_SLOT, Refusal};
 use std::alloc::Global;
 use std::io::{Read, Write};
+use text_base::Output;
 use tool_checkpoint_runs::{
     FailingRun, RunFault, StoreDies, StoreRun, Unsaved, run_failing, run_script, save,
 };
@@ -66,7 +67,7 @@ struct FailingReported {
 }
 
 /// Runs a script on the dies of a plan, and prints their report, which is made whole before its first byte.
-fn print_run<P: Read + Drop, S: Read + Drop, C: Read + Drop, W: Write>(
+fn print_run<P: Read + Drop, S: Read + Drop, C: Read + Drop, W: Output>(
     alloc: Global,
     plan: P,
     script: S,
@@ -157,7 +158,7 @@ fn put_checkpoint<K: Shelf, E: Write>(
 /// dies' end into the file `to`, if there is one. Answers the status: 0; 1 where something was refused, which is reported,
 /// and nothing was written, or not the whole; where the report is printed, and there is such a file, 1 where it can't be
 /// written, or memory runs out, and 3 where no checkpoint may be taken.
-pub fn act_run<P: Read + Drop, S: Read + Drop, C: Read + Drop, K: Shelf, W: Write, E: Write>(
+pub fn act_run<P: Read + Drop, S: Read + Drop, C: Read + Drop, K: Shelf, W: Output, E: Write>(
     alloc: Global,
     plan: P,
     script: S,
@@ -185,7 +186,7 @@ pub fn act_run<P: Read + Drop, S: Read + Drop, C: Read + Drop, K: Shelf, W: Writ
 
 /// Runs a script on fresh dies of a plan, the device of one of which fails, and prints the report, which is made whole
 /// before its first byte.
-fn print_failing<P: Read + Drop, S: Read + Drop, W: Write>(
+fn print_failing<P: Read + Drop, S: Read + Drop, W: Output>(
     alloc: Global,
     plan: P,
     script: S,
@@ -211,7 +212,7 @@ fn print_failing<P: Read + Drop, S: Read + Drop, W: Write>(
 /// Runs a script on fresh dies of a plan, the device of one of which fails, prints the report of what was done until
 /// then, and reports in which slot it failed. Answers the status: 0, or 1 where something was refused, which is reported:
 /// nothing was written then, or not the whole.
-pub fn act_failing<P: Read + Drop, S: Read + Drop, W: Write, E: Write>(
+pub fn act_failing<P: Read + Drop, S: Read + Drop, W: Output, E: Write>(
     alloc: Global,
     plan: P,
     script: S,

@@ -9,11 +9,11 @@ use plan_texts::read_plan_from;
 use slot_types::MAX_SLOT;
 use std::alloc::Global;
 use std::io::{Read, Write};
-use text_base::write_whole;
+use text_base::{Output, write_whole};
 use tool_store_compare::{CompareFault, Form, Measure, compare};
 
 /// Prints how late the jobs of a script were on the store and by plain layers.
-fn print_compared<P: Read + Drop, S: Read + Drop, W: Write>(
+fn print_compared<P: Read + Drop, S: Read + Drop, W: Output>(
     alloc: Global,
     plan: P,
     script: S,
@@ -52,7 +52,7 @@ fn end_compared<E: Write>(err: &mut E, compared: Result<(), CompareFault>) -> u8
 /// Prints how late the jobs of a script were on the store and by plain layers, whole. Answers the status: 0, or 1 where
 /// something was refused, which is reported: nothing was written then, or not the whole.
 #[tactic(auto, using(crate::proofs::EndedSo::ends))]
-pub fn act_compare<P: Read + Drop, S: Read + Drop, W: Write, E: Write>(
+pub fn act_compare<P: Read + Drop, S: Read + Drop, W: Output, E: Write>(
     alloc: Global,
     plan: P,
     script: S,

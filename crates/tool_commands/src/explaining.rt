@@ -10,7 +10,7 @@ use plan_texts::{plan_text, read_plan_from};
 use slot_types::Refusal;
 use std::alloc::Global;
 use std::io::{Read, Write};
-use text_base::write_whole;
+use text_base::{Output, write_whole};
 use tool_checkpoint_runs::{RunFault, explain as explain_checkpoint};
 use tool_plan_design::{Explained, explain};
 
@@ -25,7 +25,7 @@ fn explained_of<R: Read + Drop>(alloc: Global, plan: R) -> Result<Explained, Ref
 }
 
 /// Prints what is said of a plan, and says whether it is accepted.
-fn print_explained<R: Read + Drop, W: Write>(
+fn print_explained<R: Read + Drop, W: Output>(
     alloc: Global,
     plan: R,
     out: &mut W,
@@ -71,7 +71,7 @@ fn explained_from<P: Read + Drop, C: Read + Drop>(
 }
 
 /// Prints what is said of a plan, and, where it is accepted, of a checkpoint of its dies. Says whether it is accepted.
-fn print_explained_from<P: Read + Drop, C: Read + Drop, W: Write>(
+fn print_explained_from<P: Read + Drop, C: Read + Drop, W: Output>(
     alloc: Global,
     plan: P,
     from: C,
@@ -114,7 +114,7 @@ fn end_explained<E: Write>(err: &mut E, explained: Result<bool, RunFault>) -> u8
 /// plan is accepted, and 1 where it isn't, or where something was refused, which is reported; nothing was written then,
 /// or not the whole.
 #[tactic(auto, using(crate::proofs::EndedSo::ends_explained))]
-pub fn act_explain<P: Read + Drop, C: Read + Drop, W: Write, E: Write>(
+pub fn act_explain<P: Read + Drop, C: Read + Drop, W: Output, E: Write>(
     alloc: Global,
     plan: P,
     from: Option<C>,

@@ -8,11 +8,11 @@ use crate::endings::end_refused;
 use plan_texts::plan_text;
 use std::alloc::Global;
 use std::io::{Read, Write};
-use text_base::write_whole;
+use text_base::{Output, write_whole};
 use tool_plan_fit::{FitFault, fit};
 
 /// Prints the plan that was found for a datasheet.
-fn print_fit<R: Read + Drop, W: Write>(alloc: Global, sheet: R, out: &mut W) -> Result<(), FitFault>
+fn print_fit<R: Read + Drop, W: Output>(alloc: Global, sheet: R, out: &mut W) -> Result<(), FitFault>
     ensures printed { OnOk result (PrintsPassingPlan (W.contents out.old) (W.contents out.new)) }
     ensures part { OnErr result (IsNotWhole W.contents PrintsPassingPlan out.old out.new) }
     ensures unfound { IsUnfound result → out.new ≡ out.old }
@@ -46,7 +46,7 @@ fn end_fit<E: Write>(err: &mut E, fitted: Result<(), FitFault>) -> u8
 /// Prints the plan that is found for a datasheet, whole. Answers the status: 0; 3 where none was found, which is reported,
 /// and nothing written; 1 where something was refused, which is reported: nothing was written then, or not the whole.
 #[tactic(auto, using(crate::proofs::EndedSo::ends_fit))]
-pub fn act_fit<R: Read + Drop, W: Write, E: Write>(
+pub fn act_fit<R: Read + Drop, W: Output, E: Write>(
     alloc: Global,
     sheet: R,
     out: &mut W,

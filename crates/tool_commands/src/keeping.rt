@@ -9,7 +9,7 @@ use plan_texts::read_plan_from;
 use slot_types::{MAX_SLOT, Refusal};
 use std::alloc::Global;
 use std::io::{Read, Write};
-use text_base::write_whole;
+use text_base::{Output, write_whole};
 use tool_plan_keeping::{Verdict, keep, script_text, sentence};
 
 /// What is reported where a script doesn't keep a plan, and it isn't found why.
@@ -58,7 +58,7 @@ fn kept_of<P: Read + Drop, S: Read + Drop>(
 }
 
 /// Prints whether a script keeps the plans of its dies, and says whether it does, as [`kept_of`] finds.
-fn print_kept<P: Read + Drop, S: Read + Drop, W: Write>(
+fn print_kept<P: Read + Drop, S: Read + Drop, W: Output>(
     alloc: Global,
     plan: P,
     script: S,
@@ -109,7 +109,7 @@ fn end_kept<E: Write>(err: &mut E, kept: Result<Option<bool>, Refusal>) -> u8
 /// them, 3 where it doesn't, 1 where something was refused, which is reported: nothing was written then, or not the
 /// whole.
 #[tactic(auto, using(crate::proofs::EndedSo::ends_kept))]
-pub fn act_keeps<P: Read + Drop, S: Read + Drop, W: Write, E: Write>(
+pub fn act_keeps<P: Read + Drop, S: Read + Drop, W: Output, E: Write>(
     alloc: Global,
     plan: P,
     script: S,

@@ -13,7 +13,7 @@ use report_texts::read_work;
 use slot_types::Refusal;
 use std::alloc::Global;
 use std::io::{Read, Write};
-use text_base::write_whole;
+use text_base::{Output, write_whole};
 use tool_plan_keeping::script_text;
 use tool_trace_import::{ImportFault, Made, Measure, TraceFault, import};
 
@@ -80,7 +80,7 @@ fn worse(status: u8, audited: Result<bool, Refusal>) -> u8
 /// `monday.csv: die 0 worst -1 job 0 holds`, whole. A report that can't be read is named in a line, as
 /// `tuesday.csv: error 20 ReportText 3`, and the others are audited all the same. Answers the status: 1 where a report
 /// can't be read or `out` fails, else 3 where a certificate is refused. A writer of `err` that fails is passed over.
-pub fn act_audits<D: Folder, W: Write, E: Write>(
+pub fn act_audits<D: Folder, W: Output, E: Write>(
     alloc: Global,
     folder: &D,
     names: &[&str],
@@ -140,7 +140,7 @@ fn imported<D: Folder>(
 /// Prints the script of traces, a die each, or their plan, as [`import`](tool_trace_import::import) makes it, whole.
 /// Answers the status: 0, or 1 where something was refused, which is reported, of several traces with the name of the
 /// one at fault: nothing was written then, or not the whole.
-pub fn act_imports<D: Folder, W: Write, E: Write>(
+pub fn act_imports<D: Folder, W: Output, E: Write>(
     alloc: Global,
     folder: &D,
     names: &[&str],

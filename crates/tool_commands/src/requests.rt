@@ -12,6 +12,7 @@ use slot_types::Refusal;
 use std::alloc::Global;
 use std::io;
 use std::io::Write;
+use text_base::Output;
 use tool_command_words::{Asked, Command, ListCommand, Request};
 use tool_trace_import::Measure;
 
@@ -110,7 +111,7 @@ fn open_named<D: Folder>(folder: &D, name: Option<&str>) -> Result<Option<D::Rea
 
 /// Carries out a command on the files that it names, which are opened before any of them is read. ReadFault, and nothing
 /// is written, where one can't be opened, or standard input stands for two.
-fn act_on_files<D: Folder, K: Shelf, W: Write, E: Write>(
+fn act_on_files<D: Folder, K: Shelf, W: Output, E: Write>(
     alloc: Global,
     folder: &D,
     shelf: &K,
@@ -140,7 +141,7 @@ fn act_on_files<D: Folder, K: Shelf, W: Write, E: Write>(
 
 /// Carries out a command on several files, each of which is opened at its turn. ReadFault, and nothing is written, where
 /// standard input stands for two.
-fn act_on_list<D: Folder, W: Write, E: Write>(
+fn act_on_list<D: Folder, W: Output, E: Write>(
     alloc: Global,
     folder: &D,
     command: ListCommand,
@@ -169,7 +170,7 @@ fn act_on_list<D: Folder, W: Write, E: Write>(
 
 /// Carries out what is asked for. ReadFault, and nothing is written, where a file can't be opened, or standard input
 /// stands for two.
-fn act_on<D: Folder, K: Shelf, W: Write, E: Write>(
+fn act_on<D: Folder, K: Shelf, W: Output, E: Write>(
     alloc: Global,
     folder: &D,
     shelf: &K,
@@ -215,7 +216,7 @@ fn act_to_file<D: Folder, K: Shelf, E: Write>(
 
 /// Carries out what is asked for, prints it or writes it to its file, and answers the status. Where a file can't be
 /// opened or written, `err` gets a line, as `error 21 ReadFault`, and the status is 1.
-pub fn act_asked<D: Folder, K: Shelf, W: Write, E: Write>(
+pub fn act_asked<D: Folder, K: Shelf, W: Output, E: Write>(
     alloc: Global,
     folder: &D,
     shelf: &K,

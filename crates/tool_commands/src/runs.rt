@@ -9,12 +9,12 @@ use plan_texts::read_plan_from;
 use slot_types::{MAX_SLOT, Refusal};
 use std::alloc::Global;
 use std::io::{Read, Write};
-use text_base::write_whole;
+use text_base::{Output, write_whole};
 use tool_run_figures::Life;
 use tool_watched_runs::{FailAt, Failure, RefusedRows, Shown, Sights, draw, report, wear};
 
 /// Prints what a run wore.
-fn print_wear<P: Read + Drop, S: Read + Drop, W: Write>(
+fn print_wear<P: Read + Drop, S: Read + Drop, W: Output>(
     alloc: Global,
     plan: P,
     script: S,
@@ -36,7 +36,7 @@ fn print_wear<P: Read + Drop, S: Read + Drop, W: Write>(
 /// Prints what a run wore, whole. Answers the status: 0, or 1 where something was refused, which is reported: nothing
 /// was written then, or not the whole.
 #[tactic(auto, using(crate::proofs::EndedSo::ends))]
-pub fn act_wear<P: Read + Drop, S: Read + Drop, W: Write, E: Write>(
+pub fn act_wear<P: Read + Drop, S: Read + Drop, W: Output, E: Write>(
     alloc: Global,
     plan: P,
     script: S,
@@ -52,7 +52,7 @@ pub fn act_wear<P: Read + Drop, S: Read + Drop, W: Write, E: Write>(
 }
 
 /// Prints what a run came to.
-fn print_report<P: Read + Drop, S: Read + Drop, W: Write>(
+fn print_report<P: Read + Drop, S: Read + Drop, W: Output>(
     alloc: Global,
     plan: P,
     script: S,
@@ -88,7 +88,7 @@ fn end_report<E: Write>(err: &mut E, ran: Result<(RefusedRows, Option<Failure>),
 /// Prints what a run came to, whole. Answers the status: 0, or 1 where something was refused, which is reported: nothing
 /// was written then, or not the whole.
 #[tactic(auto, using(crate::proofs::EndedSo::ends))]
-pub fn act_report<P: Read + Drop, S: Read + Drop, W: Write, E: Write>(
+pub fn act_report<P: Read + Drop, S: Read + Drop, W: Output, E: Write>(
     alloc: Global,
     plan: P,
     script: S,
@@ -115,7 +115,7 @@ struct Drawn {
 }
 
 /// Prints the picture of what the slots of a die carried.
-fn print_drawn<P: Read + Drop, S: Read + Drop, W: Write>(
+fn print_drawn<P: Read + Drop, S: Read + Drop, W: Output>(
     alloc: Global,
     plan: P,
     script: S,
@@ -186,7 +186,7 @@ fn many_of(shown: Shown, slots: u32) -> u32 {
 /// Prints the picture of what the slots of a die carried, whole. Answers the status: 0, or 1 where something was refused,
 /// which is reported: nothing was written then, or not the whole.
 #[tactic(auto, using(crate::proofs::EndedSo::ends))]
-pub fn act_draw<P: Read + Drop, S: Read + Drop, W: Write, E: Write>(
+pub fn act_draw<P: Read + Drop, S: Read + Drop, W: Output, E: Write>(
     alloc: Global,
     plan: P,
     script: S,

@@ -8,5 +8,5 @@ returns-clause-refused g c ends = refusal-of _ c.carry_out-done.result c.carry_o
 pub returns-clause-three : goal.returns-clause-three
 returns-clause-three g c =
     rw c.end.ensures
-    (has-three g.W.Write.contents c.args.command _ _ _ _ _ c.carry_out-done.ensures.printed
+    (has-three g.W.Write.contents g.W.Output.has_failed c.args.command _ _ _ _ _ c.carry_out-done.ensures.printed
     (refusal-of _ c.carry_out-done.result c.carry_out-done.ensures.refused))

@@ -7,19 +7,21 @@ use Rattle.flash_commands.specs.Audit.{audit_status, audit_text, is_refused_work
 use Rattle.flash_commands.proofs.Reported.{refused-works, text-works, said-report}
 use Rattle.flash_commands.proofs.acts.print_audit.Goals as goal
 
-pub returns-in_err-write_whole-clause-part : goal.returns-in_err-write_whole-clause-part
-returns-in_err-write_whole-clause-part g c =
+pub returns-in_err-write_whole-clause-refused : goal.returns-in_err-write_whole-clause-refused
+returns-in_err-write_whole-clause-refused g c =
     let (report, is, said) = c.in_ok-work.ensures.work in
-    on-error c.from_residual-in_err-write_whole.result _
-    (inr (
-      c.in_ok-audit.audit.text.items,
-      (
-        audit_status report,
-        (report, said-report _ report said, c.in_ok-audit.ensures.text ∙ ap (flat_map work_line) is ∙ text-works report, refl),
-      ),
-      rw c.deref.ensures.value at
-          c.in_err-write_whole.ensures.part,
-    ))
+    inr (record {
+      refusal_is = c.in_err-write_whole.ensures.refused;
+      failed = c.in_err-write_whole.ensures.failed;
+      part = (
+        c.in_ok-audit.audit.text.items,
+        (
+          audit_status report,
+          (report, said-report _ report said, c.in_ok-audit.ensures.text ∙ ap (flat_map work_line) is ∙ text-works report, refl),
+        ),
+        rw c.deref.ensures.value at c.in_err-write_whole.ensures.part,
+      );
+    })
 
 pub returns-clause-printed : goal.returns-clause-printed
 returns-clause-printed g c =
