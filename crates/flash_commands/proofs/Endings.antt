@@ -1,13 +1,14 @@
 -- An outcome with the status of a refusal is one.
-use Rattle.std.proofs.Common.{◌≡◌, ℕ, List, [], Bool, Option, Some, Result, Ok, Err, IfErr, arith, inl, inr}
-use Rattle.std.specs.Prelude.{length}
+use Rattle.std.proofs.Common.{◌≡◌, ℕ, List, [], Bool, Option, Some, Result, Ok, Err, IfErr, OnErr, arith, inl, inr, sym, subst}
+use Rattle.std.specs.Prelude.{IsErrAnd, length}
 use Rattle.slot_types.specs.declared.plans.DiePlan.{DiePlan}
 use Rattle.slot_types.specs.declared.refusals.Refusal.{Refusal}
+use Rattle.slot_types.specs.declared.refusals.Refusal.TheVariants.{WriteFault}
 use Rattle.plan_texts.specs.PlanReading.{IsStoreOf}
 use Rattle.task_script.specs.Feeds.{RefusesScript}
 use Rattle.task_script.specs.PlannedRuns.{RunsSo}
 use Rattle.task_script.specs.declared.run_counts.RunCount.{RunCount}
-use Rattle.text_base.specs.Writing.{IsCut, RefusesOrCuts}
+use Rattle.text_base.specs.Writing.{AppendsPart, IsCut, RefusesOrCuts, SetsFlag}
 use Rattle.flash_commands.specs.Acts.{IsFaultOf, IsRefusedFor, PrintsRun, PrintsSome, Refuses, RefusesRun}
 use Rattle.flash_commands.specs.Faults.{outcome_status}
 use Rattle.flash_commands.specs.declared.commands.Command.{Command}
@@ -37,6 +38,20 @@ refuses-as : {W : Type 0} (contents : W → Option (List ℕ)) (has_failed : W �
 refuses-as contents has_failed R S P Q old new refusal why turn (inl (refuses, same)) = inl (why refuses, same)
 refuses-as contents has_failed R S P Q old new refusal why turn (inr cut) =
     inr (cut-as contents has_failed P Q old new refusal turn cut)
+
+-- what is said of the refusal that a call hands on
+pub if-error : {A E : Type 0} (r : Result A E) (e : E) (P : E → Type 0) → IsErrAnd r (λ f. f ≡ e) → P e → IfErr r P
+if-error (Ok x) e P is p = absurd is
+if-error (Err f) e P is p = subst P (sym is) p
+
+-- a text that prints so was written, or cut
+pub cuts : {W : Type 0} (contents : W → Option (List ℕ)) (has_failed : W → Option Bool) (R : Refusal → Type 0)
+    (P : Option (List ℕ) → Option (List ℕ) → Type 0) (old new : W) (text : List ℕ) (done : Result (Unit {0}) Refusal)
+    → P (Some []) (Some text) → IfErr done (λ r. r ≡ WriteFault) → OnErr done (SetsFlag (has_failed old) (has_failed new))
+    → OnErr done (AppendsPart (contents old) (contents new) text) → IfErr done (RefusesOrCuts contents has_failed R P old new)
+cuts contents has_failed R P old new text (Ok x) prints is failed part = tt
+cuts contents has_failed R P old new text (Err e) prints is failed part =
+    inr (record { refusal_is = is; failed = failed; part = (text, prints, part) })
 
 -- the refusal of a command
 pub refused-for : {W : Type 0} (contents : W → Option (List ℕ)) (has_failed : W → Option Bool) (c : Command)

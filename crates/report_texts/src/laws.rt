@@ -38,8 +38,9 @@ pub fn reading_the_work_has_one_answer()
 
 /// Writing a report (`write`, `write_parts`, `write_report`) has one answer, where what its writer has is known, and
 /// leaves one text there; out of memory it leaves the writer as it was. Left open is whether there is memory for it,
-/// whether the writer fails, and how much of the text it took then. Where its flag is known, and wasn't set, WriteFault
-/// is answered exactly where the flag was set, so that of two answers with the same flag memory alone is left open.
+/// whether the writer fails, which its flag then says, and how much of the text it took then. Where the flag is known,
+/// and wasn't set, two answers that leave the same flag differ by memory alone: WriteFault comes exactly where it was
+/// set.
 pub fn writing_a_report_has_one_answer<W: Output>()
     ensures written { (text known : List ℕ) (before left right : W)
         (one other : Result (Unit {0}) Refused) →

@@ -53,8 +53,8 @@ pub fn planned_runs_go_as_planned()
 
 /// Running a script (`run_text`) has one answer, where its text and what the writer has are known, and leaves one
 /// report there. Left open is whether there is memory, for the run or for a row, and whether the reader or the writer
-/// fails. Where the writer's flag is known, and wasn't set, two answers that leave the same flag differ by memory or the
-/// reader alone.
+/// fails, which the writer's flag then says. Where that is known, and wasn't set, two answers that leave the same flag
+/// differ by memory or the reader alone.
 pub fn running_a_script_has_one_answer<W: Output>()
     ensures written { (text known : List ℕ) (plans : List DiePlan) (slots : ℕ)
         (before left right : W) (one other : Result RunCount Refused) →

@@ -56,8 +56,8 @@ pub fn putting_a_list_has_one_answer<T>()
 {}
 
 /// Writing a text (`write_whole`) has one answer, where what its writer has is known, and leaves one text there. Left
-/// open is whether the writer fails, and how much of the text it took then. Where its flag is known, and wasn't set, two
-/// answers that leave the same flag are the same: WriteFault is answered exactly where the flag was set.
+/// open is whether the writer fails, which its flag then says, and how much of the text it took then. Where the flag is
+/// known, and wasn't set, two answers that leave the same flag are the same: WriteFault comes exactly where it was set.
 pub fn writing_a_text_has_one_answer()
     ensures written { (text known : List ℕ) (left right : Option (List ℕ))
         (one other : Result (Unit {0}) Refusal) →

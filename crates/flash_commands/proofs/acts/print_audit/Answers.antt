@@ -2,7 +2,7 @@ use Rattle.std.proofs.Common.{◌≡◌, Bool, refl, inr, ap, subst, ◌∙◌}
 use Rattle.std.specs.Prelude.{flat_map, if◌then◌else◌}
 use Rattle.std.specs.List.{list_any}
 use Rattle.std.specs.Io.KnownBytes.{Appends}
-use Rattle.text_base.proofs.WritingLaws.{on-error}
+use Rattle.flash_commands.proofs.Endings.{if-error}
 use Rattle.flash_commands.specs.Audit.{audit_status, audit_text, is_refused_work, work_line}
 use Rattle.flash_commands.proofs.Reported.{refused-works, text-works, said-report}
 use Rattle.flash_commands.proofs.acts.print_audit.Goals as goal
@@ -10,7 +10,8 @@ use Rattle.flash_commands.proofs.acts.print_audit.Goals as goal
 pub returns-in_err-write_whole-clause-refused : goal.returns-in_err-write_whole-clause-refused
 returns-in_err-write_whole-clause-refused g c =
     let (report, is, said) = c.in_ok-work.ensures.work in
-    inr (record {
+    if-error c.from_residual-in_err-write_whole.result _ _ c.from_residual-in_err-write_whole.ensures.1
+    (inr (record {
       refusal_is = c.in_err-write_whole.ensures.refused;
       failed = c.in_err-write_whole.ensures.failed;
       part = (
@@ -21,7 +22,7 @@ returns-in_err-write_whole-clause-refused g c =
         ),
         rw c.deref.ensures.value at c.in_err-write_whole.ensures.part,
       );
-    })
+    }))
 
 pub returns-clause-printed : goal.returns-clause-printed
 returns-clause-printed g c =
