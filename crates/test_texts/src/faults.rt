@@ -41,7 +41,7 @@ pub struct Choppy {
     pub calls: u32,
 }
 
-pub fn choppy(alloc: Global, calls: u32) -> Flagged<Choppy> {
+pub fn choppy_writer(alloc: Global, calls: u32) -> Flagged<Choppy> {
     Flagged::new(Choppy {
         text: Vec::new(alloc),
         calls,
@@ -113,7 +113,7 @@ fn a_failing_writer_is_a_write_fault(rt: HostRuntime) -> Result<(), Fail> {
     let alloc = rt.alloc();
     let report = read_report(alloc, TWO_REPORT.as_bytes())?;
     for calls in 1..100 {
-        let mut writer = choppy(alloc, calls);
+        let mut writer = choppy_writer(alloc, calls);
         let answer = write_report(alloc, &mut writer, &report);
         let whole = TWO_REPORT.len().div_ceil(7) < calls as usize;
         assert!(rt;

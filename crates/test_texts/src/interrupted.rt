@@ -50,7 +50,7 @@ struct Halting {
     halted: bool,
 }
 
-fn halting(alloc: Global) -> Flagged<Halting> {
+fn halting_writer(alloc: Global) -> Flagged<Halting> {
     Flagged::new(Halting {
         text: Vec::new(alloc),
         halted: false,
@@ -99,7 +99,7 @@ fn an_interrupted_report_is_read_and_written(rt: HostRuntime) -> Result<(), Fail
     let alloc = rt.alloc();
     for (a_call, times) in [(1, 1), (7, 3), (4096, 1)] {
         let report = read_report(alloc, reader_of(TWO_REPORT, a_call, times))?;
-        let mut writer = halting(alloc);
+        let mut writer = halting_writer(alloc);
         write_report(alloc, &mut writer, &report)?;
         assert!(rt; !writer.has_failed());
         assert_eq!(rt; writer.into_inner().text.as_slice(), TWO_REPORT.as_bytes());
@@ -109,7 +109,7 @@ fn an_interrupted_report_is_read_and_written(rt: HostRuntime) -> Result<(), Fail
 
 /// What a run of an interrupted script writes to a writer that is interrupted, too.
 fn run<R: Threads + Wait + Sync>(rt: &R, alloc: Global) -> (Result<RunCount, Refusal>, Vec<u8>) {
-    let mut writer = halting(alloc);
+    let mut writer = halting_writer(alloc);
     let ended = match read_plan(alloc, TWO_DIES.as_bytes()) {
         Ok(plan) => {
             let script = reader_of(TWO_SCRIPT, 7, 2);

@@ -1,6 +1,6 @@
 //! Runs whose reader or writer fails at a call.
 
-use crate::faults::{choppy, failing_at};
+use crate::faults::{choppy_writer, failing_at};
 use example_texts::{TWO_DIES, TWO_REPORT, TWO_SCRIPT};
 use slot_types::Refusal;
 use std::alloc::Global;
@@ -66,7 +66,7 @@ fn a_failing_reader_writes_nothing(rt: HostRuntime) {
 fn a_failing_writer_is_reported(rt: HostRuntime) {
     let alloc = rt.alloc();
     for calls in 1..30 {
-        let mut writer = choppy(alloc, calls);
+        let mut writer = choppy_writer(alloc, calls);
         let ended = run(&rt, alloc, REFUSED.as_bytes(), &mut writer);
         assert!(rt; writer.has_failed() == (calls <= 13), "{calls}");
         if calls <= 13 {
