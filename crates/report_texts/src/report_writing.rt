@@ -219,7 +219,11 @@ fn text_of(alloc: Global, report: &Report) -> Result<ReportText, Refusal>
 }
 
 /// Writes a report as csv, as [`ReportText::write`] says, with the same refusals.
-pub fn write_report<W: Output>(alloc: Global, writer: &mut W, report: &Report) -> Result<(), Refusal>
+pub fn write_report<W: Output>(
+    alloc: Global,
+    writer: &mut W,
+    report: &Report,
+) -> Result<(), Refusal>
     ensures written { OnOk result
         (Appends (W.contents writer.old) (W.contents writer.new) (report_text report.now)) }
     ensures works { OnOk result

@@ -126,7 +126,9 @@ fn a_failing_writer_is_a_write_fault(rt: HostRuntime) -> Result<(), Fail> {
             "{calls}"
         );
         assert!(rt;
-            TWO_REPORT.as_bytes().starts_with(writer.get_ref().text.as_slice()),
+            TWO_REPORT
+                .as_bytes()
+                .starts_with(writer.get_ref().text.as_slice()),
             "{calls}"
         );
         assert!(rt; writer.has_failed() != whole, "{calls}");

@@ -12,7 +12,11 @@ use text_base::{Output, write_whole};
 use tool_plan_fit::{FitFault, fit};
 
 /// Prints the plan that was found for a datasheet.
-fn print_fit<R: Read + Drop, W: Output>(alloc: Global, sheet: R, out: &mut W) -> Result<(), FitFault>
+fn print_fit<R: Read + Drop, W: Output>(
+    alloc: Global,
+    sheet: R,
+    out: &mut W,
+) -> Result<(), FitFault>
     ensures printed { OnOk result (PrintsPassingPlan (W.contents out.old) (W.contents out.new)) }
     ensures part { OnErr result (IsNotWhole W.contents PrintsPassingPlan out.old out.new) }
     ensures unfound { IsUnfound result → out.new ≡ out.old }
