@@ -1,9 +1,8 @@
 //! What holds of the texts themselves.
 
-ghost use Rattle.std.specs.Prelude.{◌≡◌, ◌⊎◌, ◌↔◌, ℕ, List, Ok, Result, Some, true, false, IfErr, OnOk};
-ghost use Rattle.std.specs.Io.KnownBytes.{Appends};
+ghost use Rattle.std.specs.Prelude.{◌≡◌, ◌⊎◌, ℕ, List, Ok, Result, Some};
 ghost use Rattle.slot_types.specs.declared.refusals.Refusal.{Refusal as Refused};
-ghost use Rattle.text_base.specs.Writing.{AppendsPart, KeepsFlag, SetsFlag};
+ghost use Rattle.text_base.specs.Writing.{EndsWriting, HaveOneEnd};
 ghost use Rattle.report_texts.specs.Refused.{EndsOutside};
 ghost use Rattle.report_texts.specs.ReportOf.{Reading, Says, report_of};
 ghost use Rattle.report_texts.specs.ReportText.{report_text};
@@ -12,7 +11,6 @@ ghost use Rattle.report_texts.specs.ReportWork.{SaysWork};
 ghost use Rattle.report_texts.specs.declared.report_work.DieWork.{DieWork};
 ghost use Rattle.report_texts.specs.declared.reports.DieReport.{DieReport};
 
-use slot_types::Refusal;
 use text_base::Output;
 
 /// The text of a report reads as the report: whatever is written of a report that meets the conditions of reading is
@@ -42,36 +40,8 @@ pub fn reading_the_work_has_one_answer()
 /// and wasn't set, two answers that leave the same flag differ by memory alone: WriteFault comes exactly where it was
 /// set.
 pub fn writing_a_report_has_one_answer<W: Output>()
-    ensures written { (text known : List ℕ) (before left right : W)
-        (one other : Result (Unit {0}) Refused) →
-        W.contents before ≡ Some known →
-        OnOk one (Appends (W.contents before) (W.contents left) text) →
-        OnOk other (Appends (W.contents before) (W.contents right) text) →
-        (one ≡ Err Refusal.NoMemory → left ≡ before) →
-        (other ≡ Err Refusal.NoMemory → right ≡ before) →
-        (one ≡ Err Refusal.WriteFault
-        → AppendsPart (W.contents before) (W.contents left) text) →
-        (other ≡ Err Refusal.WriteFault
-        → AppendsPart (W.contents before) (W.contents right) text) →
-        IfErr one (λ refusal. (refusal ≡ Refusal.NoMemory) ⊎ (refusal ≡ Refusal.WriteFault)) →
-        IfErr other (λ refusal. (refusal ≡ Refusal.NoMemory) ⊎ (refusal ≡ Refusal.WriteFault)) →
-        OnOk one (OnOk other (W.contents left ≡ W.contents right))
-        × (one ≡ Err Refusal.NoMemory → other ≡ Err Refusal.NoMemory → left ≡ right)
-        × ((one ≡ other) ⊎ (one ≡ Err Refusal.NoMemory) ⊎ (one ≡ Err Refusal.WriteFault)
-        ⊎ (other ≡ Err Refusal.NoMemory) ⊎ (other ≡ Err Refusal.WriteFault)) }
-    ensures flagged { (before left right : W) (one other : Result (Unit {0}) Refused) →
-        W.has_failed before ≡ Some false →
-        OnOk one (KeepsFlag (W.has_failed before) (W.has_failed left)) →
-        OnOk other (KeepsFlag (W.has_failed before) (W.has_failed right)) →
-        (one ≡ Err Refusal.NoMemory → left ≡ before) →
-        (other ≡ Err Refusal.NoMemory → right ≡ before) →
-        (one ≡ Err Refusal.WriteFault
-        → SetsFlag (W.has_failed before) (W.has_failed left)) →
-        (other ≡ Err Refusal.WriteFault
-        → SetsFlag (W.has_failed before) (W.has_failed right)) →
-        IfErr one (λ refusal. (refusal ≡ Refusal.NoMemory) ⊎ (refusal ≡ Refusal.WriteFault)) →
-        IfErr other (λ refusal. (refusal ≡ Refusal.NoMemory) ⊎ (refusal ≡ Refusal.WriteFault)) →
-        (W.has_failed left ≡ W.has_failed right →
-        (one ≡ other) ⊎ (one ≡ Err Refusal.NoMemory) ⊎ (other ≡ Err Refusal.NoMemory))
-        × ((one ≡ Err Refusal.WriteFault) ↔ (W.has_failed left ≡ Some true)) }
+    ensures { (text : List ℕ) (before left right : W) (one other : Result (Unit {0}) Refused) →
+        EndsWriting W.contents W.has_failed text before one left →
+        EndsWriting W.contents W.has_failed text before other right →
+        HaveOneEnd W.contents W.has_failed before one other left right }
 {}

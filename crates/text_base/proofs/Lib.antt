@@ -1,5 +1,6 @@
 pub mod PageLaws
 pub mod WritingLaws
+pub mod WriterEnds
 pub mod MarkLaws
 pub mod RowLaws
 pub mod WordLaws
