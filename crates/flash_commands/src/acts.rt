@@ -165,8 +165,8 @@ fn audit<T: Threads + Sync, R: Read + Drop, W: Output>(
 ///
 /// What it prints is what [`act`] says. `Certificate` comes exactly where a report was read and audited, its audit is
 /// printed whole, and some certificate is refused; any other error is a refusal. A refusal leaves `out` as it was,
-/// but for `WriteFault`, which comes exactly where `out` failed: it then took a front of what was to be printed, and not
-/// the whole.
+/// but for `WriteFault`, which comes exactly where `out` failed: it then took a front of what was to be printed, and
+/// not the whole.
 pub fn carry_out<R: Threads + Wait + Sync, F: Read + Drop, S: Read + Drop, W: Output, E: Write>(
     rt: &R,
     alloc: Global,

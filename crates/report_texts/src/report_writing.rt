@@ -88,8 +88,8 @@ impl ReportText {
     /// Writes the text as csv: a header, the rows, and after all of them the certificates. Numbers have no leading
     /// zeros, pages are 32 lower-case hexadecimal digits, each record ends with one line feed, no field is quoted.
     ///
-    /// It takes no memory. WriteFault comes exactly where the writer fails, as [`write_whole`] says: a front of the text
-    /// was then written that isn't the whole.
+    /// It takes no memory. WriteFault comes exactly where the writer fails, as [`write_whole`] says: a front of the
+    /// text was then written that isn't the whole.
     pub fn write<W: Output>(self, writer: &mut W) -> Result<(), Refusal>
         ensures written { OnOk result
             (Appends (W.contents writer.old) (W.contents writer.new) (whole_text self)) }

@@ -66,9 +66,11 @@ pub fn running_a_script_has_one_answer<W: Output>()
         (ran : RunsText (Some text) plans slots count (W.contents before) (W.contents right))
         × All (λ end. end.refusal ≢ Some Refusal.NoMemory) (ends_of ran.runs)) →
         IfErr one (RefusesOrCuts W.contents W.has_failed
-        (RefusesScript (Some text) (length plans) slots) (RunsSo (Some text) plans slots) before left) →
+        (RefusesScript (Some text) (length plans) slots) (RunsSo (Some text) plans slots)
+        before left) →
         IfErr other (RefusesOrCuts W.contents W.has_failed
-        (RefusesScript (Some text) (length plans) slots) (RunsSo (Some text) plans slots) before right) →
+        (RefusesScript (Some text) (length plans) slots) (RunsSo (Some text) plans slots)
+        before right) →
         ((one ≡ other) × OnOk one (W.contents left ≡ W.contents right))
         ⊎ IsErrAnd one (λ refusal. IsOutside refusal ⊎ (refusal ≡ Refusal.WriteFault))
         ⊎ IsErrAnd other (λ refusal. IsOutside refusal ⊎ (refusal ≡ Refusal.WriteFault)) }
@@ -84,9 +86,11 @@ pub fn running_a_script_has_one_answer<W: Output>()
         OnOk one (KeepsFlag (W.has_failed before) (W.has_failed left)) →
         OnOk other (KeepsFlag (W.has_failed before) (W.has_failed right)) →
         IfErr one (RefusesOrCuts W.contents W.has_failed
-        (RefusesScript (Some text) (length plans) slots) (RunsSo (Some text) plans slots) before left) →
+        (RefusesScript (Some text) (length plans) slots) (RunsSo (Some text) plans slots)
+        before left) →
         IfErr other (RefusesOrCuts W.contents W.has_failed
-        (RefusesScript (Some text) (length plans) slots) (RunsSo (Some text) plans slots) before right) →
+        (RefusesScript (Some text) (length plans) slots) (RunsSo (Some text) plans slots)
+        before right) →
         W.has_failed left ≡ W.has_failed right →
         ((one ≡ other) × OnOk one (W.contents left ≡ W.contents right))
         ⊎ IsErrAnd one IsOutside ⊎ IsErrAnd other IsOutside }

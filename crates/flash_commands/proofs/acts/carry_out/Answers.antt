@@ -8,8 +8,9 @@ use Rattle.flash_commands.proofs.acts.carry_out.Goals as goal
 pub returns-in-Alone-clause-refused : goal.returns-in-Alone-clause-refused
 returns-in-Alone-clause-refused g c =
     rw c.in-Alone.is
-    (refused-for g.W.Write.contents g.W.Output.has_failed command.Alone _ _ _ _ (PrintsRun (Some PLAN.now) (Some SCRIPT.now) SLOTS)
-    c.run.result (λ a b prints. (0, (prints, refl)))
+    (refused-for g.W.Write.contents g.W.Output.has_failed command.Alone (g.F.Read.remaining c.args.first)
+    (g.S.Read.remaining c.args.second) _ _ (PrintsRun (Some PLAN.now) (Some SCRIPT.now) SLOTS) c.run.result
+    (λ a b prints. (0, (prints, refl)))
     (rw (c.as_bytes-plan.ensures.value, c.as_bytes-script.ensures.value) at c.run.ensures.refused))
 
 pub returns-in-Run-clause-refused : goal.returns-in-Run-clause-refused
