@@ -10,6 +10,7 @@ pub mod figures;
 pub mod files;
 pub mod heard;
 pub mod hints;
+pub mod laws;
 pub mod progress;
 pub mod record_lines;
 pub mod run_numbers;
