@@ -1,4 +1,3 @@
-use Rattle.std.proofs.Common.{refl}
 use Rattle.flash_commands.specs.Acts.{PrintsFigures}
 use Rattle.flash_commands.proofs.Endings.{cuts}
 use Rattle.flash_commands.proofs.acts.print_figures.Goals as goal
