@@ -245,17 +245,27 @@ fn a_verdict_is_reported_by_number_and_name(rt: HostRuntime) {
     assert_eq!(rt; Verdict::NotRising.name(), "NotRising");
 }
 
+// An idle slot, and one that carried a job.
+fn push_two(carried: &mut Carried) -> Result<(), Refusal> {
+    carried.push(None)?;
+    carried.push(Some(JobNo(3)))
+}
+
+// Three slots that carried another job.
+fn push_three(carried: &mut Carried) -> Result<(), Refusal> {
+    carried.push(Some(JobNo(4)))?;
+    carried.push_run(Some(JobNo(4)), 2)
+}
+
 #[test]
 fn what_slots_carried_is_read_back(rt: HostRuntime) -> Result<(), Fail> {
     let mut carried = Carried::new(rt.alloc());
     assert!(rt; carried.is_empty());
-    carried.push(None)?;
-    carried.push(Some(JobNo(3)))?;
-    let two = (carried.len(), carried.get(0), carried.get(1), carried.get(2));
-    assert!(rt; two == (2, Some(None), Some(Some(JobNo(3))), None));
-    carried.push(Some(JobNo(4)))?;
-    assert!(rt; carried.get(2) == Some(Some(JobNo(4))));
-    carried.push_run(Some(JobNo(4)), 2)?;
-    assert!(rt; (carried.len(), carried.get(4)) == (5, Some(Some(JobNo(4)))));
+    push_two(&mut carried)?;
+    let two = [carried.get(0), carried.get(1), carried.get(2)];
+    assert!(rt; (carried.len(), two) == (2, [Some(None), Some(Some(JobNo(3))), None]));
+    push_three(&mut carried)?;
+    let more = [carried.get(2), carried.get(4)];
+    assert!(rt; (carried.len(), more) == (5, [Some(Some(JobNo(4))), Some(Some(JobNo(4)))]));
     Ok(())
 }

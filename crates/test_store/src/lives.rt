@@ -128,9 +128,18 @@ const STOPS: &[Step] = &[
     Slot { want: Err(RefusedAt { entries: 3, refusal: Refusal::DeviceFault }) },
 ];
 
-// Dies the first of which is stopped aren't renewed. Those that are left beside it.
+// What comes behind the first, which is let go. Of any type: a die that is moved is dear to prove.
+fn behind_first<T: Drop>(items: Vec<T>) -> Vec<T> {
+    let mut items = items;
+    if !items.is_empty() {
+        let _first = items.remove(0);
+    }
+    items
+}
+
+// Dies the first of which is stopped, which aren't renewed. Those that are left beside it.
 fn left_of<N: Nand, R: Abort>(rt: &R, dies: Vec<DieCore<N>>) -> Vec<DieCore<N>> {
-    let mut left = match renew_each(dies) {
+    let left = match renew_each(dies) {
         Ok(_) => panic!(rt; "a stopped die is renewed"),
         Err(no) => {
             assert_eq!(rt; (no.place, no.refusal), (0, RenewalRefusal::DieStopped));
@@ -138,8 +147,7 @@ fn left_of<N: Nand, R: Abort>(rt: &R, dies: Vec<DieCore<N>>) -> Vec<DieCore<N>> 
         }
     };
     assert_eq!(rt; left.len(), 2);
-    let _stopped = left.remove(0);
-    left
+    behind_first(left)
 }
 
 // Plays a table on the die of a store that is made of this one.
