@@ -83,7 +83,8 @@ fn are_jobs(jobs: &JobList, numbers: &[u32]) -> bool {
 fn is_wanted(found: &Option<Certificate>, job: JobNo, want: &Option<Wanted>) -> bool {
     match (found, want) {
         (Some(found), Some((start, due, completion, jobs))) => {
-            (found.job, found.start, found.due, found.completion) == (job, *start, *due, *completion)
+            (found.job, found.start, found.due, found.completion)
+                == (job, *start, *due, *completion)
                 && are_jobs(&found.jobs, *jobs)
         }
         (None, None) => true,

@@ -93,8 +93,14 @@ fn a_device_that_was_left_goes_on_with_its_cells(rt: HostRuntime) -> Result<(), 
     let mut device = MemoryNand::left(alloc, SHAPE, cells, &[1, 2], &[7, 0])?;
     let first = Place { block: 0, page: 0 };
     let free = Place { block: 0, page: 1 };
-    assert_eq!(rt; [device.cell(first), device.cell(free)], [ONES, PageData::BLANK]);
-    assert_eq!(rt; [device.cell(FIRST), device.cell(SECOND)], [TWOS, PageData::BLANK]);
+    assert_eq!(rt;
+        [device.cell(first), device.cell(free)],
+        [ONES, PageData::BLANK]
+    );
+    assert_eq!(rt;
+        [device.cell(FIRST), device.cell(SECOND)],
+        [TWOS, PageData::BLANK]
+    );
     assert!(rt; device.program(free, TWOS) == Ok(()));
     assert!(rt; device.read(free) == Ok(TWOS));
     assert!(rt; device.read(first) == Ok(ONES));

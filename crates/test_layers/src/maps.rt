@@ -43,7 +43,11 @@ fn a_page_lies_in_the_last_cell_that_it_was_bound_to(rt: HostRuntime) -> Result<
     assert_eq!(rt; lies, [true, false, false]);
     assert_eq!(rt; [map.owner(FIRST), map.owner(SECOND)], [None, Some(5)]);
     assert_eq!(rt; [map.valid(0), map.valid(1)], [2, 0]);
-    let next = [map.next_valid(0, 0), map.next_valid(0, 2), map.next_valid(0, 3)];
+    let next = [
+        map.next_valid(0, 0),
+        map.next_valid(0, 2),
+        map.next_valid(0, 3),
+    ];
     assert_eq!(rt; next, [Some(1), Some(2), None]);
     Ok(())
 }

@@ -211,8 +211,12 @@ fn history_keeps(alloc: Global, first: u32, wait: u32) -> Result<bool, Refusal> 
 /// The page that is read first, and the slot of the second job.
 #[test]
 fn events_keep_to_a_plan(rt: HostRuntime) -> Result<(), Fail> {
-    const CASES: [(u32, u32, bool); 4] =
-        [(0, 10, true), (0, 11, true), (0, 9, false), (2, 10, false)];
+    const CASES: [(u32, u32, bool); 4] = [
+        (0, 10, true),
+        (0, 11, true),
+        (0, 9, false),
+        (2, 10, false),
+    ];
     for (first, wait, want) in &CASES {
         let keeps = history_keeps(rt.alloc(), *first, *wait)?;
         assert_eq!(rt; keeps, *want, "page {first}, slot {wait}");

@@ -11,8 +11,16 @@ fn keys_go_by_due_then_number(rt: HostRuntime) -> Result<(), Fail> {
     queue.insert(Key { due: 5, number: 0 });
     queue.insert(Key { due: 5, number: 3 });
     queue.insert(Key { due: 3, number: 2 });
-    assert_eq!(rt; (queue.len(), queue.first()), (4, Some(Key { due: 3, number: 2 })));
-    let left = [queue.pop_first(), queue.pop_first(), queue.pop_first(), queue.pop_first()];
+    assert_eq!(rt;
+        (queue.len(), queue.first()),
+        (4, Some(Key { due: 3, number: 2 }))
+    );
+    let left = [
+        queue.pop_first(),
+        queue.pop_first(),
+        queue.pop_first(),
+        queue.pop_first(),
+    ];
     let wanted = [
         Some(Key { due: 3, number: 2 }),
         Some(Key { due: 5, number: 0 }),

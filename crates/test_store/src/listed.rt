@@ -30,15 +30,18 @@ const COLLECTION: JobHead = JobHead {
     due: 8,
 };
 
-// A job of these operations, a slot, a collection and a job without any.
-fn mixed(alloc: Global) -> Result<Feed, Refusal> {
-    let mut feed = Feed::new(alloc);
+// A job of these operations.
+fn job_of(alloc: Global) -> Result<Event, Refusal> {
     let ops = OpList::from_vec(Vec::from_slice(alloc, &OPS)?);
-    feed.push(5, JOB.with_ops(ops))?;
+    Ok(JOB.with_ops(ops))
+}
+
+// Puts in a job of these operations, a slot, a collection and a job without any.
+fn push_mixed(feed: &mut Feed, alloc: Global) -> Result<(), Refusal> {
+    feed.push(5, job_of(alloc)?)?;
     feed.push(2, Event::Slot)?;
     feed.push_lent(8, COLLECTION, &LentOps::list(&OPS))?;
-    feed.push(8, JOB.with_ops(OpList::new(alloc)))?;
-    Ok(feed)
+    feed.push(8, JOB.with_ops(OpList::new(alloc)))
 }
 
 // Whether an event has these operations, and no more.
@@ -61,7 +64,8 @@ fn is_at(feed: &Feed, place: usize, at: u32, head: EventHead, ops: &[Op]) -> boo
 
 #[test]
 fn a_feed_gives_back_what_it_was_given(rt: HostRuntime) -> Result<(), Fail> {
-    let feed = mixed(rt.alloc())?;
+    let mut feed = Feed::new(rt.alloc());
+    push_mixed(&mut feed, rt.alloc())?;
     assert_eq!(rt; feed.len(), 4);
     assert!(rt; is_at(&feed, 0, 5, EventHead::Arrive(JOB), &OPS));
     assert!(rt; is_at(&feed, 1, 2, EventHead::Slot, &[]));
@@ -101,7 +105,10 @@ fn a_feed_for_a_run_never_falls_and_has_no_slot(rt: HostRuntime) -> Result<(), F
         (&[], true, false),
     ];
     for (at, slot, want) in CASES {
-        assert!(rt; is_for_run(rt.alloc(), *at, *slot)? == *want, "{at:?}, slot {slot}");
+        assert!(rt;
+            is_for_run(rt.alloc(), *at, *slot)? == *want,
+            "{at:?}, slot {slot}"
+        );
     }
     Ok(())
 }
