@@ -271,6 +271,11 @@ const ALL_SLOTS: Timed = Timed {
     task: (MAX_SLOT, MAX_SLOT, 2, 1),
 };
 
+fn load_in(alloc: Global, plan: &Timed) -> Result<Load, Refusal> {
+    let plan = with_times(alloc, plan)?;
+    load_of(&plan)
+}
+
 /// Whether a collection and so many slots keep to that plan.
 fn slots_keep(alloc: Global, slots: u32) -> Result<bool, Refusal> {
     let mut events = Items::new(alloc);
@@ -286,8 +291,7 @@ fn the_last_due_ends_the_collections(rt: HostRuntime) -> Result<(), Fail> {
         demand: 9,
         common: MAX_SLOT,
     };
-    let plan = with_times(rt.alloc(), &ALL_SLOTS)?;
-    assert_eq!(rt; load_of(&plan), Ok(WANT));
+    assert_eq!(rt; load_in(rt.alloc(), &ALL_SLOTS)?, WANT);
     assert!(rt; slots_keep(rt.alloc(), MAX_SLOT)?);
     assert!(rt; !slots_keep(rt.alloc(), MAX_SLOT + 1)?);
     Ok(())
