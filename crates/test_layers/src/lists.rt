@@ -52,10 +52,12 @@ fn waived(number: u32) -> Waived {
 
 /// Whether the waivers have the numbers from 0 on.
 fn are_waived(list: &WaivedList) -> bool {
-    for number in 0..list.len() {
-        if list.get(number) != Some(&waived(number as u32)) {
+    let mut number = 0_u32;
+    for place in 0..list.len() {
+        if list.get(place) != Some(&waived(number)) {
             return false;
         }
+        number = number.saturating_add(1);
     }
     true
 }
