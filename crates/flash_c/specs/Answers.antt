@@ -1,10 +1,13 @@
 -- What an export answers of a die.
 use Rattle.std.specs.Prelude.{◌≡◌, ℕ, Bool, List}
 use Rattle.slot_types.specs.declared.pages.PageData.{PageData}
+use Rattle.slot_types.specs.declared.plans.DiePlan.{DiePlan}
+use Rattle.slot_types.specs.declared.refusals.Refusal.{Refusal}
 use Rattle.slot_types.specs.declared.replies.SlotReply.{SlotReply}
 use Rattle.stepped_die.specs.declared.refusals.StepRefusal.{StepRefusal}
+use Rattle.stepped_die.specs.declared.refusals.StepRefusal.TheVariants.{Die}
 use Rattle.stepped_die.specs.Stepped.{Stepped}
-use Rattle.stepped_die.specs.Steps.{HasEnded, RefusesBeginning}
+use Rattle.stepped_die.specs.Steps.{RefusesPlan, HasEnded, RefusesBeginning}
 use Rattle.flash_c.specs.declared.shapes.FlashWhy.{FlashWhy}
 use Rattle.flash_c.specs.declared.shapes.FlashReply.{FlashReply}
 use Rattle.flash_c.specs.declared.shapes.FlashWaived.{FlashWaived}
@@ -18,6 +21,12 @@ pub record SaysRefusal (Refuses : StepRefusal → Type 0) (code : ℕ) (why : Fl
   pub refuses : Refuses refusal
   pub code_is : code ≡ code_of refusal
   pub why_is : why ≡ why_of refusal
+
+-- the number of why no die is made of a plan
+pub record SaysNoPlan (plan : DiePlan) (code : ℕ) : Type 0 where
+  pub refusal : Refusal
+  pub refuses : RefusesPlan plan refusal
+  pub code_is : code ≡ code_of (Die refusal)
 
 -- the number of why no slot is begun
 pub record SaysUnbegun (die : Stepped) (code : ℕ) : Type 0 where

@@ -6,6 +6,7 @@ ghost use Rattle.plan_rules.specs.Times.{Passes, demand};
 ghost use Rattle.late_cert.specs.Rows.{RowsRise};
 ghost use Rattle.late_cert.specs.Check.{verdict_of};
 ghost use Rattle.late_cert.specs.Bound.{IsCertificate, BindsEverySchedule};
+ghost use Rattle.flash_c.specs.Answers.{SaysNoPlan};
 ghost use Rattle.flash_c.specs.Codes.{verdict_code};
 ghost use Rattle.flash_c.specs.Plans.{plan_in};
 ghost use Rattle.flash_c.specs.Texts.{name_at};
@@ -41,6 +42,7 @@ pub extern "C" fn flash_plan_bound(alloc: Global, plan: &FlashPlan, tasks: &[Fla
     ensures met { result ≡ 0 → MeetsBound (plan_in plan.now tasks.now) }
     ensures unmet { result ≢ 0 → result ≢ 1
         → ((result ≡ 2) ⊎ (result ≡ 3)) × ¬ MeetsBound (plan_in plan.now tasks.now) }
+    ensures cause { result ≢ 0 → SaysNoPlan (plan_in plan.now tasks.now) result }
 {
     let plan = match plan_in(alloc, plan, tasks) {
         Ok(plan) => plan,

@@ -10,7 +10,7 @@ ghost use Rattle.stepped_die.specs.Steps.{IsNew, HasBegun, HasFailed, RefusesArr
 ghost use Rattle.flash_c.specs.Names.{page_in, is_of_a_kind, ops_looked_at, ops_in};
 ghost use Rattle.flash_c.specs.Plans.{plan_in};
 ghost use Rattle.flash_c.specs.Slots.{call_of};
-ghost use Rattle.flash_c.specs.Answers.{SaysRefusal, SaysReply, SaysUnbegun};
+ghost use Rattle.flash_c.specs.Answers.{SaysNoPlan, SaysRefusal, SaysReply, SaysUnbegun};
 ghost use Rattle.flash_c.specs.Checkpoints.{SaysUnrenewed};
 
 use crate::codes::{BAD_KIND, NO_MEMORY, OK, of_refusal, of_renewal, of_step, renewal_why, why_of};
@@ -39,6 +39,7 @@ pub extern "C" fn flash_new(
     ensures made { result ≡ 0 → IsSome die.new.value }
     ensures new { result ≡ 0 → IfSome die.new.value (IsNew (plan_in plan.now tasks.now)) }
     ensures refused { result ≢ 0 → die.new.value ≡ None }
+    ensures cause { result ≢ 0 → SaysNoPlan (plan_in plan.now tasks.now) result }
 {
     let plan = match plan_in(alloc, plan, tasks) {
         Ok(plan) => plan,

@@ -1,10 +1,13 @@
 -- What beginning and ending a slot does, and why a call is refused.
-use Rattle.std.specs.Prelude.{◌≡◌, ◌≤◌, ℕ, Bool, true, false, Option, Some, None, [], IfSome, IsSome, max}
+use Rattle.std.specs.Prelude.{◌≡◌, ◌≤◌, ℕ, Bool, true, false, Option, Some, None, [], IfSome, IsSome, max, ⊤}
 use Rattle.slot_types.specs.declared.plans.DiePlan.{DiePlan}
 use Rattle.slot_types.specs.declared.pages.PageData.{PageData}
 use Rattle.slot_types.specs.declared.events.Event.{Event}
 use Rattle.slot_types.specs.declared.limits.TheConstants.{MAX_SLOT}
-use Rattle.slot_types.specs.declared.refusals.Refusal.TheVariants.{DieStopped, ClockEnd, NoMemory}
+use Rattle.slot_types.specs.declared.refusals.Refusal.{Refusal}
+use Rattle.slot_types.specs.declared.refusals.Refusal.TheVariants.{BadShape, BadPlan, DieStopped, ClockEnd, NoMemory}
+use Rattle.slot_types.specs.Shapes.{IsShape}
+use Rattle.plan_rules.specs.Bound.{MeetsBound}
 use Rattle.slot_types.specs.declared.events.Event.TheVariants as events
 use Rattle.slot_types.specs.declared.replies.Reply.TheVariants.{Slot}
 use Rattle.slot_types.specs.declared.replies.SlotReply.{SlotReply}
@@ -29,6 +32,13 @@ pub record IsNew (plan : DiePlan) (die : Stepped) : Type 0 where
   pub reserves : die.core.reserved ≡ 0
   pub log : die.core.log ≡ []
   pub idle : die.begun ≡ None
+
+-- why no die is made of a plan: its shape is out of its limits; else it doesn't meet its bound; or there was no memory
+abbrev pub RefusesPlan : DiePlan → Refusal → Type 0
+RefusesPlan plan BadShape = ¬ IsShape plan.shape
+RefusesPlan plan BadPlan = IsShape plan.shape × ¬ MeetsBound plan
+RefusesPlan plan NoMemory = ⊤
+RefusesPlan plan _ = ⊥
 
 -- A slot has begun: it is the log's present one, and what is reported is the one call that it needs, and for whom.
 -- Memory is reserved for it, and nothing else has changed: it isn't in the log.

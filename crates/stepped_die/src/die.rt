@@ -14,6 +14,7 @@ use crate::calls::{Begun, Call};
 use crate::mirror::MirrorNand;
 use crate::refusals::{StepRefusal, StepRenewalRefusal};
 use flash_die::{FaultNand, NandCall};
+use plan_rules::bound;
 use slot_core::{DieCore, NextAct, RenewalRefusal};
 use slot_types::{DiePlan, JobNo, Op, PageData, Refusal, SlotReply, TaskNo};
 use std::alloc::Global;
@@ -40,7 +41,7 @@ impl Model for SteppedDie {
 }
 
 impl SteppedDie {
-    ghost use Rattle.stepped_die.specs.Steps.{IsNew, HasBegun, HasEnded, HasFailed, RefusesArrival, RefusesBeginning, RefusesRenewing};
+    ghost use Rattle.stepped_die.specs.Steps.{IsNew, RefusesPlan, HasBegun, HasEnded, HasFailed, RefusesArrival, RefusesBeginning, RefusesRenewing};
 
     /// A die on which nothing was done, over a device that is erased.
     ///
@@ -48,7 +49,9 @@ impl SteppedDie {
     /// else `NoMemory`.
     pub fn new(alloc: Global, plan: DiePlan) -> Result<SteppedDie, Refusal>
         ensures ok { IfOk result (IsNew plan) }
+        ensures cause { IfErr result (RefusesPlan plan) }
     {
+        bound(&plan)?;
         let mirror = MirrorNand::new(alloc, plan.shape)?;
         Ok(SteppedDie {
             core: DieCore::new(alloc, plan, FaultNand::new(mirror))?,

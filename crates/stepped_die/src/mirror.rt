@@ -2,6 +2,7 @@
 
 ghost use Rattle.std.specs.Prelude.{◌≡◌, ◌==◌, ◌+◌, ◌<◌, ◌≤◌, [], length, map, IfOk, slice_set};
 ghost use Rattle.slot_types.specs.Refusal.{FailsForMemory};
+ghost use Rattle.slot_types.specs.Shapes.{IsShape};
 ghost use Rattle.page_map.specs.Placing.{IsCell};
 ghost use Rattle.die_checkpoint.specs.Fits.{Fits};
 ghost use Rattle.flash_die.specs.Flash.{cell_at, block_at};
@@ -23,7 +24,8 @@ pub struct MirrorNand {
 impl MirrorNand {
     /// A fresh device, as [`MemoryNand::new`] makes it.
     pub fn new(alloc: Global, shape: Shape) -> Result<MirrorNand, Refusal>
-        ensures { IfOk result (λ device. device.memory ≡ fresh_memory shape) }
+        ensures fresh { IfOk result (λ device. device.memory ≡ fresh_memory shape) }
+        ensures refused { IsShape shape → FailsForMemory result }
     {
         Ok(MirrorNand {
             memory: MemoryNand::new(alloc, shape)?,

@@ -15,7 +15,7 @@ use std::io::Read;
 const BATCH_ROWS: u32 = 16_384;
 
 /// After how many operations no further row is read before these are run. No contract depends on it.
-const BATCH_OPS: usize = 65_536;
+const BATCH_OPS: usize = 262_144;
 
 /// The rows that were read from a script, by die.
 #[derive(Drop)]

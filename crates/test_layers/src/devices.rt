@@ -23,37 +23,40 @@ const TWOS: PageData = PageData([0x22; 16]);
 fn a_block_is_filled_read_and_erased_in_three_slots(rt: HostRuntime) -> Result<(), Fail> {
     let mut device = MemoryNand::new(rt.alloc(), SHAPE)?;
     assert_eq!(rt; device.shape(), SHAPE);
-    assert_eq!(rt; device.program(FIRST, ONES), Ok(()));
-    assert_eq!(rt; device.program(SECOND, TWOS), Ok(()));
-    assert_eq!(rt; device.read(FIRST), Ok(ONES));
-    assert_eq!(rt; device.read(SECOND), Ok(TWOS));
-    assert_eq!(rt; device.erase_slot(1), Ok(false));
-    assert_eq!(rt; device.erase_slot(1), Ok(false));
-    assert_eq!(rt; device.erase_slot(1), Ok(true));
-    assert_eq!(rt; device.program(FIRST, TWOS), Ok(()));
-    assert_eq!(rt; device.read(FIRST), Ok(TWOS));
+    assert!(rt; device.program(FIRST, ONES) == Ok(()));
+    assert!(rt; device.program(SECOND, TWOS) == Ok(()));
+    assert!(rt; device.read(FIRST) == Ok(ONES));
+    assert!(rt; device.read(SECOND) == Ok(TWOS));
+    assert!(rt; device.erase_slot(1) == Ok(false));
+    assert!(rt; device.erase_slot(1) == Ok(false));
+    assert!(rt; device.erase_slot(1) == Ok(true));
+    assert!(rt; device.program(FIRST, TWOS) == Ok(()));
+    assert!(rt; device.read(FIRST) == Ok(TWOS));
     Ok(())
+}
+
+/// Why no device of a shape is made.
+fn refusal_of(alloc: Global, shape: Shape) -> Option<Refusal> {
+    MemoryNand::new(alloc, shape).err()
 }
 
 #[test]
 fn a_shape_out_of_its_limits_is_refused(rt: HostRuntime) -> Result<(), Fail> {
-    for (blocks, pages, erase_slots) in [
+    const SHAPES: [(u32, u32, u32); 6] = [
         (1, 2, 1),
         (1025, 2, 1),
         (2, 1, 1),
         (2, 257, 1),
         (2, 2, 0),
         (2, 2, 65),
-    ] {
+    ];
+    for (blocks, pages, erase_slots) in &SHAPES {
         let shape = Shape {
-            blocks,
-            pages,
-            erase_slots,
+            blocks: *blocks,
+            pages: *pages,
+            erase_slots: *erase_slots,
         };
-        match MemoryNand::new(rt.alloc(), shape) {
-            Err(refusal) => assert_eq!(rt; refusal, Refusal::BadShape),
-            Ok(_) => assert!(rt; false),
-        }
+        assert_eq!(rt; refusal_of(rt.alloc(), shape), Some(Refusal::BadShape));
     }
     Ok(())
 }
@@ -75,8 +78,9 @@ fn successes(alloc: Global, calls: u64) -> Result<u32, Refusal> {
 
 #[test]
 fn a_fuse_passes_so_many_calls_on(rt: HostRuntime) -> Result<(), Fail> {
-    for (calls, passed) in [(0, 0), (1, 1), (2, 2), (3, 3), (1000, 3)] {
-        assert_eq!(rt; successes(rt.alloc(), calls)?, passed, "with {calls}");
+    const CASES: [(u64, u32); 5] = [(0, 0), (1, 1), (2, 2), (3, 3), (1000, 3)];
+    for (calls, passed) in &CASES {
+        assert_eq!(rt; successes(rt.alloc(), *calls)?, *passed, "with {calls}");
     }
     Ok(())
 }
@@ -89,13 +93,17 @@ fn a_device_that_was_left_goes_on_with_its_cells(rt: HostRuntime) -> Result<(), 
     let mut device = MemoryNand::left(alloc, SHAPE, cells, &[1, 2], &[7, 0])?;
     let first = Place { block: 0, page: 0 };
     let free = Place { block: 0, page: 1 };
-    assert_eq!(rt; device.cell(first), ONES);
-    assert_eq!(rt; device.cell(free), PageData::BLANK);
-    assert_eq!(rt; device.cell(FIRST), TWOS);
-    assert_eq!(rt; device.cell(SECOND), PageData::BLANK);
-    assert_eq!(rt; device.program(free, TWOS), Ok(()));
-    assert_eq!(rt; device.read(free), Ok(TWOS));
-    assert_eq!(rt; device.read(first), Ok(ONES));
-    assert_eq!(rt; device.erase_slot(1), Ok(false));
+    assert_eq!(rt;
+        [device.cell(first), device.cell(free)],
+        [ONES, PageData::BLANK]
+    );
+    assert_eq!(rt;
+        [device.cell(FIRST), device.cell(SECOND)],
+        [TWOS, PageData::BLANK]
+    );
+    assert!(rt; device.program(free, TWOS) == Ok(()));
+    assert!(rt; device.read(free) == Ok(TWOS));
+    assert!(rt; device.read(first) == Ok(ONES));
+    assert!(rt; device.erase_slot(1) == Ok(false));
     Ok(())
 }

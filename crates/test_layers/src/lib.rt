@@ -1,5 +1,5 @@
-//! The layers below a die, each by itself: lists and refusals, queues, the choice of a victim, plans, ledgers, devices, page
-//! maps, volumes, certificates, and the log.
+//! The layers below a die, each by itself: lists and refusals, queues, the choice of a victim, plans, ledgers, devices,
+//! page maps, volumes, certificates, and the log.
 //!
 //! `plain_victims` and `plain_certificates` do in the plainest way what the layer does that they are compared with.
 #![tactic(auto)]

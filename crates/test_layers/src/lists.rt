@@ -1,33 +1,31 @@
 //! The texts of refusals as they are printed, and lists at a concrete type.
 
 use slot_types::{Cause, DiePlan, Items, JobNo, Op, PageData, Refusal, Shape, Waived, WaivedList};
+use std::alloc::Global;
 use std::test::Fail;
+
+/// Refusals, and how they are reported.
+#[rattlefmt::skip]
+const SAID: [(Refusal, &str); 8] = [
+    (Refusal::BadPlan, "3 BadPlan"),
+    (Refusal::BadPage { page: 12 }, "8 BadPage 12"),
+    (Refusal::ReleasePast { now: 5 }, "9 ReleasePast 5"),
+    (Refusal::NoTokens { have: 4, need: 5 }, "12 NoTokens 4 5"),
+    (Refusal::PlanText { cause: Cause::NotToml }, "18 PlanText NotToml"),
+    (Refusal::ScriptRow { line: 6, cause: Cause::Fields }, "19 ScriptRow 6 Fields"),
+    (Refusal::ReportText { line: 7 }, "20 ReportText 7"),
+    (Refusal::PassesOut { out: 1 }, "24 PassesOut 1"),
+];
+
+fn is_said(alloc: Global, refusal: &Refusal, want: &str) -> Result<bool, Fail> {
+    let text = format!(in alloc; "{} {refusal}", refusal.number())?;
+    Ok(text.as_str() == want)
+}
 
 #[test]
 fn a_refusal_is_reported_by_name_numbers_and_cause(rt: HostRuntime) -> Result<(), Fail> {
-    let alloc = rt.alloc();
-    let cause = Cause::Fields;
-    let said = [
-        (Refusal::BadPlan, "3 BadPlan"),
-        (Refusal::BadPage { page: 12 }, "8 BadPage 12"),
-        (Refusal::ReleasePast { now: 5 }, "9 ReleasePast 5"),
-        (Refusal::NoTokens { have: 4, need: 5 }, "12 NoTokens 4 5"),
-        (
-            Refusal::PlanText {
-                cause: Cause::NotToml,
-            },
-            "18 PlanText NotToml",
-        ),
-        (
-            Refusal::ScriptRow { line: 6, cause },
-            "19 ScriptRow 6 Fields",
-        ),
-        (Refusal::ReportText { line: 7 }, "20 ReportText 7"),
-        (Refusal::PassesOut { out: 1 }, "24 PassesOut 1"),
-    ];
-    for (refusal, want) in said {
-        let text = format!(in alloc; "{} {refusal}", refusal.number())?;
-        assert_eq!(rt; text.as_str(), want);
+    for (refusal, want) in &SAID {
+        assert!(rt; is_said(rt.alloc(), refusal, *want)?, "{want}");
     }
     Ok(())
 }
@@ -39,9 +37,7 @@ fn a_list_grows_at_its_end(rt: HostRuntime) -> Result<(), Fail> {
     assert!(rt; ops.is_empty());
     ops.push(Op::Write(3, PageData([0x11; 16])))?;
     ops.push(Op::Read(3))?;
-    assert_eq!(rt; ops.len(), 2);
-    assert!(rt; ops.get(1) == Some(&Op::Read(3)));
-    assert!(rt; ops.get(2).is_none());
+    assert!(rt; (ops.len(), ops.get(1), ops.get(2)) == (2, Some(&Op::Read(3)), None));
     let again = Items::from_vec(ops.clone()?.into_vec());
     assert!(rt; again == ops);
     Ok(())
@@ -54,6 +50,18 @@ fn waived(number: u32) -> Waived {
     }
 }
 
+/// Whether the waivers have the numbers from 0 on.
+fn are_waived(list: &WaivedList) -> bool {
+    let mut number = 0_u32;
+    for place in 0..list.len() {
+        if list.get(place) != Some(&waived(number)) {
+            return false;
+        }
+        number = number.saturating_add(1);
+    }
+    true
+}
+
 // The next one takes memory, which may be refused.
 #[test]
 fn sixteen_waivers_take_no_memory(rt: HostRuntime) -> Result<(), Fail> {
@@ -63,18 +71,12 @@ fn sixteen_waivers_take_no_memory(rt: HostRuntime) -> Result<(), Fail> {
     }
     let more = list.push(waived(16)).is_ok();
     assert_eq!(rt; list.len(), if more { 17 } else { 16 });
-    for number in 0..list.len() {
-        assert!(rt; list.get(number) == Some(&waived(number as u32)));
-    }
+    assert!(rt; are_waived(&list));
     Ok(())
 }
 
-#[test]
-fn plans_are_copied_whole(rt: HostRuntime) -> Result<(), Fail> {
-    let alloc = rt.alloc();
-    let mut caps: Items<u32> = Items::new(alloc);
-    caps.push(4)?;
-    let plan = DiePlan {
+fn plan_of(alloc: Global) -> Result<DiePlan, Refusal> {
+    Ok(DiePlan {
         shape: Shape {
             blocks: 8,
             pages: 4,
@@ -82,9 +84,14 @@ fn plans_are_copied_whole(rt: HostRuntime) -> Result<(), Fail> {
         },
         logical: 12,
         alpha: 2,
-        caps,
+        caps: Items::from_vec(Vec::from_slice(alloc, &[4])?),
         times: None,
-    };
+    })
+}
+
+#[test]
+fn plans_are_copied_whole(rt: HostRuntime) -> Result<(), Fail> {
+    let plan = plan_of(rt.alloc())?;
     assert!(rt; plan.clone()? == plan);
     Ok(())
 }

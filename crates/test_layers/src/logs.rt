@@ -2,15 +2,34 @@
 
 use event_log::{Deed, EventLog};
 use slot_types::{JobNo, Refusal, Waived};
+use std::alloc::Global;
 use std::test::Fail;
 
-/// Adds an event without waivers, where there are few enough.
-fn push(log: &mut EventLog, caller: u32, deed: Deed) -> Result<(), Refusal> {
-    log.reserve(1, 0)?;
+/// How many events a log has, how many records they are by the rules, and how many it keeps.
+type Counts = (u32, u32, usize);
+
+/// Adds an event of a caller with these waivers, where there are few enough.
+fn push(log: &mut EventLog, caller: u32, deed: Deed, waived: &[Waived]) -> Result<(), Refusal> {
+    log.reserve(1, waived.len())?;
     if log.len() < 1_000 {
-        log.push_reserved(caller, deed, &[]);
+        log.push_reserved(caller, deed, waived);
     }
     Ok(())
+}
+
+/// Adds what callers did, without waivers.
+fn push_all(log: &mut EventLog, deeds: &[(u32, Deed)]) -> Result<(), Refusal> {
+    for (caller, deed) in deeds {
+        push(log, *caller, *deed, &[])?;
+    }
+    Ok(())
+}
+
+/// The counts of a log of what callers did.
+fn counts_of(alloc: Global, deeds: &[(u32, Deed)]) -> Result<Counts, Refusal> {
+    let mut log = EventLog::new(alloc);
+    push_all(&mut log, deeds)?;
+    Ok((log.len(), log.records(), log.kept()))
 }
 
 const SLOT: Deed = Deed::EraseSlot {
@@ -20,66 +39,52 @@ const SLOT: Deed = Deed::EraseSlot {
 
 #[test]
 fn idle_slots_of_one_caller_are_one_record(rt: HostRuntime) -> Result<(), Fail> {
-    let mut log = EventLog::new(rt.alloc());
-    for _ in 0..5_u32 {
-        push(&mut log, 0, Deed::Idle)?;
-    }
-    assert_eq!(rt; (log.len(), log.records(), log.kept()), (5, 1, 1));
-    push(&mut log, 1, Deed::Idle)?;
-    assert_eq!(rt; (log.len(), log.records(), log.kept()), (6, 2, 2));
+    let mut deeds = [(0, Deed::Idle); 6];
+    assert_eq!(rt; counts_of(rt.alloc(), &deeds[..5])?, (5, 1, 1));
+    deeds[5] = (1, Deed::Idle);
+    assert_eq!(rt; counts_of(rt.alloc(), &deeds)?, (6, 2, 2));
     Ok(())
 }
 
 #[test]
 fn an_erase_is_one_record_but_for_its_last_slot(rt: HostRuntime) -> Result<(), Fail> {
-    let mut log = EventLog::new(rt.alloc());
-    push(&mut log, 0, SLOT)?;
-    push(&mut log, 0, SLOT)?;
-    push(
-        &mut log,
-        0,
-        Deed::LastEraseSlot {
-            number: JobNo(1),
-            block: 5,
-        },
-    )?;
-    assert_eq!(rt; (log.len(), log.records(), log.kept()), (3, 2, 2));
+    let last = Deed::LastEraseSlot {
+        number: JobNo(1),
+        block: 5,
+    };
+    let deeds = [(0, SLOT), (0, SLOT), (0, last)];
+    assert_eq!(rt; counts_of(rt.alloc(), &deeds)?, (3, 2, 2));
     Ok(())
 }
 
 /// No log of a die has such an erase: each is of one block.
 #[test]
 fn an_erase_of_two_blocks_counts_as_one_record_and_keeps_two(rt: HostRuntime) -> Result<(), Fail> {
-    let mut log = EventLog::new(rt.alloc());
-    push(&mut log, 0, SLOT)?;
-    push(
-        &mut log,
-        0,
-        Deed::EraseSlot {
-            number: JobNo(1),
-            block: 6,
-        },
-    )?;
-    assert_eq!(rt; (log.len(), log.records(), log.kept()), (2, 1, 2));
+    let other = Deed::EraseSlot {
+        number: JobNo(1),
+        block: 6,
+    };
+    let deeds = [(0, SLOT), (0, other)];
+    assert_eq!(rt; counts_of(rt.alloc(), &deeds)?, (2, 1, 2));
     Ok(())
+}
+
+const WAIVED: Waived = Waived {
+    number: JobNo(0),
+    given: 2,
+};
+
+/// An idle slot, one in which a collection was waived, and one more.
+fn push_a_waiver(log: &mut EventLog) -> Result<(), Refusal> {
+    push(log, 0, Deed::Idle, &[])?;
+    push(log, 0, Deed::Idle, &[WAIVED])?;
+    push(log, 0, Deed::Idle, &[])
 }
 
 #[test]
 fn a_waiver_stands_by_itself(rt: HostRuntime) -> Result<(), Fail> {
     let mut log = EventLog::new(rt.alloc());
-    push(&mut log, 0, Deed::Idle)?;
-    log.reserve(1, 1)?;
-    if log.len() < 1_000 {
-        log.push_reserved(
-            0,
-            Deed::Idle,
-            &[Waived {
-                number: JobNo(0),
-                given: 2,
-            }],
-        );
-    }
-    push(&mut log, 0, Deed::Idle)?;
+    push_a_waiver(&mut log)?;
     assert_eq!(rt; (log.len(), log.records(), log.kept()), (3, 3, 3));
     Ok(())
 }

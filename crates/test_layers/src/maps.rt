@@ -38,18 +38,17 @@ fn a_page_lies_in_the_last_cell_that_it_was_bound_to(rt: HostRuntime) -> Result<
     map.bind(3, FIRST);
     map.bind(5, SECOND);
     map.bind(3, THIRD);
-    assert_eq!(rt; map.place(3), Some(THIRD));
-    assert_eq!(rt; map.place(4), None);
-    assert!(rt; map.lies(3, THIRD));
-    assert!(rt; !map.lies(3, FIRST));
-    assert!(rt; !map.lies(12, THIRD));
-    assert_eq!(rt; map.owner(FIRST), None);
-    assert_eq!(rt; map.owner(SECOND), Some(5));
-    assert_eq!(rt; map.valid(0), 2);
-    assert_eq!(rt; map.valid(1), 0);
-    assert_eq!(rt; map.next_valid(0, 0), Some(1));
-    assert_eq!(rt; map.next_valid(0, 2), Some(2));
-    assert_eq!(rt; map.next_valid(0, 3), None);
+    assert_eq!(rt; [map.place(3), map.place(4)], [Some(THIRD), None]);
+    let lies = [map.lies(3, THIRD), map.lies(3, FIRST), map.lies(12, THIRD)];
+    assert_eq!(rt; lies, [true, false, false]);
+    assert_eq!(rt; [map.owner(FIRST), map.owner(SECOND)], [None, Some(5)]);
+    assert_eq!(rt; [map.valid(0), map.valid(1)], [2, 0]);
+    let next = [
+        map.next_valid(0, 0),
+        map.next_valid(0, 2),
+        map.next_valid(0, 3),
+    ];
+    assert_eq!(rt; next, [Some(1), Some(2), None]);
     Ok(())
 }
 
@@ -59,17 +58,15 @@ fn a_page_that_is_unbound_lies_nowhere(rt: HostRuntime) -> Result<(), Fail> {
     map.bind(3, FIRST);
     map.bind(5, SECOND);
     map.unbind(3);
-    assert_eq!(rt; map.place(3), None);
-    assert_eq!(rt; map.owner(FIRST), None);
+    assert_eq!(rt; [map.place(3), map.place(5)], [None, Some(SECOND)]);
     assert!(rt; !map.lies(3, FIRST));
-    assert_eq!(rt; map.place(5), Some(SECOND));
-    assert_eq!(rt; map.valid(0), 1);
-    assert_eq!(rt; map.next_valid(0, 0), Some(1));
+    assert_eq!(rt; [map.owner(FIRST), map.next_valid(0, 0)], [None, Some(1)]);
+    let before = map.valid(0);
     map.unbind(3);
     map.unbind(4);
-    assert_eq!(rt; map.valid(0), 1);
+    let after = map.valid(0);
     map.bind(3, THIRD);
+    assert_eq!(rt; [before, after, map.valid(0)], [1, 1, 2]);
     assert_eq!(rt; map.place(3), Some(THIRD));
-    assert_eq!(rt; map.valid(0), 2);
     Ok(())
 }

@@ -5,146 +5,150 @@ use slot_types::{Caps, DiePlan, Refusal, Shape};
 use std::alloc::Global;
 use std::test::Fail;
 
-const SMALL: Shape = Shape {
-    blocks: 3,
-    pages: 4,
-    erase_slots: 3,
-};
+/// How many blocks a device has, pages a block, and slots an erase.
+type Dimensions = (u32, u32, u32);
 
 /// A plan whose tasks all have this cap.
-fn plan_of(
-    alloc: Global,
-    shape: Shape,
+#[derive(Clone, Copy)]
+struct Plan {
+    shape: Dimensions,
     logical: u32,
     alpha: u32,
-    tasks: u32,
+    tasks: usize,
     cap: u32,
-) -> Result<DiePlan, Refusal> {
-    let mut caps = Caps::new(alloc);
-    for _ in 0..tasks {
-        caps.push(cap)?;
-    }
+}
+
+fn plan_of(alloc: Global, plan: &Plan) -> Result<DiePlan, Refusal> {
+    let (blocks, pages, erase_slots) = plan.shape;
     Ok(DiePlan {
-        shape,
-        logical,
-        alpha,
-        caps,
+        shape: Shape {
+            blocks,
+            pages,
+            erase_slots,
+        },
+        logical: plan.logical,
+        alpha: plan.alpha,
+        caps: Caps::from_vec(vec![in alloc; plan.cap; plan.tasks]?),
         times: None,
     })
 }
 
+/// A plan, and whether it meets its bound, or how it is refused.
+type Case = (Plan, Result<(), Refusal>);
+
+fn goes(alloc: Global, case: &Case) -> Result<bool, Refusal> {
+    let plan = plan_of(alloc, &case.0)?;
+    Ok(bound(&plan) == case.1)
+}
+
+/// The place, from 0, of the first plan that is judged otherwise.
+fn first_wrong(alloc: Global, cases: &[Case]) -> Result<Option<usize>, Refusal> {
+    for (place, case) in cases.iter().enumerate() {
+        if !goes(alloc, case)? {
+            return Ok(Some(place));
+        }
+    }
+    Ok(None)
+}
+
+const MEETS: Result<(), Refusal> = Ok(());
+
+const BAD_PLAN: Result<(), Refusal> = Err(Refusal::BadPlan);
+
+const BAD_SHAPE: Result<(), Refusal> = Err(Refusal::BadShape);
+
+const SMALL: Dimensions = (3, 4, 3);
+
+#[test]
+fn the_smallest_plan_holds_two_pages(rt: HostRuntime) -> Result<(), Fail> {
+    // fmax 1 + 2 + 4 = 7, closed 3 - 1 - 1 = 1, live 1 * 3 = 3
+    #[rattlefmt::skip]
+    const CASES: &[Case] = &[
+        (Plan { shape: SMALL, logical: 2, alpha: 2, tasks: 1, cap: 4 }, MEETS),
+        (Plan { shape: SMALL, logical: 3, alpha: 2, tasks: 1, cap: 4 }, BAD_PLAN),
+        (Plan { shape: SMALL, logical: 0, alpha: 2, tasks: 1, cap: 4 }, BAD_PLAN),
+        (Plan { shape: SMALL, logical: 2, alpha: 0, tasks: 1, cap: 4 }, BAD_PLAN),
+        (Plan { shape: SMALL, logical: 2, alpha: 5, tasks: 1, cap: 4 }, BAD_PLAN),
+    ];
+    assert_eq!(rt; first_wrong(rt.alloc(), CASES)?, None);
+    Ok(())
+}
+
+/// None has a logical page: a bad plan at any shape.
+#[test]
+fn shapes_are_judged_first(rt: HostRuntime) -> Result<(), Fail> {
+    #[rattlefmt::skip]
+    const CASES: &[Case] = &[
+        (Plan { shape: (1, 4, 3), logical: 0, alpha: 2, tasks: 1, cap: 1 }, BAD_SHAPE),
+        (Plan { shape: (1025, 4, 3), logical: 0, alpha: 2, tasks: 1, cap: 1 }, BAD_SHAPE),
+        (Plan { shape: (3, 1, 3), logical: 0, alpha: 2, tasks: 1, cap: 1 }, BAD_SHAPE),
+        (Plan { shape: (3, 257, 3), logical: 0, alpha: 2, tasks: 1, cap: 1 }, BAD_SHAPE),
+        (Plan { shape: (3, 4, 0), logical: 0, alpha: 2, tasks: 1, cap: 1 }, BAD_SHAPE),
+        (Plan { shape: (3, 4, 65), logical: 0, alpha: 2, tasks: 1, cap: 1 }, BAD_SHAPE),
+        (Plan { shape: (1024, 256, 64), logical: 0, alpha: 2, tasks: 1, cap: 1 }, BAD_PLAN),
+        (Plan { shape: (2, 2, 1), logical: 0, alpha: 2, tasks: 1, cap: 1 }, BAD_PLAN),
+    ];
+    assert_eq!(rt; first_wrong(rt.alloc(), CASES)?, None);
+    Ok(())
+}
+
+const WIDE: Dimensions = (30, 4, 3);
+
+const WIDEST: Dimensions = (1024, 256, 64);
+
+#[test]
+fn tasks_and_caps_are_bounded(rt: HostRuntime) -> Result<(), Fail> {
+    #[rattlefmt::skip]
+    const CASES: &[Case] = &[
+        (Plan { shape: WIDE, logical: 5, alpha: 2, tasks: 0, cap: 1 }, BAD_PLAN),
+        // fmax 1 + 16 * 2 + 16 = 49, closed 30 - 12 - 16 = 2, live 2 * 3 = 6
+        (Plan { shape: WIDE, logical: 5, alpha: 2, tasks: 16, cap: 1 }, MEETS),
+        (Plan { shape: WIDE, logical: 6, alpha: 2, tasks: 16, cap: 1 }, BAD_PLAN),
+        (Plan { shape: WIDEST, logical: 1, alpha: 1, tasks: 17, cap: 1 }, BAD_PLAN),
+        (Plan { shape: WIDE, logical: 5, alpha: 2, tasks: 1, cap: 0 }, BAD_PLAN),
+        // fmax 255 + 0 + 261376 = 261631, closed 1024 - 1021 - 1 = 2, live 2 * 1 = 2
+        (Plan { shape: WIDEST, logical: 1, alpha: 256, tasks: 1, cap: 261376 }, MEETS),
+        // one page more: fmax 261632 = 1022 * 256, closed 1, live 1
+        (Plan { shape: WIDEST, logical: 1, alpha: 256, tasks: 1, cap: 261377 }, BAD_PLAN),
+        // closed 0
+        (Plan { shape: SMALL, logical: 1, alpha: 2, tasks: 1, cap: 8 }, BAD_PLAN),
+        (Plan { shape: WIDEST, logical: 1, alpha: 256, tasks: 16, cap: u32::MAX }, BAD_PLAN),
+    ];
+    assert_eq!(rt; first_wrong(rt.alloc(), CASES)?, None);
+    Ok(())
+}
+
 /// The figures of a plan that meets its bound.
-fn figures_of(
-    alloc: Global,
-    shape: Shape,
-    logical: u32,
-    alpha: u32,
-    tasks: u32,
-    cap: u32,
-) -> Result<Figures, Refusal> {
-    let plan = plan_of(alloc, shape, logical, alpha, tasks, cap)?;
+fn figures_of(alloc: Global, plan: &Plan) -> Result<Figures, Refusal> {
+    let plan = plan_of(alloc, plan)?;
     bound(&plan)?;
     Ok(figures(&plan))
 }
 
 #[test]
-fn the_smallest_plan_holds_two_pages(rt: HostRuntime) -> Result<(), Fail> {
-    // fmax 1 + 2 + 4 = 7, closed 3 - 1 - 1 = 1, live 1 * 3 = 3
-    for (logical, alpha, want) in [
-        (2, 2, Ok(())),
-        (3, 2, Err(Refusal::BadPlan)),
-        (0, 2, Err(Refusal::BadPlan)),
-        (2, 0, Err(Refusal::BadPlan)),
-        (2, 5, Err(Refusal::BadPlan)),
-    ] {
-        let plan = plan_of(rt.alloc(), SMALL, logical, alpha, 1, 4)?;
-        assert_eq!(rt; bound(&plan), want, "{logical} pages, alpha {alpha}");
-    }
-    Ok(())
-}
-
-#[test]
-fn shapes_are_judged_first(rt: HostRuntime) -> Result<(), Fail> {
-    for (blocks, pages, erase_slots, want) in [
-        (1, 4, 3, Refusal::BadShape),
-        (1025, 4, 3, Refusal::BadShape),
-        (3, 1, 3, Refusal::BadShape),
-        (3, 257, 3, Refusal::BadShape),
-        (3, 4, 0, Refusal::BadShape),
-        (3, 4, 65, Refusal::BadShape),
-        (1024, 256, 64, Refusal::BadPlan),
-        (2, 2, 1, Refusal::BadPlan),
-    ] {
-        let shape = Shape {
-            blocks,
-            pages,
-            erase_slots,
-        };
-        // no logical page: a bad plan at any shape
-        let plan = plan_of(rt.alloc(), shape, 0, 2, 1, 1)?;
-        assert_eq!(rt;
-            bound(&plan),
-            Err(want),
-            "{blocks} blocks, {pages} pages, {erase_slots} slots"
-        );
-    }
-    Ok(())
-}
-
-#[test]
-fn tasks_and_caps_are_bounded(rt: HostRuntime) -> Result<(), Fail> {
-    let wide = Shape {
-        blocks: 30,
-        pages: 4,
-        erase_slots: 3,
-    };
-    let widest = Shape {
-        blocks: 1024,
-        pages: 256,
-        erase_slots: 64,
-    };
-    for (shape, logical, alpha, tasks, cap, want) in [
-        (wide, 5, 2, 0, 1, Err(Refusal::BadPlan)),
-        // fmax 1 + 16 * 2 + 16 = 49, closed 30 - 12 - 16 = 2, live 2 * 3 = 6
-        (wide, 5, 2, 16, 1, Ok(())),
-        (wide, 6, 2, 16, 1, Err(Refusal::BadPlan)),
-        (widest, 1, 1, 17, 1, Err(Refusal::BadPlan)),
-        (wide, 5, 2, 1, 0, Err(Refusal::BadPlan)),
-        // fmax 255 + 0 + 261376 = 261631, closed 1024 - 1021 - 1 = 2, live 2 * 1 = 2
-        (widest, 1, 256, 1, 261376, Ok(())),
-        // one page more: fmax 261632 = 1022 * 256, closed 1, live 1
-        (widest, 1, 256, 1, 261377, Err(Refusal::BadPlan)),
-        // closed 0
-        (SMALL, 1, 2, 1, 8, Err(Refusal::BadPlan)),
-        (widest, 1, 256, 16, u32::MAX, Err(Refusal::BadPlan)),
-    ] {
-        let plan = plan_of(rt.alloc(), shape, logical, alpha, tasks, cap)?;
-        assert_eq!(rt;
-            bound(&plan),
-            want,
-            "{logical} pages, {tasks} tasks of {cap}"
-        );
-    }
-    Ok(())
-}
-
-#[test]
 fn figures_of_plans(rt: HostRuntime) -> Result<(), Fail> {
-    for (blocks, logical, alpha, tasks, cap, fmax, closed, live) in [
-        (8, 12, 2, 1, 4, 7, 6, 18),
-        (4, 5, 2, 1, 4, 7, 2, 6),
+    #[rattlefmt::skip]
+    const CASES: [(Plan, Figures); 4] = [
+        (
+            Plan { shape: (8, 4, 3), logical: 12, alpha: 2, tasks: 1, cap: 4 },
+            Figures { fmax: 7, closed: 6, live: 18 },
+        ),
+        (
+            Plan { shape: (4, 4, 3), logical: 5, alpha: 2, tasks: 1, cap: 4 },
+            Figures { fmax: 7, closed: 2, live: 6 },
+        ),
         // alpha is a whole block: no reserve, and fmax 3 + 0 + 4
-        (4, 1, 4, 1, 4, 7, 2, 2),
-        (30, 5, 2, 16, 1, 49, 2, 6),
-    ] {
-        let shape = Shape {
-            blocks,
-            pages: 4,
-            erase_slots: 3,
-        };
-        let got = figures_of(rt.alloc(), shape, logical, alpha, tasks, cap)?;
-        let want = Figures { fmax, closed, live };
-        assert_eq!(rt; got, want, "{blocks} blocks, {tasks} tasks");
+        (
+            Plan { shape: (4, 4, 3), logical: 1, alpha: 4, tasks: 1, cap: 4 },
+            Figures { fmax: 7, closed: 2, live: 2 },
+        ),
+        (
+            Plan { shape: WIDE, logical: 5, alpha: 2, tasks: 16, cap: 1 },
+            Figures { fmax: 49, closed: 2, live: 6 },
+        ),
+    ];
+    for (plan, want) in &CASES {
+        assert_eq!(rt; figures_of(rt.alloc(), plan)?, *want);
     }
     Ok(())
 }

@@ -11,12 +11,23 @@ fn keys_go_by_due_then_number(rt: HostRuntime) -> Result<(), Fail> {
     queue.insert(Key { due: 5, number: 0 });
     queue.insert(Key { due: 5, number: 3 });
     queue.insert(Key { due: 3, number: 2 });
-    assert_eq!(rt; queue.len(), 4);
-    assert_eq!(rt; queue.first(), Some(Key { due: 3, number: 2 }));
-    for key in [(3, 2), (5, 0), (5, 1), (5, 3)] {
-        let (due, number) = key;
-        assert_eq!(rt; queue.pop_first(), Some(Key { due, number }));
-    }
+    assert_eq!(rt;
+        (queue.len(), queue.first()),
+        (4, Some(Key { due: 3, number: 2 }))
+    );
+    let left = [
+        queue.pop_first(),
+        queue.pop_first(),
+        queue.pop_first(),
+        queue.pop_first(),
+    ];
+    let wanted = [
+        Some(Key { due: 3, number: 2 }),
+        Some(Key { due: 5, number: 0 }),
+        Some(Key { due: 5, number: 1 }),
+        Some(Key { due: 5, number: 3 }),
+    ];
+    assert_eq!(rt; left, wanted);
     assert_eq!(rt; queue.pop_first(), None);
     Ok(())
 }
@@ -37,9 +48,8 @@ fn a_key_waits_for_its_release(rt: HostRuntime) -> Result<(), Fail> {
         release: 0,
         number: 1,
     };
-    assert_eq!(rt; list.first(), Some(early));
-    assert_eq!(rt; list.pop_released(1), Some(early));
-    assert_eq!(rt; list.pop_released(1), None);
+    let released = [list.first(), list.pop_released(1), list.pop_released(1)];
+    assert_eq!(rt; released, [Some(early), Some(early), None]);
     assert_eq!(rt; list.len(), 1);
     Ok(())
 }

@@ -6,6 +6,14 @@ use crate::plain_victims::{Candidate, find_least};
 use std::test::Fail;
 use victim_pick::Victims;
 
+/// The victims in the order in which they are taken, of at most four.
+fn taken(victims: &mut Victims) -> [Option<u32>; 4] {
+    let first = victims.take_least();
+    let second = victims.take_least();
+    let third = victims.take_least();
+    [first, second, third, victims.take_least()]
+}
+
 #[test]
 fn the_fewest_valid_pages_go_first(rt: HostRuntime) -> Result<(), Fail> {
     let mut victims = Victims::new(rt.alloc(), 4, 4)?;
@@ -13,12 +21,8 @@ fn the_fewest_valid_pages_go_first(rt: HostRuntime) -> Result<(), Fail> {
     victims.close(1, 2, 0);
     victims.close(2, 1, 0);
     victims.lower(1);
-    assert_eq!(rt; victims.count(1), Some(1));
-    assert_eq!(rt; victims.count(3), None);
-    assert_eq!(rt; victims.take_least(), Some(1));
-    assert_eq!(rt; victims.take_least(), Some(2));
-    assert_eq!(rt; victims.take_least(), Some(0));
-    assert_eq!(rt; victims.take_least(), None);
+    assert_eq!(rt; [victims.count(1), victims.count(3)], [Some(1), None]);
+    assert_eq!(rt; taken(&mut victims), [Some(1), Some(2), Some(0), None]);
     Ok(())
 }
 
@@ -35,10 +39,7 @@ fn of_equal_counts_the_fewest_erases_go_first(rt: HostRuntime) -> Result<(), Fai
     victims.close(3, 4, 5);
     victims.lower(0);
     victims.lower(1);
-    assert_eq!(rt; victims.take_least(), Some(1));
-    assert_eq!(rt; victims.take_least(), Some(2));
-    assert_eq!(rt; victims.take_least(), Some(0));
-    assert_eq!(rt; victims.take_least(), Some(3));
+    assert_eq!(rt; taken(&mut victims), [Some(1), Some(2), Some(0), Some(3)]);
     Ok(())
 }
 

@@ -20,21 +20,28 @@ fn opened(alloc: Global, blocks: u32, logical: u32) -> Result<Volume<Recorder>, 
         pages: 4,
         erase_slots: 3,
     };
-    let mut caps = Caps::new(alloc);
-    caps.push(4)?;
     let plan = DiePlan {
         shape,
         logical,
         alpha: 2,
-        caps,
+        caps: Caps::from_vec(Vec::from_slice(alloc, &[4])?),
         times: None,
     };
     bound(&plan)?;
     Volume::new(alloc, plan, Recorder::new(alloc, shape)?)
 }
 
-/// Plays the tables, one after the other, on a new volume. Answers the first wrong step, by its table and its place
-/// there.
+/// Plays the tables, one after the other. Answers the first wrong step, by its table and its place there.
+fn plays_all(volume: &mut Volume<Recorder>, tables: &[&[Step]]) -> Option<(usize, usize)> {
+    for (table, steps) in tables.iter().enumerate() {
+        if let Some(place) = first_wrong(volume, *steps) {
+            return Some((table, place));
+        }
+    }
+    None
+}
+
+/// Plays them on a new volume.
 fn plays_once(
     alloc: Global,
     blocks: u32,
@@ -42,12 +49,7 @@ fn plays_once(
     tables: &[&[Step]],
 ) -> Result<Option<(usize, usize)>, Refusal> {
     let mut volume = opened(alloc, blocks, logical)?;
-    for (table, steps) in tables.iter().enumerate() {
-        if let Some(place) = first_wrong(&mut volume, *steps) {
-            return Ok(Some((table, place)));
-        }
-    }
-    Ok(None)
+    Ok(plays_all(&mut volume, tables))
 }
 
 /// Plays so. Where memory is scarce and is refused for the volume, another one is made.

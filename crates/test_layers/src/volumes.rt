@@ -143,9 +143,10 @@ fn fused<R: Env>(rt: &R, alloc: Global, calls: u64) -> Result<(u32, bool), Refus
 
 #[test]
 fn a_volume_stops_with_the_first_call_that_fails(rt: HostRuntime) -> Result<(), Fail> {
-    for (calls, passed) in [(0, 0), (1, 1), (2, 2), (3, 3), (4, 4), (5, 5), (1000, 5)] {
-        let answer = fused(&rt, rt.alloc(), calls)?;
-        assert_eq!(rt; answer, (passed, passed < 5), "with {calls}");
+    const CASES: [(u64, u32); 7] = [(0, 0), (1, 1), (2, 2), (3, 3), (4, 4), (5, 5), (1000, 5)];
+    for (calls, passed) in &CASES {
+        let answer = fused(&rt, rt.alloc(), *calls)?;
+        assert_eq!(rt; answer, (*passed, *passed < 5), "with {calls}");
     }
     Ok(())
 }

@@ -16,7 +16,7 @@ use std::process::Abort;
 use std::sync::Wait;
 
 /// What becomes of a store that is to be closed.
-#[derive(Clone, Copy, PartialEq, Eq, Debug, Drop)]
+#[derive(PartialEq, Debug, Drop)]
 pub(crate) enum End {
     /// It is closed: so many dies, and how many entries the first has, and its present slot.
     Closed {

@@ -1,7 +1,7 @@
 //! Feeds as lists: any event goes in, and comes out again.
 
 use crate::made::{ONES, TWOS};
-use die_service::Feed;
+use die_service::{Feed, FeedItem};
 use slot_core::EventHead;
 use slot_types::{Event, JobHead, LentOps, Op, OpList, Refusal, TaskNo};
 use std::alloc::Global;
@@ -30,65 +30,85 @@ const COLLECTION: JobHead = JobHead {
     due: 8,
 };
 
-// A job of these operations, a slot, a collection and a job without any.
-fn mixed(alloc: Global) -> Result<Feed, Refusal> {
-    let mut feed = Feed::new(alloc);
+// A job of these operations.
+fn job_of(alloc: Global) -> Result<Event, Refusal> {
     let ops = OpList::from_vec(Vec::from_slice(alloc, &OPS)?);
-    feed.push(5, JOB.with_ops(ops))?;
+    Ok(JOB.with_ops(ops))
+}
+
+// Puts in a job of these operations, a slot, a collection and a job without any.
+fn push_mixed(feed: &mut Feed, alloc: Global) -> Result<(), Refusal> {
+    feed.push(5, job_of(alloc)?)?;
     feed.push(2, Event::Slot)?;
     feed.push_lent(8, COLLECTION, &LentOps::list(&OPS))?;
-    feed.push(8, JOB.with_ops(OpList::new(alloc)))?;
-    Ok(feed)
+    feed.push(8, JOB.with_ops(OpList::new(alloc)))
+}
+
+// Whether an event has these operations, and no more.
+fn has_ops(event: &FeedItem, ops: &[Op]) -> bool {
+    for place in 0..ops.len() {
+        if event.op(place) != Some(ops[place]) {
+            return false;
+        }
+    }
+    event.len() == ops.len() && event.op(ops.len()).is_none()
+}
+
+// Whether the event of this place comes before this slot, with this head and these operations.
+fn is_at(feed: &Feed, place: usize, at: u32, head: EventHead, ops: &[Op]) -> bool {
+    match feed.get(place) {
+        Some(event) => event.at() == at && event.head() == head && has_ops(&event, ops),
+        None => false,
+    }
 }
 
 #[test]
 fn a_feed_gives_back_what_it_was_given(rt: HostRuntime) -> Result<(), Fail> {
-    let feed = mixed(rt.alloc())?;
+    let mut feed = Feed::new(rt.alloc());
+    push_mixed(&mut feed, rt.alloc())?;
     assert_eq!(rt; feed.len(), 4);
-    let job = feed.get(0).expect(&rt, "a job");
-    assert_eq!(rt; job.at(), 5);
-    assert_eq!(rt; job.head(), EventHead::Arrive(JOB));
-    assert_eq!(rt; job.len(), 5);
-    for place in 0..5usize {
-        assert_eq!(rt; job.op(place), Some(OPS[place]));
-    }
-    assert_eq!(rt; job.op(5), None);
-    let slot = feed.get(1).expect(&rt, "a slot");
-    assert_eq!(rt; slot.at(), 2);
-    assert_eq!(rt; slot.head(), EventHead::Slot);
-    assert_eq!(rt; slot.op(0), None);
-    let collection = feed.get(2).expect(&rt, "a collection");
-    assert_eq!(rt; collection.at(), 8);
-    assert_eq!(rt; collection.head(), EventHead::Arrive(COLLECTION));
-    assert_eq!(rt; collection.len(), 0);
-    let empty = feed.get(3).expect(&rt, "a job without operations");
-    assert_eq!(rt; empty.head(), EventHead::Arrive(JOB));
-    assert_eq!(rt; empty.op(0), None);
+    assert!(rt; is_at(&feed, 0, 5, EventHead::Arrive(JOB), &OPS));
+    assert!(rt; is_at(&feed, 1, 2, EventHead::Slot, &[]));
+    assert!(rt; is_at(&feed, 2, 8, EventHead::Arrive(COLLECTION), &[]));
+    assert!(rt; is_at(&feed, 3, 8, EventHead::Arrive(JOB), &[]));
     assert!(rt; feed.get(4).is_none());
     Ok(())
 }
 
-// The feed of collections that come before these slots, and a slot after them where one is asked for.
-fn coming(alloc: Global, at: &[u32], slot: bool) -> Result<Feed, Refusal> {
-    let mut feed = Feed::new(alloc);
+// Puts in collections that come before these slots, and a slot after them where one is asked for.
+fn push_coming(feed: &mut Feed, at: &[u32], slot: bool) -> Result<(), Refusal> {
     for slot in at {
         feed.push_lent(*slot, COLLECTION, &LentOps::none())?;
     }
     if slot {
         feed.push(4294967295, Event::Slot)?;
     }
-    Ok(feed)
+    Ok(())
+}
+
+// Whether the feed of these is one for a run.
+fn is_for_run(alloc: Global, at: &[u32], slot: bool) -> Result<bool, Refusal> {
+    let mut feed = Feed::new(alloc);
+    push_coming(&mut feed, at, slot)?;
+    Ok(feed.is_in_order())
 }
 
 #[test]
 fn a_feed_for_a_run_never_falls_and_has_no_slot(rt: HostRuntime) -> Result<(), Fail> {
-    let alloc = rt.alloc();
-    assert!(rt; coming(alloc, &[], false)?.is_in_order());
-    assert!(rt; coming(alloc, &[7], false)?.is_in_order());
-    assert!(rt; coming(alloc, &[0, 3, 3, 9], false)?.is_in_order());
-    assert!(rt; !coming(alloc, &[0, 3, 2, 9], false)?.is_in_order());
-    assert!(rt; !coming(alloc, &[1, 0], false)?.is_in_order());
-    assert!(rt; !coming(alloc, &[0, 3], true)?.is_in_order());
-    assert!(rt; !coming(alloc, &[], true)?.is_in_order());
+    const CASES: &[(&[u32], bool, bool)] = &[
+        (&[], false, true),
+        (&[7], false, true),
+        (&[0, 3, 3, 9], false, true),
+        (&[0, 3, 2, 9], false, false),
+        (&[1, 0], false, false),
+        (&[0, 3], true, false),
+        (&[], true, false),
+    ];
+    for (at, slot, want) in CASES {
+        assert!(rt;
+            is_for_run(rt.alloc(), *at, *slot)? == *want,
+            "{at:?}, slot {slot}"
+        );
+    }
     Ok(())
 }

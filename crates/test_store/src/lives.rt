@@ -1,10 +1,10 @@
 //! Stores of dies that another store was closed into.
 
-ghost use Rattle.std.specs.Prelude.{◌≡◌, map, All, IfOk};
+ghost use Rattle.std.specs.Prelude.{◌≡◌, map, All};
 ghost use Rattle.die_service.specs.Stores.{IsAtStart};
 
 use crate::dies::{play_both, play_only};
-use crate::made::{ONES, TWOS, faulty_dies, memory, store_of};
+use crate::made::{ONES, TWOS, faulty_dies, two_dies};
 use crate::memory::is_scarce;
 use crate::steps::Fact::{Entries, Now, Read};
 use crate::steps::Step;
@@ -61,47 +61,54 @@ const READS_TWOS: &[Step] = &[
     Is(Read { job: 0, page: TWOS }),
 ];
 
-// The dies of a store that is closed, renewed.
-fn renewed<N: Nand, R: Wait + Abort>(
+// The dies of a store that is closed.
+fn closed<N: Nand, R: Wait>(
     rt: &R,
     store: Store<N>,
     passes: Vec<DiePass<N>>,
 ) -> Result<Vec<DieCore<N>>, Refusal>
     requires { map (λ pass. pass.lock) passes.items ≡ store }
-    ensures { IfOk result (λ dies. All IsAtStart dies.items) }
 {
-    let dies = match close(rt, store, passes) {
-        Ok(dies) => dies,
-        Err(still) => return Err(still.refusal),
-    };
-    match renew_each(dies) {
+    match close(rt, store, passes) {
         Ok(dies) => Ok(dies),
+        Err(still) => Err(still.refusal),
+    }
+}
+
+// Dies none of which is stopped, renewed.
+fn renewed<N: Nand, R: Abort>(rt: &R, dies: Vec<DieCore<N>>) -> Vec<DieCore<N>>
+    ensures { All IsAtStart result.items }
+{
+    match renew_each(dies) {
+        Ok(dies) => dies,
         Err(_) => panic!(rt; "a die is not renewed"),
     }
 }
 
-fn live_twice<R: Wait + Abort + Env>(rt: &R, alloc: Global) -> Result<(), Refusal> {
-    let (store, mut passes) = store_of(alloc, memory(alloc)?, memory(alloc)?)?;
-    play_both(
-        rt,
-        alloc,
-        &store,
-        passes.as_mut_slice(),
-        WRITES_ONES,
-        WRITES_TWOS,
-    )?;
-    let dies = renewed(rt, store, passes)?;
+// Plays two tables on the dies of a store that is made of these.
+fn play_again<N: Nand, R: Wait + Abort + Env>(
+    rt: &R,
+    alloc: Global,
+    dies: Vec<DieCore<N>>,
+    first: &[Step],
+    second: &[Step],
+) -> Result<(), Refusal>
+    requires { All IsAtStart dies.items }
+{
     match Store::reopen(alloc, dies) {
-        Ok((store, mut passes)) => play_both(
-            rt,
-            alloc,
-            &store,
-            passes.as_mut_slice(),
-            READS_ONES,
-            READS_TWOS,
-        ),
+        Ok((store, mut passes)) => {
+            play_both(rt, alloc, &store, passes.as_mut_slice(), first, second)
+        }
         Err(kept) => Err(kept.refusal),
     }
+}
+
+fn live_twice<R: Wait + Abort + Env>(rt: &R, alloc: Global) -> Result<(), Refusal> {
+    let (store, mut passes) = two_dies(alloc)?;
+    let both = passes.as_mut_slice();
+    play_both(rt, alloc, &store, both, WRITES_ONES, WRITES_TWOS)?;
+    let dies = closed(rt, store, passes)?;
+    play_again(rt, alloc, renewed(rt, dies), READS_ONES, READS_TWOS)
 }
 
 #[test]
@@ -121,32 +128,49 @@ const STOPS: &[Step] = &[
     Slot { want: Err(RefusedAt { entries: 3, refusal: Refusal::DeviceFault }) },
 ];
 
-// Die 1 is die 0 of the store that is made of what is left.
-fn live_on<R: Wait + Abort + Env>(rt: &R, alloc: Global) -> Result<(), Refusal> {
-    let (store, mut passes) = faulty_dies(alloc)?;
-    play_both(rt, alloc, &store, passes.as_mut_slice(), STOPS, WRITES_TWOS)?;
-    let dies = match close(rt, store, passes) {
-        Ok(dies) => dies,
-        Err(still) => return Err(still.refusal),
-    };
-    let mut left = match renew_each(dies) {
+// What comes behind the first, which is let go. Of any type: a die that is moved is dear to prove.
+fn behind_first<T: Drop>(items: Vec<T>) -> Vec<T> {
+    let mut items = items;
+    if !items.is_empty() {
+        let _first = items.remove(0);
+    }
+    items
+}
+
+// Dies the first of which is stopped, which aren't renewed. Those that are left beside it.
+fn left_of<N: Nand, R: Abort>(rt: &R, dies: Vec<DieCore<N>>) -> Vec<DieCore<N>> {
+    let left = match renew_each(dies) {
         Ok(_) => panic!(rt; "a stopped die is renewed"),
         Err(no) => {
-            assert_eq!(rt; no.place, 0);
-            assert_eq!(rt; no.refusal, RenewalRefusal::DieStopped);
+            assert_eq!(rt; (no.place, no.refusal), (0, RenewalRefusal::DieStopped));
             no.dies
         }
     };
     assert_eq!(rt; left.len(), 2);
-    let _stopped = left.remove(0);
-    let dies = match renew_each(left) {
-        Ok(dies) => dies,
-        Err(_) => panic!(rt; "a die is not renewed"),
-    };
+    behind_first(left)
+}
+
+// Plays a table on the die of a store that is made of this one.
+fn play_left<N: Nand, R: Wait + Abort + Env>(
+    rt: &R,
+    alloc: Global,
+    dies: Vec<DieCore<N>>,
+    steps: &[Step],
+) -> Result<(), Refusal>
+    requires { All IsAtStart dies.items }
+{
     match Store::reopen(alloc, dies) {
-        Ok((store, mut passes)) => play_only(rt, alloc, &store, passes.as_mut_slice(), READS_TWOS),
+        Ok((store, mut passes)) => play_only(rt, alloc, &store, passes.as_mut_slice(), steps),
         Err(kept) => Err(kept.refusal),
     }
+}
+
+// Die 1 is die 0 of the store that is made of what is left.
+fn live_on<R: Wait + Abort + Env>(rt: &R, alloc: Global) -> Result<(), Refusal> {
+    let (store, mut passes) = faulty_dies(alloc)?;
+    play_both(rt, alloc, &store, passes.as_mut_slice(), STOPS, WRITES_TWOS)?;
+    let left = left_of(rt, closed(rt, store, passes)?);
+    play_left(rt, alloc, renewed(rt, left), READS_TWOS)
 }
 
 #[test]

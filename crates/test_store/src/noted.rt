@@ -9,7 +9,7 @@ use std::marker::Model;
 use std::sync::{Mutex, Wait};
 
 /// On which side of a slot a gate was called.
-#[derive(Clone, Copy, PartialEq, Eq, Debug, Drop)]
+#[derive(PartialEq, Debug, Drop)]
 pub(crate) enum Side {
     Before,
     After,
@@ -17,7 +17,7 @@ pub(crate) enum Side {
 
 /// A call of a gate: with which die and which slot, and how many entries the die had. The entries tell which events
 /// were asked for by then, and whether the slot was carried out.
-#[derive(Clone, Copy, PartialEq, Eq, Debug, Drop)]
+#[derive(PartialEq, Debug, Drop)]
 pub(crate) struct Called {
     pub(crate) side: Side,
     pub(crate) die: u32,

@@ -46,13 +46,13 @@ fn release_of_first<N: Nand>(core: &DieCore<N>) -> Option<u32> {
     }
 }
 
-// What a closed die has: its entries, its present slot, and from which slot on job 0 may run, and what became of it.
+// What a closed die has: its entries, its present slot, and from which slot on job 0 may run, and whether it waits.
 #[derive(PartialEq, Debug, Drop)]
 struct Closed {
     entries: u64,
     slot: u32,
     release: Option<u32>,
-    outcome: Result<Outcome, Refusal>,
+    waits: bool,
 }
 
 // Of three entries two are slots, and job 0 waits from slot 2 on.
@@ -60,7 +60,7 @@ const WAITS_FROM_TWO: Closed = Closed {
     entries: 3,
     slot: 2,
     release: Some(2),
-    outcome: Ok(Outcome::Waiting),
+    waits: true,
 };
 
 fn state_of<N: Nand>(alloc: Global, core: &DieCore<N>) -> Closed {
@@ -68,7 +68,7 @@ fn state_of<N: Nand>(alloc: Global, core: &DieCore<N>) -> Closed {
         entries: core.len(),
         slot: core.now(),
         release: release_of_first(core),
-        outcome: core.outcome(alloc, JobNo(0)),
+        waits: core.outcome(alloc, JobNo(0)) == Ok(Outcome::Waiting),
     }
 }
 
