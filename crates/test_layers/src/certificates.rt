@@ -16,7 +16,7 @@ struct Built<'a> {
     want: Option<Wanted<'a>>,
 }
 
-/// A certificate: its start, its due, its completion, and its jobs.
+/// A certificate: its start, its deadline, its completion, and its jobs.
 type Wanted<'a> = (u32, u32, u32, &'a [u32]);
 
 /// A certificate, and what the check says of it.

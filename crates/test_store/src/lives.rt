@@ -128,7 +128,7 @@ const STOPS: &[Step] = &[
     Slot { want: Err(RefusedAt { entries: 3, refusal: Refusal::DeviceFault }) },
 ];
 
-// What comes behind the first, which is let go. Of any type: a die that is moved is dear to prove.
+// What comes behind the first, which is dropped. Of any type: a die that is moved is dear to prove.
 fn behind_first<T: Drop>(items: Vec<T>) -> Vec<T> {
     let mut items = items;
     if !items.is_empty() {
