@@ -84,8 +84,12 @@ fn first_collection(window: &Window) -> Option<u32> {
 
 /// What of a run is worth a picture.
 fn sights_of(worst: Option<Worst>, window: &Window) -> Sights {
+    let worst = match worst {
+        Some(worst) => Some((worst.start, worst.completion)),
+        None => None,
+    };
     Sights {
-        worst: worst.map(|worst| (worst.start, worst.completion)),
+        worst,
         collection: first_collection(window),
     }
 }

@@ -83,13 +83,20 @@ fn fresh_dies(
     Ok(dies)
 }
 
+/// The place of a die among these.
+fn place_of(dies: &[Box<DieRun>], die: u32) -> Option<usize>
+    ensures { IfSome result (λ place. place < length dies.now) }
+{
+    dies.iter().position(|run| run.die == die)
+}
+
 /// What became of the device that was to fail; none where none was, or its die isn't one of these.
 pub fn failure_of(fail: Option<FailAt>, dies: &[Box<DieRun>]) -> Option<Failure>
     ensures at { IfSome result (λ failure. fail ≡ Some failure.at) }
 {
     let at = fail?;
-    let run = dies.iter().find(|run| run.die == at.die)?;
-    Some(failure_in(at, &run.core))
+    let place = place_of(dies, at.die)?;
+    Some(failure_in(at, &dies[place].core))
 }
 
 /// Carries a die to a slot, or to the one in which its device fails. The only refusal is NoMemory. It is lent with its
@@ -154,13 +161,6 @@ fn carry_all(alloc: Global, dies: &mut Vec<Box<DieRun>>, slot: u32) -> Result<()
         carry_die(alloc, dies, place, slot)?;
     }
     Ok(())
-}
-
-/// The place of a die among these.
-fn place_of(dies: &[Box<DieRun>], die: u32) -> Option<usize>
-    ensures { IfSome result (λ place. place < length dies.now) }
-{
-    dies.iter().position(|run| run.die == die)
 }
 
 /// Runs a row of a script on its die, and counts it where the die refuses it. One of another die is passed over.

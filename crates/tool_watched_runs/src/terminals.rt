@@ -4,9 +4,9 @@ ghost use Rattle.slot_types.specs.Refusal.{FailsForMemory};
 
 use crate::briefs::Kind;
 use crate::layouts::{Band, Layout};
-use crate::legends::noun;
 use crate::pictures::Scene;
 use crate::rows::{End, Row};
+use crate::sentences::{put_counts, put_title, put_worst_of};
 use crate::windows::Whose;
 use slot_types::Refusal;
 use std::alloc::Global;
@@ -132,34 +132,15 @@ fn put_signs(grids: &mut Vec<Grid>, layout: &Layout, scene: &Scene<'_>) {
     }
 }
 
-/// Adds what the lines are of, the counts of the whole run, and the worst.
+/// Adds what the lines are of, the counts of the whole run, the worst, and what the characters mean.
 fn put_head(text: &mut Vec<u8>, scene: &Scene<'_>) -> io::Result<()> {
-    let (die, slots) = (scene.die, scene.slots);
-    let (from, to) = (scene.window.from, scene.window.to);
-    writeln!(text, "Die {die}, slots {from} to {to} of {slots}")?;
-    let (written, copied, erased) = (scene.tally.written, scene.tally.copied, scene.tally.erased);
-    let in_slots = noun(slots, "slot", "slots");
-    let pages = noun(written, "page", "pages");
-    let blocks = noun(erased, "block", "blocks");
-    writeln!(
-        text,
-        "In all {slots} {in_slots}: {written} {pages} written by jobs, {copied} copied by collections, {erased} {blocks} erased."
-    )?;
-    let Some(worst) = &scene.worst else {
-        return writeln!(text, "Nothing is done.");
-    };
-    let (kind, job, task) = (worst.whose.kind(), worst.whose.job, worst.whose.task);
-    let (start, due, completion, lateness) = (
-        worst.start,
-        worst.due,
-        worst.completion,
-        worst.lateness,
-    );
-    writeln!(
-        text,
-        "Worst: {kind} {job} of task {task}, due {due}, completed {completion}, lateness {lateness}; from slot {start} on each \
-         slot carried work due by {due}."
-    )
+    put_title(text, scene)?;
+    text.push(b'\n')?;
+    put_counts(text, scene)?;
+    text.push(b'\n')?;
+    put_worst_of(text, scene)?;
+    text.push(b'\n')?;
+    writeln!(text, "{LEGEND}")
 }
 
 /// Adds blanks, so that a name which began at this length of the text is as wide as all are.
@@ -241,7 +222,6 @@ fn put_lines(
     scene: &Scene<'_>,
 ) -> io::Result<()> {
     put_head(text, scene)?;
-    writeln!(text, "{LEGEND}")?;
     for (band, grid) in layout.bands.iter().zip(grids) {
         put_band(text, band, grid, layout, scene)?;
     }
