@@ -105,14 +105,11 @@ pub fn check_die(
 fn check_bytes(saved: &SavedDie, die: u32, first: u32) -> Result<(), RunFault>
     ensures have { OnOk result (HaveBytes saved.now.pages) }
 {
-    match first_bare(saved.pages.as_slice()) {
-        Some(page) => Err(RunFault::NoBytes {
-            die,
-            line: line_of_page(first, page),
-            page,
-        }),
-        None => Ok(()),
+    if let Some(page) = first_bare(saved.pages.as_slice()) {
+        let line = line_of_page(first, page);
+        return Err(RunFault::NoBytes { die, line, page });
     }
+    Ok(())
 }
 
 /// A die that goes on as it was saved, on a device in memory that is as it was left. It is at slot 0, and its log is empty.
