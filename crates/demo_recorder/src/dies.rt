@@ -1,6 +1,6 @@
 //! The threads of a die: one for each of its tasks, and one for its timer.
 
-ghost use Rattle.std.specs.Prelude.{◌≡◌, map, IfOk};
+ghost use Rattle.std.specs.Prelude.{◌≡◌, map, IfOk, Ok};
 
 use crate::tasks::{Diary, control, logger, run_task};
 use crate::timer::{Carried, run_timer};
@@ -87,6 +87,16 @@ pub(crate) fn run_die<N: Nand + Send, R: Threads + Wait + Sync>(
     Ok((pass, said))
 }
 
+/// Both of two answers. Where one was refused, so are both.
+fn both<A: Drop, B: Drop>(
+    one: Result<A, Refusal>,
+    other: Result<B, Refusal>,
+) -> Result<(A, B), Refusal>
+    ensures { IfOk result (λ made. (one ≡ Ok made.0) × (other ≡ Ok made.1)) }
+{
+    Ok((one?, other?))
+}
+
 /// Runs both dies of a store at once for a life, and hands their passes back, in order.
 pub(crate) fn run_dies<N: Nand + Send, R: Threads + Wait + Sync>(
     rt: &R,
@@ -116,8 +126,7 @@ pub(crate) fn run_dies<N: Nand + Send, R: Threads + Wait + Sync>(
             ensures { IfOk result (λ made. made.0.lock ≡ one.entry.now) }
         { run_die(rt, alloc, one, one_pass, life) },
     );
-    let (zero_pass, zero_reported) = zero?;
-    let (one_pass, one_reported) = one?;
+    let ((zero_pass, zero_reported), (one_pass, one_reported)) = both(zero, one)?;
     back.push_reserved(zero_pass);
     back.push_reserved(one_pass);
     Ok((back, [zero_reported, one_reported]))

@@ -96,28 +96,59 @@ fn words_after<R: Env>(rt: &R, alloc: Global) -> Result<Vec<String>, Refusal> {
     }
 }
 
-/// Makes the store, lets its dies live, prints how worn they are, and writes the report of the last life into the file
-/// that is named, if one is.
-fn record<R: Env + Files + Threads + Wait + Sync, W: Write>(
+/// Makes the store, and lets its dies live.
+fn live_all<R: Threads + Wait + Sync, W: Write>(
     rt: &R,
     alloc: Global,
     out: &mut W,
-) -> Result<(), Stop> {
-    let words = words_after(rt, alloc)?;
+) -> Result<Vec<DieCore<Device>>, Stop> {
     let (store, passes) = new_store(alloc)?;
     let mut dies = live(rt, alloc, out, store, passes, 1)?;
     for life in 2..=LIVES {
         dies = live_on(rt, alloc, out, dies, life)?;
     }
-    written(print_wear(out, dies.as_slice()))?;
-    if let Some(name) = words.first() {
-        write_report(rt, alloc, name.as_str(), dies.as_slice())?;
+    Ok(dies)
+}
+
+/// Prints how worn the dies are, and writes the report of their last life into the file of this name, if there is one.
+fn print_end<R: Files, W: Write>(
+    rt: &R,
+    alloc: Global,
+    out: &mut W,
+    dies: &[DieCore<Device>],
+    name: Option<&String>,
+) -> Result<(), Stop> {
+    written(print_wear(out, dies))?;
+    if let Some(name) = name {
+        write_report(rt, alloc, name.as_str(), dies)?;
     }
     Ok(())
 }
 
+/// Makes the store, lets its dies live, prints how worn they are, and writes the report of the last life into the file
+/// of this name, if there is one.
+fn record<R: Files + Threads + Wait + Sync, W: Write>(
+    rt: &R,
+    alloc: Global,
+    out: &mut W,
+    name: Option<&String>,
+) -> Result<(), Stop> {
+    let dies = live_all(rt, alloc, out)?;
+    print_end(rt, alloc, out, dies.as_slice(), name)
+}
+
+/// Records, with the report in the file that the first word after the program's name says.
+fn run<R: Env + Files + Threads + Wait + Sync, W: Write>(
+    rt: &R,
+    alloc: Global,
+    out: &mut W,
+) -> Result<(), Stop> {
+    let words = words_after(rt, alloc)?;
+    record(rt, alloc, out, words.first())
+}
+
 fn main(rt: HostRuntime) -> ExitCode {
-    match record(&rt, rt.alloc(), &mut rt.stdout()) {
+    match run(&rt, rt.alloc(), &mut rt.stdout()) {
         Ok(()) => ExitCode::SUCCESS,
         Err(stop) => {
             let _ = eprintln!(rt; "recorder: {stop}");

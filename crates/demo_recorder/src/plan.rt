@@ -1,6 +1,6 @@
 //! What the recorder's dies are planned for, and the store that is made of them.
 
-ghost use Rattle.std.specs.Prelude.{◌≡◌, map, IfOk};
+ghost use Rattle.std.specs.Prelude.{◌≡◌, map, All, IfOk};
 ghost use Rattle.flash_die.specs.Flash.{IsFresh};
 
 use crate::nand::WearNand;
@@ -47,6 +47,13 @@ fn times(alloc: Global) -> Result<Times, Refusal> {
     })
 }
 
+/// Whether a plan is accepted, and passes its test; the refusal is that of the first of both which it fails.
+fn check_plan(plan: &DiePlan) -> Result<(), Refusal> {
+    bound(plan)?;
+    plan_test(plan)?;
+    Ok(())
+}
+
 /// Two tasks, each with tokens for six free pages at most. Refused where the plan doesn't pass its test.
 pub(crate) fn die_plan(alloc: Global) -> Result<DiePlan, Refusal> {
     let times = Some(times(alloc)?);
@@ -58,8 +65,7 @@ pub(crate) fn die_plan(alloc: Global) -> Result<DiePlan, Refusal> {
         caps,
         times,
     };
-    bound(&plan)?;
-    plan_test(&plan)?;
+    check_plan(&plan)?;
     Ok(plan)
 }
 
@@ -72,15 +78,38 @@ fn device(alloc: Global, endurance: u32) -> Result<Device, Refusal>
     Ok(WearNand::new(alloc, chip, endurance)?)
 }
 
+/// Adds a plan of the recorder's.
+fn add_plan(alloc: Global, plans: &mut StorePlan) -> Result<(), Refusal> {
+    plans.push(die_plan(alloc)?)?;
+    Ok(())
+}
+
+/// The plans of both dies.
+fn store_plan(alloc: Global) -> Result<StorePlan, Refusal> {
+    let mut plans = StorePlan::new(alloc);
+    add_plan(alloc, &mut plans)?;
+    add_plan(alloc, &mut plans)?;
+    Ok(plans)
+}
+
+/// The fresh devices of both dies.
+fn devices(alloc: Global) -> Result<Vec<Device>, Refusal>
+    ensures { IfOk result (λ nands. All (λ nand.
+        IsFresh (⟦<Device as Nand>⟧.shape_of nand)
+        (⟦<Device as Nand>⟧.blocks nand)
+        (⟦<Device as Nand>⟧.failures nand)) nands.items) }
+{
+    let mut nands = Vec::with_capacity(alloc, 2)?;
+    nands.push_reserved(device(alloc, ENDURANCES[0])?);
+    nands.push_reserved(device(alloc, ENDURANCES[1])?);
+    Ok(nands)
+}
+
 /// The store of two dies, with the first pass of each.
 pub(crate) fn new_store(alloc: Global) -> Result<(Store<Device>, Vec<DiePass<Device>>), Refusal>
     ensures { IfOk result (λ made. map (λ pass. pass.lock) made.1.items ≡ made.0) }
 {
-    let mut plan = StorePlan::new(alloc);
-    plan.push(die_plan(alloc)?)?;
-    plan.push(die_plan(alloc)?)?;
-    let mut nands = Vec::with_capacity(alloc, 2)?;
-    nands.push_reserved(device(alloc, ENDURANCES[0])?);
-    nands.push_reserved(device(alloc, ENDURANCES[1])?);
+    let plan = store_plan(alloc)?;
+    let nands = devices(alloc)?;
     Store::new(alloc, plan, nands)
 }

@@ -3,9 +3,9 @@
 use crate::dies::Reported;
 use crate::plan::Device;
 use crate::tasks::Diary;
-use late_cert::{Certificate, check};
+use late_cert::{Certificate, Verdict, check};
 use slot_core::DieCore;
-use slot_types::{Items, PageData, Refusal};
+use slot_types::{PageData, Refusal};
 use std::alloc::Global;
 use std::io;
 use std::io::Write;
@@ -46,6 +46,18 @@ fn print_reported<W: Write>(out: &mut W, said: &Reported) -> io::Result<()> {
     print_diary(out, "logger", &said.logger)
 }
 
+/// Adds when the work that a certificate names was due.
+fn put_deadlines(
+    deadlines: &mut Vec<u32>,
+    core: &DieCore<Device>,
+    certificate: &Certificate,
+) -> Result<(), Refusal> {
+    for job in certificate.jobs.as_slice() {
+        deadlines.push(core.job(*job)?.due)?;
+    }
+    Ok(())
+}
+
 /// When the work that a certificate names was due, in rising order. Which number a job has depends on which thread was
 /// first, and its deadline doesn't.
 fn deadlines(
@@ -53,13 +65,44 @@ fn deadlines(
     core: &DieCore<Device>,
     certificate: &Certificate,
 ) -> Result<Vec<u32>, Refusal> {
-    let mut deadlines = Items::new(alloc);
-    for job in certificate.jobs.as_slice() {
-        deadlines.push(core.job(*job)?.due)?;
-    }
-    let mut deadlines = deadlines.into_vec();
+    let mut deadlines = Vec::new(alloc);
+    put_deadlines(&mut deadlines, core, certificate)?;
     deadlines.sort_unstable();
     Ok(deadlines)
+}
+
+/// Prints a worst lateness and its certificate: what the check says of it, and when its work was due.
+fn print_certificate<W: Write>(
+    out: &mut W,
+    lateness: i64,
+    certificate: &Certificate,
+    verdict: Verdict,
+    filled: &[u32],
+) -> io::Result<()> {
+    writeln!(
+        out,
+        "  worst lateness {}: due {}, completed {}",
+        lateness, certificate.due, certificate.completion
+    )?;
+    writeln!(
+        out,
+        "  certificate {}: work due {filled:?} filled the slots from {} to its completion",
+        verdict.name(),
+        certificate.start
+    )
+}
+
+/// Prints a worst lateness of a die with its certificate, and what the check of the certificate says.
+fn print_checked<W: Write>(
+    out: &mut W,
+    alloc: Global,
+    core: &DieCore<Device>,
+    lateness: i64,
+    certificate: &Certificate,
+) -> Result<(), Refusal> {
+    let verdict = check(&core.rows(alloc)?, certificate);
+    let filled = deadlines(alloc, core, certificate)?;
+    written(print_certificate(out, lateness, certificate, verdict, &filled))
 }
 
 /// Prints the worst lateness of a die with its certificate, and what the check of the certificate says.
@@ -68,22 +111,12 @@ fn print_worst<W: Write>(
     alloc: Global,
     core: &DieCore<Device>,
 ) -> Result<(), Refusal> {
-    let (Some(worst), Some(certificate)) = (core.worst(), core.certificate(alloc)?) else {
-        return Ok(());
-    };
-    let verdict = check(&core.rows(alloc)?, &certificate);
-    let filled = deadlines(alloc, core, &certificate)?;
-    written(writeln!(
-        out,
-        "  worst lateness {}: due {}, completed {}",
-        worst.lateness, certificate.due, certificate.completion
-    ))?;
-    written(writeln!(
-        out,
-        "  certificate {}: work due {filled:?} filled the slots from {} to its completion",
-        verdict.name(),
-        certificate.start
-    ))
+    match (core.worst(), core.certificate(alloc)?) {
+        (Some(worst), Some(certificate)) => {
+            print_checked(out, alloc, core, worst.lateness, &certificate)
+        }
+        _ => Ok(()),
+    }
 }
 
 /// A fault of the writer as a refusal.

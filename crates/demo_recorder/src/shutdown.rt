@@ -54,11 +54,20 @@ fn restarted<N: Nand>(alloc: Global, die: DieCore<N>) -> Result<DieCore<N>, Stop
     resumed(alloc, device, &checkpoint)
 }
 
-fn push_die<N: Nand>(dies: &mut Vec<DieCore<N>>, die: DieCore<N>) -> Result<(), Refusal>
+/// Adds a die. It is of any type, so that the proof takes a die, which is large, as a whole.
+fn push_die<D: Drop>(dies: &mut Vec<D>, die: D) -> Result<(), Refusal>
     ensures { OnOk result (dies.new.items ≡ dies.old.items ++ die ∷ []) }
 {
     dies.push(die)?;
     Ok(())
+}
+
+/// Shuts a die down, starts it again, and adds it to those that were.
+fn restart<N: Nand>(alloc: Global, back: &mut Vec<DieCore<N>>, die: DieCore<N>) -> Result<(), Stop>
+    ensures { All IsAtStart back.old.items → OnOk result (All IsAtStart back.new.items) }
+{
+    let die = restarted(alloc, die)?;
+    Ok(push_die(back, die)?)
 }
 
 /// Shuts each die down, and starts it again.
@@ -70,7 +79,7 @@ pub(crate) fn restart_each<N: Nand>(
 {
     let mut back = Vec::new(alloc);
     for die in dies {
-        push_die(&mut back, restarted(alloc, die)?)?;
+        restart(alloc, &mut back, die)?;
     }
     Ok(back)
 }

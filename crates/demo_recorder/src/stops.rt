@@ -8,7 +8,7 @@ use std::fmt;
 use std::fmt::{Display, Formatter, Write};
 
 /// Why the recorder stops early.
-#[derive(Clone, Copy, PartialEq, Eq, Debug, Drop)]
+#[derive(Clone, Copy, Drop)]
 pub(crate) enum Stop {
     Refused(Refusal),
     /// The first die that isn't renewed, and why.

@@ -130,6 +130,23 @@ fn put_die(text: &mut Vec<u8>, number: usize, plan: &DiePlan, die: &SavedDie) ->
     put_wear(text, number, die)
 }
 
+/// Adds what a checkpoint says of a die, which has to fit its plan. `first` is its first record.
+fn explain_die(
+    alloc: Global,
+    text: &mut Vec<u8>,
+    number: usize,
+    plan: &DiePlan,
+    saved: &SavedDie,
+    first: u32,
+) -> Result<(), RunFault> {
+    let die = u32::try_from(number).unwrap_or(u32::MAX);
+    check_die(alloc, plan, saved, die, first)?;
+    match put_die(text, number, plan, saved) {
+        Ok(()) => Ok(()),
+        Err(_) => Err(RunFault::Refused(Refusal::NoMemory)),
+    }
+}
+
 /// Adds sentences to a text: what a checkpoint says of the dies of a plan, which it has to fit: the pages, the balances, whether the
 /// plan's work goes on from there, and how often blocks were erased (the mean to the hundredth below).
 ///
@@ -147,12 +164,7 @@ pub fn explain(
         let Some(plan) = plan.get(number) else {
             break;
         };
-        let die = u32::try_from(number).unwrap_or(u32::MAX);
-        check_die(alloc, plan, &dies[number], die, first)?;
-        match put_die(text, number, plan, &dies[number]) {
-            Ok(()) => {}
-            Err(_) => return Err(RunFault::Refused(Refusal::NoMemory)),
-        }
+        explain_die(alloc, text, number, plan, &dies[number], first)?;
         first = first.saturating_add(lines_of(&dies[number]));
     }
     Ok(())

@@ -1,6 +1,6 @@
 //! A script that is run on the fresh dies of a plan, the device of one of which is to fail.
 
-ghost use Rattle.std.specs.Prelude.{◌≡◌, ◌≤◌, All, IfOk, IfSome, Some, length, map, slice_get};
+ghost use Rattle.std.specs.Prelude.{◌≡◌, ◌<◌, ◌≤◌, All, IfOk, IfSome, Some, length, map, slice_get};
 ghost use Rattle.slot_types.specs.Refusal.{FailsForMemory};
 ghost use Rattle.plan_rules.specs.Bound.{MeetsBound};
 ghost use Rattle.die_log.specs.Model.Start.{fresh};
@@ -69,6 +69,36 @@ fn fresh_store(alloc: Global, plan: StorePlan, fail: FailAt) -> Result<DiesOn<Ru
     Ok(dies)
 }
 
+/// Runs a script on fresh dies of a plan, as [`run_failing`] does. It is lent, since a reader is large to free where
+/// the run stops.
+fn run_lent<R: Read + Drop>(
+    alloc: Global,
+    plan: StorePlan,
+    script: &mut ScriptReader<R>,
+    slots: u32,
+    fail: FailAt,
+) -> Result<FailingRun, Refusal>
+    requires few_dies { length plan ≤ 8 }
+    requires bound { All MeetsBound plan }
+    requires there { fail.die < length plan }
+    ensures starts { IfOk result (λ run. starts_of run.dies.items ≡ map fresh plan) }
+    ensures report { IfOk result (λ run. run.report ≡ text_so_far (reports_of 0 run.dies.items)) }
+    ensures count { IfOk result (λ run. length run.dies.items ≡ length plan) }
+    ensures failure { IfOk result (λ run. IfSome (slice_get run.dies.items fail.die) (λ die.
+        run.failure ≡ failure_in fail die)) }
+{
+    let mut dies = fresh_store(alloc, plan, fail)?;
+    let refused = run_rows(alloc, script, &mut dies, slots)?;
+    let report = report_of(alloc, &dies)?;
+    let failure = failure_in(fail, &dies[fail.die as usize]);
+    Ok(FailingRun {
+        dies,
+        report,
+        refused,
+        failure,
+    })
+}
+
 /// Runs a script on fresh dies of a plan, each up to slot `slots`, or to the slot in which its device fails: later rows
 /// of that die are refused with DieStopped, and its report is of what it did until then. A row comes before the slot of
 /// its `at`; one that its die refuses is no event, and is counted.
@@ -93,15 +123,6 @@ pub fn run_failing<R: Read + Drop>(
         run.failure ≡ failure_in fail die)) }
 {
     check_failing(Some(fail), plan.len())?;
-    let script = ScriptReader::new(alloc, script, &plan, slots)?;
-    let mut dies = fresh_store(alloc, plan, fail)?;
-    let refused = run_rows(alloc, script, &mut dies, slots)?;
-    let report = report_of(alloc, &dies)?;
-    let failure = failure_in(fail, &dies[fail.die as usize]);
-    Ok(FailingRun {
-        dies,
-        report,
-        refused,
-        failure,
-    })
+    let mut script = ScriptReader::new(alloc, script, &plan, slots)?;
+    run_lent(alloc, plan, &mut script, slots, fail)
 }

@@ -10,7 +10,7 @@ use std::fmt;
 use std::fmt::{Display, Formatter, Write};
 
 /// Why a run isn't made.
-#[derive(Clone, Copy, PartialEq, Eq, Debug, Drop)]
+#[derive(Clone, Copy, Drop)]
 pub enum RunFault {
     /// The script is refused, or a reader fails; or memory runs out.
     Refused(Refusal),
@@ -36,7 +36,7 @@ pub enum RunFault {
 }
 
 /// Why the dies of a run aren't saved: the first die that isn't, and why.
-#[derive(Clone, Copy, PartialEq, Eq, Debug, Drop)]
+#[derive(Clone, Copy, Drop)]
 pub enum Unsaved {
     NoMemory,
     /// No checkpoint may be taken of a die.

@@ -6,7 +6,7 @@ ghost use Rattle.tool_checkpoint_runs.specs.Runs.{starts_of};
 
 use crate::dies::DiesOn;
 use flash_die::Nand;
-use script_texts::ScriptReader;
+use script_texts::{ScriptItem, ScriptReader};
 use slot_core::DieCore;
 use slot_types::{Event, Refusal};
 use std::alloc::Global;
@@ -90,10 +90,30 @@ fn carry_all<N: Nand>(alloc: Global, dies: &mut DiesOn<N>, slot: u32) -> Result<
     Ok(())
 }
 
-/// Runs the rows of a script, each on its die before the slot of its `at`. A row that is refused is no event, and is counted.
+/// Runs a row of a script on its die before the slot of its `at`. One that is refused is no event, and is counted.
+fn run_row<N: Nand>(
+    alloc: Global,
+    dies: &mut DiesOn<N>,
+    refused: &mut RefusedRows,
+    item: ScriptItem,
+) -> Result<(), Refusal>
+    ensures starts { starts_of dies.new.items ≡ starts_of dies.old.items }
+    ensures count { length dies.new.items ≡ length dies.old.items }
+{
+    let place = item.die as usize;
+    if place >= dies.len() {
+        return Ok(());
+    }
+    if let Some(refusal) = carry_row(alloc, dies, place, item.at, item.event)? {
+        refused.add(item.line, refusal);
+    }
+    Ok(())
+}
+
+/// Runs the rows of a script. It is lent, since a reader is large to free where a row stops the run.
 fn carry_rows<R: Read + Drop, N: Nand>(
     alloc: Global,
-    mut script: ScriptReader<R>,
+    script: &mut ScriptReader<R>,
     dies: &mut DiesOn<N>,
 ) -> Result<RefusedRows, Refusal>
     ensures starts { starts_of dies.new.items ≡ starts_of dies.old.items }
@@ -104,13 +124,7 @@ fn carry_rows<R: Read + Drop, N: Nand>(
         let Some(item) = script.next()? else {
             break;
         };
-        let place = item.die as usize;
-        if place >= dies.len() {
-            continue;
-        }
-        if let Some(refusal) = carry_row(alloc, dies, place, item.at, item.event)? {
-            refused.add(item.line, refusal);
-        }
+        run_row(alloc, dies, &mut refused, item)?;
     }
     Ok(refused)
 }
@@ -119,7 +133,7 @@ fn carry_rows<R: Read + Drop, N: Nand>(
 /// refused is no event, and is counted.
 pub fn run_rows<R: Read + Drop, N: Nand>(
     alloc: Global,
-    script: ScriptReader<R>,
+    script: &mut ScriptReader<R>,
     dies: &mut DiesOn<N>,
     slots: u32,
 ) -> Result<RefusedRows, Refusal>

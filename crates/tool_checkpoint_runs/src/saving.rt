@@ -61,8 +61,23 @@ fn saved_of(alloc: Global, device: &MemoryNand, taken: Checkpoint) -> Result<Sav
     })
 }
 
-/// What is saved of a die, which is given up: its checkpoint, and the bytes of its placed pages. A die that is made of it starts
-/// where this one, renewed, would. Refused as [`DieCore::checkpoint`] is.
+/// What is saved of a die: its checkpoint, and the bytes of its placed pages. A die that is made of it starts where this one,
+/// renewed, would. Refused as [`DieCore::checkpoint`] is.
+fn saved_in(alloc: Global, die: &mut DieCore<MemoryNand>) -> Result<SavedDie, CheckpointRefusal>
+    ensures saved { IfOk result (λ saved. saved ≡ saved_end die.old) }
+    ensures fits { IfOk result (λ saved. Fits die.old.start.plan (checkpoint_of saved)) }
+    ensures goes_on { IfOk result (λ saved.
+        saved_start die.old.start.plan saved ≡ renewed_start die.old.start die.old.log) }
+    ensures refused { IfErr result (RefusesCheckpoint die.old) }
+{
+    let taken = die.checkpoint(alloc)?;
+    match saved_of(alloc, die.device(), taken) {
+        Ok(saved) => Ok(saved),
+        Err(_) => Err(CheckpointRefusal::NoMemory),
+    }
+}
+
+/// What is saved of a die, as [`saved_in`] says it. The die is given up, and freed in one place.
 pub fn save_die(alloc: Global, mut die: DieCore<MemoryNand>) -> Result<SavedDie, CheckpointRefusal>
     ensures saved { IfOk result (λ saved. saved ≡ saved_end die) }
     ensures fits { IfOk result (λ saved. Fits die.start.plan (checkpoint_of saved)) }
@@ -70,11 +85,7 @@ pub fn save_die(alloc: Global, mut die: DieCore<MemoryNand>) -> Result<SavedDie,
         saved_start die.start.plan saved ≡ renewed_start die.start die.log) }
     ensures refused { IfErr result (RefusesCheckpoint die) }
 {
-    let taken = die.checkpoint(alloc)?;
-    match saved_of(alloc, die.device(), taken) {
-        Ok(saved) => Ok(saved),
-        Err(_) => Err(CheckpointRefusal::NoMemory),
-    }
+    saved_in(alloc, &mut die)
 }
 
 /// What is saved of dies, which are given up. Refused with the first die of which no checkpoint may be taken, and why; or with

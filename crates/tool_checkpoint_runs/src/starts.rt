@@ -70,6 +70,18 @@ fn first_bare(pages: &[SavedPage]) -> Option<u32>
     }
 }
 
+/// Why a die that was saved isn't taken.
+fn unfit(saved: &SavedDie, die: u32, first: u32, fault: CheckpointFault) -> RunFault {
+    match fault {
+        CheckpointFault::NoMemory => RunFault::Refused(Refusal::NoMemory),
+        _ => RunFault::Unfit {
+            die,
+            line: line_of(first, saved, fault),
+            fault,
+        },
+    }
+}
+
 /// What stands on a die that was saved, which fits its plan. `die` and `first` are its number and its first record in the text,
 /// which a fault names.
 pub fn check_die(
@@ -85,12 +97,19 @@ pub fn check_die(
     let checkpoint = saved.checkpoint(alloc)?;
     match checkpoint.check(alloc, plan) {
         Ok(()) => Ok(checkpoint),
-        Err(CheckpointFault::NoMemory) => Err(RunFault::Refused(Refusal::NoMemory)),
-        Err(fault) => {
-            let line = line_of(first, saved, fault);
-            Err(RunFault::Unfit { die, line, fault })
-        }
+        Err(fault) => Err(unfit(saved, die, first, fault)),
     }
+}
+
+/// Whether all placed pages of a die have bytes.
+fn check_bytes(saved: &SavedDie, die: u32, first: u32) -> Result<(), RunFault>
+    ensures have { OnOk result (HaveBytes saved.now.pages) }
+{
+    if let Some(page) = first_bare(saved.pages.as_slice()) {
+        let line = line_of_page(first, page);
+        return Err(RunFault::NoBytes { die, line, page });
+    }
+    Ok(())
 }
 
 /// A die that goes on as it was saved, on a device in memory that is as it was left. It is at slot 0, and its log is empty.
@@ -104,10 +123,7 @@ fn saved_die(
     ensures ok { IfOk result (λ core. core.start ≡ saved_start plan saved.now) }
 {
     let checkpoint = check_die(alloc, &plan, saved, die, first)?;
-    if let Some(page) = first_bare(saved.pages.as_slice()) {
-        let line = line_of_page(first, page);
-        return Err(RunFault::NoBytes { die, line, page });
-    }
+    check_bytes(saved, die, first)?;
     let device = device_of(alloc, &plan, saved)?;
     match DieCore::resume(alloc, plan, device, &checkpoint) {
         Ok(core) => Ok(core),

@@ -58,6 +58,47 @@ pub(crate) fn report_of<N: Nand>(alloc: Global, dies: &DiesOn<N>) -> Result<Repo
     Ok(text)
 }
 
+/// Lets each die go on until all that it accepted is done or was waived, where the run is to be saved; answers by die how
+/// many slots it took.
+fn settled(alloc: Global, dies: &mut StoreDies, saves: bool) -> Result<Vec<u32>, Refusal>
+    ensures starts { starts_of dies.new.items ≡ starts_of dies.old.items }
+    ensures count { length dies.new.items ≡ length dies.old.items }
+{
+    if saves {
+        settle(alloc, dies)
+    } else {
+        Ok(Vec::new(alloc))
+    }
+}
+
+/// Runs a script on the dies of a plan, as [`run_script`] does. It is lent, since a reader is large to free where the
+/// run stops.
+fn run_lent<R: Read + Drop>(
+    alloc: Global,
+    plan: StorePlan,
+    from: Option<SavedStore>,
+    script: &mut ScriptReader<R>,
+    slots: u32,
+    saves: bool,
+) -> Result<StoreRun, RunFault>
+    requires few_dies { length plan ≤ 8 }
+    requires bound { All MeetsBound plan }
+    ensures starts { IfOk result (λ run. starts_of run.dies.items ≡ starts_by plan from) }
+    ensures report { IfOk result (λ run. run.report ≡ text_so_far (reports_of 0 run.dies.items)) }
+    ensures count { IfOk result (λ run. length run.dies.items ≡ length plan) }
+{
+    let mut dies = dies_of(alloc, plan, from)?;
+    let refused = run_rows(alloc, script, &mut dies, slots)?;
+    let idle = settled(alloc, &mut dies, saves)?;
+    let report = report_of(alloc, &dies)?;
+    Ok(StoreRun {
+        dies,
+        report,
+        refused,
+        idle,
+    })
+}
+
 /// Runs a script on the dies of a plan, fresh ones or from what was saved of them, each up to slot `slots`. A row comes before the slot of
 /// its `at`; one that its die refuses is no event, and is counted. Where the run is to be saved, each die goes on until all that it
 /// accepted is done or was waived, at most as many slots as that work can take, and not beyond slot 1,048,576.
@@ -79,19 +120,6 @@ pub fn run_script<R: Read + Drop>(
     ensures report { IfOk result (λ run. run.report ≡ text_so_far (reports_of 0 run.dies.items)) }
     ensures count { IfOk result (λ run. length run.dies.items ≡ length plan) }
 {
-    let script = ScriptReader::new(alloc, script, &plan, slots)?;
-    let mut dies = dies_of(alloc, plan, from)?;
-    let refused = run_rows(alloc, script, &mut dies, slots)?;
-    let idle = if saves {
-        settle(alloc, &mut dies)?
-    } else {
-        Vec::new(alloc)
-    };
-    let report = report_of(alloc, &dies)?;
-    Ok(StoreRun {
-        dies,
-        report,
-        refused,
-        idle,
-    })
+    let mut script = ScriptReader::new(alloc, script, &plan, slots)?;
+    run_lent(alloc, plan, from, &mut script, slots, saves)
 }

@@ -6,7 +6,7 @@ ghost use Rattle.tool_watched_runs.specs.Briefs.{brief_of};
 use slot_types::Act;
 
 /// A kind of act.
-#[derive(Clone, Copy, PartialEq, Eq, Debug, Drop)]
+#[derive(Clone, Copy, PartialEq, Eq, Drop)]
 pub enum Kind {
     Read,
     Write,
@@ -17,7 +17,7 @@ pub enum Kind {
 }
 
 /// An act without its bytes.
-#[derive(Clone, Copy, PartialEq, Eq, Debug, Drop)]
+#[derive(Clone, Copy, Drop)]
 pub struct ActBrief {
     pub kind: Kind,
     /// The logical page, or the block of an erase.

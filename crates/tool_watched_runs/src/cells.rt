@@ -109,6 +109,49 @@ fn put_gap(
     Ok(())
 }
 
+/// Takes the last slot that an erase had out of those of the erases that haven't ended.
+fn take_last(open: &mut Vec<Carried>, job: u32) -> Option<Carried> {
+    let place = open.iter().position(|last| last.whose.job == job)?;
+    Some(open.swap_remove(place))
+}
+
+/// Draws how long an erase was suspended before a slot of it. `open` are the erases that haven't ended, by the last slot
+/// that each had.
+fn put_gap_before(
+    text: &mut Vec<u8>,
+    layout: &Layout,
+    open: &mut Vec<Carried>,
+    carried: &Carried,
+) -> io::Result<()> {
+    if let Some(last) = take_last(open, carried.whose.job) {
+        let from = last.slot.saturating_add(1);
+        put_gap(text, layout, carried, from, carried.slot)?;
+    }
+    if !carried.last {
+        open.push(*carried)?;
+    }
+    Ok(())
+}
+
+/// Draws the gaps of all erases, of which none is open before.
+fn put_gaps_of(
+    text: &mut Vec<u8>,
+    open: &mut Vec<Carried>,
+    scene: &Scene<'_>,
+    layout: &Layout,
+) -> io::Result<()> {
+    for carried in &scene.window.carried {
+        if carried.brief.kind == Kind::Erase {
+            put_gap_before(text, layout, open, carried)?;
+        }
+    }
+    for last in open.as_slice() {
+        let from = last.slot.saturating_add(1);
+        put_gap(text, layout, last, from, scene.window.to)?;
+    }
+    Ok(())
+}
+
 /// Draws the erases that are suspended: between two slots of an erase, as long as others are carried.
 pub fn put_gaps(
     alloc: Global,
@@ -116,34 +159,6 @@ pub fn put_gaps(
     scene: &Scene<'_>,
     layout: &Layout,
 ) -> io::Result<()> {
-    // Erases that haven't ended, by the last slot that each had.
-    let mut open: Vec<Carried> = Vec::new(alloc);
-    for carried in &scene.window.carried {
-        if carried.brief.kind == Kind::Erase {
-            let last = open.iter().position(|c| c.whose.job == carried.whose.job);
-            if let Some(place) = last {
-                let before = open.swap_remove(place);
-                put_gap(
-                    text,
-                    layout,
-                    carried,
-                    before.slot.saturating_add(1),
-                    carried.slot,
-                )?;
-            }
-            if !carried.last {
-                open.push(*carried)?;
-            }
-        }
-    }
-    for erase in &open {
-        put_gap(
-            text,
-            layout,
-            erase,
-            erase.slot.saturating_add(1),
-            scene.window.to,
-        )?;
-    }
-    Ok(())
+    let mut open = Vec::new(alloc);
+    put_gaps_of(text, &mut open, scene, layout)
 }

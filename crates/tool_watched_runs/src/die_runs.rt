@@ -31,22 +31,19 @@ pub struct DieRun {
 
 /// A job or a collection of a die.
 pub fn whose(core: &DieCore<RunNand>, job: JobNo) -> Whose {
-    match core.job(job) {
-        Ok(head) => Whose {
-            job: job.0,
-            collects: head.collects,
-            task: head.task.0,
-        },
-        Err(_) => Whose {
-            job: job.0,
-            collects: false,
-            task: 0,
-        },
+    let (collects, task) = match core.job_record(job) {
+        Some(record) => (record.collects(), record.task().0),
+        None => (false, 0),
+    };
+    Whose {
+        job: job.0,
+        collects,
+        task,
     }
 }
 
 /// Notes in a window what was done in a slot. The only refusal is NoMemory.
-fn note(window: &mut Window, core: &DieCore<RunNand>, reply: &SlotReply) -> Result<(), Refusal>
+fn note_slot(window: &mut Window, core: &DieCore<RunNand>, reply: &SlotReply) -> Result<(), Refusal>
     ensures { FailsForMemory result }
 {
     if !window.has(reply.slot) {
@@ -104,6 +101,19 @@ fn note_levels(window: &mut Window, counts: &DieCounts, slot: u32) -> Result<(),
     Ok(())
 }
 
+/// Notes in a window what was done in a slot, and the levels after it. The only refusal is NoMemory.
+fn note(
+    window: &mut Window,
+    counts: &DieCounts,
+    core: &DieCore<RunNand>,
+    reply: &SlotReply,
+) -> Result<(), Refusal>
+    ensures { FailsForMemory result }
+{
+    note_levels(window, counts, reply.slot)?;
+    note_slot(window, core, reply)
+}
+
 /// The pages that a done collection gave its task; none of a job.
 fn given_by(core: &DieCore<RunNand>, finished: Option<JobNo>) -> Option<u32> {
     let record = core.job_record(finished?)?;
@@ -130,15 +140,40 @@ fn asked_of(event: &Event) -> (u32, u32, bool) {
     }
 }
 
+/// A fresh die of a plan, without what is noted of it. The only refusal is NoMemory.
+fn fresh_core(alloc: Global, plan: DiePlan, calls: u64) -> Result<Box<DieCore<RunNand>>, Refusal>
+    requires { MeetsBound plan }
+    ensures start { IfOk result (λ core. (box_value core).start ≡ fresh plan) }
+    ensures log { IfOk result (λ core. (box_value core).log ≡ []) }
+    ensures calls { IfOk result (λ core. (box_value core).device.left ≡ calls) }
+    ensures refused { FailsForMemory result }
+{
+    let Ok(nand) = MemoryNand::new(alloc, plan.shape) else {
+        return Err(Refusal::NoMemory);
+    };
+    match DieCore::boxed(alloc, plan, FuseNand::new(nand, calls)) {
+        Ok(core) => Ok(core),
+        Err(_) => Err(Refusal::NoMemory),
+    }
+}
+
+/// A value in a box. It is of any type, so that nothing is said of the parts of a large one. The only refusal is NoMemory.
+fn in_box<T: Drop>(alloc: Global, value: T) -> Result<Box<T>, Refusal>
+    ensures value { IfOk result (λ boxed. box_value boxed ≡ value) }
+    ensures refused { FailsForMemory result }
+{
+    Ok(Box::new(alloc, value)?)
+}
+
 impl DieRun {
-    /// A fresh die of a plan, of which a window is looked at, on a device in memory that makes so many calls well and
-    /// fails from then on. The only refusal is NoMemory.
+    /// A fresh die of a plan, of which the slots from one to before another are looked at, on a device in memory that makes
+    /// so many calls well and fails from then on. The only refusal is NoMemory.
     pub fn new(
         alloc: Global,
         die: u32,
         plan: DiePlan,
         calls: u64,
-        window: Window,
+        seen: (u32, u32),
     ) -> Result<DieRun, Refusal>
         requires { MeetsBound plan }
         ensures start { IfOk result (λ run. (box_value run.core).start ≡ fresh plan) }
@@ -149,20 +184,14 @@ impl DieRun {
     {
         let tally = Tally::new(alloc, plan.shape.blocks)?;
         let counts = DieCounts::new(alloc, &plan)?;
-        let nand = match MemoryNand::new(alloc, plan.shape) {
-            Ok(nand) => nand,
-            Err(_) => return Err(Refusal::NoMemory),
-        };
-        match DieCore::boxed(alloc, plan, FuseNand::new(nand, calls)) {
-            Ok(core) => Ok(DieRun {
-                die,
-                core,
-                tally,
-                counts,
-                window,
-            }),
-            Err(_) => Err(Refusal::NoMemory),
-        }
+        let core = fresh_core(alloc, plan, calls)?;
+        Ok(DieRun {
+            die,
+            core,
+            tally,
+            counts,
+            window: Window::new(alloc, seen.0, seen.1),
+        })
     }
 
     /// A fresh die as [`new`](DieRun::new) makes it, in a box, since a die is large to move. The only refusal is NoMemory.
@@ -171,15 +200,14 @@ impl DieRun {
         die: u32,
         plan: DiePlan,
         calls: u64,
-        window: Window,
+        seen: (u32, u32),
     ) -> Result<Box<DieRun>, Refusal>
         requires { MeetsBound plan }
         ensures start { IfOk result (λ run.
             (box_value (box_value run).core).start ≡ fresh plan) }
         ensures refused { FailsForMemory result }
     {
-        let run = DieRun::new(alloc, die, plan, calls, window)?;
-        Ok(Box::new(alloc, run)?)
+        in_box(alloc, DieRun::new(alloc, die, plan, calls, seen)?)
     }
 
     /// Carries out the present slot.
@@ -194,8 +222,7 @@ impl DieRun {
         let _ = self.core.now();
         self.tally.note(&reply);
         count(&mut self.counts, &self.core, &reply);
-        note_levels(&mut self.window, &self.counts, reply.slot)?;
-        note(&mut self.window, &self.core, &reply)
+        note(&mut self.window, &self.counts, &self.core, &reply)
     }
 
     /// Carries out slots until this one is the present one. The refusals are NoMemory; DeviceFault, where the device

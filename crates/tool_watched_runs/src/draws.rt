@@ -7,48 +7,52 @@ ghost use Rattle.tool_watched_runs.specs.Failing.{IsBeyond};
 
 use crate::die_runs::{DieRun, whose};
 use crate::failing::{FailAt, RunNand, calls_of, check_failing};
-use crate::script_runs::{Reported, Sights, failure_of, run_rows};
-use crate::{End, Kind, Level, Row, Scene, Window, Worst, lines, picture};
+use crate::script_runs::{Ran, Reported, Sights, failure_of, push_run, run_on};
+use crate::{End, Kind, Level, Row, Scene, Whose, Window, Worst, lines, picture};
 use script_texts::ScriptReader;
-use slot_core::{DieCore, Outcome};
-use slot_types::{JobNo, MAX_JOBS, MAX_SLOT, Refusal, StorePlan};
+use slot_core::{DieCore, Job, Stage};
+use slot_types::{DiePlan, JobNo, MAX_JOBS, MAX_SLOT, Refusal, StorePlan};
 use std::alloc::Global;
 use std::io::Read;
 
-/// What became of a job. The only refusal is NoMemory.
-fn end_of(alloc: Global, core: &DieCore<RunNand>, job: JobNo) -> Result<End, Refusal>
-    ensures { FailsForMemory result }
-{
-    match core.outcome(alloc, job) {
-        Ok(Outcome::Waiting) => Ok(End::Waiting),
-        Ok(Outcome::Done { completion, .. }) => Ok(End::Done { completion }),
-        Ok(Outcome::Waived { .. }) => Ok(End::Waived),
-        Err(_) => Err(Refusal::NoMemory),
+/// What became of a job.
+fn end_of(job: &Job<'_>) -> End {
+    match job.stage() {
+        Stage::Pending => End::Waiting,
+        Stage::Done { completion, .. } => End::Done { completion },
+        Stage::Waived { .. } => End::Waived,
     }
 }
 
-/// The jobs and collections that have something in the window of a run. The only refusal is NoMemory.
-fn rows_in(alloc: Global, run: &DieRun) -> Result<Vec<Row>, Refusal>
+/// The job or collection of a number, as a picture shows it.
+fn row_of(number: u32, job: &Job<'_>) -> Row {
+    Row {
+        whose: Whose {
+            job: number,
+            collects: job.collects(),
+            task: job.task().0,
+        },
+        release: job.release(),
+        due: job.due(),
+        end: end_of(job),
+    }
+}
+
+/// Adds the jobs and collections that have something in the window of a run. The only refusal is NoMemory.
+fn put_rows(rows: &mut Vec<Row>, run: &DieRun) -> Result<(), Refusal>
     ensures { FailsForMemory result }
 {
-    let mut rows = Vec::new(alloc);
     let slots = run.core.now();
     for number in 0..MAX_JOBS {
-        let job = JobNo(number);
-        let Ok(head) = run.core.job(job) else {
+        let Some(job) = run.core.job_record(JobNo(number)) else {
             break;
         };
-        let row = Row {
-            whose: whose(&run.core, job),
-            release: head.release,
-            due: head.due,
-            end: end_of(alloc, &run.core, job)?,
-        };
+        let row = row_of(number, &job);
         if row.is_seen(&run.window, slots) {
             rows.push(row)?;
         }
     }
-    Ok(rows)
+    Ok(())
 }
 
 /// The worst of a die, with the busy interval of its certificate, where something is done. The only refusal is
@@ -78,26 +82,29 @@ fn first_collection(window: &Window) -> Option<u32> {
     None
 }
 
-/// What of a run is worth a picture. The only refusal is NoMemory.
-fn sights_of(alloc: Global, run: &DieRun) -> Result<Sights, Refusal>
-    ensures { FailsForMemory result }
-{
-    let worst = match worst_of(alloc, &run.core)? {
+/// What of a run is worth a picture.
+fn sights_of(worst: Option<Worst>, window: &Window) -> Sights {
+    let worst = match worst {
         Some(worst) => Some((worst.start, worst.completion)),
         None => None,
     };
-    Ok(Sights {
+    Sights {
         worst,
-        collection: first_collection(&run.window),
-    })
+        collection: first_collection(window),
+    }
 }
 
 /// The picture of a run, or its lines for a terminal. The only refusal is NoMemory.
-fn picture_of(alloc: Global, run: &DieRun, as_text: bool) -> Result<Vec<u8>, Refusal>
+fn picture_of(
+    alloc: Global,
+    run: &DieRun,
+    worst: Option<Worst>,
+    as_text: bool,
+) -> Result<Vec<u8>, Refusal>
     ensures { FailsForMemory result }
 {
-    let rows = rows_in(alloc, run)?;
-    let worst = worst_of(alloc, &run.core)?;
+    let mut rows = Vec::new(alloc);
+    put_rows(&mut rows, run)?;
     let scene = Scene {
         die: run.die,
         slots: run.core.now(),
@@ -128,11 +135,10 @@ pub struct Shown {
 /// So many slots are drawn before the busy interval of the worst, and after it.
 const MARGIN: u32 = 10;
 
-/// A part of a window. The only refusal is NoMemory.
-fn part_of(alloc: Global, window: &Window, from: u32, to: u32) -> Result<Window, Refusal>
+/// Adds what a window has of the slots of another one. The only refusal is NoMemory.
+fn put_part(part: &mut Window, window: &Window) -> Result<(), Refusal>
     ensures { FailsForMemory result }
 {
-    let mut part = Window::new(alloc, from, to);
     for carried in &window.carried {
         if part.has(carried.slot) {
             part.carried.push(*carried)?;
@@ -145,28 +151,121 @@ fn part_of(alloc: Global, window: &Window, from: u32, to: u32) -> Result<Window,
     }
     // The levels before it hold in its first slot.
     for level in &window.levels {
-        if level.slot < to {
+        if level.slot < part.to {
             part.note_level(Level {
-                slot: level.slot.max(from),
+                slot: level.slot.max(part.from),
                 series: level.series,
                 pages: level.pages,
             })?;
         }
     }
+    Ok(())
+}
+
+/// A part of a window. The only refusal is NoMemory.
+fn part_of(alloc: Global, window: &Window, from: u32, to: u32) -> Result<Window, Refusal>
+    ensures { FailsForMemory result }
+{
+    let mut part = Window::new(alloc, from, to);
+    put_part(&mut part, window)?;
     Ok(part)
 }
 
 /// Leaves of a window the busy interval of the worst, with a margin. The only refusal is NoMemory.
-fn keep_worst(alloc: Global, run: &mut DieRun) -> Result<(), Refusal>
+fn keep_worst(alloc: Global, run: &mut DieRun, worst: &Worst) -> Result<(), Refusal>
     ensures { FailsForMemory result }
 {
-    let Some(worst) = worst_of(alloc, &run.core)? else {
-        return Ok(());
-    };
     let from = worst.start.saturating_sub(MARGIN);
     let to = worst.completion.saturating_add(MARGIN).min(run.core.now());
     run.window = part_of(alloc, &run.window, from.min(to), to)?;
     Ok(())
+}
+
+impl Shown {
+    /// The slots that are looked at in a run of so many.
+    fn seen(&self, slots: u32) -> (u32, u32) {
+        if self.worst {
+            return (0, slots);
+        }
+        let to = self.to.min(slots);
+        (self.from.min(to), to)
+    }
+}
+
+/// The plan of a die. UnknownDie where there is none, and nothing else.
+fn plan_of(plan: StorePlan, die: u32) -> Result<DiePlan, Refusal>
+    requires { All MeetsBound plan }
+    ensures { IfOk result MeetsBound }
+{
+    let mut plans = plan.into_vec();
+    if die as usize >= plans.len() {
+        return Err(Refusal::UnknownDie);
+    }
+    Ok(plans.swap_remove(die as usize))
+}
+
+/// The fresh die of a store that is drawn, and no other one. UnknownDie where it isn't there; or NoMemory.
+fn one_die(
+    alloc: Global,
+    plan: StorePlan,
+    die: u32,
+    calls: u64,
+    seen: (u32, u32),
+) -> Result<Vec<Box<DieRun>>, Refusal>
+    requires { All MeetsBound plan }
+{
+    let plan = plan_of(plan, die)?;
+    let run = DieRun::boxed(alloc, die, plan, calls, seen)?;
+    let mut dies = Vec::new(alloc);
+    push_run(&mut dies, run)?;
+    Ok(dies)
+}
+
+/// Draws a die that ran, and tells what of it is worth a picture. The only refusal is NoMemory.
+fn draw_run(alloc: Global, run: &mut DieRun, shown: Shown) -> Result<(Vec<u8>, Sights), Refusal>
+    ensures { FailsForMemory result }
+{
+    let worst = worst_of(alloc, &run.core)?;
+    let sights = sights_of(worst, &run.window);
+    if shown.worst
+        && let Some(worst) = &worst
+    {
+        keep_worst(alloc, run, worst)?;
+    }
+    let text = picture_of(alloc, run, worst, shown.as_text)?;
+    Ok((text, sights))
+}
+
+/// Draws the only one of these dies. The only refusal is NoMemory.
+fn draw_dies(
+    alloc: Global,
+    dies: &mut Vec<Box<DieRun>>,
+    shown: Shown,
+) -> Result<(Vec<u8>, Sights), Refusal>
+    ensures { FailsForMemory result }
+{
+    match dies.first_mut() {
+        Some(run) => draw_run(alloc, run, shown),
+        None => Ok((Vec::new(alloc), Sights::NONE)),
+    }
+}
+
+/// What is reported of a run of one die, which is drawn. Where it wasn't run, the refusal is the same.
+fn drawn(
+    alloc: Global,
+    ran: Result<Ran, Refusal>,
+    shown: Shown,
+    fail: Option<FailAt>,
+) -> Result<Reported, Refusal> {
+    let Ran { mut dies, refused } = ran?;
+    let failure = failure_of(fail, dies.as_slice());
+    let (text, sights) = draw_dies(alloc, &mut dies, shown)?;
+    Ok(Reported {
+        text,
+        refused,
+        sights,
+        failure,
+    })
 }
 
 /// Runs a script on a die of a store, and draws what its slots carried: those that are asked for, or the busy interval
@@ -189,41 +288,8 @@ pub fn draw<R: Read + Drop>(
     ensures unknown { IsBeyond fail (length plan) → result ≡ Err Refusal.UnknownDie }
 {
     check_failing(fail, plan.len())?;
-    let script = ScriptReader::new(alloc, script, &plan, slots)?;
-    if die as usize >= plan.len() {
-        return Err(Refusal::UnknownDie);
-    }
-    let (from, to) = if shown.worst {
-        (0, slots)
-    } else {
-        (shown.from.min(slots), shown.to.min(slots))
-    };
-    let window = Window::new(alloc, from.min(to), to);
-    let mut plans = plan.into_vec();
-    let calls = calls_of(fail, die);
-    let run = DieRun::boxed(alloc, die, plans.swap_remove(die as usize), calls, window)?;
-    let mut dies = Vec::new(alloc);
-    dies.push(run)?;
-    let refused = run_rows(alloc, script, &mut dies, slots)?;
-    let failure = failure_of(fail, dies.as_slice());
-    match dies.first_mut() {
-        Some(run) => {
-            let sights = sights_of(alloc, run)?;
-            if shown.worst {
-                keep_worst(alloc, run)?;
-            }
-            Ok(Reported {
-                text: picture_of(alloc, run, shown.as_text)?,
-                refused,
-                sights,
-                failure,
-            })
-        }
-        None => Ok(Reported {
-            text: Vec::new(alloc),
-            refused,
-            sights: Sights::NONE,
-            failure,
-        }),
-    }
+    let mut script = ScriptReader::new(alloc, script, &plan, slots)?;
+    let dies = one_die(alloc, plan, die, calls_of(fail, die), shown.seen(slots));
+    let ran = run_on(alloc, &mut script, dies, slots);
+    drawn(alloc, ran, shown, fail)
 }

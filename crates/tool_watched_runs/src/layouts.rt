@@ -1,6 +1,7 @@
 //! Where things stand in a picture: slots go from left to right, in bands that stand one below the other; and in each
 //! band those that have something there, a lane each.
 
+ghost use Rattle.std.specs.Prelude.{◌<◌};
 ghost use Rattle.slot_types.specs.Refusal.{FailsForMemory};
 
 use crate::rows::Row;
@@ -39,7 +40,7 @@ pub struct Band {
 }
 
 /// A place: the left upper corner of a slot in a lane.
-#[derive(Clone, Copy, PartialEq, Eq, Debug, Drop)]
+#[derive(Clone, Copy, Drop)]
 pub struct Spot {
     pub x: u64,
     pub y: u64,
@@ -106,24 +107,37 @@ impl Band {
     }
 }
 
+/// Adds bands for a window, each of so many slots, without lanes. The only refusal is NoMemory.
+fn put_bands(
+    alloc: Global,
+    bands: &mut Vec<Band>,
+    window: &Window,
+    across: u32,
+) -> Result<(), Refusal>
+    requires { 0 < across }
+    ensures { FailsForMemory result }
+{
+    let slots = window.to.saturating_sub(window.from);
+    for band in 0..slots.div_ceil(across) {
+        let first = window.from.saturating_add(band.saturating_mul(across));
+        bands.push(Band {
+            first,
+            end: first.saturating_add(across).min(window.to),
+            top: 0,
+            keys: Vec::new(alloc),
+        })?;
+    }
+    Ok(())
+}
+
 impl Layout {
     /// Bands for a window, without lanes, with slots that are so wide.
     fn empty(alloc: Global, window: &Window, cell: u32, by_task: bool) -> Result<Layout, Refusal>
         ensures { FailsForMemory result }
     {
-        let slots = window.to.saturating_sub(window.from);
         let across = (SPAN / cell.max(1)).max(1);
         let mut bands = Vec::new(alloc);
-        for band in 0..slots.div_ceil(across) {
-            let first = window.from.saturating_add(band.saturating_mul(across));
-            let band = Band {
-                first,
-                end: first.saturating_add(across).min(window.to),
-                top: 0,
-                keys: Vec::new(alloc),
-            };
-            bands.push(band)?;
-        }
+        put_bands(alloc, &mut bands, window, across)?;
         Ok(Layout {
             cell,
             across,
@@ -236,6 +250,40 @@ impl Layout {
         Layout::of(alloc, window, rows, slots, cell)
     }
 
+    /// A lane a job, with slots that are so wide; none where a band would have too many. The only refusal is NoMemory.
+    fn by_job(
+        alloc: Global,
+        window: &Window,
+        rows: &[Row],
+        slots: u32,
+        cell: u32,
+    ) -> Result<Option<Layout>, Refusal>
+        ensures { FailsForMemory result }
+    {
+        let mut layout = Layout::empty(alloc, window, cell, false)?;
+        if layout.add_all(window, rows, slots)? {
+            return Ok(None);
+        }
+        layout.place();
+        Ok(Some(layout))
+    }
+
+    /// A lane a task, with slots that are so wide. The only refusal is NoMemory.
+    fn by_task(
+        alloc: Global,
+        window: &Window,
+        rows: &[Row],
+        slots: u32,
+        cell: u32,
+    ) -> Result<Layout, Refusal>
+        ensures { FailsForMemory result }
+    {
+        let mut layout = Layout::empty(alloc, window, cell, true)?;
+        layout.add_all(window, rows, slots)?;
+        layout.place();
+        Ok(layout)
+    }
+
     /// The same as [`new`](Layout::new), with slots that are so wide.
     pub fn of(
         alloc: Global,
@@ -246,13 +294,10 @@ impl Layout {
     ) -> Result<Layout, Refusal>
         ensures { FailsForMemory result }
     {
-        let mut layout = Layout::empty(alloc, window, cell, false)?;
-        if layout.add_all(window, rows, slots)? {
-            layout = Layout::empty(alloc, window, cell, true)?;
-            layout.add_all(window, rows, slots)?;
+        match Layout::by_job(alloc, window, rows, slots, cell)? {
+            Some(layout) => Ok(layout),
+            None => Layout::by_task(alloc, window, rows, slots, cell),
         }
-        layout.place();
-        Ok(layout)
     }
 
     /// The band of a slot, if it is in the window.

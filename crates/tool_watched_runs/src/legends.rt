@@ -1,7 +1,8 @@
 //! The head of a picture: its styles, what it is of, and what its colours and marks mean.
 
 use crate::kinds::{KINDS, class_of, name_of};
-use crate::pictures::{Scene, Worst};
+use crate::pictures::Scene;
+use crate::sentences::{put_counts, put_title, put_worst_of};
 use std::io;
 use std::io::Write;
 
@@ -60,60 +61,23 @@ pub fn put_styles(text: &mut Vec<u8>) -> io::Result<()> {
     writeln!(text, "{STYLES}")
 }
 
-/// Tells the worst one, and the busy interval of its certificate.
-fn put_worst(text: &mut Vec<u8>, worst: &Worst) -> io::Result<()> {
-    let Worst {
-        whose,
-        start,
-        due,
-        completion,
-        lateness,
-    } = worst;
-    let kind = whose.kind();
-    let (job, task) = (whose.job, whose.task);
-    writeln!(
-        text,
-        "<text x=\"10\" y=\"62\">Worst: {kind} {job} of task {task}, due {due}, completed {completion}, lateness {lateness}; \
-         from slot {start} on each slot carried work due by {due}.</text>"
-    )
-}
-
-/// A noun, as it stands after a number.
-pub fn noun(count: u32, one: &'static str, many: &'static str) -> &'static str {
-    if count == 1 { one } else { many }
-}
-
-/// Adds the counts of the whole run.
-fn put_counts(text: &mut Vec<u8>, scene: &Scene<'_>) -> io::Result<()> {
-    let slots = scene.slots;
-    let (written, copied, erased) = (scene.tally.written, scene.tally.copied, scene.tally.erased);
-    let in_slots = noun(slots, "slot", "slots");
-    let pages = noun(written, "page", "pages");
-    let blocks = noun(erased, "block", "blocks");
-    writeln!(
-        text,
-        "<text x=\"10\" y=\"44\">In all {slots} {in_slots}: {written} {pages} written by jobs, \
-         {copied} copied by collections, {erased} {blocks} erased. A number in a cell is its page, in an erase its block.</text>"
-    )
-}
-
 /// Adds what the picture is of, and the counts of the whole run.
 pub fn put_head(text: &mut Vec<u8>, scene: &Scene<'_>) -> io::Result<()> {
-    let (die, slots) = (scene.die, scene.slots);
-    let (from, to) = (scene.window.from, scene.window.to);
-    writeln!(
-        text,
-        "<title>Die {die}, slots {from} to {to} of {slots}</title>"
-    )?;
-    writeln!(
-        text,
-        "<text class=\"h\" x=\"10\" y=\"24\">Die {die}, slots {from} to {to} of {slots}</text>"
-    )?;
+    write!(text, "<title>")?;
+    put_title(text, scene)?;
+    writeln!(text, "</title>")?;
+    write!(text, "<text class=\"h\" x=\"10\" y=\"24\">")?;
+    put_title(text, scene)?;
+    writeln!(text, "</text>")?;
+    write!(text, "<text x=\"10\" y=\"44\">")?;
     put_counts(text, scene)?;
-    match &scene.worst {
-        Some(worst) => put_worst(text, worst),
-        None => writeln!(text, "<text x=\"10\" y=\"62\">Nothing is done.</text>"),
-    }
+    writeln!(
+        text,
+        " A number in a cell is its page, in an erase its block.</text>"
+    )?;
+    write!(text, "<text x=\"10\" y=\"62\">")?;
+    put_worst_of(text, scene)?;
+    writeln!(text, "</text>")
 }
 
 /// Adds an item of the legend whose sample is a mark.

@@ -111,6 +111,42 @@ fn put_names(text: &mut Vec<u8>, band: &Band, greatest: u32) -> io::Result<()> {
     )
 }
 
+/// Draws the curves of a band, which begin at the levels that stand, by series.
+fn put_curves(
+    text: &mut Vec<u8>,
+    band: &Band,
+    cell: u32,
+    greatest: u32,
+    now: &[u32],
+    changes: &[Level],
+) -> io::Result<()> {
+    put_names(text, band, greatest)?;
+    for series in 0..now.len() {
+        put_curve(text, band, cell, greatest, series, now[series], changes)?;
+    }
+    Ok(())
+}
+
+/// Draws the curves of all bands. `now` has a level for each series, all 0.
+fn put_bands(
+    text: &mut Vec<u8>,
+    now: &mut Vec<u32>,
+    levels: &[Level],
+    layout: &Layout,
+) -> io::Result<()> {
+    let greatest = greatest_of(levels);
+    let mut read: usize = 0;
+    for band in &layout.bands {
+        let first = place_of(levels, read, band.first.saturating_add(1));
+        take(now, some_of(levels, read, first));
+        read = place_of(levels, first, band.end);
+        let changes = some_of(levels, first, read);
+        put_curves(text, band, layout.cell, greatest, now, changes)?;
+        take(now, changes);
+    }
+    Ok(())
+}
+
 /// Draws the curves of all bands.
 pub fn put_levels(
     alloc: Global,
@@ -119,21 +155,6 @@ pub fn put_levels(
     layout: &Layout,
 ) -> io::Result<()> {
     let levels = scene.window.levels.as_slice();
-    let count = series_in(levels);
-    let greatest = greatest_of(levels);
-    let mut now = vec![in alloc; 0u32; count]?;
-    let mut read: usize = 0;
-    for band in &layout.bands {
-        let first = place_of(levels, read, band.first.saturating_add(1));
-        take(&mut now, some_of(levels, read, first));
-        read = place_of(levels, first, band.end);
-        let changes = some_of(levels, first, read);
-        put_names(text, band, greatest)?;
-        for series in 0..count {
-            let pages = now.get(series).copied().unwrap_or(0);
-            put_curve(text, band, layout.cell, greatest, series, pages, changes)?;
-        }
-        take(&mut now, changes);
-    }
-    Ok(())
+    let mut now = vec![in alloc; 0u32; series_in(levels)]?;
+    put_bands(text, &mut now, levels, layout)
 }

@@ -18,6 +18,7 @@ mod reports;
 mod rows;
 mod rulers;
 mod script_runs;
+mod sentences;
 mod tallies;
 mod terminals;
 mod wear_texts;

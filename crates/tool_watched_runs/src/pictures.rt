@@ -17,7 +17,7 @@ use std::io;
 use std::io::Write;
 
 /// The job or collection with the greatest lateness, and the busy interval of its certificate.
-#[derive(Clone, Copy, PartialEq, Eq, Debug, Drop)]
+#[derive(Clone, Copy, Drop)]
 pub struct Worst {
     pub whose: Whose,
     /// The first slot of the busy interval, which ends with the completion.
@@ -88,14 +88,21 @@ fn put_picture(
     writeln!(text, "</svg>")
 }
 
+/// The text of a picture. The only refusal is NoMemory.
+fn picture_in(alloc: Global, scene: &Scene<'_>, layout: &Layout) -> Result<Vec<u8>, Refusal>
+    ensures { FailsForMemory result }
+{
+    let mut text = Vec::new(alloc);
+    match put_picture(alloc, &mut text, scene, layout) {
+        Ok(()) => Ok(text),
+        Err(_) => Err(Refusal::NoMemory),
+    }
+}
+
 /// Draws what the slots of a window carried, as the text of an SVG picture. The only refusal is NoMemory.
 pub fn picture(alloc: Global, scene: &Scene<'_>) -> Result<Vec<u8>, Refusal>
     ensures { FailsForMemory result }
 {
     let layout = Layout::new(alloc, scene.window, scene.rows, scene.slots)?;
-    let mut text = Vec::new(alloc);
-    match put_picture(alloc, &mut text, scene, &layout) {
-        Ok(()) => Ok(text),
-        Err(_) => Err(Refusal::NoMemory),
-    }
+    picture_in(alloc, scene, &layout)
 }

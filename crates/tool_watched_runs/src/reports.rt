@@ -6,9 +6,8 @@ ghost use Rattle.tool_watched_runs.specs.Failing.{IsBeyond};
 
 use crate::die_runs::DieRun;
 use crate::failing::{FailAt, RunNand, check_failing};
-use crate::script_runs::{Reported, Sights, failure_of, fresh_dies, run_rows};
-use script_texts::ScriptReader;
-use slot_core::{DieCore, Stage};
+use crate::script_runs::{Ran, Reported, Sights, failure_of, run_store};
+use slot_core::{DieCore, Job, Stage};
 use slot_types::{JobNo, MAX_JOBS, MAX_SLOT, Refusal, StorePlan};
 use std::alloc::Global;
 use std::io;
@@ -17,33 +16,36 @@ use tool_run_figures::{
     DieFigures, Ended, JobEnd, Life, Record, Wearing, put_csv, put_header, put_table, records_of,
 };
 
-/// What became of the jobs and collections of a die, by their numbers. The only refusal is NoMemory.
-fn ends_of(alloc: Global, core: &DieCore<RunNand>) -> Result<Vec<JobEnd>, Refusal> {
-    let mut ends = Vec::new(alloc);
+/// What became of a job or a collection.
+fn end_of(job: &Job<'_>) -> JobEnd {
+    JobEnd {
+        task: job.task().0,
+        collects: job.collects(),
+        ended: match job.stage() {
+            Stage::Pending => Ended::Waiting,
+            Stage::Waived { .. } => Ended::Waived,
+            Stage::Done { completion, .. } => Ended::Done {
+                lateness: i64::from(completion).saturating_sub(i64::from(job.due())),
+            },
+        },
+    }
+}
+
+/// Adds what became of the jobs and collections of a die, by their numbers. The only refusal is NoMemory.
+fn put_ends(ends: &mut Vec<JobEnd>, core: &DieCore<RunNand>) -> Result<(), Refusal> {
     for number in 0..MAX_JOBS {
         let Some(job) = core.job_record(JobNo(number)) else {
             break;
         };
-        let due = i64::from(job.due());
-        ends.reserve(1)?;
-        ends.push_reserved(JobEnd {
-            task: job.task().0,
-            collects: job.collects(),
-            ended: match job.stage() {
-                Stage::Pending => Ended::Waiting,
-                Stage::Waived { .. } => Ended::Waived,
-                Stage::Done { completion, .. } => Ended::Done {
-                    lateness: i64::from(completion).saturating_sub(due),
-                },
-            },
-        });
+        ends.push(end_of(&job))?;
     }
-    Ok(ends)
+    Ok(())
 }
 
 /// The records of a die. The only refusal is NoMemory.
 fn records_in(alloc: Global, run: &DieRun, life: Life) -> Result<Vec<Record>, Refusal> {
-    let ends = ends_of(alloc, &run.core)?;
+    let mut ends = Vec::new(alloc);
+    put_ends(&mut ends, &run.core)?;
     let figures = DieFigures {
         counts: &run.counts,
         ends: ends.as_slice(),
@@ -68,6 +70,38 @@ fn put_records(
     }
 }
 
+/// Adds what a die came to. The only refusal is NoMemory.
+fn put_die(
+    alloc: Global,
+    text: &mut Vec<u8>,
+    run: &DieRun,
+    life: Life,
+    as_csv: bool,
+) -> Result<(), Refusal> {
+    let records = records_in(alloc, run, life)?;
+    match put_records(alloc, text, run.die, records.as_slice(), as_csv) {
+        Ok(()) => Ok(()),
+        Err(_) => Err(Refusal::NoMemory),
+    }
+}
+
+/// Adds what dies came to, and of CSV the header. The only refusal is NoMemory.
+fn put_dies(
+    alloc: Global,
+    text: &mut Vec<u8>,
+    dies: &[Box<DieRun>],
+    life: Life,
+    as_csv: bool,
+) -> Result<(), Refusal> {
+    if as_csv && put_header(text).is_err() {
+        return Err(Refusal::NoMemory);
+    }
+    for run in dies {
+        put_die(alloc, text, run, life, as_csv)?;
+    }
+    Ok(())
+}
+
 /// What dies came to, as a text. The only refusal is NoMemory.
 fn report_text(
     alloc: Global,
@@ -76,16 +110,7 @@ fn report_text(
     as_csv: bool,
 ) -> Result<Vec<u8>, Refusal> {
     let mut text = Vec::new(alloc);
-    if as_csv && put_header(&mut text).is_err() {
-        return Err(Refusal::NoMemory);
-    }
-    for run in dies {
-        let records = records_in(alloc, run, life)?;
-        match put_records(alloc, &mut text, run.die, records.as_slice(), as_csv) {
-            Ok(()) => {}
-            Err(_) => return Err(Refusal::NoMemory),
-        }
-    }
+    put_dies(alloc, &mut text, dies, life, as_csv)?;
     Ok(text)
 }
 
@@ -93,8 +118,8 @@ fn report_text(
 /// CSV. With an endurance and the length of a slot above 0, it tells when a block will be worn out. One device may be to
 /// fail: its die stays in that slot, and refuses all later rows.
 ///
-/// Refused with UnknownDie where there is no such die; with the first fault of the script, as [`ScriptReader`] tells it;
-/// or with ReadFault or NoMemory.
+/// Refused with UnknownDie where there is no such die; with the first fault of the script, as
+/// [`ScriptReader`](script_texts::ScriptReader) tells it; or with ReadFault or NoMemory.
 pub fn report<R: Read + Drop>(
     alloc: Global,
     plan: StorePlan,
@@ -109,9 +134,7 @@ pub fn report<R: Read + Drop>(
     ensures unknown { IsBeyond fail (length plan) → result ≡ Err Refusal.UnknownDie }
 {
     check_failing(fail, plan.len())?;
-    let script = ScriptReader::new(alloc, script, &plan, slots)?;
-    let mut dies = fresh_dies(alloc, plan, fail)?;
-    let refused = run_rows(alloc, script, &mut dies, slots)?;
+    let Ran { dies, refused } = run_store(alloc, plan, script, slots, fail)?;
     let text = report_text(alloc, dies.as_slice(), life, as_csv)?;
     Ok(Reported {
         text,

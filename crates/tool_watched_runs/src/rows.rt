@@ -3,7 +3,7 @@
 use crate::windows::{Whose, Window};
 
 /// What became of a job or a collection by the end of the run.
-#[derive(Clone, Copy, PartialEq, Eq, Debug, Drop)]
+#[derive(Clone, Copy, PartialEq, Eq, Drop)]
 pub enum End {
     Waiting,
     Done { completion: u32 },
@@ -11,7 +11,7 @@ pub enum End {
 }
 
 /// A job or a collection, as it was accepted, and what became of it.
-#[derive(Clone, Copy, PartialEq, Eq, Debug, Drop)]
+#[derive(Clone, Copy, Drop)]
 pub struct Row {
     pub whose: Whose,
     pub release: u32,

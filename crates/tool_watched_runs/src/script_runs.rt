@@ -1,10 +1,10 @@
 //! Scripts that are run, row by row, on dies whose devices are in memory.
 
-ghost use Rattle.std.specs.Prelude.{◌≡◌, ◌<◌, ◌≤◌, ◌⊎◌, ◌++◌, ◌∷◌, [], true, All, length, map, IfOk, IfErr, IfSome, OnOk};
+ghost use Rattle.std.specs.Prelude.{◌≡◌, ◌<◌, ◌≤◌, ◌⊎◌, ◌++◌, ◌∷◌, [], true, All, length, map, List, IfOk, IfSome, OnOk};
 ghost use Rattle.std.specs.Box.{box_value};
 ghost use Rattle.plan_rules.specs.Bound.{MeetsBound};
 ghost use Rattle.die_log.specs.Model.Log.{now};
-ghost use Rattle.die_log.specs.Model.Start.{fresh};
+ghost use Rattle.die_log.specs.Model.Start.{Start, fresh};
 ghost use Rattle.slot_types.specs.Refusal.{FailsForMemory};
 ghost use Rattle.tool_watched_runs.specs.Runs.{start_of, starts_of, worn_of};
 ghost use Rattle.tool_watched_runs.specs.Wear.{IsWorn};
@@ -13,14 +13,14 @@ ghost use Rattle.tool_watched_runs.specs.WearText.{IsWearText};
 use crate::die_runs::DieRun;
 use crate::failing::{FailAt, Failure, calls_of, failure_in};
 use crate::refused::RefusedRows;
-use crate::{Tally, Window, wear_text};
-use script_texts::ScriptReader;
+use crate::{Tally, wear_text};
+use script_texts::{ScriptItem, ScriptReader};
 use slot_types::{Event, MAX_SLOT, Refusal, StorePlan};
 use std::alloc::Global;
 use std::io::Read;
 
 /// What of a run is worth a picture.
-#[derive(Clone, Copy, PartialEq, Eq, Debug, Drop)]
+#[derive(Clone, Copy, Drop)]
 pub struct Sights {
     /// From which slot on, and before which one, the worst was carried, or what was due no later.
     pub worst: Option<(u32, u32)>,
@@ -38,6 +38,13 @@ pub struct Reported {
     pub failure: Option<Failure>,
 }
 
+/// Dies that ran a script, and which of its rows they refused.
+#[derive(Drop)]
+pub struct Ran {
+    pub dies: Vec<Box<DieRun>>,
+    pub refused: RefusedRows,
+}
+
 impl Sights {
     /// Nothing was seen.
     pub const NONE: Sights = Sights {
@@ -47,7 +54,7 @@ impl Sights {
 }
 
 /// Adds a die. The only refusal is NoMemory.
-fn push_run(dies: &mut Vec<Box<DieRun>>, run: Box<DieRun>) -> Result<(), Refusal>
+pub fn push_run(dies: &mut Vec<Box<DieRun>>, run: Box<DieRun>) -> Result<(), Refusal>
     ensures ok { OnOk result (dies.new.items ≡ dies.old.items ++ run ∷ []) }
     ensures refused { FailsForMemory result }
 {
@@ -57,7 +64,7 @@ fn push_run(dies: &mut Vec<Box<DieRun>>, run: Box<DieRun>) -> Result<(), Refusal
 
 /// A fresh die for each plan, on a device that makes all calls well, but for one that is to fail. The only refusal is
 /// NoMemory.
-pub fn fresh_dies(
+fn fresh_dies(
     alloc: Global,
     plan: StorePlan,
     fail: Option<FailAt>,
@@ -69,11 +76,18 @@ pub fn fresh_dies(
     let mut die: u32 = 0;
     for plan in plan.into_vec() {
         let calls = calls_of(fail, die);
-        let run = DieRun::boxed(alloc, die, plan, calls, Window::new(alloc, 0, 0))?;
+        let run = DieRun::boxed(alloc, die, plan, calls, (0, 0))?;
         push_run(&mut dies, run)?;
         die = die.saturating_add(1);
     }
     Ok(dies)
+}
+
+/// The place of a die among these.
+fn place_of(dies: &[Box<DieRun>], die: u32) -> Option<usize>
+    ensures { IfSome result (λ place. place < length dies.now) }
+{
+    dies.iter().position(|run| run.die == die)
 }
 
 /// What became of the device that was to fail; none where none was, or its die isn't one of these.
@@ -81,8 +95,8 @@ pub fn failure_of(fail: Option<FailAt>, dies: &[Box<DieRun>]) -> Option<Failure>
     ensures at { IfSome result (λ failure. fail ≡ Some failure.at) }
 {
     let at = fail?;
-    let run = dies.iter().find(|run| run.die == at.die)?;
-    Some(failure_in(at, &run.core))
+    let place = place_of(dies, at.die)?;
+    Some(failure_in(at, &dies[place].core))
 }
 
 /// Carries a die to a slot, or to the one in which its device fails. The only refusal is NoMemory. It is lent with its
@@ -149,13 +163,30 @@ fn carry_all(alloc: Global, dies: &mut Vec<Box<DieRun>>, slot: u32) -> Result<()
     Ok(())
 }
 
-/// Runs the rows of a script on these dies, and then so many slots. Rows of other dies are passed over. A die whose device
-/// failed stays at that slot, and refuses all later rows.
-pub fn run_rows<R: Read + Drop>(
+/// Runs a row of a script on its die, and counts it where the die refuses it. One of another die is passed over.
+fn run_row(
     alloc: Global,
-    mut script: ScriptReader<R>,
     dies: &mut Vec<Box<DieRun>>,
-    slots: u32,
+    refused: &mut RefusedRows,
+    item: ScriptItem,
+) -> Result<(), Refusal>
+    ensures starts { starts_of dies.new.items ≡ starts_of dies.old.items }
+    ensures count { length dies.new.items ≡ length dies.old.items }
+{
+    let Some(place) = place_of(dies, item.die) else {
+        return Ok(());
+    };
+    if let Some(refusal) = carry_row(alloc, dies, place, item.at, item.event)? {
+        refused.add(item.line, refusal);
+    }
+    Ok(())
+}
+
+/// Runs the rows of a script. It is lent, since a reader is large to free where a row stops the run.
+fn read_rows<R: Read + Drop>(
+    alloc: Global,
+    script: &mut ScriptReader<R>,
+    dies: &mut Vec<Box<DieRun>>,
 ) -> Result<RefusedRows, Refusal>
     ensures starts { starts_of dies.new.items ≡ starts_of dies.old.items }
     ensures count { length dies.new.items ≡ length dies.old.items }
@@ -165,16 +196,57 @@ pub fn run_rows<R: Read + Drop>(
         let Some(item) = script.next()? else {
             break;
         };
-        let die = item.die;
-        let Some(place) = dies.iter().position(|run| run.die == die) else {
-            continue;
-        };
-        if let Some(refusal) = carry_row(alloc, dies, place, item.at, item.event)? {
-            refused.add(item.line, refusal);
-        }
+        run_row(alloc, dies, &mut refused, item)?;
     }
+    Ok(refused)
+}
+
+/// Runs the rows of a script on these dies, and then so many slots. Rows of other dies are passed over. A die whose device
+/// failed stays at that slot, and refuses all later rows.
+fn run_rows<R: Read + Drop>(
+    alloc: Global,
+    script: &mut ScriptReader<R>,
+    dies: &mut Vec<Box<DieRun>>,
+    slots: u32,
+) -> Result<RefusedRows, Refusal>
+    ensures starts { starts_of dies.new.items ≡ starts_of dies.old.items }
+    ensures count { length dies.new.items ≡ length dies.old.items }
+{
+    let refused = read_rows(alloc, script, dies)?;
     carry_all(alloc, dies, slots)?;
     Ok(refused)
+}
+
+/// Runs a script on dies that were made, as [`run_rows`] does. Where they weren't, the refusal is the same.
+pub fn run_on<R: Read + Drop>(
+    alloc: Global,
+    script: &mut ScriptReader<R>,
+    made: Result<Vec<Box<DieRun>>, Refusal>,
+    slots: u32,
+) -> Result<Ran, Refusal>
+    ensures { (starts : List Start) → IfOk made (λ dies. starts_of dies.items ≡ starts)
+        → IfOk result (λ ran. starts_of ran.dies.items ≡ starts) }
+{
+    let mut dies = made?;
+    let refused = run_rows(alloc, script, &mut dies, slots)?;
+    Ok(Ran { dies, refused })
+}
+
+/// Runs a script on a store of fresh dies, of which one's device may be to fail.
+///
+/// Refused with the first fault of the script, as [`ScriptReader`] says it; or with ReadFault or NoMemory.
+pub fn run_store<R: Read + Drop>(
+    alloc: Global,
+    plan: StorePlan,
+    script: R,
+    slots: u32,
+    fail: Option<FailAt>,
+) -> Result<Ran, Refusal>
+    requires { All MeetsBound plan }
+    ensures { IfOk result (λ ran. starts_of ran.dies.items ≡ map fresh plan) }
+{
+    let mut script = ScriptReader::new(alloc, script, &plan, slots)?;
+    run_on(alloc, &mut script, fresh_dies(alloc, plan, fail), slots)
 }
 
 /// What a die wore, which is given up.
@@ -223,9 +295,7 @@ pub fn wear<R: Read + Drop>(
     requires bound { All MeetsBound plan }
     ensures text { IfOk result (λ reported. IsWearText plan reported.text.items) }
 {
-    let script = ScriptReader::new(alloc, script, &plan, slots)?;
-    let mut dies = fresh_dies(alloc, plan, None)?;
-    let refused = run_rows(alloc, script, &mut dies, slots)?;
+    let Ran { dies, refused } = run_store(alloc, plan, script, slots, None)?;
     let tallies = tallies_of(alloc, dies)?;
     let text = wear_text(alloc, &tallies)?;
     Ok(Reported {

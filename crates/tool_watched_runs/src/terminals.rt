@@ -4,9 +4,9 @@ ghost use Rattle.slot_types.specs.Refusal.{FailsForMemory};
 
 use crate::briefs::Kind;
 use crate::layouts::{Band, Layout};
-use crate::legends::noun;
 use crate::pictures::Scene;
 use crate::rows::{End, Row};
+use crate::sentences::{put_counts, put_title, put_worst_of};
 use crate::windows::Whose;
 use slot_types::Refusal;
 use std::alloc::Global;
@@ -66,22 +66,28 @@ impl Grid {
     }
 }
 
-/// A band of blanks for each of the layout.
-fn blanks(alloc: Global, layout: &Layout) -> Result<Vec<Grid>, Refusal>
+/// A band of blanks. The only refusal is NoMemory.
+fn blank(alloc: Global, band: &Band) -> Result<Grid, Refusal>
     ensures { FailsForMemory result }
 {
-    let mut grids = Vec::new(alloc);
+    let width = band.end.saturating_sub(band.first) as usize;
+    let cells = width.saturating_mul(band.keys.len());
+    Ok(Grid {
+        first: band.first,
+        width,
+        signs: vec![in alloc; b' '; cells]?,
+    })
+}
+
+/// Adds a band of blanks for each of the layout. The only refusal is NoMemory.
+fn put_blanks(alloc: Global, grids: &mut Vec<Grid>, layout: &Layout) -> Result<(), Refusal>
+    ensures { FailsForMemory result }
+{
     for band in &layout.bands {
-        let width = band.end.saturating_sub(band.first) as usize;
-        let cells = width.saturating_mul(band.keys.len());
-        let grid = Grid {
-            first: band.first,
-            width,
-            signs: vec![in alloc; b' '; cells]?,
-        };
+        let grid = blank(alloc, band)?;
         grids.push(grid)?;
     }
-    Ok(grids)
+    Ok(())
 }
 
 /// Puts how long a row waits into the bands.
@@ -126,86 +132,72 @@ fn put_signs(grids: &mut Vec<Grid>, layout: &Layout, scene: &Scene<'_>) {
     }
 }
 
-/// Adds what the lines are of, the counts of the whole run, and the worst.
+/// Adds what the lines are of, the counts of the whole run, the worst, and what the characters mean.
 fn put_head(text: &mut Vec<u8>, scene: &Scene<'_>) -> io::Result<()> {
-    let (die, slots) = (scene.die, scene.slots);
-    let (from, to) = (scene.window.from, scene.window.to);
-    writeln!(text, "Die {die}, slots {from} to {to} of {slots}")?;
-    let (written, copied, erased) = (scene.tally.written, scene.tally.copied, scene.tally.erased);
-    let in_slots = noun(slots, "slot", "slots");
-    let pages = noun(written, "page", "pages");
-    let blocks = noun(erased, "block", "blocks");
-    writeln!(
-        text,
-        "In all {slots} {in_slots}: {written} {pages} written by jobs, {copied} copied by collections, {erased} {blocks} erased."
-    )?;
-    let Some(worst) = &scene.worst else {
-        return writeln!(text, "Nothing is done.");
-    };
-    let (kind, job, task) = (worst.whose.kind(), worst.whose.job, worst.whose.task);
-    let (start, due, completion, lateness) = (
-        worst.start,
-        worst.due,
-        worst.completion,
-        worst.lateness,
-    );
-    writeln!(
-        text,
-        "Worst: {kind} {job} of task {task}, due {due}, completed {completion}, lateness {lateness}; from slot {start} on each \
-         slot carried work due by {due}."
-    )
-}
-
-/// Adds the slots of a band that end with 0.
-fn put_ruler(alloc: Global, text: &mut Vec<u8>, band: &Band) -> io::Result<()> {
-    put_name(text, b"slot")?;
-    let mut filled = band.first;
-    for slot in band.first..band.end {
-        if slot % 10 != 0 {
-            continue;
-        }
-        for _ in filled..slot {
-            text.push(b' ')?;
-        }
-        let number = slot.to_string(alloc)?;
-        text.write_all(number.as_bytes())?;
-        let width = u32::try_from(number.len()).unwrap_or(0);
-        filled = slot.saturating_add(width);
-    }
+    put_title(text, scene)?;
     text.push(b'\n')?;
-    Ok(())
+    put_counts(text, scene)?;
+    text.push(b'\n')?;
+    put_worst_of(text, scene)?;
+    text.push(b'\n')?;
+    writeln!(text, "{LEGEND}")
 }
 
-/// Adds a name, as wide as all are.
-fn put_name(text: &mut Vec<u8>, name: &[u8]) -> io::Result<()> {
-    text.write_all(name)?;
-    for _ in name.len()..NAMES {
+/// Adds blanks, so that a name which began at this length of the text is as wide as all are.
+fn put_blanks_after(text: &mut Vec<u8>, start: usize) -> io::Result<()> {
+    for _ in text.len().saturating_sub(start)..NAMES {
         text.push(b' ')?;
     }
     Ok(())
 }
 
-/// The name of a lane: of a job, or of a task's jobs or collections.
-fn name_of(alloc: Global, key: u32, layout: &Layout, scene: &Scene<'_>) -> io::Result<Vec<u8>> {
-    let mut name = Vec::new(alloc);
-    if layout.by_task {
-        let (task, what) = (key / 2, if key % 2 == 0 { "jobs" } else { "collections" });
-        write!(name, "task {task}: {what}")?;
-        return Ok(name);
+/// Adds the slots of a band that end with 0, each from its column on.
+fn put_ruler(text: &mut Vec<u8>, band: &Band) -> io::Result<()> {
+    let start = text.len();
+    write!(text, "slot")?;
+    put_blanks_after(text, start)?;
+    let left = text.len();
+    for slot in band.first..band.end {
+        if slot % 10 == 0 {
+            for _ in text.len().saturating_sub(left)..(slot - band.first) as usize {
+                text.push(b' ')?;
+            }
+            write!(text, "{slot}")?;
+        }
     }
+    writeln!(text)
+}
+
+/// Names the lane of a job.
+fn put_job_name(text: &mut Vec<u8>, key: u32, scene: &Scene<'_>) -> io::Result<()> {
     for row in scene.rows {
         if row.whose.job == key {
             let (kind, task, due) = (row.whose.kind(), row.whose.task, row.due);
-            write!(name, "{kind} {key}, task {task}, due {due}")?;
-            break;
+            return write!(text, "{kind} {key}, task {task}, due {due}");
         }
     }
-    Ok(name)
+    Ok(())
+}
+
+/// Names the lane of a task's jobs or collections.
+fn put_task_name(text: &mut Vec<u8>, key: u32) -> io::Result<()> {
+    let (task, what) = (key / 2, if key % 2 == 0 { "jobs" } else { "collections" });
+    write!(text, "task {task}: {what}")
+}
+
+/// Names a lane, as wide as all are.
+fn put_name(text: &mut Vec<u8>, key: u32, layout: &Layout, scene: &Scene<'_>) -> io::Result<()> {
+    let start = text.len();
+    if layout.by_task {
+        put_task_name(text, key)?;
+    } else {
+        put_job_name(text, key, scene)?;
+    }
+    put_blanks_after(text, start)
 }
 
 /// Adds the lines of a band.
 fn put_band(
-    alloc: Global,
     text: &mut Vec<u8>,
     band: &Band,
     grid: &Grid,
@@ -213,10 +205,9 @@ fn put_band(
     scene: &Scene<'_>,
 ) -> io::Result<()> {
     text.push(b'\n')?;
-    put_ruler(alloc, text, band)?;
+    put_ruler(text, band)?;
     for lane in 0..band.keys.len() {
-        let name = name_of(alloc, band.keys[lane], layout, scene)?;
-        put_name(text, name.as_slice())?;
+        put_name(text, band.keys[lane], layout, scene)?;
         text.write_all(grid.lane(lane))?;
         text.push(b'\n')?;
     }
@@ -225,18 +216,42 @@ fn put_band(
 
 /// Adds all lines.
 fn put_lines(
-    alloc: Global,
     text: &mut Vec<u8>,
     grids: &[Grid],
     layout: &Layout,
     scene: &Scene<'_>,
 ) -> io::Result<()> {
     put_head(text, scene)?;
-    writeln!(text, "{LEGEND}")?;
     for (band, grid) in layout.bands.iter().zip(grids) {
-        put_band(alloc, text, band, grid, layout, scene)?;
+        put_band(text, band, grid, layout, scene)?;
     }
     Ok(())
+}
+
+/// The lines of bands. The only refusal is NoMemory.
+fn lines_of(
+    alloc: Global,
+    grids: &[Grid],
+    layout: &Layout,
+    scene: &Scene<'_>,
+) -> Result<Vec<u8>, Refusal>
+    ensures { FailsForMemory result }
+{
+    let mut text = Vec::new(alloc);
+    match put_lines(&mut text, grids, layout, scene) {
+        Ok(()) => Ok(text),
+        Err(_) => Err(Refusal::NoMemory),
+    }
+}
+
+/// The lines, where things stand as the layout says. The only refusal is NoMemory.
+fn lines_in(alloc: Global, layout: &Layout, scene: &Scene<'_>) -> Result<Vec<u8>, Refusal>
+    ensures { FailsForMemory result }
+{
+    let mut grids = Vec::new(alloc);
+    put_blanks(alloc, &mut grids, layout)?;
+    put_signs(&mut grids, layout, scene);
+    lines_of(alloc, grids.as_slice(), layout, scene)
 }
 
 /// Writes what the slots of a window carried as lines for a terminal. The only refusal is NoMemory.
@@ -244,11 +259,5 @@ pub fn lines(alloc: Global, scene: &Scene<'_>) -> Result<Vec<u8>, Refusal>
     ensures { FailsForMemory result }
 {
     let layout = Layout::of(alloc, scene.window, scene.rows, scene.slots, CELL)?;
-    let mut grids = blanks(alloc, &layout)?;
-    put_signs(&mut grids, &layout, scene);
-    let mut text = Vec::new(alloc);
-    match put_lines(alloc, &mut text, grids.as_slice(), &layout, scene) {
-        Ok(()) => Ok(text),
-        Err(_) => Err(Refusal::NoMemory),
-    }
+    lines_in(alloc, &layout, scene)
 }

@@ -7,7 +7,7 @@ use slot_types::{Refusal, SlotReply};
 use std::alloc::Global;
 
 /// A job or a collection: its number, and whose it is.
-#[derive(Clone, Copy, PartialEq, Eq, Debug, Drop)]
+#[derive(Clone, Copy, PartialEq, Eq, Drop)]
 pub struct Whose {
     pub job: u32,
     pub collects: bool,
@@ -22,7 +22,7 @@ impl Whose {
 }
 
 /// What a slot carried.
-#[derive(Clone, Copy, PartialEq, Eq, Debug, Drop)]
+#[derive(Clone, Copy, Drop)]
 pub struct Carried {
     pub slot: u32,
     pub whose: Whose,
@@ -32,7 +32,7 @@ pub struct Carried {
 }
 
 /// A collection that was waived in a slot.
-#[derive(Clone, Copy, PartialEq, Eq, Debug, Drop)]
+#[derive(Clone, Copy, Drop)]
 pub struct Waiver {
     pub slot: u32,
     pub whose: Whose,
@@ -40,7 +40,7 @@ pub struct Waiver {
 }
 
 /// Pages that are spare after a slot, or that a task may still ask to write: its tokens.
-#[derive(Clone, Copy, PartialEq, Eq, Debug, Drop)]
+#[derive(Clone, Copy, Drop)]
 pub struct Level {
     pub slot: u32,
     /// 0 for the spare pages, and for the tokens of a task one more than its number.

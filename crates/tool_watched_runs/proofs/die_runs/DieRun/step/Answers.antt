@@ -10,12 +10,3 @@ invariant_of-self-2 c = record {
       (ap (λ (s : Start). s.plan) c.in_ok-reply.ensures.start_stays)
       c.note.ensures (rw c.deref_mut.ensures.value c.args.self.now.worn);
 }
-
--- the same, where the levels find no memory
-pub invariant_of-self-in-Break-branch-2 : goal.invariant_of-self-in-Break-branch-2
-invariant_of-self-in-Break-branch-2 c = record {
-  worn = worn_after c.deref_mut.result.now.start.plan c.slot.new.self.start.plan c.deref_mut.result.now.log c.slot.new.self.log
-      c.in_ok-reply.reply c.args.self.now.tally c.note.new.self c.in_ok-reply.ensures.ended.logged
-      (ap (λ (s : Start). s.plan) c.in_ok-reply.ensures.start_stays)
-      c.note.ensures (rw c.deref_mut.ensures.value c.args.self.now.worn);
-}

@@ -1,6 +1,6 @@
 use Rattle.std.proofs.Common.{◌≡◌, length}
 use Rattle.tool_watched_runs.specs.Runs.{starts_of}
-use Rattle.tool_watched_runs.proofs.script_runs.run_rows.Given as goal
+use Rattle.tool_watched_runs.proofs.script_runs.read_rows.Given as goal
 
 abbrev pub invariant-loop : goal.invariant-loop
 invariant-loop g l = record {

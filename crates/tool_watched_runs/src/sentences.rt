@@ -1,0 +1,50 @@
+//! What is said of a run above its picture, and above its lines for a terminal.
+
+use crate::pictures::{Scene, Worst};
+use std::io;
+use std::io::Write;
+
+/// A noun, as it stands after a number.
+fn noun(count: u32, one: &'static str, many: &'static str) -> &'static str {
+    if count == 1 { one } else { many }
+}
+
+/// Says which slots of which die are shown.
+pub fn put_title(text: &mut Vec<u8>, scene: &Scene<'_>) -> io::Result<()> {
+    let (die, slots) = (scene.die, scene.slots);
+    let (from, to) = (scene.window.from, scene.window.to);
+    write!(text, "Die {die}, slots {from} to {to} of {slots}")
+}
+
+/// Tells the counts of the whole run.
+pub fn put_counts(text: &mut Vec<u8>, scene: &Scene<'_>) -> io::Result<()> {
+    let slots = scene.slots;
+    let (written, copied, erased) = (scene.tally.written, scene.tally.copied, scene.tally.erased);
+    let in_slots = noun(slots, "slot", "slots");
+    let pages = noun(written, "page", "pages");
+    let blocks = noun(erased, "block", "blocks");
+    write!(
+        text,
+        "In all {slots} {in_slots}: {written} {pages} written by jobs, {copied} copied by collections, {erased} {blocks} erased."
+    )
+}
+
+/// Tells a worst one, and the busy interval of its certificate.
+fn put_worst(text: &mut Vec<u8>, worst: &Worst) -> io::Result<()> {
+    let (kind, job, task) = (worst.whose.kind(), worst.whose.job, worst.whose.task);
+    let (start, due) = (worst.start, worst.due);
+    let (completion, lateness) = (worst.completion, worst.lateness);
+    write!(
+        text,
+        "Worst: {kind} {job} of task {task}, due {due}, completed {completion}, lateness {lateness}; from slot {start} on each \
+         slot carried work due by {due}."
+    )
+}
+
+/// Tells the worst one, if something is done.
+pub fn put_worst_of(text: &mut Vec<u8>, scene: &Scene<'_>) -> io::Result<()> {
+    match &scene.worst {
+        Some(worst) => put_worst(text, worst),
+        None => write!(text, "Nothing is done."),
+    }
+}
