@@ -1,7 +1,7 @@
 -- A checkpoint's text is read in one way, but for memory and its reader.
 use Rattle.std.proofs.Common.{◌≡◌, ◌⊎◌, Result, Ok, Err, Some, refl, sym, ◌∙◌, inl, inr}
 use Rattle.checkpoint_texts.specs.Readings.{Says}
-use Rattle.checkpoint_texts.specs.Refused.{EndsOutside}
+use Rattle.checkpoint_texts.specs.OutsideFaults.{EndsOutside}
 use Rattle.checkpoint_texts.specs.declared.fault.TextFault.{TextFault}
 
 pub one-reading : {X : Type 0} (read one other : Result X TextFault) → Says (Some read) one → Says (Some read) other

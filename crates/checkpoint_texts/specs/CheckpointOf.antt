@@ -5,7 +5,7 @@ use Rattle.text_base.specs.CsvRecords.{Fields, rows_of}
 use Rattle.text_base.specs.Fields.{has_text}
 use Rattle.checkpoint_texts.specs.Gathering.{between, may_end, with_record}
 use Rattle.checkpoint_texts.specs.Readings.{◌>>=◌, broken_field}
-use Rattle.checkpoint_texts.specs.Records.{Says, check_count}
+use Rattle.checkpoint_texts.specs.Records.{OrFault, check_count}
 use Rattle.checkpoint_texts.specs.declared.fault.RecordFault.TheVariants as fault
 use Rattle.checkpoint_texts.specs.declared.fault.TextFault.{TextFault}
 use Rattle.checkpoint_texts.specs.declared.gathered.Gathered.{Gathered}
@@ -31,7 +31,7 @@ dies_from g n (fields ∷ rest) =
     else with_record n g fields >>= (λ more. dies_from more (n + 1) rest)
 
 -- whether a record is the header of a checkpoint, with a version that is read
-abbrev pub header_of : Fields → Says ⊤
+abbrev pub header_of : Fields → OrFault ⊤
 header_of fields =
     if has_text (field_at fields 0) (codes "checkpoint")
     then (if has_text (field_at fields 1) (codes "1") then check_count 1 fields 2 else broken_field 1 2 fault.Version)

@@ -1,8 +1,8 @@
-pub mod Saved
+pub mod SavedDies
 pub mod Readings
 pub mod Records
 pub mod Gathering
 pub mod CheckpointOf
 pub mod CheckpointText
 pub mod WellFormed
-pub mod Refused
+pub mod OutsideFaults

@@ -6,7 +6,7 @@ ghost use Rattle.text_base.specs.Writing.{EndsWriting, HaveOneEnd};
 ghost use Rattle.checkpoint_texts.specs.CheckpointOf.{checkpoint_of};
 ghost use Rattle.checkpoint_texts.specs.CheckpointText.{checkpoint_text};
 ghost use Rattle.checkpoint_texts.specs.Readings.{Says};
-ghost use Rattle.checkpoint_texts.specs.Refused.{EndsOutside};
+ghost use Rattle.checkpoint_texts.specs.OutsideFaults.{EndsOutside};
 ghost use Rattle.checkpoint_texts.specs.WellFormed.{IsStore};
 ghost use Rattle.checkpoint_texts.specs.declared.fault.TextFault.{TextFault};
 ghost use Rattle.checkpoint_texts.specs.declared.saved.SavedDie.{SavedDie};

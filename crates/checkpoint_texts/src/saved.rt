@@ -2,7 +2,7 @@
 
 ghost use Rattle.std.specs.Prelude.{◌≡◌, IfOk};
 ghost use Rattle.slot_types.specs.Refusal.{FailsForMemory};
-ghost use Rattle.checkpoint_texts.specs.Saved.{places_of};
+ghost use Rattle.checkpoint_texts.specs.SavedDies.{places_of};
 
 use die_checkpoint::{BlockCounts, Checkpoint};
 use slot_types::{Items, PageData, Place, Refusal};
@@ -33,7 +33,7 @@ pub struct SavedDie {
 pub type SavedStore = Items<SavedDie>;
 
 impl SavedDie {
-    ghost use Rattle.checkpoint_texts.specs.Saved.{checkpoint_of};
+    ghost use Rattle.checkpoint_texts.specs.SavedDies.{checkpoint_of};
 
     /// What stands on the die but for the bytes of its pages. Refused out of memory alone.
     pub fn checkpoint(&self, alloc: Global) -> Result<Checkpoint, Refusal>

@@ -15,7 +15,7 @@ use Rattle.event_log.specs.declared.deeds.Deed.TheVariants.{Submit, Collect, Idl
 use Rattle.event_log.specs.declared.deeds.Deed.TheVariants.{CopyProgram, EraseSlot, LastEraseSlot}
 use Rattle.event_log.specs.Notes.{Note, is_none}
 use Rattle.event_log.specs.NoteRecords.{alike_deeds, alike_notes, new_records, records}
-use Rattle.event_log.specs.Alike.{waives_none, is_erase, is_quiet, replied_alike, replies_alike, alike, count_if, record_count}
+use Rattle.event_log.specs.RecordCounts.{waives_none, is_erase, is_quiet, replied_alike, replies_alike, alike, count_if, record_count}
 use Rattle.event_log.specs.Entries.{act_reading, act_doing, act_in, act_at, reply_of, entry_of, slots_in, entries_of, reads_before}
 
 -- No operation is an erase

@@ -6,4 +6,4 @@ pub mod Slots
 pub mod SoundLog
 pub mod Entries
 pub mod GrownTable
-pub mod Alike
+pub mod RecordCounts

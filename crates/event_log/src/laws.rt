@@ -12,7 +12,7 @@ ghost use Rattle.event_log.specs.Notes.{Note, Events};
 ghost use Rattle.event_log.specs.NoteRecords.{records, kept_of, ErasesOneBlock};
 ghost use Rattle.event_log.specs.Entries.{entries_of};
 ghost use Rattle.event_log.specs.GrownTable.{AllFit, Grew};
-ghost use Rattle.event_log.specs.Alike.{record_count};
+ghost use Rattle.event_log.specs.RecordCounts.{record_count};
 ghost use Rattle.event_log.specs.Spread.{Spread};
 
 /// As the jobs of a die grow, the entries of the events that were before stay the same.

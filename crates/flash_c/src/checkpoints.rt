@@ -5,7 +5,7 @@ ghost use Rattle.slot_types.specs.Refusal.{FailsForMemory};
 ghost use Rattle.die_log.specs.Model.Flash.{contents};
 ghost use Rattle.die_log.specs.Model.Opening.{renewed_start};
 ghost use Rattle.slot_core.specs.Renewals.{MayBeRenewed};
-ghost use Rattle.slot_core.specs.Resumed.{checkpoint_of};
+ghost use Rattle.slot_core.specs.Resumptions.{checkpoint_of};
 ghost use Rattle.stepped_die.specs.Stepped.{Stepped};
 ghost use Rattle.stepped_die.specs.Names.{GoesOn};
 ghost use Rattle.flash_c.specs.Lists.{array_with};

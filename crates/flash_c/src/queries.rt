@@ -1,7 +1,7 @@
 //! What a die is asked. A question leaves the die as it is.
 
 ghost use Rattle.std.specs.Prelude.{◌≡◌, ◌≢◌, ◌⊎◌, ◌↔◌, None, Some, length, IsSomeAnd};
-ghost use Rattle.event_log.specs.Alike.{record_count};
+ghost use Rattle.event_log.specs.RecordCounts.{record_count};
 ghost use Rattle.die_log.specs.Model.Log.{now, job_at};
 ghost use Rattle.die_log.specs.Model.Rows.{rows, certificate};
 ghost use Rattle.slot_core.specs.Outcomes.{outcome_at, head_at, worst_of};

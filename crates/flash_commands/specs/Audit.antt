@@ -3,7 +3,7 @@ use Rattle.std.specs.Prelude.{ℕ, ◌++◌, not, Bool, false, List, [], ◌∷�
 use Rattle.std.specs.Prelude.{if◌then◌else◌, option_map}
 use Rattle.std.specs.Fmt.{signed_decimal}
 use Rattle.std.specs.List.{list_any}
-use Rattle.late_cert.specs.Check.{verdict_of}
+use Rattle.late_cert.specs.Build.{verdict_on}
 use Rattle.late_cert.specs.Schedule.{lateness_of}
 use Rattle.late_cert.specs.Verdict.{fault_number, is_holds, name_of}
 use Rattle.late_cert.specs.declared.certificates.Certificate.{Certificate}
@@ -12,10 +12,6 @@ use Rattle.late_cert.specs.declared.verdicts.Verdict.{Verdict}
 use Rattle.report_texts.specs.ReportWork.{work_of}
 use Rattle.report_texts.specs.declared.report_work.DieWork.{DieWork}
 use Rattle.report_texts.specs.declared.reports.DieReport.{DieReport}
-
--- the verdict on a certificate, by the rows that its die has in the report
-abbrev pub verdict_on : List JobRow → Certificate → Verdict
-verdict_on rows cert = verdict_of rows cert.start cert.due cert.completion cert.jobs
 
 -- the verdict on the certificate of a die's work, if it has one
 abbrev pub verdict_in : DieWork → Option Verdict

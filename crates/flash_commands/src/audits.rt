@@ -6,7 +6,7 @@ ghost use Rattle.std.specs.List.{list_any};
 ghost use Rattle.slot_types.specs.Refusal.{FailsForMemory};
 ghost use Rattle.late_cert.specs.Rows.{RowsRise};
 ghost use Rattle.report_texts.specs.ReportWork.{AllRise};
-ghost use Rattle.flash_commands.specs.Audit.{cert_line, is_refused_work, refuses, verdict_in, verdict_on, verdict_text, work_line, worst_text};
+ghost use Rattle.flash_commands.specs.Audit.{cert_line, is_refused_work, refuses, verdict_in, verdict_text, work_line, worst_text};
 
 use late_cert::{Certificate, Verdict, check, lateness};
 use report_texts::{DieWork, ReportWork};

@@ -2,6 +2,7 @@
 use Rattle.std.proofs.Common.{◌≡◌, ◌≢◌, ℕ, suc, ◌<◌, true, false, List, [], ◌∷◌, ◌++◌, length, get_or, sum_by, Option, Some, None, IsSome}
 use Rattle.std.proofs.Common.{refl, sym, ap, ◌∙◌, subst, arith, ◌⊎◌, inl, inr}
 use Rattle.std.specs.Prelude.{position, unwrap_or}
+use Rattle.std.specs.Option.{option_or}
 use Rattle.std.proofs.lemmas.Bool.{cases_eq, cases_lt}
 use Rattle.std.proofs.lemmas.List.{get_or-set_same, get_or-set_other, length-set, length-map, get_or_past, get_or-map, get_or_append_left}
 use Rattle.std.proofs.lemmas.List.{length_push}
@@ -16,7 +17,7 @@ use Rattle.victim_pick.specs.Candidates.{Candidates}
 use Rattle.page_map.specs.Placing.{Placing, IsCell}
 use Rattle.page_map.proofs.Owners.{fails_where_none, no_owner}
 use Rattle.flash_die.specs.Flash.{Block, blank, free_block, block_at, cell_at, IsProgrammed, IsNextCell, blocks_after_program}
-use Rattle.flash_volume.specs.Cells.{filled_of, fills_of, erases_in, is_open_with, is_wholly_free, first_of, opened_in, open_in, next_cell}
+use Rattle.flash_volume.specs.Cells.{filled_of, fills_of, erases_in, is_open_with, is_wholly_free, opened_in, open_in, next_cell}
 use Rattle.flash_volume.specs.Cells.{free_in, free_cells}
 use Rattle.flash_volume.specs.Array.{IsSoundState}
 
@@ -75,7 +76,7 @@ pub opened_none : (pages : ℕ) (fills : List ℕ) → ((k : ℕ) → 0 < get_or
 opened_none pages fills none = opened_none_by pages fills (position (is_open_with pages) fills) refl none
 
 open_cases : (pages : ℕ) (fills : List ℕ) (block : ℕ) (p : Option ℕ) → position (is_open_with pages) fills ≡ p
-    → first_of p (position is_wholly_free fills) ≡ Some block → (position (is_open_with pages) fills ≡ Some block)
+    → option_or p (position is_wholly_free fills) ≡ Some block → (position (is_open_with pages) fills ≡ Some block)
     ⊎ ((position (is_open_with pages) fills ≡ None) × (position is_wholly_free fills ≡ Some block))
 open_cases pages fills block None e is = inr (e, is)
 open_cases pages fills block (Some k) e is = inl (e ∙ is)
@@ -100,7 +101,7 @@ sum_none f [] none = refl
 sum_none f (x ∷ xs) none = omega (arith, sum_by-cons f x xs, none 0 (omega arith), sum_none f xs (λ i h. none (suc i) (omega (arith, h))))
 
 open_none : (pages : ℕ) (fills : List ℕ) (p : Option ℕ) → position (is_open_with pages) fills ≡ p
-    → first_of p (position is_wholly_free fills) ≡ None → (position (is_open_with pages) fills ≡ None)
+    → option_or p (position is_wholly_free fills) ≡ None → (position (is_open_with pages) fills ≡ None)
     × (position is_wholly_free fills ≡ None)
 open_none pages fills None e is = (e, is)
 open_none pages fills (Some k) e is = cc

@@ -1,6 +1,7 @@
 -- What the cells of a device mean to an array of pages that is kept on it.
 use Rattle.std.specs.Prelude.{◌==◌, ℕ, ◌-◌, ◌&&◌, nat_lt, Bool, if◌then◌else◌, List, length, map, sum_by, position, Option, Some, None}
 use Rattle.std.specs.Prelude.{unwrap_or}
+use Rattle.std.specs.Option.{option_or}
 use Rattle.slot_types.specs.declared.pages.Place.{Place}
 use Rattle.slot_types.specs.declared.pages.PageData.{PageData}
 use Rattle.flash_die.specs.Flash.{Block, blank, block_at, cell_at}
@@ -23,17 +24,13 @@ is_open_with pages filled = nat_lt 0 filled && nat_lt filled pages
 abbrev pub is_wholly_free : ℕ → Bool
 is_wholly_free filled = filled == 0
 
-abbrev pub first_of : Option ℕ → Option ℕ → Option ℕ
-first_of None other = other
-first_of (Some block) other = Some block
-
 -- the open block
 abbrev pub opened_in : ℕ → List Block → Option ℕ
 opened_in pages blocks = position (is_open_with pages) (fills_of blocks)
 
 -- the block to which pages are programmed: the open one, or else the first that is wholly free
 abbrev pub open_in : ℕ → List Block → Option ℕ
-open_in pages blocks = first_of (opened_in pages blocks) (position is_wholly_free (fills_of blocks))
+open_in pages blocks = option_or (opened_in pages blocks) (position is_wholly_free (fills_of blocks))
 
 -- the block stays open until its last cell is programmed
 abbrev pub left_open : ℕ → ℕ → ℕ → Option ℕ

@@ -3,7 +3,7 @@
 
 mod whole_files;
 
-ghost use Rattle.tool_command_words.specs.Asked.{RequestFits};
+ghost use Rattle.tool_command_words.specs.RequestTexts.{RequestFits};
 
 use flash_commands::{Heard, Shown, WatchedDisk, end, own_words, report_more, show};
 use std::alloc::Global;

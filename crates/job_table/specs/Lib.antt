@@ -1,5 +1,5 @@
 pub mod Jobs
-pub mod Counted
+pub mod OpCounts
 pub mod Flat
 pub mod Table
 pub mod Waivers

@@ -19,7 +19,7 @@ pub struct CountedOps<'a> {
 impl<'a> Model for CountedOps<'a> {
     ghost use Rattle.std.specs.Prelude.{List};
     ghost use Rattle.slot_types.specs.declared.events.Op.{Op};
-    ghost use Rattle.job_table.specs.Counted.{AreCounted};
+    ghost use Rattle.job_table.specs.OpCounts.{AreCounted};
 
     ghost Value = { List Op };
 

@@ -1,7 +1,7 @@
 -- A report's text is read in one way, but for memory and its reader.
 use Rattle.std.proofs.Common.{◌≡◌, ◌⊎◌, List, Result, Ok, Err, Some, refl, sym, ap, ◌∙◌, inl, inr}
 use Rattle.slot_types.specs.declared.refusals.Refusal.{Refusal}
-use Rattle.report_texts.specs.Refused.{EndsOutside}
+use Rattle.report_texts.specs.OutsideFaults.{EndsOutside}
 use Rattle.report_texts.specs.ReportOf.{Reading, Says}
 use Rattle.report_texts.specs.ReportWork.{SaysWork, works_of}
 use Rattle.report_texts.specs.declared.report_work.DieWork.{DieWork}

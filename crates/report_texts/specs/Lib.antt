@@ -13,4 +13,4 @@ pub mod Numbering
 pub mod ReportWork
 pub mod KeptDies
 pub mod WellFormed
-pub mod Refused
+pub mod OutsideFaults

@@ -3,7 +3,7 @@
 ghost use Rattle.std.specs.Prelude.{◌≡◌, ◌⊎◌, ℕ, List, Ok, Result, Some};
 ghost use Rattle.slot_types.specs.declared.refusals.Refusal.{Refusal as Refused};
 ghost use Rattle.text_base.specs.Writing.{EndsWriting, HaveOneEnd};
-ghost use Rattle.report_texts.specs.Refused.{EndsOutside};
+ghost use Rattle.report_texts.specs.OutsideFaults.{EndsOutside};
 ghost use Rattle.report_texts.specs.ReportOf.{Reading, Says, report_of};
 ghost use Rattle.report_texts.specs.ReportText.{report_text};
 ghost use Rattle.report_texts.specs.WellFormed.{IsReport};

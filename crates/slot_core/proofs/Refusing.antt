@@ -30,7 +30,7 @@ use Rattle.die_checkpoint.specs.Fits.{Fits}
 use Rattle.die_checkpoint.proofs.Excluding.{fault_breaks}
 use Rattle.die_checkpoint.proofs.OneFault.{one_fault}
 use Rattle.slot_core.specs.Renewals.{is_coming, is_released_before, IsReleasedNext, IsNextCarried, IsFirstWorn, most_erases, MayBeRenewed, RefusesRenewal}
-use Rattle.slot_core.specs.Resumed.{RefusesCheckpoint, RefusesResume, no_memory}
+use Rattle.slot_core.specs.Resumptions.{RefusesCheckpoint, RefusesResume, no_memory}
 
 -- Work that is left
 

@@ -34,7 +34,7 @@ use Rattle.die_log.specs.Model.Log.{Log, Job}
 use Rattle.die_log.proofs.Renewal.{renewed_opens}
 use Rattle.slot_core.specs.Device.{flash_of, IsFlashOf, counts_of}
 use Rattle.slot_core.specs.Agreement.{AgreeWithLog}
-use Rattle.slot_core.specs.Resumed.{counts_in, idle_block, checkpoint_of, start_with, resumed_start}
+use Rattle.slot_core.specs.Resumptions.{counts_in, idle_block, checkpoint_of, start_with, resumed_start}
 
 -- Blocks
 

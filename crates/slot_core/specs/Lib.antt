@@ -6,7 +6,7 @@ pub mod TableLog
 pub mod ReservedSlots
 pub mod MarkedWorst
 pub mod Renewals
-pub mod Resumed
+pub mod Resumptions
 pub mod WithinSlot
 pub mod OpEffects
 pub mod Needs

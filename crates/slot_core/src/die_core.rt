@@ -6,7 +6,7 @@ ghost use Rattle.slot_types.specs.Refusal.{FailsForMemory};
 ghost use Rattle.slot_types.specs.Shapes.{IsShape};
 ghost use Rattle.plan_rules.specs.Bound.{MeetsBound};
 ghost use Rattle.flash_die.specs.Flash.{IsFresh};
-ghost use Rattle.event_log.specs.Alike.{record_count};
+ghost use Rattle.event_log.specs.RecordCounts.{record_count};
 ghost use Rattle.die_log.specs.Model.Log.{now};
 ghost use Rattle.die_log.specs.Model.Start.{fresh};
 

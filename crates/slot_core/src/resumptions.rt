@@ -6,7 +6,7 @@ ghost use Rattle.flash_volume.specs.Checkpoints.{IsAsLeft};
 ghost use Rattle.die_log.specs.Model.Start.{Start};
 ghost use Rattle.die_log.specs.Model.Opening.{renewed_start};
 ghost use Rattle.slot_core.specs.Renewals.{MayBeRenewed};
-ghost use Rattle.slot_core.specs.Resumed.{checkpoint_of, resumed_start, RefusesCheckpoint, RefusesResume};
+ghost use Rattle.slot_core.specs.Resumptions.{checkpoint_of, resumed_start, RefusesCheckpoint, RefusesResume};
 
 use crate::die_core::DieCore;
 use crate::renewals::RenewalRefusal;

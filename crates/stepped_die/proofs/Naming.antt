@@ -27,7 +27,7 @@ use Rattle.die_log.specs.Model.Start.{Start}
 use Rattle.die_log.specs.Model.Log.{Log}
 use Rattle.die_log.specs.Model.Flash as model
 use Rattle.die_log.specs.Model.Opening.{renewed_start}
-use Rattle.slot_core.specs.Resumed.{start_with, resumed_start}
+use Rattle.slot_core.specs.Resumptions.{start_with, resumed_start}
 use Rattle.stepped_die.specs.declared.mirror.MirrorNand.{MirrorNand}
 use Rattle.stepped_die.specs.Names.{name_of, named_by, page_named, pages_named, name_in, names_in, block_left, memory_left}
 

@@ -10,7 +10,7 @@ use Rattle.flash_die.specs.Flash.{Block, blank}
 use Rattle.flash_die.specs.Memory.{Memory}
 use Rattle.die_checkpoint.specs.declared.checkpoint.Checkpoint.{Checkpoint}
 use Rattle.die_checkpoint.specs.Counts.{counts_at}
-use Rattle.slot_core.specs.Resumed.{start_with, RefusesCheckpoint}
+use Rattle.slot_core.specs.Resumptions.{start_with, RefusesCheckpoint}
 use Rattle.stepped_die.specs.declared.refusals.StepCheckpointRefusal.{StepCheckpointRefusal}
 use Rattle.stepped_die.specs.declared.refusals.StepCheckpointRefusal.TheVariants as steps
 use Rattle.stepped_die.specs.Stepped.{Stepped}

@@ -8,7 +8,7 @@ ghost use Rattle.flash_volume.specs.Cells as volume;
 ghost use Rattle.die_log.specs.Model.Flash.{contents};
 ghost use Rattle.die_log.specs.Model.Opening.{renewed_start};
 ghost use Rattle.slot_core.specs.Renewals.{MayBeRenewed};
-ghost use Rattle.slot_core.specs.Resumed.{checkpoint_of, start_with};
+ghost use Rattle.slot_core.specs.Resumptions.{checkpoint_of, start_with};
 ghost use Rattle.stepped_die.specs.Names.{GoesOn, RefusesNames, pages_named};
 
 use crate::die::SteppedDie;

@@ -1,5 +1,5 @@
 -- What comes of a script on the dies of a store.
-use Rattle.std.specs.Prelude.{◌≡◌, ◌==◌, ◌⊎◌, ⊤, ℕ, ◌<◌, ◌+◌, if◌then◌else◌, List, [], ◌∷◌, flat_map, length, Option}
+use Rattle.std.specs.Prelude.{◌≡◌, ◌==◌, ⊤, ℕ, ◌<◌, ◌+◌, if◌then◌else◌, List, [], ◌∷◌, flat_map, length, Option}
 use Rattle.std.specs.Io.KnownBytes.{Appends}
 use Rattle.slot_types.specs.declared.plans.DiePlan.{DiePlan}
 use Rattle.script_texts.specs.AskedPages.{RowsHavePages}

@@ -129,7 +129,7 @@ const STOPS: &[Step] = &[
 ];
 
 // What comes behind the first, which is dropped. Of any type: a die that is moved is dear to prove.
-fn behind_first<T: Drop>(items: Vec<T>) -> Vec<T> {
+fn after_first<T: Drop>(items: Vec<T>) -> Vec<T> {
     let mut items = items;
     if !items.is_empty() {
         let _first = items.remove(0);
@@ -147,7 +147,7 @@ fn left_of<N: Nand, R: Abort>(rt: &R, dies: Vec<DieCore<N>>) -> Vec<DieCore<N>> 
         }
     };
     assert_eq!(rt; left.len(), 2);
-    behind_first(left)
+    after_first(left)
 }
 
 // Plays a table on the die of a store that is made of this one.

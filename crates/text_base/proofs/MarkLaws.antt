@@ -17,7 +17,7 @@ use Rattle.csv.specs.declared.parser.State.{State}
 use Rattle.csv.specs.declared.parser.State.TheVariants as st
 use Rattle.csv.specs.declared.parser.Terminator.TheVariants as term
 use Rattle.csv.proofs.ReadFacts.{prepend-nil}
-use Rattle.text_base.specs.Bounded.{text_left}
+use Rattle.text_base.specs.BoundedReaders.{text_left}
 use Rattle.text_base.specs.declared.bounded.Bounded.{Bounded}
 use Rattle.text_base.specs.Marks.{is_marked, is_within, last_of, with_mark, without_mark}
 use Rattle.text_base.specs.CsvRecords.{Fields}

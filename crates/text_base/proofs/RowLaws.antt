@@ -10,7 +10,7 @@ use Rattle.csv.specs.declared.parser.State.{State}
 use Rattle.csv.specs.declared.parser.State.TheVariants as st
 use Rattle.csv.specs.declared.reader.Reader.{Reader}
 use Rattle.csv.proofs.ReadFacts.{rows-more, rows-end}
-use Rattle.text_base.specs.Bounded.{bounded_remaining}
+use Rattle.text_base.specs.BoundedReaders.{bounded_remaining}
 use Rattle.text_base.specs.Marks.{is_marked, is_within, with_mark}
 use Rattle.text_base.specs.CsvRecords.{Fields, rows_from, rows_of, TakesRow}
 use Rattle.text_base.specs.CsvRecordsLeft.{KeepsFit, fits_left, is_between, marked_left, rows_left}

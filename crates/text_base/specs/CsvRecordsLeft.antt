@@ -4,7 +4,7 @@ use Rattle.csv.specs.Reading.{reader_state, source_of}
 use Rattle.csv.specs.declared.parser.State.{State}
 use Rattle.csv.specs.declared.parser.State.TheVariants as st
 use Rattle.csv.specs.declared.reader.Reader.{Reader}
-use Rattle.text_base.specs.Bounded.{bounded_remaining}
+use Rattle.text_base.specs.BoundedReaders.{bounded_remaining}
 use Rattle.text_base.specs.Marks.{is_marked, without_mark}
 use Rattle.text_base.specs.CsvRecords.{Fields, rows_from}
 use Rattle.text_base.specs.declared.bounded.Bounded.{Bounded}

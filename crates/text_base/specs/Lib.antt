@@ -6,7 +6,7 @@ pub mod Pages
 pub mod PageStarts
 pub mod Ops
 pub mod Marks
-pub mod Bounded
+pub mod BoundedReaders
 pub mod Plain
 pub mod CsvRecords
 pub mod CsvRecordsLeft

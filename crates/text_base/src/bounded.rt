@@ -3,7 +3,7 @@
 ghost use Rattle.std.specs.Prelude.{◌≡◌, ◌<◌, ◌^◌, option_map};
 ghost use Rattle.std.specs.Io.{ReadsAtMost};
 ghost use Rattle.std.specs.Io.KnownBytes.{ReadConsumes};
-ghost use Rattle.text_base.specs.Bounded.{bounded_remaining};
+ghost use Rattle.text_base.specs.BoundedReaders.{bounded_remaining};
 ghost use Rattle.text_base.specs.Marks.{with_mark};
 
 use crate::calls::read_again;

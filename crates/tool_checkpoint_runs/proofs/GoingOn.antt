@@ -3,7 +3,7 @@ use Rattle.std.proofs.Common.{◌≡◌, List, [], ◌∷◌, ◌++◌, append_a
 use Rattle.slot_types.specs.declared.pages.PageData.{PageData}
 use Rattle.slot_types.specs.declared.pages.Place.{Place}
 use Rattle.slot_types.specs.declared.plans.DiePlan.{DiePlan}
-use Rattle.checkpoint_texts.specs.Saved.{checkpoint_of, places_of}
+use Rattle.checkpoint_texts.specs.SavedDies.{checkpoint_of, places_of}
 use Rattle.checkpoint_texts.specs.declared.saved.SavedDie.{SavedDie}
 use Rattle.checkpoint_texts.specs.declared.saved.SavedPage.{SavedPage}
 use Rattle.die_checkpoint.specs.Fits.{Fits}
@@ -13,8 +13,8 @@ use Rattle.flash_die.specs.Flash.{Block}
 use Rattle.flash_die.specs.Memory.{Memory}
 use Rattle.flash_volume.specs.Cells.{content_at, contents}
 use Rattle.slot_core.specs.Core.{Core}
-use Rattle.slot_core.specs.Resumed as slots
-use Rattle.slot_core.specs.Resumed.{resumed_start, start_with}
+use Rattle.slot_core.specs.Resumptions as slots
+use Rattle.slot_core.specs.Resumptions.{resumed_start, start_with}
 use Rattle.tool_checkpoint_runs.specs.SavedDies.{held_by, saved_by, saved_end, saved_page, saved_start}
 
 saved_places : (blocks : List Block) (places : List (Option Place)) → places_of (map (saved_page blocks) places) ≡ places

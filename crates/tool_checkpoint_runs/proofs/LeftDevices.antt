@@ -11,7 +11,7 @@ use Rattle.slot_types.specs.declared.pages.Place.{Place}
 use Rattle.slot_types.specs.declared.plans.DiePlan.{DiePlan}
 use Rattle.slot_types.specs.declared.plans.Shape.{Shape}
 use Rattle.slot_types.specs.declared.refusals.Refusal.{Refusal}
-use Rattle.checkpoint_texts.specs.Saved.{checkpoint_of, places_of}
+use Rattle.checkpoint_texts.specs.SavedDies.{checkpoint_of, places_of}
 use Rattle.checkpoint_texts.specs.declared.saved.SavedDie.{SavedDie}
 use Rattle.checkpoint_texts.specs.declared.saved.SavedPage.{SavedPage}
 use Rattle.die_checkpoint.specs.Counts.{counts_at, no_counts}

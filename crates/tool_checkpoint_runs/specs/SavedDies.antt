@@ -3,7 +3,7 @@ use Rattle.std.specs.Prelude.{◌≡◌, ◌&&◌, ℕ, Bool, List, [], ◌∷�
 use Rattle.slot_types.specs.declared.pages.PageData.{PageData}
 use Rattle.slot_types.specs.declared.pages.Place.{Place}
 use Rattle.slot_types.specs.declared.plans.DiePlan.{DiePlan}
-use Rattle.checkpoint_texts.specs.Saved.{checkpoint_of}
+use Rattle.checkpoint_texts.specs.SavedDies.{checkpoint_of}
 use Rattle.checkpoint_texts.specs.declared.saved.SavedDie.{SavedDie}
 use Rattle.checkpoint_texts.specs.declared.saved.SavedPage.{SavedPage}
 use Rattle.die_checkpoint.specs.declared.checkpoint.Checkpoint.{Checkpoint}
@@ -12,7 +12,7 @@ use Rattle.die_log.specs.Model.Start.{Start}
 use Rattle.flash_die.specs.Flash.{Block, blank, cell_at}
 use Rattle.flash_die.specs.Memory.{Memory}
 use Rattle.slot_core.specs.Core.{Core}
-use Rattle.slot_core.specs.Resumed as slots
+use Rattle.slot_core.specs.Resumptions as slots
 
 -- what a page holds that was saved: the bytes that were kept of its cell, blank where it lies nowhere
 abbrev pub held_in : Option Place → Option PageData → PageData

@@ -3,7 +3,7 @@
 ghost use Rattle.std.specs.Prelude.{◌≡◌, ◌*◌, All, IfOk, length, map};
 ghost use Rattle.slot_types.specs.Refusal.{FailsForMemory};
 ghost use Rattle.slot_types.specs.Shapes.{IsShape};
-ghost use Rattle.checkpoint_texts.specs.Saved.{checkpoint_of};
+ghost use Rattle.checkpoint_texts.specs.SavedDies.{checkpoint_of};
 ghost use Rattle.die_checkpoint.specs.Fits.{Fits};
 ghost use Rattle.flash_volume.specs.Cells.{contents};
 ghost use Rattle.flash_volume.specs.Checkpoints.{IsAsLeft};

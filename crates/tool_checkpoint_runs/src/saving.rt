@@ -2,10 +2,10 @@
 
 ghost use Rattle.std.specs.Prelude.{◌≡◌, ◌≤◌, IfErr, IfOk, length, map};
 ghost use Rattle.slot_types.specs.Refusal.{FailsForMemory};
-ghost use Rattle.checkpoint_texts.specs.Saved.{checkpoint_of};
+ghost use Rattle.checkpoint_texts.specs.SavedDies.{checkpoint_of};
 ghost use Rattle.die_checkpoint.specs.Fits.{Fits};
 ghost use Rattle.die_log.specs.Model.Opening.{renewed_start};
-ghost use Rattle.slot_core.specs.Resumed.{RefusesCheckpoint};
+ghost use Rattle.slot_core.specs.Resumptions.{RefusesCheckpoint};
 ghost use Rattle.tool_checkpoint_runs.specs.SavedDies.{saved_by, saved_end, saved_page, saved_start};
 
 use crate::dies::StoreDies;

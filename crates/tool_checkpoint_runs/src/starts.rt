@@ -3,7 +3,7 @@
 ghost use Rattle.std.specs.Prelude.{◌≡◌, ◌≤◌, All, IfOk, IfNone, OnOk, length, map, position};
 ghost use Rattle.slot_types.specs.Refusal.{FailsForMemory};
 ghost use Rattle.plan_rules.specs.Bound.{MeetsBound};
-ghost use Rattle.checkpoint_texts.specs.Saved.{checkpoint_of};
+ghost use Rattle.checkpoint_texts.specs.SavedDies.{checkpoint_of};
 ghost use Rattle.die_checkpoint.specs.Fits.{Fits};
 ghost use Rattle.die_log.specs.Model.Start.{fresh};
 ghost use Rattle.tool_checkpoint_runs.specs.Runs.{starts_of};

@@ -2,7 +2,7 @@
 use Rattle.std.specs.Prelude.{ℕ, ◌&&◌, ◌||◌, List, codes, Option, Some, None, is_some, option_map, if◌then◌else◌}
 use Rattle.std.specs.Str.{bytes_eq}
 use Rattle.clap.specs.Words.{Row, Text, all_of, first_of}
-use Rattle.tool_command_words.specs.Asked.{CommandText, Explain, Fit, Arrivals, Keeps, Wear, Report, Draw, Compare, Run, RequestText, One, Listed}
+use Rattle.tool_command_words.specs.RequestTexts.{CommandText, Explain, Fit, Arrivals, Keeps, Wear, Report, Draw, Compare, Run, RequestText, One, Listed}
 use Rattle.tool_command_words.specs.Values.{◌>>=◌, fail_of, number_upto}
 use Rattle.tool_command_words.specs.declared.asked.ListCommand.{ListCommand}
 use Rattle.tool_command_words.specs.declared.asked.ListCommand.TheVariants as listed

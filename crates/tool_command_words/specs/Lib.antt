@@ -1,5 +1,5 @@
 pub mod Syntax
-pub mod Asked
+pub mod RequestTexts
 pub mod Values
 pub mod Commands
 pub mod Reading

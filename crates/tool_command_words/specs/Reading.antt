@@ -5,7 +5,7 @@ use Rattle.clap.specs.Words.{Row, Text, first_of, subcommand_of}
 use Rattle.clap.specs.Kinds.{Kinds, or_else}
 use Rattle.clap.specs.Faults.{fault_of}
 use Rattle.clap.specs.declared.error.kind.ErrorKind.TheVariants.{ValueValidation}
-use Rattle.tool_command_words.specs.Asked.{RequestText}
+use Rattle.tool_command_words.specs.RequestTexts.{RequestText}
 use Rattle.tool_command_words.specs.Commands.{request_named}
 use Rattle.tool_command_words.specs.Syntax.{flashplan_app}
 use Rattle.tool_command_words.specs.Values.{◌>>=◌}

@@ -2,7 +2,7 @@
 
 ghost use Rattle.std.specs.Prelude.{◌≡◌, ◌≤◌, ℕ, IfOk, IfSome, Option, option_and_then, option_map};
 ghost use Rattle.clap.specs.Words.{Text, found_of, rows_of};
-ghost use Rattle.tool_command_words.specs.Asked.{CommandText, FitsRun, RequestFits, text_of_command, text_of_request};
+ghost use Rattle.tool_command_words.specs.RequestTexts.{CommandText, FitsRun, RequestFits, text_of_command, text_of_request};
 ghost use Rattle.tool_command_words.specs.Commands.{arrivals_of, audit_of, command_named, compare_of, draw_of, explain_of, fit_of, import_in, import_of};
 ghost use Rattle.tool_command_words.specs.Commands.{keeps_of, on_script, report_of, request_named, run_of, wear_of};
 

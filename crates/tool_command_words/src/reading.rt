@@ -4,7 +4,7 @@ ghost use Rattle.std.specs.Prelude.{◌≡◌, IfOk, IfSome, Some, map, option_m
 ghost use Rattle.clap.specs.Words.{app_of, found_of, rows_of, subcommand_rows_of};
 ghost use Rattle.clap.specs.Kinds.{FailsBy};
 ghost use Rattle.clap.specs.Faults.{fault_of};
-ghost use Rattle.tool_command_words.specs.Asked.{RequestFits, text_of_asked, text_of_request};
+ghost use Rattle.tool_command_words.specs.RequestTexts.{RequestFits, text_of_asked, text_of_request};
 ghost use Rattle.tool_command_words.specs.Reading.{asked_by, command_asked, command_asked_by, words_fault};
 ghost use Rattle.tool_command_words.specs.Syntax.{flashplan_app};
 

@@ -1,6 +1,6 @@
 //! Commands that are carried out.
 
-ghost use Rattle.tool_command_words.specs.Asked.{FitsRun};
+ghost use Rattle.tool_command_words.specs.RequestTexts.{FitsRun};
 ghost use Rattle.tool_commands.specs.Acts.{EndsSo};
 
 use crate::arriving::act_arrivals;

@@ -1,7 +1,7 @@
 //! Requests that are carried out on the files that they name.
 
 ghost use Rattle.std.specs.Prelude.{◌≡◌, IfErr, IfOk};
-ghost use Rattle.tool_command_words.specs.Asked.{FitsRun, RequestFits, name_of};
+ghost use Rattle.tool_command_words.specs.RequestTexts.{FitsRun, RequestFits, name_of};
 ghost use Rattle.tool_commands.specs.Files.{EndsOnFiles, IsOpened, plan_name, script_name};
 
 use crate::acts::act;

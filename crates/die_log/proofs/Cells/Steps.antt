@@ -2,6 +2,7 @@
 use Rattle.std.proofs.Common.{◌≡◌, ◌≢◌, ◌⊎◌, ℕ, zero, suc, ◌+◌, ◌-◌, ◌<◌, ◌≤◌, ◌==◌, nat_lt, Bool, true, false, cond, List, [], ◌∷◌, Option}
 use Rattle.std.proofs.Common.{Some, None, refl, ap, sym, ◌∙◌, subst, inl, inr, arith, length, get_or, slice_set, length-set, replicate}
 use Rattle.std.specs.List.{position, position_or_len, sum_by}
+use Rattle.std.specs.Option.{option_or}
 use Rattle.std.proofs.lemmas.List.Sums.{fails_before_first, sum_by-cons}
 use Rattle.std.proofs.lemmas.List.{length-replicate, get_or-set_same, get_or-set_other, get_or_past}
 use Rattle.std.proofs.lemmas.List.Quantifiers.{position-Some}
@@ -13,7 +14,7 @@ use Rattle.slot_types.specs.declared.plans.DiePlan.{DiePlan}
 use Rattle.slot_types.specs.declared.acts.Act.{Act}
 use Rattle.slot_types.specs.declared.acts.Act.TheVariants as does
 use Rattle.slot_types.specs.declared.pages.Place.{Place}
-use Rattle.die_log.specs.Model.Flash.{Cells, Block, free_block, block_at, is_open, first_of, open_block, cells_after_program_in, cells_after_program, free_in}
+use Rattle.die_log.specs.Model.Flash.{Cells, Block, free_block, block_at, is_open, open_block, cells_after_program_in, cells_after_program, free_in}
 use Rattle.die_log.specs.Model.Flash.{block_after_erase_slot, cells_after, fresh_cells}
 use Rattle.die_log.specs.Invariants.SoundCells.{IsOpen, IsClosed, IsUnplaced, AreSoundCells, IsProgram, IsTrim, IsEraseSlot, TakesNext, IsCellStep, HasFreePage}
 use Rattle.die_log.proofs.Cells.Acts.{program_sound, trim_sound, erase_sound}
@@ -103,7 +104,7 @@ opened_found plan c a h e =
 
 open_by : (plan : DiePlan) (c : Cells) (b : ℕ) (o f : Option ℕ) → 0 < plan.shape.pages → AreSoundCells plan c → position (is_open plan) c.blocks
     ≡ o → position (λ s. s.filled == 0) c.blocks ≡ f
-    → first_of o f ≡ Some b → TakesNext plan c b
+    → option_or o f ≡ Some b → TakesNext plan c b
 open_by plan c b (Some a) f more s e g h =
     let is : a ≡ b = same_Some a b h in
     let k = position-Some (is_open plan) c.blocks b free_block (e ∙ h) in
@@ -137,7 +138,7 @@ has_room plan s h = by_test (s.erasing == 0) h
     by_test false k = absurd (omega arith)
 
 open_from : (plan : DiePlan) (c : Cells) (a : ℕ) → a < length c.blocks → (block_at c a).filled < plan.shape.pages → (o f : Option ℕ)
-    → position (is_open plan) c.blocks ≡ o → position (λ s. s.filled == 0) c.blocks ≡ f → (b : ℕ) × (first_of o f ≡ Some b)
+    → position (is_open plan) c.blocks ≡ o → position (λ s. s.filled == 0) c.blocks ≡ f → (b : ℕ) × (option_or o f ≡ Some b)
 open_from plan c a lt room (Some b) f e g = (b, refl)
 open_from plan c a lt room None (Some b) e g = (b, refl)
 open_from plan c a lt room None None e g =

@@ -2,6 +2,7 @@
 use Rattle.std.specs.Prelude.{ℕ, ◌+◌, ◌-◌, ◌&&◌, ◌==◌, nat_lt, Bool, if◌then◌else◌, List, [], ◌∷◌, Option, Some, None}
 use Rattle.std.specs.Prelude.{slice_index_or, slice_set, position, count_by, sum_by, option_map}
 use Rattle.std.specs.List.{filter_map, range_with_len}
+use Rattle.std.specs.Option.{option_or}
 use Rattle.slot_types.specs.declared.plans.DiePlan.{DiePlan}
 use Rattle.slot_types.specs.declared.pages.PageData.{PageData}
 use Rattle.slot_types.specs.Places.{is_in, place_of, owner_of}
@@ -45,13 +46,9 @@ is_closed plan s = s.filled == plan.shape.pages
 abbrev pub is_open : DiePlan → Block → Bool
 is_open plan s = nat_lt 0 s.filled && nat_lt s.filled plan.shape.pages
 
-abbrev pub first_of : Option ℕ → Option ℕ → Option ℕ
-first_of None other = other
-first_of (Some b) other = Some b
-
 -- the block of the next program: the open one, or else the first that is wholly free
 abbrev pub open_block : DiePlan → Cells → Option ℕ
-open_block plan c = first_of (position (is_open plan) c.blocks) (position (λ s. s.filled == 0) c.blocks)
+open_block plan c = option_or (position (is_open plan) c.blocks) (position (λ s. s.filled == 0) c.blocks)
 
 -- the next cell of the block holds the page
 abbrev pub cells_after_program_in : ℕ → Option ℕ → Cells → Cells

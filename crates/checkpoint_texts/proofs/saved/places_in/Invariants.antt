@@ -1,5 +1,5 @@
 use Rattle.std.proofs.Common.{◌≡◌, ◌++◌, drop}
-use Rattle.checkpoint_texts.specs.Saved.{places_of}
+use Rattle.checkpoint_texts.specs.SavedDies.{places_of}
 use Rattle.checkpoint_texts.proofs.saved.places_in.Given as goal
 
 abbrev pub invariant-loop-page : goal.invariant-loop-page

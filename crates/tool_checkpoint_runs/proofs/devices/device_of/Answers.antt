@@ -3,7 +3,7 @@ use Rattle.slot_types.specs.declared.pages.PageData.{PageData}
 use Rattle.slot_types.specs.declared.plans.Shape.{Shape}
 use Rattle.checkpoint_texts.specs.declared.saved.SavedDie.{SavedDie}
 use Rattle.flash_die.specs.Memory.{left_memory}
-use Rattle.checkpoint_texts.specs.Saved.{checkpoint_of}
+use Rattle.checkpoint_texts.specs.SavedDies.{checkpoint_of}
 use Rattle.flash_volume.specs.Cells.{contents}
 use Rattle.flash_volume.specs.Checkpoints.{IsAsLeft}
 use Rattle.tool_checkpoint_runs.specs.Devices.{erases_of, fills_of, saved_cells, saved_device}

@@ -1,6 +1,6 @@
 use Rattle.std.proofs.Common.{◌≡◌, ◌∙◌, None, rules, refl, sym, option_map}
 use Rattle.clap.specs.Words.{found_of, rows_of}
-use Rattle.tool_command_words.specs.Asked.{text_of_command}
+use Rattle.tool_command_words.specs.RequestTexts.{text_of_command}
 use Rattle.tool_command_words.specs.Commands.{draw_from}
 use Rattle.tool_command_words.proofs.Scripted.{when_scripted}
 use Rattle.tool_command_words.proofs.commands.draw.Goals as goal

@@ -1,5 +1,5 @@
 use Rattle.std.proofs.Common.{◌≡◌, ◌∙◌, None, rules, sym, option_map}
-use Rattle.tool_command_words.specs.Asked.{text_of_command}
+use Rattle.tool_command_words.specs.RequestTexts.{text_of_command}
 use Rattle.tool_command_words.specs.Commands.{keeps_from}
 use Rattle.tool_command_words.proofs.commands.keeps.Goals as goal
 

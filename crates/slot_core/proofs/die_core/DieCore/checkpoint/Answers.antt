@@ -2,7 +2,7 @@ use Rattle.std.proofs.Common.{◌≡◌, IfOk, subst}
 use Rattle.die_log.specs.Model.Opening.{renewed_start}
 use Rattle.die_checkpoint.specs.declared.checkpoint.Checkpoint.{Checkpoint}
 use Rattle.slot_core.specs.Core.{Core}
-use Rattle.slot_core.specs.Resumed.{resumed_start}
+use Rattle.slot_core.specs.Resumptions.{resumed_start}
 use Rattle.slot_core.proofs.die_core.DieCore.checkpoint.Goals as goal
 
 pub returns-in-Ok-clause-goes_on : goal.returns-in-Ok-clause-goes_on

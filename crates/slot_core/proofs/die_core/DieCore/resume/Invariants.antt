@@ -1,4 +1,4 @@
-use Rattle.slot_core.specs.Resumed.{resumed_start}
+use Rattle.slot_core.specs.Resumptions.{resumed_start}
 use Rattle.slot_core.proofs.die_core.DieCore.resume.Given as goal
 
 abbrev pub ghost-start_by : goal.ghost-start_by

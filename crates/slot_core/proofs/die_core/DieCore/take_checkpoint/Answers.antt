@@ -4,7 +4,7 @@ use Rattle.flash_volume.specs.Checkpoints.{IsAsLeft}
 use Rattle.die_log.specs.Model.Start.{over}
 use Rattle.die_log.specs.Model.Opening.{IsQuiet, CanBeErased, renewed_start}
 use Rattle.slot_core.specs.Core.{Core}
-use Rattle.slot_core.specs.Resumed.{checkpoint_of, resumed_start}
+use Rattle.slot_core.specs.Resumptions.{checkpoint_of, resumed_start}
 use Rattle.slot_core.specs.TableLog.{log_of}
 use Rattle.slot_core.proofs.Resuming.{taken_reported, idle_reported, goes_on_reported, fits_reported}
 use Rattle.slot_core.proofs.die_core.DieCore.take_checkpoint.Goals as goal

@@ -2,7 +2,7 @@ use Rattle.std.proofs.Common.{List, refl, ap, ◌∙◌}
 use Rattle.slot_types.specs.declared.pages.PageData.{PageData}
 use Rattle.flash_die.specs.Faulty.{Faulty}
 use Rattle.slot_core.specs.Core.{Core}
-use Rattle.slot_core.specs.Resumed.{start_with}
+use Rattle.slot_core.specs.Resumptions.{start_with}
 use Rattle.stepped_die.specs.declared.mirror.MirrorNand.{MirrorNand}
 use Rattle.stepped_die.proofs.Naming.{is_as_left, left_named}
 use Rattle.stepped_die.proofs.die.SteppedDie.resume.Goals as goal
