@@ -5,3 +5,4 @@ pub mod Script
 pub mod ScriptLeft
 pub mod AskedPages
 pub mod Arrivals
+pub mod NextItem

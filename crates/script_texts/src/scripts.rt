@@ -42,7 +42,8 @@ impl<R: Read> ScriptReader<R> {
     ghost use Rattle.script_texts.specs.Script.{EndsFit, Gives, Yields, reading_of, script_of};
     ghost use Rattle.script_texts.specs.AskedPages.{RowHasPages};
     ghost use Rattle.script_texts.specs.Arrivals.{IsRowFor};
-    ghost use Rattle.script_texts.specs.Heads.{HasOwnOps, row_of, row_read};
+    ghost use Rattle.script_texts.specs.Heads.{HasOwnOps, row_read};
+    ghost use Rattle.script_texts.specs.NextItem.{ReadsNext};
     ghost use Rattle.script_texts.specs.ScriptLeft.{Recalls, dies_of, reading_left, script_fits, script_left, slots_of};
     ghost use Rattle.text_base.specs.Marks.{is_within};
 
@@ -87,18 +88,7 @@ impl<R: Read> ScriptReader<R> {
     /// reader fails or goes on beyond its bound; the records before it are judged first. NoMemory comes where memory
     /// is refused.
     pub fn next(&mut self) -> Result<Option<ScriptItem>, Refusal>
-        ensures gives { Gives (reading_left R.remaining self.old)
-            (reading_left R.remaining self.new) result }
-        ensures item { Yields (script_left R.remaining self.old) (script_left R.remaining self.new)
-            result }
-        ensures bound { EndsFit (script_fits R.remaining self.old)
-            (script_fits R.remaining self.new) result }
-        ensures row { IfOk result (λ o.
-            IfSome o (IsRowFor (dies_of self.old) (slots_of self.old))) }
-        ensures pages { IfOk result (λ o. IfSome o RowHasPages) }
-        ensures dies { dies_of self.new ≡ dies_of self.old }
-        ensures slots { slots_of self.new ≡ slots_of self.old }
-        ensures again { Recalls self.old self.new result }
+        ensures { ReadsNext R.remaining self.old self.new result }
     {
         let mut ops = OpList::new(self.alloc);
         match self.next_into(&mut ops)? {
@@ -112,17 +102,25 @@ impl<R: Read> ScriptReader<R> {
     /// all rows takes memory for its longest job alone. A collection has no operations. Where there is no item, nothing
     /// is said of the list.
     pub fn next_into<O: WordSink<Op>>(&mut self, ops: &mut O) -> Result<Option<RowHead>, Refusal>
+        ensures next { ReadsNext R.remaining self.old self.new
+            (row_read result (O.items ops.new)) }
+        ensures own { IfOk result (λ o. IfSome o (λ head. HasOwnOps head (O.items ops.new))) }
+    {
+        self.read_into(ops)
+    }
+
+    /// What [`next_into`](ScriptReader::next_into) does, fact by fact.
+    #[inline(always)]
+    fn read_into<O: WordSink<Op>>(&mut self, ops: &mut O) -> Result<Option<RowHead>, Refusal>
         ensures gives { Gives (reading_left R.remaining self.old)
             (reading_left R.remaining self.new) (row_read result (O.items ops.new)) }
         ensures item { Yields (script_left R.remaining self.old) (script_left R.remaining self.new)
             (row_read result (O.items ops.new)) }
         ensures bound { EndsFit (script_fits R.remaining self.old)
             (script_fits R.remaining self.new) (row_read result (O.items ops.new)) }
-        ensures row { IfOk result (λ o.
-            IfSome o (λ head.
-            IsRowFor (dies_of self.old) (slots_of self.old) (row_of head (O.items ops.new)))) }
-        ensures pages { IfOk result (λ o. IfSome o (λ head.
-            RowHasPages (row_of head (O.items ops.new)))) }
+        ensures row { IfOk (row_read result (O.items ops.new)) (λ o.
+            IfSome o (IsRowFor (dies_of self.old) (slots_of self.old))) }
+        ensures pages { IfOk (row_read result (O.items ops.new)) (λ o. IfSome o RowHasPages) }
         ensures own { IfOk result (λ o. IfSome o (λ head. HasOwnOps head (O.items ops.new))) }
         ensures dies { dies_of self.new ≡ dies_of self.old }
         ensures slots { slots_of self.new ≡ slots_of self.old }

@@ -12,7 +12,7 @@ loop-init g c = record {
 }
 
 pub returns-in-Ok-None-clause-rows : goal.returns-in-Ok-None-clause-rows
-returns-in-Ok-None-clause-rows g c = deals_all _ _ _ _ _ _ (rw c.in-Ok-None.field-0-is at c.in-Ok-None.ensures.item)
+returns-in-Ok-None-clause-rows g c = deals_all _ _ _ _ _ _ (rw c.in-Ok-None.field-0-is at c.in-Ok-None.ensures.next.item)
     c.loop.invariant.dealt
 
 pub returns-clause-rows : goal.returns-clause-rows
@@ -20,9 +20,9 @@ returns-clause-rows g c = deals_some _ _ _ _ _ c.loop.invariant.dealt
 
 pub returns-then-len-left-clause-rows : goal.returns-then-len-left-clause-rows
 returns-then-len-left-clause-rows g c =
-    let row = rw c.in-Ok-Some.field-0-is at c.in-Ok-Some.ensures.row in
-    let paged = rw c.in-Ok-Some.field-0-is at c.in-Ok-Some.ensures.pages in
-    let step = rw c.in-Ok-Some.field-0-is at c.in-Ok-Some.ensures.item in
+    let row = rw c.in-Ok-Some.field-0-is at c.in-Ok-Some.ensures.next.row in
+    let paged = rw c.in-Ok-Some.field-0-is at c.in-Ok-Some.ensures.next.pages in
+    let step = rw c.in-Ok-Some.field-0-is at c.in-Ok-Some.ensures.next.item in
     let added = rw c.lend.ensures at c.in-Ok.ensures.ok in
     deals_some _ _ _ _ _ (deals_more _ _ _ _ _ _ _ (row_of c.in-Ok-Some.head c.next_into.new.ops) _ _
     (rw (c.loop.invariant.dies, c.loop.invariant.slots) at row) paged
@@ -36,7 +36,7 @@ returns-clause-few g c = omega (arith, c.loop.invariant.few)
 
 pub returns-then-len-left-clause-few : goal.returns-then-len-left-clause-few
 returns-then-len-left-clause-few g c =
-    let row = rw c.in-Ok-Some.field-0-is at c.in-Ok-Some.ensures.row in
+    let row = rw c.in-Ok-Some.field-0-is at c.in-Ok-Some.ensures.next.row in
     let added = rw c.lend.ensures at c.in-Ok.ensures.ok in
     let few = few_more _ _ _ _ _ _ (row_of c.in-Ok-Some.head c.next_into.new.ops) _ _ _
     (rw (c.loop.invariant.dies, c.loop.invariant.slots) at row)
@@ -44,17 +44,17 @@ returns-then-len-left-clause-few g c =
     omega (arith, few)
 
 pub returns-in-Err-clause-refused : goal.returns-in-Err-clause-refused
-returns-in-Err-clause-refused g c = deals_fault _ _ _ _ _ _ c.in-Err.refusal c.in-Err.ensures.item c.loop.invariant.dealt
+returns-in-Err-clause-refused g c = deals_fault _ _ _ _ _ _ c.in-Err.refusal c.in-Err.ensures.next.item c.loop.invariant.dealt
 
 pub loop-preserved : goal.loop-preserved
 loop-preserved g c =
-    let row = rw c.in-Ok-Some.field-0-is at c.in-Ok-Some.ensures.row in
-    let paged = rw c.in-Ok-Some.field-0-is at c.in-Ok-Some.ensures.pages in
-    let step = rw c.in-Ok-Some.field-0-is at c.in-Ok-Some.ensures.item in
+    let row = rw c.in-Ok-Some.field-0-is at c.in-Ok-Some.ensures.next.row in
+    let paged = rw c.in-Ok-Some.field-0-is at c.in-Ok-Some.ensures.next.pages in
+    let step = rw c.in-Ok-Some.field-0-is at c.in-Ok-Some.ensures.next.item in
     let added = rw c.lend.ensures at c.in-Ok.ensures.ok in
     record {
-      dies = c.next_into.ensures.dies ∙ c.loop.invariant.dies;
-      slots = c.next_into.ensures.slots ∙ c.loop.invariant.slots;
+      dies = c.next_into.ensures.next.dies ∙ c.loop.invariant.dies;
+      slots = c.next_into.ensures.next.slots ∙ c.loop.invariant.slots;
       dealt = deals_more _ _ _ _ _ _ _ (row_of c.in-Ok-Some.head c.next_into.new.ops) _ _
           (rw (c.loop.invariant.dies, c.loop.invariant.slots) at row) paged
           c.index_mut.ensures.value added refl step c.loop.invariant.dealt;
@@ -65,7 +65,7 @@ loop-preserved g c =
 
 pub add-requires : goal.add-requires
 add-requires g c =
-    let row = rw c.in-Ok-Some.field-0-is at c.in-Ok-Some.ensures.row in
+    let row = rw c.in-Ok-Some.field-0-is at c.in-Ok-Some.ensures.next.row in
     record {
       one_die = dealt_own _ _ _ _ _ (row_of c.in-Ok-Some.head c.next_into.new.ops) _
           (rw (c.loop.invariant.dies, c.loop.invariant.slots) at row)

@@ -1,0 +1,21 @@
+-- What reading the next item of a script answers and leaves.
+use Rattle.std.specs.Prelude.{◌≡◌, ℕ, List, Option, Result, IfOk, IfSome}
+use Rattle.slot_types.specs.declared.refusals.Refusal.{Refusal}
+use Rattle.script_texts.specs.declared.script_rows.ScriptItem.{ScriptItem}
+use Rattle.script_texts.specs.declared.scripts.ScriptReader.{ScriptReader}
+use Rattle.script_texts.specs.Arrivals.{IsRowFor}
+use Rattle.script_texts.specs.AskedPages.{RowHasPages}
+use Rattle.script_texts.specs.Script.{EndsFit, Gives, Yields}
+use Rattle.script_texts.specs.ScriptLeft.{Recalls, dies_of, reading_left, script_fits, script_left, slots_of}
+
+-- the next item is read, or that there is none, or the first fault, which is answered again
+pub record ReadsNext {R : Type 0} (remaining : R → Option (List ℕ)) (old new : ScriptReader R) (result : Result (Option ScriptItem) Refusal)
+    : Type 0 where
+  pub gives : Gives (reading_left remaining old) (reading_left remaining new) result
+  pub item : Yields (script_left remaining old) (script_left remaining new) result
+  pub bound : EndsFit (script_fits remaining old) (script_fits remaining new) result
+  pub row : IfOk result (λ o. IfSome o (IsRowFor (dies_of old) (slots_of old)))
+  pub pages : IfOk result (λ o. IfSome o RowHasPages)
+  pub dies : dies_of new ≡ dies_of old
+  pub slots : slots_of new ≡ slots_of old
+  pub again : Recalls old new result
