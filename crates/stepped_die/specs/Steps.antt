@@ -34,11 +34,11 @@ pub record IsNew (plan : DiePlan) (die : Stepped) : Type 0 where
   pub idle : die.begun ≡ None
 
 -- why no die is made of a plan: its shape is out of its limits; else it doesn't meet its bound; or there was no memory
-abbrev pub RefusesPlan : DiePlan → Refusal → Type 0
-RefusesPlan plan BadShape = ¬ IsShape plan.shape
-RefusesPlan plan BadPlan = IsShape plan.shape × ¬ MeetsBound plan
-RefusesPlan plan NoMemory = ⊤
-RefusesPlan plan _ = ⊥
+abbrev pub RefusesNewDie : DiePlan → Refusal → Type 0
+RefusesNewDie plan BadShape = ¬ IsShape plan.shape
+RefusesNewDie plan BadPlan = IsShape plan.shape × ¬ MeetsBound plan
+RefusesNewDie plan NoMemory = ⊤
+RefusesNewDie plan _ = ⊥
 
 -- A slot has begun: it is the log's present one, and what is reported is the one call that it needs, and for whom.
 -- Memory is reserved for it, and nothing else has changed: it isn't in the log.

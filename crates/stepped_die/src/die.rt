@@ -41,7 +41,7 @@ impl Model for SteppedDie {
 }
 
 impl SteppedDie {
-    ghost use Rattle.stepped_die.specs.Steps.{IsNew, RefusesPlan, HasBegun, HasEnded, HasFailed, RefusesArrival, RefusesBeginning, RefusesRenewing};
+    ghost use Rattle.stepped_die.specs.Steps.{IsNew, RefusesNewDie, HasBegun, HasEnded, HasFailed, RefusesArrival, RefusesBeginning, RefusesRenewing};
 
     /// A die on which nothing was done, over a device that is erased.
     ///
@@ -49,7 +49,7 @@ impl SteppedDie {
     /// else `NoMemory`.
     pub fn new(alloc: Global, plan: DiePlan) -> Result<SteppedDie, Refusal>
         ensures ok { IfOk result (IsNew plan) }
-        ensures cause { IfErr result (RefusesPlan plan) }
+        ensures cause { IfErr result (RefusesNewDie plan) }
     {
         bound(&plan)?;
         let mirror = MirrorNand::new(alloc, plan.shape)?;
