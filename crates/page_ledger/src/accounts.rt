@@ -4,7 +4,9 @@ ghost use Rattle.std.specs.Prelude.{◌≡◌, ◌+◌, ◌-◌, ◌*◌, ◌≤
 ghost use Rattle.std.specs.Prelude.{IfNone, OnOk, OnErr, OnSome};
 ghost use Rattle.slot_types.specs.Refusal.{FailsForMemory};
 ghost use Rattle.plan_rules.specs.Bound.{MeetsBound, fmax_of};
-ghost use Rattle.plan_rules.specs.Accounts.{AreSoundAccounts, total_of, given_of, opening_accounts, accounts_after_admit, accounts_after_write, accounts_after_copy, accounts_after_collection, accounts_after_waiver};
+ghost use Rattle.plan_rules.specs.Accounts.{AreSoundAccounts, total_of, given_of, opening_accounts, accounts_after_admit};
+ghost use Rattle.plan_rules.specs.Accounts.{accounts_after_write, accounts_after_copy, accounts_after_collection};
+ghost use Rattle.plan_rules.specs.Accounts.{accounts_after_waiver};
 
 use slot_types::{DiePlan, Refusal, TaskNo};
 use std::alloc::Global;

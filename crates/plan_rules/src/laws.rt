@@ -4,7 +4,9 @@ ghost use Rattle.std.specs.Prelude.{◌≡◌, ◌+◌, ◌-◌, ◌*◌, ◌<�
 ghost use Rattle.slot_types.specs.declared.plans.DiePlan.{DiePlan};
 ghost use Rattle.slot_types.specs.declared.pages.Place.{Place};
 ghost use Rattle.plan_rules.specs.Bound.{MeetsBound, fmax_of};
-ghost use Rattle.plan_rules.specs.Accounts.{Accounts, AreSoundAccounts, total_of, opening_accounts, accounts_after_admit, accounts_after_write, accounts_after_copy, accounts_after_collection, accounts_after_waiver};
+ghost use Rattle.plan_rules.specs.Accounts.{Accounts, AreSoundAccounts, total_of, opening_accounts, accounts_after_admit};
+ghost use Rattle.plan_rules.specs.Accounts.{accounts_after_write, accounts_after_copy, accounts_after_collection};
+ghost use Rattle.plan_rules.specs.Accounts.{accounts_after_waiver};
 ghost use Rattle.plan_rules.specs.Blocks.{BlockUse, MayBegin, IsVictim, BeginsShort, IsChoice};
 
 /// Where a plan meets its bound, a collection that begins while few pages are free finds a closed
