@@ -95,13 +95,11 @@ impl ReportText {
             (Appends (W.contents writer.old) (W.contents writer.new) (whole_text self)) }
         ensures works { OnOk result
             (KeepsFlag (W.has_failed writer.old) (W.has_failed writer.new)) }
-        ensures memory { result ≡ Err Refusal.NoMemory → writer.new ≡ writer.old }
-        ensures part { result ≡ Err Refusal.WriteFault
-            → AppendsPart (W.contents writer.old) (W.contents writer.new) (whole_text self) }
-        ensures failed { result ≡ Err Refusal.WriteFault
-            → SetsFlag (W.has_failed writer.old) (W.has_failed writer.new) }
-        ensures refused { IfErr result (λ refusal.
-            (refusal ≡ Refusal.NoMemory) ⊎ (refusal ≡ Refusal.WriteFault)) }
+        ensures part { OnErr result
+            (AppendsPart (W.contents writer.old) (W.contents writer.new) (whole_text self)) }
+        ensures failed { OnErr result
+            (SetsFlag (W.has_failed writer.old) (W.has_failed writer.new)) }
+        ensures refused { IfErr result (λ refusal. refusal ≡ Refusal.WriteFault) }
     {
         write_whole(writer, &self.rows)?;
         write_whole(writer, &self.certs)

@@ -1,6 +1,7 @@
 pub mod ScriptHeader
 pub mod ScriptRows
 pub mod Heads
+pub mod RowTexts
 pub mod Script
 pub mod ScriptLeft
 pub mod AskedPages

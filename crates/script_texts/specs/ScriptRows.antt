@@ -12,8 +12,7 @@ use Rattle.slot_types.specs.declared.refusals.Refusal.TheVariants.{ScriptRow}
 use Rattle.text_base.specs.Number.{number_of}
 use Rattle.text_base.specs.Ops.{ops_of, ops_or}
 use Rattle.text_base.specs.Readings.{◌>>=◌}
-use Rattle.script_texts.specs.declared.script_rows.ScriptItem.{ScriptItem}
-use Rattle.text_base.specs.Fields.{field_or}
+use Rattle.script_texts.specs.declared.script_rows.RowHead.{RowHead}
 
 -- a fault of the record of this number
 abbrev pub fault : {A : Type 0} → ℕ → Cause → Result A Refusal
@@ -55,9 +54,9 @@ die_in line dies die = if nat_lt die dies then Ok die else fault line cause.Die
 abbrev pub at_in : ℕ → ℕ → ℕ → ℕ → Result ℕ Refusal
 at_in line slots last at = if nat_lt at last || nat_lt slots at then fault line cause.At else Ok at
 
--- the item of a row, by the slots to run, the last slot of a row by die, and the number of its record
-unfoldable pub item_of : ℕ → List ℕ → ℕ → List (List ℕ) → Result ScriptItem Refusal
-item_of slots lasts line fields =
+-- the head of a row, by the slots to run, the last slot of a row by die, and the number of its record
+unfoldable pub head_of : ℕ → List ℕ → ℕ → List (List ℕ) → Result RowHead Refusal
+head_of slots lasts line fields =
     if length fields == 7 then (do
       a ← number_at line fields 0
       d ← number_at line fields 1
@@ -67,6 +66,5 @@ item_of slots lasts line fields =
       c ← collects_at line fields
       die ← die_in line (length lasts) d
       at ← at_in line slots (slice_index lasts die) a
-      event ← event_of line c t r u (field_or fields 6)
-      Ok (record { line = line; at = at; die = die; event = event }))
+      Ok (record { line = line; at = at; die = die; job = record { collects = c; task = t; release = r; due = u } }))
     else fault line cause.Fields

@@ -6,5 +6,5 @@ mod script_rows;
 mod scripts;
 mod steps;
 
-pub use script_rows::{RowHead, ScriptItem};
+pub use script_rows::{RowHead, ScriptItem, read_ops};
 pub use scripts::ScriptReader;

@@ -1,18 +1,18 @@
 //! One row of a script.
 
-ghost use Rattle.std.specs.Prelude.{◌≡◌, ◌<◌, length, IfOk, OnOk};
+ghost use Rattle.std.specs.Prelude.{◌≡◌, [], length, IfOk, OnErr, OnOk};
 ghost use Rattle.csv.specs.Records.{fields_of};
-ghost use Rattle.slot_types.specs.Arrivals.{arrival_of};
-ghost use Rattle.script_texts.specs.AskedPages.{AsksPages, RowHasPages};
-ghost use Rattle.script_texts.specs.Arrivals.{Arrives};
+ghost use Rattle.script_texts.specs.Arrivals.{IsHeadFor};
+ghost use Rattle.script_texts.specs.AskedPages.{RowHasPages};
 ghost use Rattle.script_texts.specs.Heads.{HasOwnOps, row_of};
-ghost use Rattle.script_texts.specs.ScriptRows.{collects_at, event_of, item_of, number_at};
+ghost use Rattle.script_texts.specs.RowTexts.{item_in, row_text};
+ghost use Rattle.script_texts.specs.ScriptRows.{collects_at, head_of, number_at};
 ghost use Rattle.text_base.specs.Ops.{ops_of, ops_or};
 ghost use Rattle.text_base.specs.Readings.{Shows};
 
 use csv::ByteRecord;
 use slot_types::{Cause, Event, JobHead, Op, OpList, Refusal, TaskNo};
-use text_base::{WordSink, field_in, number, put_list};
+use text_base::{WordSink, number, put_list};
 
 /// What a row of a script asks.
 #[derive(Clone, PartialEq, Eq, Debug, Drop)]
@@ -88,7 +88,8 @@ fn collects_in(row: &ByteRecord, line: u32) -> Result<bool, Refusal>
 
 /// Puts the operations of a field in place of others, in their memory, or says the fault of its record.
 fn put_ops<O: WordSink<Op>>(ops: &mut O, field: &[u8], line: u32) -> Result<(), Refusal>
-    ensures { Shows (λ _. O.items ops.new) result (ops_or line (ops_of field.now)) }
+    ensures ops { Shows (λ _. O.items ops.new) result (ops_or line (ops_of field.now)) }
+    ensures none { OnErr result (O.items ops.new ≡ []) }
 {
     if put_list::<Op, O>(ops, field)? {
         Ok(())
@@ -100,19 +101,21 @@ fn put_ops<O: WordSink<Op>>(ops: &mut O, field: &[u8], line: u32) -> Result<(), 
     }
 }
 
-/// Puts the operations of a row in place of others, in their memory: a collection has none.
-fn put_asked<O: WordSink<Op>>(ops: &mut O, head: &RowHead, field: &[u8]) -> Result<(), Refusal>
-    ensures event { Shows (λ _. arrival_of head.now.job (O.items ops.new)) result
-        (event_of head.now.line head.now.job.collects head.now.job.task head.now.job.release
-        head.now.job.due field.now) }
-    ensures pages { OnOk result (AsksPages (arrival_of head.now.job (O.items ops.new))) }
+/// Puts the operations of a row in place of others, in their memory: a job's are the words of the text, and a collection
+/// has none, and an empty text. Refused as ScriptRow with the cause Ops where the text is another, or as NoMemory; then
+/// the list is empty.
+pub fn read_ops<O: WordSink<Op>>(ops: &mut O, head: &RowHead, text: &[u8]) -> Result<(), Refusal>
+    ensures item { Shows (λ _. row_of head.now (O.items ops.new)) result
+        (item_in (row_text head.now text.now)) }
+    ensures pages { OnOk result (RowHasPages (row_of head.now (O.items ops.new))) }
     ensures own { OnOk result (HasOwnOps head.now (O.items ops.new)) }
+    ensures none { OnErr result (O.items ops.new ≡ []) }
 {
     if !head.job.collects {
-        return put_ops(ops, field, head.line);
+        return put_ops(ops, text, head.line);
     }
     ops.clear();
-    if field.is_empty() {
+    if text.is_empty() {
         Ok(())
     } else {
         Err(Refusal::ScriptRow {
@@ -122,21 +125,12 @@ fn put_asked<O: WordSink<Op>>(ops: &mut O, head: &RowHead, field: &[u8]) -> Resu
     }
 }
 
-/// The head of a row, after rows of its dies that came at these slots; its operations are put in place of others.
-#[tactic(auto, unfolding(crate::specs::ScriptRows::item_of))]
-pub fn take_item<O: WordSink<Op>>(
-    row: &ByteRecord,
-    slots: u32,
-    lasts: &[u32],
-    line: u32,
-    ops: &mut O,
-) -> Result<RowHead, Refusal>
-    ensures item { Shows (λ head.
-        row_of head (O.items ops.new)) result (item_of slots lasts.now line (fields_of row.now)) }
-    ensures die { IfOk result (λ head. head.die < length lasts.now) }
-    ensures arrives { IfOk result (λ head. Arrives slots (row_of head (O.items ops.new))) }
-    ensures pages { IfOk result (λ head. RowHasPages (row_of head (O.items ops.new))) }
-    ensures own { IfOk result (λ head. HasOwnOps head (O.items ops.new)) }
+/// The head of a row, after rows of its dies that came at these slots. Its operations aren't looked at.
+#[tactic(auto, unfolding(crate::specs::ScriptRows::head_of))]
+pub fn head_in(row: &ByteRecord, slots: u32, lasts: &[u32], line: u32) -> Result<RowHead, Refusal>
+    ensures head { result ≡ head_of slots lasts.now line (fields_of row.now) }
+    ensures row { IfOk result (IsHeadFor (length lasts.now) slots) }
+    ensures line { IfOk result (λ head. head.line ≡ line) }
 {
     if row.len() != 7 {
         return Err(Refusal::ScriptRow {
@@ -162,7 +156,7 @@ pub fn take_item<O: WordSink<Op>>(
             cause: Cause::At,
         });
     }
-    let head = RowHead {
+    Ok(RowHead {
         line,
         at,
         die,
@@ -172,7 +166,5 @@ pub fn take_item<O: WordSink<Op>>(
             release,
             due,
         },
-    };
-    put_asked(ops, &head, field_in(row, 6))?;
-    Ok(head)
+    })
 }

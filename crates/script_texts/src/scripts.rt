@@ -4,13 +4,13 @@ ghost use Rattle.std.specs.Prelude.{◌≡◌, ◌<◌, ◌≤◌, IfOk, IfSome,
 ghost use Rattle.slot_types.specs.Refusal.{FailsForMemory};
 ghost use Rattle.text_base.specs.Plain.{IsPlain};
 
-use crate::script_rows::{RowHead, ScriptItem};
+use crate::script_rows::{RowHead, ScriptItem, read_ops};
 use crate::steps::read_step;
 use csv::{ByteRecord, Reader};
 use slot_types::{Op, OpList, Refusal, StorePlan};
 use std::alloc::Global;
 use std::io::Read;
-use text_base::{Bounded, WordSink, rows_in};
+use text_base::{Bounded, WordSink, field_in, rows_in};
 
 /// Reads a script, row by row, in the memory of its longest row.
 ///
@@ -39,12 +39,10 @@ pub struct ScriptReader<R> {
 }
 
 impl<R: Read> ScriptReader<R> {
-    ghost use Rattle.script_texts.specs.Script.{EndsFit, Gives, Yields, reading_of, script_of};
-    ghost use Rattle.script_texts.specs.AskedPages.{RowHasPages};
-    ghost use Rattle.script_texts.specs.Arrivals.{IsRowFor};
+    ghost use Rattle.script_texts.specs.Script.{reading_of, script_of};
     ghost use Rattle.script_texts.specs.Heads.{HasOwnOps, row_read};
-    ghost use Rattle.script_texts.specs.NextItem.{ReadsNext};
-    ghost use Rattle.script_texts.specs.ScriptLeft.{Recalls, dies_of, reading_left, script_fits, script_left, slots_of};
+    ghost use Rattle.script_texts.specs.NextItem.{ReadsNext, ReadsRow};
+    ghost use Rattle.script_texts.specs.ScriptLeft.{dies_of, ops_text, reading_left, script_fits, script_left, slots_of};
     ghost use Rattle.text_base.specs.Marks.{is_within};
 
     /// A reader of a script for the dies of a store and so many slots. The only refusal is NoMemory.
@@ -106,25 +104,26 @@ impl<R: Read> ScriptReader<R> {
             (row_read result (O.items ops.new)) }
         ensures own { IfOk result (λ o. IfSome o (λ head. HasOwnOps head (O.items ops.new))) }
     {
-        self.read_into(ops)
+        let Some(head) = self.next_row()? else {
+            return Ok(None);
+        };
+        match read_ops(ops, &head, self.ops_text()) {
+            Ok(()) => Ok(Some(head)),
+            Err(refusal) => {
+                self.refused = Some(refusal);
+                Err(refusal)
+            }
+        }
     }
 
-    /// What [`next_into`](ScriptReader::next_into) does, fact by fact.
-    #[inline(always)]
-    fn read_into<O: WordSink<Op>>(&mut self, ops: &mut O) -> Result<Option<RowHead>, Refusal>
-        ensures gives { Gives (reading_left R.remaining self.old)
-            (reading_left R.remaining self.new) (row_read result (O.items ops.new)) }
-        ensures item { Yields (script_left R.remaining self.old) (script_left R.remaining self.new)
-            (row_read result (O.items ops.new)) }
-        ensures bound { EndsFit (script_fits R.remaining self.old)
-            (script_fits R.remaining self.new) (row_read result (O.items ops.new)) }
-        ensures row { IfOk (row_read result (O.items ops.new)) (λ o.
-            IfSome o (IsRowFor (dies_of self.old) (slots_of self.old))) }
-        ensures pages { IfOk (row_read result (O.items ops.new)) (λ o. IfSome o RowHasPages) }
-        ensures own { IfOk result (λ o. IfSome o (λ head. HasOwnOps head (O.items ops.new))) }
-        ensures dies { dies_of self.new ≡ dies_of self.old }
-        ensures slots { slots_of self.new ≡ slots_of self.old }
-        ensures again { Recalls self.old self.new (row_read result (O.items ops.new)) }
+    /// The next row as it stands, for a caller that reads its operations later or elsewhere, by
+    /// [`read_ops`](crate::read_ops): its head. Their text is [`ops_text`](ScriptReader::ops_text) until the next call;
+    /// it isn't judged here, and a fault in it ends the script before all rows that come after. Each row has a greater
+    /// record number than those before it.
+    ///
+    /// Every other fault is refused as [`next`](ScriptReader::next) says, and answered again.
+    pub fn next_row(&mut self) -> Result<Option<RowHead>, Refusal>
+        ensures { ReadsRow R.remaining self.old self.new result }
     {
         if let Some(refusal) = self.refused {
             return Err(refusal);
@@ -139,7 +138,6 @@ impl<R: Read> ScriptReader<R> {
             self.slots,
             &self.lasts,
             line,
-            ops,
         ) {
             Ok(Some(head)) => {
                 self.line = line.max(2) + 1;
@@ -155,5 +153,12 @@ impl<R: Read> ScriptReader<R> {
                 Err(refusal)
             }
         }
+    }
+
+    /// The text of the operations of the row that was read last.
+    pub fn ops_text(&self) -> &[u8]
+        ensures { result.now ≡ ops_text self.now }
+    {
+        field_in(&self.row, 6)
     }
 }

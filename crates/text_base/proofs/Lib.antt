@@ -6,3 +6,4 @@ pub mod RowLaws
 pub mod WordLaws
 pub mod StartLaws
 pub mod OpStarts
+pub mod KnownBytes

@@ -6,7 +6,8 @@ use Rattle.slot_types.specs.declared.refusals.Refusal.{Refusal}
 use Rattle.slot_types.specs.declared.refusals.Refusal.TheVariants.{NoMemory, WriteFault}
 use Rattle.text_base.specs.Writing.{EndsWriting, HaveOneEnd, KeepsFlag, SetsFlag}
 
-appended : (text known : List ℕ) (old left right : Option (List ℕ)) → old ≡ Some known → Appends old left text → Appends old right text
+-- a text that is appended to known bytes leaves one text
+pub appended : (text known : List ℕ) (old left right : Option (List ℕ)) → old ≡ Some known → Appends old left text → Appends old right text
     → left ≡ right
 appended text known None left right is h h' = absurd (cc)
 appended text known (Some k) None right is h h' = absurd h
@@ -30,15 +31,15 @@ one_or_fault (Ok a) (Err e) r (inr f) = inr (inr (inr (inr (ap Err f))))
 
 -- whether the flag was set tells which answer it was, but for memory
 
-fresh_flag : (old new : Option Bool) → old ≡ Some false → KeepsFlag old new → new ≡ Some false
+pub fresh_flag : (old new : Option Bool) → old ≡ Some false → KeepsFlag old new → new ≡ Some false
 fresh_flag None new is h = absurd (cc is)
 fresh_flag (Some flag) new is h = h ∙ is
 
-set_flag : (old new : Option Bool) → old ≡ Some false → SetsFlag old new → new ≡ Some true
+pub set_flag : (old new : Option Bool) → old ≡ Some false → SetsFlag old new → new ≡ Some true
 set_flag None new is h = absurd (cc is)
 set_flag (Some flag) new is h = h
 
-no_flag : (new : Option Bool) → new ≡ Some false → new ≡ Some true → ⊥
+pub no_flag : (new : Option Bool) → new ≡ Some false → new ≡ Some true → ⊥
 no_flag new kept set = absurd (cc (sym kept ∙ set))
 
 module _ {W : Type 0} (has_failed : W → Option Bool) (before : W) (fresh : has_failed before ≡ Some false) where

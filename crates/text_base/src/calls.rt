@@ -1,5 +1,6 @@
 //! Calls of a reader, each made again where it is interrupted.
 
+ghost use Rattle.std.specs.Prelude.{◌<◌, ◌≤◌, IfOk};
 ghost use Rattle.std.specs.Io.{ReadsAtMost};
 ghost use Rattle.std.specs.Io.KnownBytes.{ReadConsumes};
 
@@ -11,6 +12,8 @@ use std::io::{ErrorKind, Read};
 pub fn read_again<R: Read>(reader: &mut R, calls: &mut usize, buf: &mut [u8]) -> io::Result<usize>
     ensures bound { ReadsAtMost result buf.new }
     ensures bytes { ReadConsumes (R.remaining reader.old) (R.remaining reader.new) result buf.new }
+    ensures calls { calls.new ≤ calls.old }
+    ensures used { IfOk result (λ n. calls.new < calls.old) }
 {
     while *calls > 0 {
         *calls -= 1;

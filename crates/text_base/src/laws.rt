@@ -4,10 +4,10 @@
 //! `one` and `other`. What was known before is `known`, or `all`; the calls leave `left` and `right`, and put what they
 //! read into `here` and `there`.
 
-ghost use Rattle.std.specs.Prelude.{◌≡◌, ◌⊎◌, ◌↔◌, ◌++◌, ℕ, Bool, false, true, List, Option, Some, Result, Ok, take};
+ghost use Rattle.std.specs.Prelude.{◌≡◌, ◌⊎◌, ◌↔◌, ◌++◌, ◌∷◌, [], ℕ, Bool, false, true, List, Option, Some, Result, Ok, take};
 ghost use Rattle.std.specs.Prelude.{IfOk, IfErr, OnOk, OnErr, IsErr, IsErrAnd};
 ghost use Rattle.std.specs.Io.{ReadsAtMost};
-ghost use Rattle.std.specs.Io.KnownBytes.{Appends, ReadConsumes};
+ghost use Rattle.std.specs.Io.KnownBytes.{Appends, Keeps, ReadConsumes};
 ghost use Rattle.slot_types.specs.declared.pages.PageData.{PageData};
 ghost use Rattle.slot_types.specs.declared.refusals.Refusal.{Refusal};
 ghost use Rattle.slot_types.specs.Refusal.{FailsForMemory};
@@ -35,23 +35,42 @@ pub fn taking_a_row_has_one_answer()
         (found ≡ false) ⊎ (left ≡ right) }
 {}
 
-/// Adding the digits of a page (`put_page`) leaves one text. Left open is whether it fails, with which error, and what
-/// the text is then.
+/// Adding the digits of a page (`put_page`) leaves one text. Left open is whether it fails, and with which error.
 pub fn adding_a_page_has_one_answer<E>()
-    ensures { (page : PageData) (before left right : List ℕ) (one other : Result (Unit {0}) E) →
+    ensures added { (page : PageData) (before left right : List ℕ) (one other : Result (Unit {0}) E) →
         OnOk one (left ≡ before ++ page_word page) → OnOk other (right ≡ before ++ page_word page) →
+        OnErr one (left ≡ before) → OnErr other (right ≡ before) →
         ((one ≡ other) × (left ≡ right)) ⊎ IsErr one ⊎ IsErr other }
+    ensures failed { (before left right : List ℕ) (one other : Result (Unit {0}) E) →
+        OnErr one (left ≡ before) → OnErr other (right ≡ before) →
+        IsErr one → IsErr other → left ≡ right }
 {}
 
-/// Putting what the words of a field say into a list (`put_list`) has one answer, and leaves one list where all of them
-/// say something. Left open is whether there is memory for it.
+/// Adding an item to a list that takes what words say (`push`) has one answer. Left open is whether there is memory
+/// for it.
+pub fn adding_an_item_has_one_answer<T>()
+    ensures added { (item : T) (before left right : List T) (one other : Result (Unit {0}) Refusal) →
+        OnOk one (left ≡ before ++ item ∷ []) → OnOk other (right ≡ before ++ item ∷ []) →
+        FailsForMemory one → FailsForMemory other →
+        ((one ≡ other) × OnOk one (left ≡ right))
+        ⊎ (one ≡ Err Refusal.NoMemory) ⊎ (other ≡ Err Refusal.NoMemory) }
+    ensures refused { (before left right : List T) (one other : Result (Unit {0}) Refusal) →
+        OnErr one (left ≡ before) → OnErr other (right ≡ before) →
+        FailsForMemory one → FailsForMemory other →
+        OnErr one (OnErr other ((one ≡ other) × (left ≡ right))) }
+{}
+
+/// Putting what the words of a field say into a list (`put_list`) has one answer, and leaves one list. Left open is
+/// whether there is memory for it; without, the list is empty.
 pub fn putting_a_list_has_one_answer<T>()
     ensures { (word_of : List ℕ → Option T) (field : List ℕ) (left right : List T)
         (one other : Result Bool Refusal) →
         IfOk one (λ whole. if_whole whole left ≡ list_of word_of field) →
         IfOk other (λ whole. if_whole whole right ≡ list_of word_of field) →
+        IfOk one (λ whole. whole ≡ false → left ≡ []) →
+        IfOk other (λ whole. whole ≡ false → right ≡ []) →
         FailsForMemory one → FailsForMemory other →
-        ((one ≡ other) × (one ≡ Ok true → left ≡ right))
+        ((one ≡ other) × (left ≡ right))
         ⊎ (one ≡ Err Refusal.NoMemory) ⊎ (other ≡ Err Refusal.NoMemory) }
 {}
 
@@ -75,6 +94,31 @@ pub fn writing_a_text_has_one_answer()
         IfErr other (λ refusal. refusal ≡ Refusal.WriteFault) →
         ((left ≡ right → one ≡ other)
         × ((one ≡ Err Refusal.WriteFault) ↔ (left ≡ Some true))) }
+{}
+
+/// What a writer takes of a text in one call (`put`) stands there in one way. Left open are whether it fails, which its
+/// flag then says, and how many bytes it takes.
+pub fn putting_bytes_has_one_answer()
+    ensures { (text known : List ℕ) (left right : Option (List ℕ)) (one other : Result ℕ Refusal) →
+        IfOk one (λ n. Appends (Some known) left (take n text)) →
+        IfOk other (λ n. Appends (Some known) right (take n text)) →
+        OnErr one (Keeps (Some known) left) → OnErr other (Keeps (Some known) right) →
+        IfErr one (λ refusal. refusal ≡ Refusal.WriteFault) →
+        IfErr other (λ refusal. refusal ≡ Refusal.WriteFault) →
+        (one ≡ other → left ≡ right)
+        × OnErr one (OnErr other (one ≡ other)) }
+{}
+
+/// What a reader gives in one call (`take`) are the next of its bytes, where they are known. Left open are whether it
+/// fails, which its flag then says, and how many bytes it gives.
+pub fn taking_bytes_has_one_answer()
+    ensures { (known here there : List ℕ) (left right : Option (List ℕ)) (one other : Result ℕ Refusal) →
+        ReadsAtMost one here → ReadsAtMost other there →
+        ReadConsumes (Some known) left one here → ReadConsumes (Some known) right other there →
+        IfErr one (λ refusal. refusal ≡ Refusal.ReadFault) →
+        IfErr other (λ refusal. refusal ≡ Refusal.ReadFault) →
+        IfOk one (λ m. IfOk other (λ n. m ≡ n → (take m here ≡ take n there) × (left ≡ right)))
+        × OnErr one (OnErr other ((one ≡ other) × (left ≡ right))) }
 {}
 
 /// Calling a reader again where it was interrupted (`read_again`) gives the next of its bytes, where they are known,

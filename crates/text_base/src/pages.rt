@@ -1,6 +1,6 @@
 //! Pages as 32 hexadecimal digits, read and written without a branch for each digit.
 
-ghost use Rattle.std.specs.Prelude.{◌≡◌, ◌<◌, length, IfSome, Some, OnOk, ◌++◌, slice_index, unwrap_or};
+ghost use Rattle.std.specs.Prelude.{◌≡◌, ◌<◌, length, IfSome, Some, OnErr, OnOk, ◌++◌, slice_index, unwrap_or};
 ghost use Rattle.hex.specs.Hex.{hex_digit_value, lower_digits};
 ghost use Rattle.text_base.specs.Pages.{page_word};
 ghost use Rattle.text_base.specs.Words.{StartsWith};
@@ -122,9 +122,10 @@ fn digits_of(page: &PageData) -> [u8; 32]
     digits
 }
 
-/// Adds the digits of a page.
+/// Adds the digits of a page. Without memory for them the text stays as it was.
 pub fn put_page(text: &mut Vec<u8>, page: &PageData) -> io::Result<()>
-    ensures { OnOk result (text.new.items ≡ text.old.items ++ page_word page.now) }
+    ensures ok { OnOk result (text.new.items ≡ text.old.items ++ page_word page.now) }
+    ensures err { OnErr result (text.new.items ≡ text.old.items) }
 {
     let digits = digits_of(page);
     text.extend_from_slice(&digits)?;

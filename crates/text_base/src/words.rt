@@ -1,6 +1,6 @@
 //! Fields that hold several words, with one space between two.
 
-ghost use Rattle.std.specs.Prelude.{◌≡◌, ◌∷◌, [], ◌==◌, ◌<◌, List, ℕ, Option, IfOk, IfSome, MatchOption, None, length, option_map};
+ghost use Rattle.std.specs.Prelude.{◌≡◌, ◌∷◌, [], ◌==◌, ◌<◌, List, ℕ, Option, IfOk, IfSome, MatchOption, None, OnErr, false, length, option_map};
 ghost use Rattle.std.specs.List.{position, slice_split};
 ghost use Rattle.slot_types.specs.Refusal.{FailsForMemory};
 ghost use Rattle.text_base.specs.Number.{number_of};
@@ -166,17 +166,29 @@ fn put_all<T: Word + Drop, L: WordSink<T>>(list: &mut L, text: &[u8]) -> Result<
 }
 
 /// Puts what the words of a field say in place of other items, in their memory, and answers whether all of them say
-/// something. An empty field has none.
+/// something. An empty field has none. Where one says nothing, and where memory is refused, the list is left empty.
 pub fn put_list<T: Word + Drop, L: WordSink<T>>(list: &mut L, field: &[u8]) -> Result<bool, Refusal>
     ensures ok { IfOk result (λ whole.
         if_whole whole (L.items list.new) ≡ list_of T.word_of field.now) }
+    ensures none { IfOk result (λ whole. whole ≡ false → L.items list.new ≡ []) }
     ensures refused { FailsForMemory result }
+    ensures err { OnErr result (L.items list.new ≡ []) }
 {
     list.clear();
     if field.is_empty() {
         return Ok(true);
     }
-    put_all(list, field)
+    match put_all(list, field) {
+        Ok(true) => Ok(true),
+        Ok(false) => {
+            list.clear();
+            Ok(false)
+        }
+        Err(refusal) => {
+            list.clear();
+            Err(refusal)
+        }
+    }
 }
 
 /// What the words of a field say, if all of them say something. An empty field has none.

@@ -1,6 +1,7 @@
-use Rattle.std.proofs.Common.{◌≡◌, ◌⊎◌, inl, inr, ℕ, List, Option, Some, None, Ok, sym, ap, ◌∙◌, subst}
+use Rattle.std.proofs.Common.{◌≡◌, ◌⊎◌, inl, inr, ℕ, List, Option, Some, Ok, refl, sym, ap, ◌∙◌, subst}
 use Rattle.std.specs.Io.KnownBytes.{Appends}
 use Rattle.slot_types.specs.declared.plans.DiePlan.{DiePlan}
+use Rattle.text_base.proofs.WriterEnds.{appended}
 use Rattle.plan_texts.proofs.OneReading.{dies_read}
 use Rattle.report_texts.specs.ReportOf.{Reading, report_of}
 use Rattle.report_texts.specs.declared.reports.DieReport.{DieReport}
@@ -12,12 +13,6 @@ use Rattle.flash_commands.proofs.laws.acting_has_one_answer.Goals as goal
 one_report : (read : Reading) (x y : List DieReport) → read ≡ Ok x → read ≡ Ok y → x ≡ y
 one_report read x y is is' = cc
 
-one_appended : (known text : List ℕ) (left right : Option (List ℕ)) → Appends (Some known) left text → Appends (Some known) right text
-    → left ≡ right
-one_appended known text None right h k = absurd h
-one_appended known text (Some a) None h k = absurd k
-one_appended known text (Some a) (Some b) h k = ap (λ (l : List ℕ). Some l) (h ∙ sym k)
-
 one_audit : (text known : List ℕ) (left right : Option (List ℕ)) (one other : ℕ) → (one ≡ 1) ⊎ PrintsAudit (Some text) (Some known) left one
     → (other ≡ 1) ⊎ PrintsAudit (Some text) (Some known) right other → ((one ≡ other) × (left ≡ right)) ⊎ (one ≡ 1) ⊎ (other ≡ 1)
 one_audit text known left right one other (inl fault) k = inr (inl fault)
@@ -26,7 +21,7 @@ one_audit text known left right one other (inr h) (inr k) =
     let same : h.0 ≡ k.0 = one_report (report_of text) h.0 k.0 h.1 k.1 in
     inl (
       h.3 ∙ (ap audit_status same ∙ sym k.3),
-      one_appended known (audit_text k.0) left right
+      appended (audit_text k.0) known (Some known) left right refl
           (subst (λ (x : List DieReport). Appends (Some known) left (audit_text x)) same h.2) k.2,
     )
 
@@ -42,7 +37,7 @@ one_plan text known left right one other (inr h) (inr k) =
     let same : h.0.0 ≡ k.0.0 = a.1.dies ∙ (ap dies_read (sym a.2 ∙ b.2) ∙ sym b.1.dies) in
     inl (
       h.1 ∙ sym k.1,
-      one_appended known (plan_text k.0.0) left right
+      appended (plan_text k.0.0) known (Some known) left right refl
           (subst (λ (x : List DiePlan). Appends (Some known) left (plan_text x)) same h.0.2) k.0.2,
     )
 

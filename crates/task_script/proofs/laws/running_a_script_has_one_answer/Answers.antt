@@ -135,26 +135,6 @@ one_fault script d e is is' = cc
 read_or_refused : (script : Script) (xs : List ScriptItem) (e : Refusal) → script ≡ Ok xs → script ≡ Err e → ⊥
 read_or_refused script xs e is is' = absurd (cc)
 
-one_appended : (known text : List ℕ) (old left right : Option (List ℕ)) → old ≡ Some known → Appends old left text → Appends old right text
-    → left ≡ right
-one_appended known text None left right is h k = absurd (cc is)
-one_appended known text (Some a) None right is h k = absurd h
-one_appended known text (Some a) (Some b) None is h k = absurd k
-one_appended known text (Some a) (Some b) (Some d) is h k = ap (λ (l : List ℕ). Some l) (h ∙ sym k)
-
--- what a flag that wasn't set is then
-
-fresh_flag : (old new : Option Bool) → old ≡ Some false → KeepsFlag old new → new ≡ Some false
-fresh_flag None new is h = absurd (cc is)
-fresh_flag (Some flag) new is h = h ∙ is
-
-set_flag : (old new : Option Bool) → old ≡ Some false → SetsFlag old new → new ≡ Some true
-set_flag None new is h = absurd (cc is)
-set_flag (Some flag) new is h = h
-
-not_flag : (left right : Option Bool) → left ≡ Some false → right ≡ Some true → left ≡ right → ⊥
-not_flag left right kept set same = absurd (cc (sym kept ∙ (same ∙ set)))
-
 module _ {W : Type 0} (contents : W → Option (List ℕ)) (has_failed : W → Option Bool) (text known : List ℕ) (plans : List DiePlan) (slots : ℕ)
     (before left right : W) (known_is : contents before ≡ Some known) where
   abbrev Runs : W → RunCount → Type 0
@@ -173,7 +153,7 @@ module _ {W : Type 0} (contents : W → Option (List ℕ)) (has_failed : W → O
       (subst (λ (l : List ScriptItem). AreRuns slots (feed_of l) 0 plans again.runs) items again.ran)
       (recursion_from_All IsLogs (ends_of ran.runs) logs) (recursion_from_All IsLogs (ends_of again.runs) logs') in (
         ran.counted ∙ (ap (λ (l : List DieRun). count_of (ends_of l)) runs ∙ sym again.counted),
-        one_appended known (report_text (reports_from 0 plans again.runs)) (contents before) (contents left) (contents right) known_is
+        appended (report_text (reports_from 0 plans again.runs)) known (contents before) (contents left) (contents right) known_is
             (subst (λ (l : List DieRun). Appends (contents before) (contents left) (report_text (reports_from 0 plans l))) runs ran.written)
             again.written,
       )
@@ -218,19 +198,19 @@ module _ {W : Type 0} (contents : W → Option (List ℕ)) (has_failed : W → O
   one_by_flag (Ok a) (Err e) fresh h k f f' r (inl (inr is, same)) flags =
       absurd (read_or_refused (script_of (length plans) slots text) h.0.items e h.0.script is)
   one_by_flag (Ok a) (Err e) fresh h k f f' r (inr cut) flags =
-      absurd (not_flag (has_failed left) (has_failed right) (kept_flag fresh left f) (cut_flag fresh right cut.failed) flags)
+      absurd (no_flag (has_failed right) (sym flags ∙ kept_flag fresh left f) (cut_flag fresh right cut.failed))
   one_by_flag (Err d) (Ok b) fresh h k f f' (inl (inr is, same)) r' flags =
       absurd (read_or_refused (script_of (length plans) slots text) k.0.items d k.0.script is)
   one_by_flag (Err d) (Ok b) fresh h k f f' (inr cut) r' flags =
-      absurd (not_flag (has_failed right) (has_failed left) (kept_flag fresh right f') (cut_flag fresh left cut.failed) (sym flags))
+      absurd (no_flag (has_failed left) (flags ∙ kept_flag fresh right f') (cut_flag fresh left cut.failed))
   one_by_flag (Err d) (Err e) fresh h k f f' (inl (inr is, same)) (inl (inl out, same')) flags = inr (inr out)
   one_by_flag (Err d) (Err e) fresh h k f f' (inr cut) (inl (inl out, same')) flags = inr (inr out)
   one_by_flag (Err d) (Err e) fresh h k f f' (inl (inr is, same)) (inl (inr is', same')) flags =
       inl (ap Err (one_fault (script_of (length plans) slots text) d e is is'), tt)
   one_by_flag (Err d) (Err e) fresh h k f f' (inl (inr is, same)) (inr cut) flags =
-      absurd (not_flag (has_failed left) (has_failed right) (ap has_failed same ∙ fresh) (cut_flag fresh right cut.failed) flags)
+      absurd (no_flag (has_failed right) (sym flags ∙ ap has_failed same ∙ fresh) (cut_flag fresh right cut.failed))
   one_by_flag (Err d) (Err e) fresh h k f f' (inr cut) (inl (inr is', same')) flags =
-      absurd (not_flag (has_failed right) (has_failed left) (ap has_failed same' ∙ fresh) (cut_flag fresh left cut.failed) (sym flags))
+      absurd (no_flag (has_failed left) (flags ∙ ap has_failed same' ∙ fresh) (cut_flag fresh left cut.failed))
   one_by_flag (Err d) (Err e) fresh h k f f' (inr cut) (inr cut') flags = inl (ap Err (cut.refusal_is ∙ sym cut'.refusal_is), tt)
 
 pub returns-clause-written : goal.returns-clause-written
