@@ -25,4 +25,4 @@ one_call text known left right (Err d) (Ok n) h h' k k' r r' = (λ same. absurd 
 one_call text known left right (Err d) (Err e) h h' k k' r r' = (λ same. kept_once known left right k k', ap Err (r ∙ sym r'))
 
 pub returns : goal.returns
-returns g c = one_call
+returns c = one_call

@@ -18,7 +18,7 @@ one_call known here there left right (Ok m) (Ok n) few few' h h' r r' = (
 )
 one_call known here there left right (Ok m) (Err e) few few' h h' r r' = (tt, tt)
 one_call known here there left right (Err d) (Ok n) few few' h h' r r' = (tt, tt)
-one_call known here there left right (Err d) (Err e) few few' h h' r r' = (tt, ap Err (r ∙ sym r'), kept_once known left right h h')
+one_call known here there left right (Err d) (Err e) few few' h h' r r' = (tt, (ap Err (r ∙ sym r'), kept_once known left right h h'))
 
 pub returns : goal.returns
-returns g c = one_call
+returns c = one_call
