@@ -3,3 +3,4 @@ pub mod PlanLaws
 pub mod PlanFronts
 pub mod StoreLaws
 pub mod OneReading
+pub mod ReadFaults

@@ -1,16 +1,23 @@
 -- What reading a plan's text answers, where the text is known.
-use Rattle.std.specs.Prelude.{◌≡◌, ◌≤◌, ◌⊎◌, ℕ, List, ◌++◌, length, Option, Ok, IfSome}
+use Rattle.std.specs.Prelude.{◌≡◌, ◌≢◌, ◌≤◌, ◌⊎◌, ℕ, List, ◌++◌, length, Bool, Option, Result, Ok, Err, IfSome}
 use Rattle.std.specs.Io.KnownBytes.{Consumes, IsAtEnd}
 use Rattle.slot_types.specs.declared.plans.DiePlan.{DiePlan}
 use Rattle.slot_types.specs.declared.refusals.Refusal.{Refusal}
+use Rattle.slot_types.specs.declared.refusals.Refusal.TheVariants.{ReadFault}
 use Rattle.plan_texts.specs.PlanText.{plan_of}
 use Rattle.text_base.specs.Readings.{IsOutside}
+use Rattle.text_base.specs.Writing.{KeepsFlag, SetsFlag}
 use Rattle.plan_texts.specs.Stores.{IsStore, RefusesPlan}
 use Rattle.plan_texts.specs.declared.numbers.PlanNumbers.{PlanNumbers}
 
 -- so many bytes of what was left stand after the text; there are none at the end alone
 abbrev pub TakesMore : Option (List ℕ) → Option (List ℕ) → List ℕ → List ℕ → ℕ → Type 0
 TakesMore left rest old new n = (more : List ℕ) × (new ≡ old ++ more) × (length more ≡ n) × Consumes left rest more × (n ≡ 0 → IsAtEnd rest)
+
+-- the reader's flag is set where the answer is ReadFault, and stays with any other answer
+abbrev pub TellsFault : {X : Type 0} → Result X Refusal → Option Bool → Option Bool → Type 0
+TellsFault (Ok x) old new = KeepsFlag old new
+TellsFault (Err refusal) old new = ((refusal ≡ ReadFault) × SetsFlag old new) ⊎ ((refusal ≢ ReadFault) × KeepsFlag old new)
 
 -- the store that a plan's text makes
 abbrev pub IsStoreOf : Option (List ℕ) → List DiePlan → Type 0

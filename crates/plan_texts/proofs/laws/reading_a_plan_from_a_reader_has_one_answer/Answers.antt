@@ -7,6 +7,7 @@ use Rattle.plan_texts.specs.PlanReading.{IsStoreOf, RefusesPlanOf}
 use Rattle.plan_texts.specs.PlanText.{plan_of}
 use Rattle.plan_texts.specs.Stores.{RefusesPlan}
 use Rattle.plan_texts.proofs.OneReading.{dies_read, not-both, one-refusal}
+use Rattle.plan_texts.proofs.ReadFaults.{fault_by_flag, one_by_flag}
 use Rattle.plan_texts.proofs.laws.reading_a_plan_from_a_reader_has_one_answer.Goals as goal
 
 one_store : (known : List ℕ) (one other : Result (List DiePlan) Refusal) → IfOk one (IsStoreOf (Some known))
@@ -23,5 +24,9 @@ one_store known (Err e) (Ok t) none h' (inr refuses) k' =
 one_store known (Err e) (Err f) none nil (inr a) (inl out) = inr (inr out)
 one_store known (Err e) (Err f) none nil (inr a) (inr b) = inl (ap Err (one-refusal (plan_of known) e f a b))
 
-pub returns : goal.returns
-returns c = one_store
+pub returns-clause-plan : goal.returns-clause-plan
+returns-clause-plan c = one_store
+
+pub returns-clause-flagged : goal.returns-clause-flagged
+returns-clause-flagged c = λ known left right one other is is' h k out out'.
+    (one_by_flag left right one other h k (one_store known one other is is' out out'), fault_by_flag left one h)

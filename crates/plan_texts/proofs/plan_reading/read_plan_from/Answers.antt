@@ -1,15 +1,20 @@
 use Rattle.plan_texts.proofs.PlanFronts.{refused-front, short-front, store-front}
+use Rattle.plan_texts.proofs.ReadFaults.{refused-other, tells-none}
 use Rattle.plan_texts.proofs.plan_reading.read_plan_from.Goals as goal
 
 pub returns-clause-store : goal.returns-clause-store
-returns-clause-store g c = store-front (g.R.Read.remaining c.args.reader) c.in_ok-text.text.items c.read_plan.result
+returns-clause-store g c = store-front (g.R.Read.remaining c.args.reader.now) c.in_ok-text.text.items c.read_plan.result
     c.in_ok-text.ensures.text (rw c.deref.ensures.value at c.read_plan.ensures.ok)
 
 pub returns-clause-short : goal.returns-clause-short
-returns-clause-short g c = short-front (g.R.Read.remaining c.args.reader) c.read_plan.result
-    (store-front (g.R.Read.remaining c.args.reader) c.in_ok-text.text.items c.read_plan.result c.in_ok-text.ensures.text
+returns-clause-short g c = short-front (g.R.Read.remaining c.args.reader.now) c.read_plan.result
+    (store-front (g.R.Read.remaining c.args.reader.now) c.in_ok-text.text.items c.read_plan.result c.in_ok-text.ensures.text
     (rw c.deref.ensures.value at c.read_plan.ensures.ok))
 
+pub returns-clause-flag : goal.returns-clause-flag
+returns-clause-flag g c = tells-none c.read_plan.result _ _ c.in_ok-text.ensures.flag
+    (refused-other c.in_ok-text.text.items c.read_plan.result (rw c.deref.ensures.value at c.read_plan.ensures.err))
+
 pub returns-clause-refused : goal.returns-clause-refused
-returns-clause-refused g c = refused-front (g.R.Read.remaining c.args.reader) c.in_ok-text.text.items c.read_plan.result
+returns-clause-refused g c = refused-front (g.R.Read.remaining c.args.reader.now) c.in_ok-text.text.items c.read_plan.result
     c.in_ok-text.ensures.text (rw c.deref.ensures.value at c.read_plan.ensures.err)
