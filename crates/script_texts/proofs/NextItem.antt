@@ -1,5 +1,5 @@
 -- How the next item follows from the next row.
-use Rattle.std.proofs.Common.{◌≡◌, ◌⊎◌, ℕ, List, [], Option, Some, None, Ok, Err, ◌∙◌}
+use Rattle.std.proofs.Common.{◌≡◌, ◌⊎◌, inr, ℕ, List, [], Option, Some, None, Ok, Err, ◌∙◌}
 use Rattle.slot_types.specs.declared.events.Op.{Op}
 use Rattle.slot_types.specs.declared.refusals.Refusal.{Refusal}
 use Rattle.slot_types.specs.declared.refusals.Refusal.TheVariants.{NoMemory}
@@ -10,8 +10,8 @@ use Rattle.script_texts.specs.Heads.{row_of}
 use Rattle.script_texts.specs.NextItem.{ReadsNext, ReadsRow}
 use Rattle.script_texts.specs.RowTexts.{item_in, row_text}
 use Rattle.script_texts.specs.Script.{Gives}
-use Rattle.script_texts.specs.ScriptLeft.{dies_of, ops_text, reading_left, script_fits, script_rows_left, slots_of}
-use Rattle.script_texts.proofs.RowItems.{arrives, fit-fault, fit-read, items-end, items-fault, items-item, items-ops, whole-step}
+use Rattle.script_texts.specs.ScriptLeft.{dies_of, ops_text, reader_failed, reading_left, script_fits, script_rows_left, slots_of}
+use Rattle.script_texts.proofs.RowItems.{arrives, fit-fault, fit-read, items-end, items-fault, items-item, items-ops, no-read-fault, whole-step}
 
 -- of the reader `old` a row was read, or not, which left the reader `mid`
 module _ {R : Type 0} (rem : R → Option (List ℕ)) (old mid : ScriptReader R) where
@@ -27,6 +27,7 @@ module _ {R : Type 0} (rem : R → Option (List ℕ)) (old mid : ScriptReader R)
         dies = r.dies;
         slots = r.slots;
         again = r.again;
+        failed = r.failed;
       }
 
   pub next-fault : (e : Refusal) → ReadsRow rem old mid (Err e) → ReadsNext rem old mid (Err e)
@@ -41,6 +42,7 @@ module _ {R : Type 0} (rem : R → Option (List ℕ)) (old mid : ScriptReader R)
         dies = r.dies;
         slots = r.slots;
         again = r.again;
+        failed = r.failed;
       }
 
   pub next-item : (head : RowHead) (ops : List Op) → ReadsRow rem old mid (Ok (Some head)) → item_in (row_text head (ops_text mid)) ≡ Ok (row_of head ops)
@@ -57,13 +59,15 @@ module _ {R : Type 0} (rem : R → Option (List ℕ)) (old mid : ScriptReader R)
         dies = r.dies;
         slots = r.slots;
         again = r.again;
+        failed = r.failed;
       }
 
   -- its operations are at fault, and the reader will say so
   pub next-ops : (new : ScriptReader R) (head : RowHead) (e : Refusal) → ReadsRow rem old mid (Ok (Some head))
       → (e ≡ NoMemory) ⊎ (item_in (row_text head (ops_text mid)) ≡ Err e)
-      → new.refused ≡ Some e → dies_of new ≡ dies_of mid → slots_of new ≡ slots_of mid → ReadsNext rem old new (Err e)
-  next-ops new head e r why refused dies slots =
+      → new.refused ≡ Some e → dies_of new ≡ dies_of mid → slots_of new ≡ slots_of mid → reader_failed new ≡ reader_failed mid
+      → ReadsNext rem old new (Err e)
+  next-ops new head e r why refused dies slots failed =
       let gives : Gives (reading_left rem old) (reading_left rem new) (Err e) =
       items-ops (script_rows_left rem old) _ _ (row_text head (ops_text mid)) e r.gives why in
       record {
@@ -75,4 +79,5 @@ module _ {R : Type 0} (rem : R → Option (List ℕ)) (old mid : ScriptReader R)
         dies = dies ∙ r.dies;
         slots = slots ∙ r.slots;
         again = (refused, rw r.again.0 tt);
+        failed = λ none. inr (no-read-fault (row_text head (ops_text mid)) e why, failed ∙ r.failed none);
       }

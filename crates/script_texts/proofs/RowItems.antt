@@ -1,18 +1,21 @@
 -- How items follow from rows.
-use Rattle.std.proofs.Common.{◌≡◌, ◌⊎◌, inl, inr, ℕ, Bool, true, false, List, ◌∷◌, Option, Some, None, Result, Ok, Err, refl, ap, ◌∙◌}
-use Rattle.std.specs.Prelude.{option_map, replicate}
+use Rattle.std.proofs.Common.{◌≡◌, ◌⊎◌, inl, inr, ℕ, Bool, true, false, List, ◌∷◌, Option, Some, None, Result, Ok, Err, refl, sym, ap, ◌∙◌}
+use Rattle.std.specs.Prelude.{◌≢◌, ◌==◌, length, option_map, replicate, if◌then◌else◌}
 use Rattle.slot_types.specs.Arrivals.{IsArrival, arrival_of}
+use Rattle.slot_types.specs.declared.events.Event.TheVariants.{Collect, Submit}
 use Rattle.slot_types.specs.declared.events.JobHead.{JobHead}
 use Rattle.slot_types.specs.declared.events.Op.{Op}
 use Rattle.slot_types.specs.declared.refusals.Refusal.{Refusal}
-use Rattle.slot_types.specs.declared.refusals.Refusal.TheVariants.{NoMemory}
+use Rattle.slot_types.specs.declared.refusals.Cause.TheVariants as cause
+use Rattle.slot_types.specs.declared.refusals.Refusal.TheVariants.{NoMemory, ReadFault, ScriptRow}
 use Rattle.text_base.specs.CsvRecords.{Fields, rows_of}
-use Rattle.text_base.specs.Readings.{Shows}
+use Rattle.text_base.specs.Readings.{◌>>=◌, Shows}
 use Rattle.text_base.specs.Ops.{ops_of, ops_or}
 use Rattle.script_texts.specs.declared.script_rows.RowHead.{RowHead}
 use Rattle.script_texts.specs.declared.script_rows.ScriptItem.{ScriptItem}
 use Rattle.script_texts.specs.Heads.{row_of, row_read}
-use Rattle.script_texts.specs.RowTexts.{RowText, item_in, row_text}
+use Rattle.script_texts.specs.RowTexts.{RowText, item_in, item_with, row_text}
+use Rattle.script_texts.specs.ScriptRows.{event_of, fault}
 use Rattle.script_texts.specs.Script.{EndsFit, Gives, Reading, Yields, items_from, items_in, items_or, reading_of, script_at, script_of, whole}
 use Rattle.script_texts.specs.Script.{with_first, with_front}
 
@@ -32,6 +35,34 @@ arrives job ops = by job.collects refl
     by : (collects : Bool) → job.collects ≡ collects → IsArrival (arrival_of job ops)
     by true is = rw is tt
     by false is = rw is tt
+
+-- the only fault of operations is that of their record
+
+collect-fault : (empty : Bool) (line task release due : ℕ) (head : RowHead) (e : Refusal)
+    → ((if empty then Ok (Collect task release due) else fault line cause.Ops) >>= (λ event. Ok (item_with head event))) ≡ Err e
+    → ◌≡◌ {A = Result ScriptItem Refusal} (Err (ScriptRow line cause.Ops)) (Err e)
+collect-fault true line task release due head e is = absurd (cc)
+collect-fault false line task release due head e is = is
+
+job-fault : (found : Option (List Op)) (line task release due : ℕ) (head : RowHead) (e : Refusal)
+    → (ops_or line found >>= (λ ops. Ok (Submit task release due ops)) >>= (λ event. Ok (item_with head event))) ≡ Err e
+    → ◌≡◌ {A = Result ScriptItem Refusal} (Err (ScriptRow line cause.Ops)) (Err e)
+job-fault None line task release due head e is = is
+job-fault (Some ops) line task release due head e is = absurd (cc)
+
+event-fault : (collects : Bool) (line task release due : ℕ) (text : List ℕ) (head : RowHead) (e : Refusal)
+    → (event_of line collects task release due text >>= (λ event. Ok (item_with head event))) ≡ Err e
+    → ◌≡◌ {A = Result ScriptItem Refusal} (Err (ScriptRow line cause.Ops)) (Err e)
+event-fault true line task release due text head e is = collect-fault (length text == 0) line task release due head e is
+event-fault false line task release due text head e is = job-fault (ops_of text) line task release due head e is
+
+pub no-read-fault : (row : RowText) (e : Refusal) → (e ≡ NoMemory) ⊎ (item_in row ≡ Err e) → e ≢ ReadFault
+no-read-fault row e (inl memory) is = absurd (cc (sym memory ∙ is))
+no-read-fault row e (inr fault) is =
+    let own : ◌≡◌ {A = Result ScriptItem Refusal} (Err (ScriptRow row.head.line cause.Ops)) (Err e) = event-fault row.head.job.collects
+    row.head.line row.head.job.task row.head.job.release row.head.job.due row.ops row.head e fault in
+    let same : ScriptRow row.head.line cause.Ops ≡ e = cc in
+    absurd (cc (same ∙ is))
 
 -- Step by step
 

@@ -1,5 +1,5 @@
 -- What reading the next item or row of a script answers and leaves.
-use Rattle.std.specs.Prelude.{◌≡◌, ℕ, ◌+◌, ◌≤◌, List, Option, Result, IfOk, IfSome}
+use Rattle.std.specs.Prelude.{◌≡◌, ℕ, ◌+◌, ◌≤◌, List, Option, None, Result, IfOk, IfSome}
 use Rattle.slot_types.specs.declared.refusals.Refusal.{Refusal}
 use Rattle.script_texts.specs.declared.script_rows.RowHead.{RowHead}
 use Rattle.script_texts.specs.declared.script_rows.ScriptItem.{ScriptItem}
@@ -7,7 +7,9 @@ use Rattle.script_texts.specs.declared.scripts.ScriptReader.{ScriptReader}
 use Rattle.script_texts.specs.Arrivals.{IsHeadFor, IsRowFor}
 use Rattle.script_texts.specs.AskedPages.{RowHasPages}
 use Rattle.script_texts.specs.Script.{EndsFit, Gives, Yields}
-use Rattle.script_texts.specs.ScriptLeft.{Recalls, dies_of, line_of, ops_text, reading_left, script_fits, script_left, script_rows_left, slots_of}
+use Rattle.script_texts.specs.ScriptLeft.{Recalls, dies_of, line_of, ops_text, reader_failed, reading_left, script_fits, script_left, script_rows_left}
+use Rattle.script_texts.specs.ScriptLeft.{slots_of}
+use Rattle.text_base.specs.Readings.{TellsFailure}
 use Rattle.script_texts.specs.RowTexts.{row_with_text}
 
 -- the next item is read, or that there is none, or the first fault, which is answered again
@@ -21,6 +23,7 @@ pub record ReadsNext {R : Type 0} (remaining : R → Option (List ℕ)) (old new
   pub dies : dies_of new ≡ dies_of old
   pub slots : slots_of new ≡ slots_of old
   pub again : Recalls old new result
+  pub failed : old.refused ≡ None → TellsFailure (reader_failed old) (reader_failed new) result
 
 -- the next row is read as it stands, or that there is none, or the first fault but for those of operations, which is answered again
 pub record ReadsRow {R : Type 0} (remaining : R → Option (List ℕ)) (old new : ScriptReader R) (result : Result (Option RowHead) Refusal)
@@ -32,3 +35,4 @@ pub record ReadsRow {R : Type 0} (remaining : R → Option (List ℕ)) (old new 
   pub dies : dies_of new ≡ dies_of old
   pub slots : slots_of new ≡ slots_of old
   pub again : Recalls old new result
+  pub failed : old.refused ≡ None → TellsFailure (reader_failed old) (reader_failed new) result

@@ -2,6 +2,7 @@
 use Rattle.std.specs.Prelude.{◌≡◌, ℕ, Bool, true, List, length, Option, Some, None, IfSome, option_map, Result, Ok, Err, if◌then◌else◌}
 use Rattle.slot_types.specs.declared.refusals.Refusal.{Refusal}
 use Rattle.script_texts.specs.declared.scripts.ScriptReader.{ScriptReader}
+use Rattle.csv.specs.Reading.{has_failed}
 use Rattle.csv.specs.Records.{fields_of}
 use Rattle.text_base.specs.Fields.{field_or}
 use Rattle.text_base.specs.CsvRecordsLeft.{fits_left, rows_left}
@@ -30,6 +31,10 @@ script_left rem s = option_map whole (reading_left rem s)
 -- whether a reader's text fits its bound, where it is known
 abbrev pub script_fits : {R : Type 0} → (R → Option (List ℕ)) → ScriptReader R → Option Bool
 script_fits rem s = unless_refused s.refused (if s.ended then Some true else fits_left rem s.rows)
+
+-- whether its reader of records has failed
+abbrev pub reader_failed : {R : Type 0} → ScriptReader R → Bool
+reader_failed s = has_failed s.rows
 
 -- for how many dies a reader reads
 abbrev pub dies_of : {R : Type 0} → ScriptReader R → ℕ

@@ -82,9 +82,9 @@ impl<R: Read> ScriptReader<R> {
     ///
     /// ScriptRow has the number of the first record at fault, and its first fault in this order: TooManyRows for a
     /// record numbered above 1,000,001; Header where record 1 isn't the header or there is no record; Fields where it
-    /// doesn't have seven fields; Number; Kind; Die for a die that isn't there; At; Ops. ReadFault comes where the
-    /// reader fails or goes on beyond its bound; the records before it are judged first. NoMemory comes where memory
-    /// is refused.
+    /// doesn't have seven fields; Number; Kind; Die for a die that isn't there; At; Ops. ReadFault comes exactly where
+    /// csv's reader fails, since the reader below it does or goes on beyond its bound; the records before it are judged
+    /// first. NoMemory comes where memory is refused.
     pub fn next(&mut self) -> Result<Option<ScriptItem>, Refusal>
         ensures { ReadsNext R.remaining self.old self.new result }
     {

@@ -1,10 +1,12 @@
 //! The steps of a reader of scripts.
 
 ghost use Rattle.std.specs.Prelude.{◌≡◌, ◌<◌, ◌+◌, ◌≤◌, length, max, IfOk, IfSome};
+ghost use Rattle.csv.specs.Reading.{has_failed};
 ghost use Rattle.csv.specs.Records.{fields_of};
 ghost use Rattle.text_base.specs.CsvRecordsLeft.{fits_left, rows_left};
 ghost use Rattle.text_base.specs.Fields.{field_or};
 ghost use Rattle.text_base.specs.Plain.{IsPlain};
+ghost use Rattle.text_base.specs.Readings.{TellsFailure};
 ghost use Rattle.script_texts.specs.Arrivals.{IsHeadFor};
 ghost use Rattle.script_texts.specs.RowTexts.{row_with_text};
 ghost use Rattle.script_texts.specs.Script.{StepFits, StepOf, after_row, rows_from, script_at, script_from};
@@ -50,6 +52,7 @@ fn read_head<R: Read>(
     ensures fits { StepFits (fits_left R.remaining rows.old) (fits_left R.remaining rows.new)
         result }
     ensures plain { IfOk result (λ _. IsPlain rows.new) }
+    ensures failed { TellsFailure (has_failed rows.old) (has_failed rows.new) result }
     ensures few { IfOk result (λ o. IfSome o (λ _. line ≤ 1000001)) }
     ensures row { IfOk result (λ o. IfSome o (IsHeadFor (length lasts.now) slots)) }
     ensures line { IfOk result (λ o. IfSome o (λ head. head.line ≡ line)) }
@@ -81,6 +84,7 @@ fn read_first<R: Read>(
     ensures fits { StepFits (fits_left R.remaining rows.old) (fits_left R.remaining rows.new)
         result }
     ensures plain { IfOk result (λ _. IsPlain rows.new) }
+    ensures failed { TellsFailure (has_failed rows.old) (has_failed rows.new) result }
     ensures row { IfOk result (λ o. IfSome o (IsHeadFor (length lasts.now) slots)) }
     ensures line { IfOk result (λ o. IfSome o (λ head. head.line ≡ 2)) }
 {
@@ -110,6 +114,7 @@ pub fn read_step<R: Read>(
     ensures fits { StepFits (fits_left R.remaining rows.old) (fits_left R.remaining rows.new)
         result }
     ensures plain { IfOk result (λ _. IsPlain rows.new) }
+    ensures failed { TellsFailure (has_failed rows.old) (has_failed rows.new) result }
     ensures few { IfOk result (λ o. IfSome o (λ _. line ≤ 1000001)) }
     ensures row { IfOk result (λ o. IfSome o (IsHeadFor (length lasts.now) slots)) }
     ensures line { IfOk result (λ o. IfSome o (λ head. head.line ≡ max line 2)) }

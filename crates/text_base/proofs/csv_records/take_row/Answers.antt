@@ -29,5 +29,5 @@ returns-in-Err-clause-failed g c =
     inl (
       c.fault.ensures.outside,
       c.in-Err.ensures.fails
-      ∙ stopped (bounded_remaining g.R.Read.remaining) c.args.rows.now c.read_byte_record.new.self (error_kind c.in-Err.e) plain.2 why,
+          ∙ stopped (bounded_remaining g.R.Read.remaining) c.args.rows.now c.read_byte_record.new.self (error_kind c.in-Err.e) plain.2 why,
     )

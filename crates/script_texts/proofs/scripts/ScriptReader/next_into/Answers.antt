@@ -19,4 +19,4 @@ returns-in-Ok-clause-next g c =
 pub returns-in-Err-clause-next : goal.returns-in-Err-clause-next
 returns-in-Err-clause-next g c =
     next-ops g.R.Read.remaining c.args.self.now c.next_row.new.self _ c.in-Some.head c.in-Err.refusal
-    (rw c.in-Some.is at c.in_ok-head.ensures) (rw c.ops_text.ensures at c.in-Err.ensures.item) refl refl refl
+    (rw c.in-Some.is at c.in_ok-head.ensures) (rw c.ops_text.ensures at c.in-Err.ensures.item) refl refl refl refl
