@@ -47,8 +47,7 @@ pub fn showing_has_one_answer()
 {}
 
 /// Opening the files of a command (`open`) gives readers of one text, where what a file holds that the command names is
-/// known; so does opening one file. Left open is whether a file can be opened, and what stands in place of a text that
-/// the command doesn't name.
+/// known; so does opening one file. Left open is whether a file can be opened.
 pub fn opening_has_one_answer<R>()
     ensures files { (remaining : R → Option (List ℕ)) (held : FileContents) (c : Command)
         (one other : Result (Source R × Source R) Refusal) →

@@ -132,13 +132,7 @@ impl<R: Read> ScriptReader<R> {
             return Ok(None);
         }
         let line = self.line;
-        match read_step(
-            &mut self.rows,
-            &mut self.row,
-            self.slots,
-            &self.lasts,
-            line,
-        ) {
+        match read_step(&mut self.rows, &mut self.row, self.slots, &self.lasts, line) {
             Ok(Some(head)) => {
                 self.line = line.max(2) + 1;
                 self.lasts[head.die as usize] = head.at;

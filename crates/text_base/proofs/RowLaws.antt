@@ -5,7 +5,9 @@ use Rattle.std.proofs.lemmas.Bool.{cases_Bool}
 use Rattle.csv.specs.Machine.{Read, next_record, step, is_end, ends_at_end, fields_after, field_after}
 use Rattle.text_base.specs.Plain.{is_ready}
 use Rattle.csv.specs.Reading.{Ready, ReadRecord, took_first, names_headers, reader_headers, Reached, default_config, reader_config}
-use Rattle.csv.specs.Reading.{reader_state, records_next, source_of, strip_bom}
+use Rattle.csv.specs.Reading.{ExplainsRead, is_flexible, reader_state, records_next, source_of, stops_reader, strip_bom}
+use Rattle.csv.specs.declared.error.ErrorKind.{ErrorKind}
+use Rattle.csv.specs.declared.error.ErrorKind.TheVariants as kind
 use Rattle.csv.specs.declared.parser.State.{State}
 use Rattle.csv.specs.declared.parser.State.TheVariants as st
 use Rattle.csv.specs.declared.reader.Reader.{Reader}
@@ -159,3 +161,13 @@ ready-cases false false (Some x) e = cc e
 
 pub ready : {R : Type 0} (r : Reader R) → is_ready r ≡ true → Ready r
 ready r e = ready-cases (took_first r) (names_headers r) (reader_headers r) e
+
+-- a read of bytes, of records of any length, is refused for what stops its reader alone
+pub stopped : {R : Type 0} (rem : R → Option (List ℕ)) (old new : Reader R) (why : ErrorKind) → is_flexible old ≡ true
+    → ExplainsRead rem old new false why → stops_reader why ≡ true
+stopped rem old new (kind.Io e) flexible h = refl
+stopped rem old new kind.OutOfMemory flexible h = refl
+stopped rem old new (kind.UnequalLengths pos expected len) flexible h = absurd (let apart = sym flexible ∙ h.0 in cc)
+stopped rem old new (kind.Utf8 pos err) flexible h = absurd (let apart = h.0 in cc)
+stopped rem old new (kind.Serialize text) flexible h = absurd h
+stopped rem old new (kind.Deserialize pos err) flexible h = absurd h

@@ -27,9 +27,11 @@ SetsFlag (Some flag) new = new ≡ Some true
 abbrev pub InPart : (Option (List ℕ) → Option (List ℕ) → Type 0) → Option (List ℕ) → Option (List ℕ) → Type 0
 InPart prints old new = (whole : List ℕ) × prints (Some []) (Some whole) × AppendsPart old new whole
 
--- nothing was written, or not the whole
-abbrev pub IsNotWhole : {W : Type 0} → (W → Option (List ℕ)) → (Option (List ℕ) → Option (List ℕ) → Type 0) → W → W → Type 0
-IsNotWhole contents prints old new = (new ≡ old) ⊎ InPart prints (contents old) (contents new)
+-- nothing was written; or the writer failed, and took a front, and not the whole
+abbrev pub IsNotWhole : {W : Type 0} → (W → Option (List ℕ)) → (W → Option Bool) → (Option (List ℕ) → Option (List ℕ) → Type 0) → W → W
+    → Type 0
+IsNotWhole contents has_failed prints old new =
+    (new ≡ old) ⊎ (SetsFlag (has_failed old) (has_failed new) × InPart prints (contents old) (contents new))
 
 -- the writer failed, and took a front of what prints so, and not the whole
 pub record IsCut {W : Type 0} (contents : W → Option (List ℕ)) (has_failed : W → Option Bool)

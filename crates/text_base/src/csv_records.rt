@@ -1,12 +1,12 @@
 //! The records of a text, by csv's defaults.
 
 ghost use Rattle.std.specs.Prelude.{◌≡◌, ◌<◌, ◌^◌, true, All, IfOk, IfErr, option_map};
-ghost use Rattle.csv.specs.Reading.{error_kind, is_io};
+ghost use Rattle.csv.specs.Reading.{error_kind, has_failed, is_io};
 ghost use Rattle.csv.specs.Records.{fields_of, field_at};
 ghost use Rattle.text_base.specs.Fields.{has_text};
 ghost use Rattle.text_base.specs.Fields.{field_or};
 ghost use Rattle.text_base.specs.Plain.{IsPlain};
-ghost use Rattle.text_base.specs.Readings.{IsOutside};
+ghost use Rattle.text_base.specs.Readings.{IsOutside, TellsFailure};
 ghost use Rattle.text_base.specs.Marks.{is_within};
 ghost use Rattle.text_base.specs.CsvRecords.{TakesRow, rows_of};
 ghost use Rattle.text_base.specs.CsvRecordsLeft.{KeepsFit, fits_left, rows_left};
@@ -60,7 +60,8 @@ fn check_bytes(text: &[u8])
     ensures { All (λ b. b < 256) text.now }
 {}
 
-/// Takes the next record, if there is one.
+/// Takes the next record, if there is one. A refusal comes exactly where csv's reader fails, which it knows from then on:
+/// ReadFault where the reader below failed or went on past the bound, and NoMemory where csv lacked memory.
 pub fn take_row<R: Read>(
     rows: &mut Reader<Bounded<R>>,
     row: &mut ByteRecord,
@@ -73,6 +74,7 @@ pub fn take_row<R: Read>(
         KeepsFit (fits_left R.remaining rows.old) (fits_left R.remaining rows.new) found) }
     ensures plain { IfOk result (λ found. IsPlain rows.new) }
     ensures outside { IfErr result (λ e. IsOutside e) }
+    ensures failed { TellsFailure (has_failed rows.old) (has_failed rows.new) result }
 {
     match rows.read_byte_record(row) {
         Ok(found) => {

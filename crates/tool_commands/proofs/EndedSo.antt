@@ -2,50 +2,41 @@
 use Rattle.std.proofs.Common.{◌≡◌, ◌⊎◌, ℕ, Bool, true, false, List, [], Option, Some, None, Result, Ok, Err, IfOk, IfSome, OnErr, OnOk, is_ok, inl, inr, refl, ap}
 use Rattle.std.specs.Prelude.{if◌then◌else◌}
 use Rattle.slot_types.specs.declared.refusals.Refusal.{Refusal}
-use Rattle.slot_types.specs.declared.refusals.Refusal.TheVariants.{NoMemory, WriteFault}
-use Rattle.text_base.specs.Writing.{AppendsPart, IsNotWhole}
+use Rattle.text_base.specs.Writing.{IsNotWhole}
 use Rattle.tool_plan_fit.specs.declared.faults.FitFault.{FitFault}
 use Rattle.tool_plan_fit.specs.declared.faults.FitFault.TheVariants.{NotFound, Refused, Sheet}
 use Rattle.tool_commands.specs.Acts.{Ends, EndsFit, EndsSaying, IsUnfound, PrintsPassingPlan, Says, accepted_status, explained_status}
 use Rattle.tool_commands.specs.Acts.{fit_status, kept_status, verdict_status}
 
-pub ends : {W A E : Type 0} (contents : W → Option (List ℕ)) (prints : Option (List ℕ) → Option (List ℕ) → Type 0) (old new : W)
-    (ran : Result A E) (status : ℕ) → OnOk ran (prints (contents old) (contents new)) → OnErr ran (IsNotWhole contents prints old new)
-    → status ≡ (if is_ok ran then 0 else 1) → Ends contents prints old new status
-ends contents prints old new (Ok x) status printed part is = inl (printed, is)
-ends contents prints old new (Err e) status printed part is = inr (part, is)
+pub ends : {W A E : Type 0} (contents : W → Option (List ℕ)) (has_failed : W → Option Bool)
+    (prints : Option (List ℕ) → Option (List ℕ) → Type 0) (old new : W) (ran : Result A E) (status : ℕ) → OnOk ran (prints (contents old) (contents new)) → OnErr ran (IsNotWhole contents has_failed prints old new)
+    → status ≡ (if is_ok ran then 0 else 1) → Ends contents has_failed prints old new status
+ends contents has_failed prints old new (Ok x) status printed part is = inl (printed, is)
+ends contents has_failed prints old new (Err e) status printed part is = inr (part, is)
 
-pub ends_explained : {W E : Type 0} (contents : W → Option (List ℕ)) (prints : Bool → Option (List ℕ) → Option (List ℕ) → Type 0) (old new : W)
-    (said : Result Bool E) (status : ℕ) → IfOk said (λ (yes : Bool). prints yes (contents old) (contents new))
-    → OnErr said (IsNotWhole contents (Says prints) old new) → status ≡ explained_status said
-    → EndsSaying contents prints accepted_status old new status
-ends_explained contents prints old new (Ok true) status printed part is = inl (true, printed, is)
-ends_explained contents prints old new (Ok false) status printed part is = inl (false, printed, is)
-ends_explained contents prints old new (Err e) status printed part is = inr (part, is)
+pub ends_explained : {W E : Type 0} (contents : W → Option (List ℕ)) (has_failed : W → Option Bool)
+    (prints : Bool → Option (List ℕ) → Option (List ℕ) → Type 0) (old new : W) (said : Result Bool E) (status : ℕ) → IfOk said (λ (yes : Bool). prints yes (contents old) (contents new))
+    → OnErr said (IsNotWhole contents has_failed (Says prints) old new) → status ≡ explained_status said
+    → EndsSaying contents has_failed prints accepted_status old new status
+ends_explained contents has_failed prints old new (Ok true) status printed part is = inl (true, printed, is)
+ends_explained contents has_failed prints old new (Ok false) status printed part is = inl (false, printed, is)
+ends_explained contents has_failed prints old new (Err e) status printed part is = inr (part, is)
 
-pub ends_kept : {W : Type 0} (contents : W → Option (List ℕ)) (prints : Bool → Option (List ℕ) → Option (List ℕ) → Type 0) (old new : W)
-    (kept : Result (Option Bool) Refusal) (status : ℕ)
+pub ends_kept : {W : Type 0} (contents : W → Option (List ℕ)) (has_failed : W → Option Bool)
+    (prints : Bool → Option (List ℕ) → Option (List ℕ) → Type 0) (old new : W) (kept : Result (Option Bool) Refusal) (status : ℕ)
     → IfOk kept (λ (found : Option Bool). IfSome found (λ (yes : Bool). prints yes (contents old) (contents new)))
-    → (kept ≡ Ok None → new ≡ old) → OnErr kept (IsNotWhole contents (Says prints) old new) → status ≡ kept_status kept
-    → EndsSaying contents prints verdict_status old new status
-ends_kept contents prints old new (Ok (Some true)) status printed astray part is = inl (true, printed, is)
-ends_kept contents prints old new (Ok (Some false)) status printed astray part is = inl (false, printed, is)
-ends_kept contents prints old new (Ok None) status printed astray part is = inr (inl (astray refl), is)
-ends_kept contents prints old new (Err e) status printed astray part is = inr (part, is)
+    → (kept ≡ Ok None → new ≡ old) → OnErr kept (IsNotWhole contents has_failed (Says prints) old new) → status ≡ kept_status kept
+    → EndsSaying contents has_failed prints verdict_status old new status
+ends_kept contents has_failed prints old new (Ok (Some true)) status printed astray part is = inl (true, printed, is)
+ends_kept contents has_failed prints old new (Ok (Some false)) status printed astray part is = inl (false, printed, is)
+ends_kept contents has_failed prints old new (Ok None) status printed astray part is = inr (inl (astray refl), is)
+ends_kept contents has_failed prints old new (Err e) status printed astray part is = inr (part, is)
 
-pub ends_fit : {W : Type 0} (contents : W → Option (List ℕ)) (old new : W) (fitted : Result (Unit {0}) FitFault) (status : ℕ)
-    → OnOk fitted (PrintsPassingPlan (contents old) (contents new)) → OnErr fitted (IsNotWhole contents PrintsPassingPlan old new)
-    → (IsUnfound fitted → new ≡ old) → status ≡ fit_status fitted → EndsFit contents old new status
-ends_fit contents old new (Ok x) status printed part unfound is = inl (inl (printed, is))
-ends_fit contents old new (Err (NotFound reason)) status printed part unfound is = inr (unfound tt, is)
-ends_fit contents old new (Err (Refused refusal)) status printed part unfound is = inl (inr (part, is))
-ends_fit contents old new (Err (Sheet fault)) status printed part unfound is = inl (inr (part, is))
-
--- a text that was refused was not begun, or cut
-pub in_part : {W : Type 0} (contents : W → Option (List ℕ)) (prints : Option (List ℕ) → Option (List ℕ) → Type 0) (old new : W)
-    (whole : List ℕ) (refusal : Refusal) → (refusal ≡ NoMemory) ⊎ (refusal ≡ WriteFault)
-    → (◌≡◌ {A = Result (Unit {0}) Refusal} (Err refusal) (Err NoMemory) → new ≡ old)
-    → (◌≡◌ {A = Result (Unit {0}) Refusal} (Err refusal) (Err WriteFault) → AppendsPart (contents old) (contents new) whole)
-    → prints (Some []) (Some whole) → IsNotWhole contents prints old new
-in_part contents prints old new whole refusal (inl is) memory part printed = inl (memory (ap Err is))
-in_part contents prints old new whole refusal (inr is) memory part printed = inr (whole, printed, part (ap Err is))
+pub ends_fit : {W : Type 0} (contents : W → Option (List ℕ)) (has_failed : W → Option Bool) (old new : W)
+    (fitted : Result (Unit {0}) FitFault) (status : ℕ)
+    → OnOk fitted (PrintsPassingPlan (contents old) (contents new)) → OnErr fitted (IsNotWhole contents has_failed PrintsPassingPlan old new)
+    → (IsUnfound fitted → new ≡ old) → status ≡ fit_status fitted → EndsFit contents has_failed old new status
+ends_fit contents has_failed old new (Ok x) status printed part unfound is = inl (inl (printed, is))
+ends_fit contents has_failed old new (Err (NotFound reason)) status printed part unfound is = inr (unfound tt, is)
+ends_fit contents has_failed old new (Err (Refused refusal)) status printed part unfound is = inl (inr (part, is))
+ends_fit contents has_failed old new (Err (Sheet fault)) status printed part unfound is = inl (inr (part, is))

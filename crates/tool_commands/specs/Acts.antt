@@ -164,46 +164,56 @@ abbrev pub Says : (Bool → Option (List ℕ) → Option (List ℕ) → Type 0) 
 Says prints old new = (yes : Bool) × prints yes old new
 
 -- it was refused, with status 1, and nothing was written, or the writer failed before it had the whole of what is printed so
-abbrev pub IsRefused : {W : Type 0} → (W → Option (List ℕ)) → (Option (List ℕ) → Option (List ℕ) → Type 0) → W → W → ℕ → Type 0
-IsRefused contents prints old new status = IsNotWhole contents prints old new × (status ≡ 1)
+abbrev pub IsRefused : {W : Type 0} → (W → Option (List ℕ)) → (W → Option Bool) → (Option (List ℕ) → Option (List ℕ) → Type 0) → W → W → ℕ
+    → Type 0
+IsRefused contents has_failed prints old new status = IsNotWhole contents has_failed prints old new × (status ≡ 1)
 
 -- it is printed so, with status 0, or refused
-abbrev pub Ends : {W : Type 0} → (W → Option (List ℕ)) → (Option (List ℕ) → Option (List ℕ) → Type 0) → W → W → ℕ → Type 0
-Ends contents prints old new status = (prints (contents old) (contents new) × (status ≡ 0)) ⊎ IsRefused contents prints old new status
+abbrev pub Ends : {W : Type 0} → (W → Option (List ℕ)) → (W → Option Bool) → (Option (List ℕ) → Option (List ℕ) → Type 0) → W → W → ℕ
+    → Type 0
+Ends contents has_failed prints old new status =
+    (prints (contents old) (contents new) × (status ≡ 0)) ⊎ IsRefused contents has_failed prints old new status
 
 -- it is printed so of a yes or of a no, with the status of that, or refused
-abbrev pub EndsSaying : {W : Type 0} → (W → Option (List ℕ)) → (Bool → Option (List ℕ) → Option (List ℕ) → Type 0) → (Bool → ℕ) → W → W → ℕ
-    → Type 0
-EndsSaying contents prints status_of old new status =
-    ((yes : Bool) × prints yes (contents old) (contents new) × (status ≡ status_of yes)) ⊎ IsRefused contents (Says prints) old new status
+abbrev pub EndsSaying : {W : Type 0} → (W → Option (List ℕ)) → (W → Option Bool) → (Bool → Option (List ℕ) → Option (List ℕ) → Type 0)
+    → (Bool → ℕ) → W → W → ℕ → Type 0
+EndsSaying contents has_failed prints status_of old new status =
+    ((yes : Bool) × prints yes (contents old) (contents new) × (status ≡ status_of yes))
+    ⊎ IsRefused contents has_failed (Says prints) old new status
 
 -- a plan that passes is printed, or refused; or none was found, and nothing written
-abbrev pub EndsFit : {W : Type 0} → (W → Option (List ℕ)) → W → W → ℕ → Type 0
-EndsFit contents old new status = Ends contents PrintsPassingPlan old new status ⊎ ((new ≡ old) × (status ≡ 3))
+abbrev pub EndsFit : {W : Type 0} → (W → Option (List ℕ)) → (W → Option Bool) → W → W → ℕ → Type 0
+EndsFit contents has_failed old new status =
+    Ends contents has_failed PrintsPassingPlan old new status ⊎ ((new ≡ old) × (status ≡ 3))
 
 -- the status of a run whose report is printed: where a checkpoint of its end is wanted, that may fail, or none may be taken
 abbrev pub IsRunStatus : Bool → ℕ → Type 0
 IsRunStatus alone status = (status ≡ 0) ⊎ ((alone ≡ false) × ((status ≡ 1) ⊎ (status ≡ 3)))
 
 -- the report of a run is printed, alone or with a checkpoint, or it is refused
-abbrev pub EndsRun : {W : Type 0} → (W → Option (List ℕ)) → Bool → W → W → ℕ → Type 0
-EndsRun contents alone old new status =
-    (PrintsRun (contents old) (contents new) × IsRunStatus alone status) ⊎ IsRefused contents PrintsRun old new status
+abbrev pub EndsRun : {W : Type 0} → (W → Option (List ℕ)) → (W → Option Bool) → Bool → W → W → ℕ → Type 0
+EndsRun contents has_failed alone old new status =
+    (PrintsRun (contents old) (contents new) × IsRunStatus alone status) ⊎ IsRefused contents has_failed PrintsRun old new status
 
 -- how a command ends
-abbrev pub EndsSo : {W : Type 0} → (W → Option (List ℕ)) → Command → Option (List ℕ) → Option (List ℕ) → W → W → ℕ → Type 0
-EndsSo contents (command.Explain plan from) text rows old new status = EndsSaying contents (Explains text) accepted_status old new status
-EndsSo contents (command.Fit sheet) text rows old new status = EndsFit contents old new status
-EndsSo contents (command.Arrivals plan slots seed fills phases jitter load) text rows old new status =
-    Ends contents (PrintsArrivals text slots) old new status
-EndsSo contents (command.Keeps plan script slots) text rows old new status =
-    EndsSaying contents (PrintsKept text rows slots) verdict_status old new status
-EndsSo contents (command.Wear plan script slots) text rows old new status = Ends contents (PrintsWear text) old new status
-EndsSo contents (command.Report plan script slots endurance slot_us as_csv fail) text rows old new status =
-    Ends contents PrintsText old new status
-EndsSo contents (command.Draw plan script slots die first end worst as_text fail) text rows old new status =
-    Ends contents PrintsText old new status
-EndsSo contents (command.Compare plan script slots first pool as_csv draws die task) text rows old new status =
-    Ends contents PrintsText old new status
-EndsSo contents (command.Run plan script slots from to None) text rows old new status = EndsRun contents (is_none to) old new status
-EndsSo contents (command.Run plan script slots from to (Some fail)) text rows old new status = Ends contents PrintsFailing old new status
+abbrev pub EndsSo : {W : Type 0} → (W → Option (List ℕ)) → (W → Option Bool) → Command → Option (List ℕ) → Option (List ℕ) → W → W → ℕ
+    → Type 0
+EndsSo contents has_failed (command.Explain plan from) text rows old new status =
+    EndsSaying contents has_failed (Explains text) accepted_status old new status
+EndsSo contents has_failed (command.Fit sheet) text rows old new status = EndsFit contents has_failed old new status
+EndsSo contents has_failed (command.Arrivals plan slots seed fills phases jitter load) text rows old new status =
+    Ends contents has_failed (PrintsArrivals text slots) old new status
+EndsSo contents has_failed (command.Keeps plan script slots) text rows old new status =
+    EndsSaying contents has_failed (PrintsKept text rows slots) verdict_status old new status
+EndsSo contents has_failed (command.Wear plan script slots) text rows old new status =
+    Ends contents has_failed (PrintsWear text) old new status
+EndsSo contents has_failed (command.Report plan script slots endurance slot_us as_csv fail) text rows old new status =
+    Ends contents has_failed PrintsText old new status
+EndsSo contents has_failed (command.Draw plan script slots die first end worst as_text fail) text rows old new status =
+    Ends contents has_failed PrintsText old new status
+EndsSo contents has_failed (command.Compare plan script slots first pool as_csv draws die task) text rows old new status =
+    Ends contents has_failed PrintsText old new status
+EndsSo contents has_failed (command.Run plan script slots from to None) text rows old new status =
+    EndsRun contents has_failed (is_none to) old new status
+EndsSo contents has_failed (command.Run plan script slots from to (Some fail)) text rows old new status =
+    Ends contents has_failed PrintsFailing old new status

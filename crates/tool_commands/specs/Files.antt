@@ -39,10 +39,10 @@ IsOpened remaining held None None = ⊤
 IsOpened remaining held _ _ = ⊥
 
 -- a command ends so on what its files hold
-pub record EndsOnFiles {W : Type 0} (contents : W → Option (List ℕ)) (held : FileContents) (c : Command) (old new : W)
+pub record EndsOnFiles {W : Type 0} (contents : W → Option (List ℕ)) (has_failed : W → Option Bool) (held : FileContents) (c : Command) (old new : W)
     (status : ℕ) : Type 0 where
   pub text : Option (List ℕ)
   pub rows : Option (List ℕ)
   pub plan : GivesFile (held (plan_name c)) text
   pub script : GivesNamed held (script_name c) rows
-  pub ends : EndsSo contents c text rows old new status
+  pub ends : EndsSo contents has_failed c text rows old new status

@@ -79,7 +79,7 @@ fn print_run<P: Read + Drop, S: Read + Drop, C: Read + Drop, W: Output>(
     requires slots { slots ≤ MAX_SLOT }
     ensures printed { IfOk result (λ run.
         PrintsReport (W.contents out.old) (W.contents out.new) run.dies.items) }
-    ensures part { OnErr result (IsNotWhole W.contents PrintsRun out.old out.new) }
+    ensures part { OnErr result (IsNotWhole W.contents W.has_failed PrintsRun out.old out.new) }
     ensures few { IfOk result (λ run. length run.dies.items ≤ 8) }
 {
     let store = read_plan_from(alloc, &mut FlaggedReader::new(plan))?;
@@ -169,7 +169,7 @@ pub fn act_run<P: Read + Drop, S: Read + Drop, C: Read + Drop, K: Shelf, W: Outp
     err: &mut E,
 ) -> u8
     requires slots { slots ≤ MAX_SLOT }
-    ensures { EndsRun W.contents (is_none to.entry) out.old out.new result }
+    ensures { EndsRun W.contents W.has_failed (is_none to.entry) out.old out.new result }
 {
     let Kept { from, shelf } = kept;
     let ran = match print_run(alloc, plan, script, from, slots, to.is_some(), out) {
@@ -196,7 +196,7 @@ fn print_failing<P: Read + Drop, S: Read + Drop, W: Output>(
 ) -> Result<FailingReported, Refusal>
     requires slots { slots ≤ MAX_SLOT }
     ensures printed { OnOk result (PrintsFailing (W.contents out.old) (W.contents out.new)) }
-    ensures part { OnErr result (IsNotWhole W.contents PrintsFailing out.old out.new) }
+    ensures part { OnErr result (IsNotWhole W.contents W.has_failed PrintsFailing out.old out.new) }
 {
     let store = read_plan_from(alloc, &mut FlaggedReader::new(plan))?;
     let FailingRun {
@@ -222,7 +222,7 @@ pub fn act_failing<P: Read + Drop, S: Read + Drop, W: Output, E: Write>(
     err: &mut E,
 ) -> u8
     requires slots { slots ≤ MAX_SLOT }
-    ensures { Ends W.contents PrintsFailing out.old out.new result }
+    ensures { Ends W.contents W.has_failed PrintsFailing out.old out.new result }
 {
     match print_failing(alloc, plan, script, slots, fail, out) {
         Ok(reported) => {

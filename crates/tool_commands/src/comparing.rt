@@ -23,7 +23,7 @@ fn print_compared<P: Read + Drop, S: Read + Drop, W: Output>(
 ) -> Result<(), CompareFault>
     requires slots { measure.slots ≤ MAX_SLOT }
     ensures printed { OnOk result (PrintsText (W.contents out.old) (W.contents out.new)) }
-    ensures part { OnErr result (IsNotWhole W.contents PrintsText out.old out.new) }
+    ensures part { OnErr result (IsNotWhole W.contents W.has_failed PrintsText out.old out.new) }
 {
     let store = read_plan_from(alloc, &mut FlaggedReader::new(plan))?;
     let said = compare(alloc, &store, script, measure, form)?;
@@ -62,7 +62,7 @@ pub fn act_compare<P: Read + Drop, S: Read + Drop, W: Output, E: Write>(
     err: &mut E,
 ) -> u8
     requires slots { measure.slots ≤ MAX_SLOT }
-    ensures { Ends W.contents PrintsText out.old out.new result }
+    ensures { Ends W.contents W.has_failed PrintsText out.old out.new result }
 {
     let compared = print_compared(alloc, plan, script, measure, form, out);
     end_compared(err, compared)

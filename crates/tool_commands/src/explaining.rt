@@ -33,7 +33,7 @@ fn print_explained<R: Read + Drop, W: Output>(
     ensures printed { IfOk result (λ is_accepted.
         Explains (R.remaining plan) is_accepted (W.contents out.old) (W.contents out.new)) }
     ensures part { OnErr result
-        (IsNotWhole W.contents (Says (Explains (R.remaining plan))) out.old out.new) }
+        (IsNotWhole W.contents W.has_failed (Says (Explains (R.remaining plan))) out.old out.new) }
     ensures refused { IfErr result IsHostFault }
 {
     let explained = explained_of(alloc, plan)?;
@@ -80,7 +80,7 @@ fn print_explained_from<P: Read + Drop, C: Read + Drop, W: Output>(
     ensures printed { IfOk result (λ is_accepted.
         Explains (P.remaining plan) is_accepted (W.contents out.old) (W.contents out.new)) }
     ensures part { OnErr result
-        (IsNotWhole W.contents (Says (Explains (P.remaining plan))) out.old out.new) }
+        (IsNotWhole W.contents W.has_failed (Says (Explains (P.remaining plan))) out.old out.new) }
 {
     let explained = explained_from(alloc, plan, from)?;
     write_whole(out, &explained.text)?;
@@ -121,7 +121,7 @@ pub fn act_explain<P: Read + Drop, C: Read + Drop, W: Output, E: Write>(
     out: &mut W,
     err: &mut E,
 ) -> u8
-    ensures { EndsSaying W.contents (Explains (P.remaining plan)) accepted_status out.old out.new
+    ensures { EndsSaying W.contents W.has_failed (Explains (P.remaining plan)) accepted_status out.old out.new
         result }
 {
     match from {

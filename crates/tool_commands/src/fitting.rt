@@ -18,7 +18,7 @@ fn print_fit<R: Read + Drop, W: Output>(
     out: &mut W,
 ) -> Result<(), FitFault>
     ensures printed { OnOk result (PrintsPassingPlan (W.contents out.old) (W.contents out.new)) }
-    ensures part { OnErr result (IsNotWhole W.contents PrintsPassingPlan out.old out.new) }
+    ensures part { OnErr result (IsNotWhole W.contents W.has_failed PrintsPassingPlan out.old out.new) }
     ensures unfound { IsUnfound result → out.new ≡ out.old }
 {
     let sheet = plan_text(alloc, &mut FlaggedReader::new(sheet))?;
@@ -56,7 +56,7 @@ pub fn act_fit<R: Read + Drop, W: Output, E: Write>(
     out: &mut W,
     err: &mut E,
 ) -> u8
-    ensures { EndsFit W.contents out.old out.new result }
+    ensures { EndsFit W.contents W.has_failed out.old out.new result }
 {
     let fitted = print_fit(alloc, sheet, out);
     end_fit(err, fitted)

@@ -89,7 +89,7 @@ pub fn act_audits<D: Folder, W: Output, E: Write>(
 ) -> u8
     ensures worst { result ≢ 1 → AuditsFiles (D.held folder.now) names.now 0 result }
     ensures printed { PrintsText (W.contents out.old) (W.contents out.new)
-        ⊎ (IsNotWhole W.contents PrintsText out.old out.new × (result ≡ 1)) }
+        ⊎ (IsNotWhole W.contents W.has_failed PrintsText out.old out.new × (result ≡ 1)) }
 {
     let mut text = Vec::new(alloc);
     let mut status = 0;
@@ -149,7 +149,7 @@ pub fn act_imports<D: Folder, W: Output, E: Write>(
     out: &mut W,
     err: &mut E,
 ) -> u8
-    ensures { Ends W.contents PrintsText out.old out.new result }
+    ensures { Ends W.contents W.has_failed PrintsText out.old out.new result }
 {
     let made = if as_plan { Made::Plan } else { Made::Script };
     match imported(alloc, folder, names, measure, made) {

@@ -121,7 +121,7 @@ fn act_on_files<D: Folder, K: Shelf, W: Output, E: Write>(
 ) -> Result<u8, Refusal>
     requires { FitsRun command }
     ensures ended { IfOk result
-        (EndsOnFiles W.contents (D.held folder.now) command.entry out.old out.new) }
+        (EndsOnFiles W.contents W.has_failed (D.held folder.now) command.entry out.old out.new) }
     ensures refused { IfErr result (λ refusal. refusal ≡ Refusal.ReadFault) }
     ensures unwritten { IfErr result (λ _. out.new ≡ out.old) }
 {

@@ -25,7 +25,7 @@ fn print_wear<P: Read + Drop, S: Read + Drop, W: Output>(
     ensures printed { OnOk result
         (PrintsWear (P.remaining plan) (W.contents out.old) (W.contents out.new)) }
     ensures part { OnErr result
-        (IsNotWhole W.contents (PrintsWear (P.remaining plan)) out.old out.new) }
+        (IsNotWhole W.contents W.has_failed (PrintsWear (P.remaining plan)) out.old out.new) }
 {
     let store = read_plan_from(alloc, &mut FlaggedReader::new(plan))?;
     let worn = wear(alloc, store, script, slots)?;
@@ -45,7 +45,7 @@ pub fn act_wear<P: Read + Drop, S: Read + Drop, W: Output, E: Write>(
     err: &mut E,
 ) -> u8
     requires slots { slots ≤ MAX_SLOT }
-    ensures { Ends W.contents (PrintsWear (P.remaining plan)) out.old out.new result }
+    ensures { Ends W.contents W.has_failed (PrintsWear (P.remaining plan)) out.old out.new result }
 {
     let ran = print_wear(alloc, plan, script, slots, out);
     end_run(err, ran)
@@ -64,7 +64,7 @@ fn print_report<P: Read + Drop, S: Read + Drop, W: Output>(
 ) -> Result<(RefusedRows, Option<Failure>), Refusal>
     requires slots { slots ≤ MAX_SLOT }
     ensures printed { OnOk result (PrintsText (W.contents out.old) (W.contents out.new)) }
-    ensures part { OnErr result (IsNotWhole W.contents PrintsText out.old out.new) }
+    ensures part { OnErr result (IsNotWhole W.contents W.has_failed PrintsText out.old out.new) }
 {
     let store = read_plan_from(alloc, &mut FlaggedReader::new(plan))?;
     let said = report(alloc, store, script, slots, life, as_csv, fail)?;
@@ -100,7 +100,7 @@ pub fn act_report<P: Read + Drop, S: Read + Drop, W: Output, E: Write>(
     err: &mut E,
 ) -> u8
     requires slots { slots ≤ MAX_SLOT }
-    ensures { Ends W.contents PrintsText out.old out.new result }
+    ensures { Ends W.contents W.has_failed PrintsText out.old out.new result }
 {
     let ran = print_report(alloc, plan, script, slots, life, as_csv, fail, out);
     end_report(err, ran)
@@ -127,7 +127,7 @@ fn print_drawn<P: Read + Drop, S: Read + Drop, W: Output>(
 ) -> Result<Drawn, Refusal>
     requires slots { slots ≤ MAX_SLOT }
     ensures printed { OnOk result (PrintsText (W.contents out.old) (W.contents out.new)) }
-    ensures part { OnErr result (IsNotWhole W.contents PrintsText out.old out.new) }
+    ensures part { OnErr result (IsNotWhole W.contents W.has_failed PrintsText out.old out.new) }
 {
     let store = read_plan_from(alloc, &mut FlaggedReader::new(plan))?;
     let drawn = draw(alloc, store, script, slots, die, shown, fail)?;
@@ -198,7 +198,7 @@ pub fn act_draw<P: Read + Drop, S: Read + Drop, W: Output, E: Write>(
     err: &mut E,
 ) -> u8
     requires slots { slots ≤ MAX_SLOT }
-    ensures { Ends W.contents PrintsText out.old out.new result }
+    ensures { Ends W.contents W.has_failed PrintsText out.old out.new result }
 {
     let many = many_of(shown, slots);
     let drawn = print_drawn(alloc, plan, script, slots, die, shown, fail, out);

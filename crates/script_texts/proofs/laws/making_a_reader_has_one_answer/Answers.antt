@@ -2,6 +2,7 @@ use Rattle.std.proofs.Common.{◌≡◌, ℕ, Bool, List, Option, Result, Ok, Er
 use Rattle.std.specs.Prelude.{IfOk, OnErr}
 use Rattle.slot_types.specs.declared.refusals.Refusal.{Refusal}
 use Rattle.slot_types.specs.Refusal.{FailsForMemory}
+use Rattle.script_texts.specs.declared.script_rows.ScriptItem.{ScriptItem}
 use Rattle.script_texts.specs.declared.scripts.ScriptReader.{ScriptReader}
 use Rattle.script_texts.specs.Script.{Reading, Script}
 use Rattle.script_texts.specs.ScriptLeft.{dies_of, reading_left, script_fits, script_left, slots_of}
@@ -12,7 +13,7 @@ both_refused (Ok a) other fails fails' = tt
 both_refused (Err d) (Ok b) fails fails' = tt
 both_refused (Err d) (Err e) fails fails' = ap Err (fails ∙ sym fails')
 
-one_reader : {R : Type 0} (rem : R → Option (List ℕ)) (dies slots : ℕ) (reading : Option Reading) (script : Option Script)
+one_reader : {R : Type 0} (rem : R → Option (List ℕ)) (dies slots : ℕ) (reading : Option (Reading ScriptItem)) (script : Option Script)
     (fits : Option Bool) (one other : Result (ScriptReader R) Refusal)
     → IfOk one (λ s. dies_of s ≡ dies) → IfOk other (λ s. dies_of s ≡ dies)
     → IfOk one (λ s. slots_of s ≡ slots) → IfOk other (λ s. slots_of s ≡ slots)

@@ -1,19 +1,20 @@
-use Rattle.std.proofs.Common.{refl}
+use Rattle.std.proofs.Common.{inr, refl}
 use Rattle.report_texts.proofs.TextParts.{whole_is}
 use Rattle.report_texts.specs.ReportText.{report_text}
 use Rattle.task_script.specs.StoreRuns.{reports_of}
 use Rattle.text_base.proofs.WritingLaws.{on-error}
-use Rattle.tool_commands.specs.Acts.{PrintsRun}
-use Rattle.tool_commands.proofs.EndedSo.{in_part}
 use Rattle.tool_commands.proofs.checkpoint_acts.print_run.Goals as goal
 
 pub returns-in_err-write-clause-part : goal.returns-in_err-write-clause-part
 returns-in_err-write-clause-part g c =
     let dies = c.in_ok-dies.field-0.dies.items in
     on-error c.from_residual-in_err-write.result _
-    (in_part g.W.Write.contents PrintsRun _ _ (report_text (reports_of 0 dies)) _ c.in_err-write.ensures.refused
-    c.in_err-write.ensures.memory (rw (whole_is (reports_of 0 dies) _ c.in_ok-dies.ensures.report) at c.in_err-write.ensures.part)
-    (dies, refl))
+    (inr (
+      c.in_err-write.ensures.failed,
+      report_text (reports_of 0 dies),
+      (dies, refl),
+      rw (whole_is (reports_of 0 dies) _ c.in_ok-dies.ensures.report) at c.in_err-write.ensures.part,
+    ))
 
 pub returns-clause-printed : goal.returns-clause-printed
 returns-clause-printed g c =

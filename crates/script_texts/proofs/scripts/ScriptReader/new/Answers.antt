@@ -1,9 +1,11 @@
 use Rattle.std.proofs.Common.{rules, length}
-use Rattle.script_texts.proofs.StepLaws.{whole-of}
+use Rattle.script_texts.proofs.RowItems.{reading-of, whole-of}
 use Rattle.script_texts.proofs.scripts.ScriptReader.new.Goals as goal
 
 pub returns-clause-reading : goal.returns-clause-reading
-returns-clause-reading g c = search rules
+returns-clause-reading g c =
+    reading-of (length c.args.plan.now) c.args.slots c.in_ok-lasts.lasts.items (g.R.Read.remaining c.args.reader) _ (search rules)
+    c.rows_in.ensures.rows
 
 pub returns-clause-script : goal.returns-clause-script
 returns-clause-script g c =

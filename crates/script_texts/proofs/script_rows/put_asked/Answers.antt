@@ -1,8 +1,0 @@
-use Rattle.std.proofs.Common.{rules, ◌≡◌, false}
-use Rattle.script_texts.proofs.ScriptPages.{put_read}
-use Rattle.script_texts.proofs.script_rows.put_asked.Goals as goal
-
-pub returns-then-not-head-clause-pages : goal.returns-then-not-head-clause-pages
-returns-then-not-head-clause-pages g c =
-    let job : c.args.head.now.job.collects ≡ false = search rules in
-    put_read c.put_ops.result c.args.head.now.line c.args.field.now (g.O.WordSink.items c.put_ops.new.ops) c.args.head.now.job job c.put_ops.ensures
