@@ -20,7 +20,7 @@ use std::io::{Read, Write};
 use std::sync::Wait;
 use std::thread::Threads;
 use task_script::{RunCount, run_text};
-use text_base::{Output, write_whole};
+use text_base::{FlaggedReader, Output, write_whole};
 
 /// Prints the figures of a plan.
 fn print_figures<R: Read + Drop, W: Output>(
@@ -35,7 +35,7 @@ fn print_figures<R: Read + Drop, W: Output>(
         (RefusesOrCuts W.contents W.has_failed (RefusesPlanOf (R.remaining first))
         (PrintsFigures (R.remaining first)) out.old out.new) }
 {
-    let store = read_plan_from(alloc, first)?;
+    let store = read_plan_from(alloc, &mut FlaggedReader::new(first))?;
     let text = figures_text(alloc, &store)?;
     write_whole(out, &text)
 }
@@ -83,7 +83,7 @@ fn print_run<R: Threads + Wait + Sync, F: Read + Drop, S: Read + Drop, W: Output
         (RefusesRun (F.remaining first) (S.remaining second) slots)
         (PrintsRun (F.remaining first) (S.remaining second) slots) out.old out.new) }
 {
-    let store = read_plan_from(alloc, first)?;
+    let store = read_plan_from(alloc, &mut FlaggedReader::new(first))?;
     run_text(rt, alloc, &store, second, out, slots, workers)
 }
 

@@ -1,12 +1,13 @@
 use crate::answers::{report_refusal, script_refusal, work_refusal};
-use example_texts::{TWO_REPORT, TWO_SCRIPT};
+use example_texts::{TWO_DIES, TWO_REPORT, TWO_SCRIPT};
+use plan_texts::plan_text;
 use slot_types::{Cause, Refusal};
 use std::alloc::Global;
 use std::io;
 use std::io::{ErrorKind, Read, Write};
 use std::test::Fail;
 use task_script::{read_report, write_report};
-use text_base::Flagged;
+use text_base::{Flagged, FlaggedReader, Input};
 
 /// Gives a text seven bytes a call. The call of this number, from 1, fails, and those after it don't.
 #[derive(Drop)]
@@ -95,6 +96,47 @@ fn a_failing_reader_is_a_read_fault(rt: HostRuntime) {
         );
         let work = work_refusal(rt.alloc(), failing_at(TWO_REPORT, call));
         assert!(rt; work == report, "{call}");
+    }
+}
+
+/// The call that fails sets the flag and gives nothing, and those after it leave it set.
+#[test]
+fn a_failing_call_sets_the_flag_of_its_reader(rt: HostRuntime) {
+    for calls in 1..10 {
+        let mut reader = FlaggedReader::new(failing_at(TWO_SCRIPT, calls));
+        for call in 1..20 {
+            let fails = call == calls;
+            let want = if fails {
+                Err(Refusal::ReadFault)
+            } else {
+                Ok(7)
+            };
+            let taken = Input::take(&mut reader, &mut [0; 100]);
+            assert_eq!(rt; taken, want, "{calls} {call}");
+            assert_eq!(rt; reader.has_failed(), calls <= call, "{calls} {call}");
+        }
+    }
+}
+
+/// A plan is a read fault exactly where a call of its reader fails, which its flag says.
+#[test]
+fn a_plan_of_a_failing_reader_is_a_read_fault(rt: HostRuntime) {
+    // The last call shows the end.
+    let plan_calls = TWO_DIES.len().div_ceil(7) + 1;
+    for call in 1..100 {
+        let mut reader = FlaggedReader::new(failing_at(TWO_DIES, call));
+        let text = plan_text(rt.alloc(), &mut reader);
+        let whole = plan_calls < call as usize;
+        assert!(rt;
+            text.as_deref()
+                == if whole {
+                    Ok(TWO_DIES.as_bytes())
+                } else {
+                    Err(&Refusal::ReadFault)
+                },
+            "{call}"
+        );
+        assert!(rt; reader.has_failed() != whole, "{call}");
     }
 }
 

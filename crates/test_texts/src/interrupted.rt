@@ -11,7 +11,7 @@ use std::sync::Wait;
 use std::test::Fail;
 use std::thread::Threads;
 use task_script::{RunCount, read_plan, read_report, run_text, write_report};
-use text_base::Flagged;
+use text_base::{Flagged, FlaggedReader};
 
 /// Gives a text so many bytes a call, and is interrupted as often ahead of each.
 #[derive(Drop)]
@@ -77,8 +77,10 @@ impl Write for Halting {
 fn an_interrupted_plan_is_read(rt: HostRuntime) -> Result<(), Fail> {
     let alloc = rt.alloc();
     for (a_call, times) in [(1, 1), (7, 3), (4096, 1)] {
-        let plan = read_plan_from(alloc, reader_of(TWO_DIES, a_call, times))?;
+        let mut reader = FlaggedReader::new(reader_of(TWO_DIES, a_call, times));
+        let plan = read_plan_from(alloc, &mut reader)?;
         assert!(rt; plan == two_dies(alloc)?, "{a_call} bytes a call");
+        assert!(rt; !reader.has_failed(), "{a_call} bytes a call");
     }
     Ok(())
 }

@@ -7,9 +7,13 @@ use slot_types::{Cause, Refusal};
 use std::alloc::Global;
 use std::io::ErrorKind;
 use std::process::Abort;
+use text_base::FlaggedReader;
 
 /// The most bytes of a plan.
 const MAX_BYTES: usize = 1_048_576;
+
+/// The most calls of a reader for the same bytes.
+const MAX_CALLS: usize = 1_048_576;
 
 const TOO_LONG: Refusal = Refusal::PlanText {
     cause: Cause::TooLong,
@@ -19,7 +23,7 @@ const TOO_LONG: Refusal = Refusal::PlanText {
 /// fails or ends.
 fn read(alloc: Global, bytes: usize, a_call: usize, fault: Option<ErrorKind>) -> Ended {
     let mut reader = Counting::new(PLAN, bytes, a_call, fault);
-    let refusal = read_plan_from(alloc, &mut reader).err();
+    let refusal = read_plan_from(alloc, &mut FlaggedReader::new(&mut reader)).err();
     reader.into_ended(bytes, refusal)
 }
 
@@ -74,13 +78,13 @@ fn a_plan_of_no_bytes_is_asked_for_once(rt: HostRuntime) {
     check(&rt, rt.alloc(), (0, 1, None), want);
 }
 
-/// A reader that is interrupted for ever is asked as often as there are calls, and no more.
+/// A reader that is interrupted for ever is asked for the same bytes as often as there are calls for them, and no more.
 #[test]
 fn a_plans_reader_that_is_interrupted_for_ever_is_given_up(rt: HostRuntime) {
     let want = Ended {
         refusal: Some(Refusal::ReadFault),
         given: 8192,
-        calls: MAX_BYTES + 1,
+        calls: 8192 + MAX_CALLS,
     };
     let interrupted = Some(ErrorKind::Interrupted);
     check(&rt, rt.alloc(), (8192, 1, interrupted), want);

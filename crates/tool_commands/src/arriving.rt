@@ -9,7 +9,7 @@ use plan_texts::read_plan_from;
 use slot_types::{MAX_SLOT, Refusal, StorePlan};
 use std::alloc::Global;
 use std::io::{Read, Write};
-use text_base::{Output, write_whole};
+use text_base::{FlaggedReader, Output, write_whole};
 use tool_plan_arrivals::{Fault as Unplanned, Manner, arrivals, full_from};
 
 /// What is reported beside a plan that has no arrivals.
@@ -30,7 +30,7 @@ fn print_arrivals<R: Read + Drop, W: Output>(
     ensures part { OnErr result
         (IsNotWhole W.contents W.has_failed (PrintsArrivals (R.remaining plan) slots) out.old out.new) }
 {
-    let store = read_plan_from(alloc, plan)?;
+    let store = read_plan_from(alloc, &mut FlaggedReader::new(plan))?;
     let script = arrivals(alloc, &store, slots, manner)?;
     write_whole(out, &script)?;
     Ok(store)

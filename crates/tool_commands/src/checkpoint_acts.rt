@@ -10,7 +10,7 @@ use plan_texts::read_plan_from;
 use slot_types::{MAX_SLOT, Refusal};
 use std::alloc::Global;
 use std::io::{Read, Write};
-use text_base::Output;
+use text_base::{FlaggedReader, Output};
 use tool_checkpoint_runs::{
     FailingRun, RunFault, StoreDies, StoreRun, Unsaved, run_failing, run_script, save,
 };
@@ -82,7 +82,7 @@ fn print_run<P: Read + Drop, S: Read + Drop, C: Read + Drop, W: Output>(
     ensures part { OnErr result (IsNotWhole W.contents W.has_failed PrintsRun out.old out.new) }
     ensures few { IfOk result (λ run. length run.dies.items ≤ 8) }
 {
-    let store = read_plan_from(alloc, plan)?;
+    let store = read_plan_from(alloc, &mut FlaggedReader::new(plan))?;
     let from = begun_in(alloc, from)?;
     let StoreRun {
         dies,
@@ -198,7 +198,7 @@ fn print_failing<P: Read + Drop, S: Read + Drop, W: Output>(
     ensures printed { OnOk result (PrintsFailing (W.contents out.old) (W.contents out.new)) }
     ensures part { OnErr result (IsNotWhole W.contents W.has_failed PrintsFailing out.old out.new) }
 {
-    let store = read_plan_from(alloc, plan)?;
+    let store = read_plan_from(alloc, &mut FlaggedReader::new(plan))?;
     let FailingRun {
         dies,
         report,

@@ -9,7 +9,7 @@ use plan_texts::read_plan_from;
 use slot_types::MAX_SLOT;
 use std::alloc::Global;
 use std::io::{Read, Write};
-use text_base::{Output, write_whole};
+use text_base::{FlaggedReader, Output, write_whole};
 use tool_store_compare::{CompareFault, Form, Measure, compare};
 
 /// Prints how late the jobs of a script were on the store and by plain layers.
@@ -25,7 +25,7 @@ fn print_compared<P: Read + Drop, S: Read + Drop, W: Output>(
     ensures printed { OnOk result (PrintsText (W.contents out.old) (W.contents out.new)) }
     ensures part { OnErr result (IsNotWhole W.contents W.has_failed PrintsText out.old out.new) }
 {
-    let store = read_plan_from(alloc, plan)?;
+    let store = read_plan_from(alloc, &mut FlaggedReader::new(plan))?;
     let said = compare(alloc, &store, script, measure, form)?;
     write_whole(out, &said)?;
     Ok(())

@@ -6,11 +6,11 @@ ghost use Rattle.tool_commands.specs.Acts.{EndsSaying, Explains, IsHostFault, Sa
 
 use crate::checkpoint_acts::{end_unrun, saved_in};
 use crate::endings::end_refused;
-use plan_texts::{plan_text, read_plan_from};
+use plan_texts::{plan_text, read_plan};
 use slot_types::Refusal;
 use std::alloc::Global;
 use std::io::{Read, Write};
-use text_base::{Output, write_whole};
+use text_base::{FlaggedReader, Output, write_whole};
 use tool_checkpoint_runs::{RunFault, explain as explain_checkpoint};
 use tool_plan_design::{Explained, explain};
 
@@ -20,7 +20,7 @@ fn explained_of<R: Read + Drop>(alloc: Global, plan: R) -> Result<Explained, Ref
         SaysOf (R.remaining plan) explained.is_accepted) }
     ensures refused { IfErr result IsHostFault }
 {
-    let text = plan_text(alloc, plan)?;
+    let text = plan_text(alloc, &mut FlaggedReader::new(plan))?;
     explain(alloc, &text)
 }
 
@@ -48,7 +48,7 @@ fn add_checkpoint<C: Read + Drop>(
     from: C,
     text: &mut Vec<u8>,
 ) -> Result<(), RunFault> {
-    let store = read_plan_from(alloc, plan)?;
+    let store = read_plan(alloc, plan)?;
     let saved = saved_in(alloc, from)?;
     explain_checkpoint(alloc, text, &store, &saved)
 }
@@ -62,7 +62,7 @@ fn explained_from<P: Read + Drop, C: Read + Drop>(
     ensures said { IfOk result (λ explained.
         SaysOf (P.remaining plan) explained.is_accepted) }
 {
-    let text = plan_text(alloc, plan)?;
+    let text = plan_text(alloc, &mut FlaggedReader::new(plan))?;
     let mut explained = explain(alloc, &text)?;
     if explained.is_accepted {
         add_checkpoint(alloc, &text, from, &mut explained.text)?;

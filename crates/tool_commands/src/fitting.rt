@@ -8,7 +8,7 @@ use crate::endings::end_refused;
 use plan_texts::plan_text;
 use std::alloc::Global;
 use std::io::{Read, Write};
-use text_base::{Output, write_whole};
+use text_base::{FlaggedReader, Output, write_whole};
 use tool_plan_fit::{FitFault, fit};
 
 /// Prints the plan that was found for a datasheet.
@@ -21,7 +21,7 @@ fn print_fit<R: Read + Drop, W: Output>(
     ensures part { OnErr result (IsNotWhole W.contents W.has_failed PrintsPassingPlan out.old out.new) }
     ensures unfound { IsUnfound result → out.new ≡ out.old }
 {
-    let sheet = plan_text(alloc, sheet)?;
+    let sheet = plan_text(alloc, &mut FlaggedReader::new(sheet))?;
     let plan = fit(alloc, &sheet)?;
     match write_whole(out, &plan) {
         Ok(()) => Ok(()),

@@ -9,7 +9,7 @@ use plan_texts::read_plan_from;
 use slot_types::{MAX_SLOT, Refusal};
 use std::alloc::Global;
 use std::io::{Read, Write};
-use text_base::{Output, write_whole};
+use text_base::{FlaggedReader, Output, write_whole};
 use tool_plan_keeping::{Verdict, keep, script_text, sentence};
 
 /// What is reported where a script doesn't keep a plan, and it isn't found why.
@@ -42,7 +42,7 @@ fn kept_of<P: Read + Drop, S: Read + Drop>(
     ensures said { IfOk result (λ found. IfSome found (λ kept.
         SaysKept (P.remaining plan) (S.remaining script) slots kept.keeps)) }
 {
-    let store = read_plan_from(alloc, plan)?;
+    let store = read_plan_from(alloc, &mut FlaggedReader::new(plan))?;
     let text = script_text(alloc, script)?;
     match keep(alloc, &text, &store, slots)? {
         Verdict::Kept => Ok(Some(Kept {

@@ -9,7 +9,7 @@ use plan_texts::read_plan_from;
 use slot_types::{MAX_SLOT, Refusal};
 use std::alloc::Global;
 use std::io::{Read, Write};
-use text_base::{Output, write_whole};
+use text_base::{FlaggedReader, Output, write_whole};
 use tool_run_figures::Life;
 use tool_watched_runs::{FailAt, Failure, RefusedRows, Shown, Sights, draw, report, wear};
 
@@ -27,7 +27,7 @@ fn print_wear<P: Read + Drop, S: Read + Drop, W: Output>(
     ensures part { OnErr result
         (IsNotWhole W.contents W.has_failed (PrintsWear (P.remaining plan)) out.old out.new) }
 {
-    let store = read_plan_from(alloc, plan)?;
+    let store = read_plan_from(alloc, &mut FlaggedReader::new(plan))?;
     let worn = wear(alloc, store, script, slots)?;
     write_whole(out, &worn.text)?;
     Ok(worn.refused)
@@ -66,7 +66,7 @@ fn print_report<P: Read + Drop, S: Read + Drop, W: Output>(
     ensures printed { OnOk result (PrintsText (W.contents out.old) (W.contents out.new)) }
     ensures part { OnErr result (IsNotWhole W.contents W.has_failed PrintsText out.old out.new) }
 {
-    let store = read_plan_from(alloc, plan)?;
+    let store = read_plan_from(alloc, &mut FlaggedReader::new(plan))?;
     let said = report(alloc, store, script, slots, life, as_csv, fail)?;
     write_whole(out, &said.text)?;
     Ok((said.refused, said.failure))
@@ -129,7 +129,7 @@ fn print_drawn<P: Read + Drop, S: Read + Drop, W: Output>(
     ensures printed { OnOk result (PrintsText (W.contents out.old) (W.contents out.new)) }
     ensures part { OnErr result (IsNotWhole W.contents W.has_failed PrintsText out.old out.new) }
 {
-    let store = read_plan_from(alloc, plan)?;
+    let store = read_plan_from(alloc, &mut FlaggedReader::new(plan))?;
     let drawn = draw(alloc, store, script, slots, die, shown, fail)?;
     write_whole(out, &drawn.text)?;
     Ok(Drawn {
