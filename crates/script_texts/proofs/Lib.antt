@@ -5,3 +5,4 @@ pub mod ScriptPages
 pub mod OneReading
 pub mod OneItem
 pub mod OneRow
+pub mod RowFaults
