@@ -1,6 +1,6 @@
 -- The dies of a store that run their rows in batches: where they begin, one batch more, and what is known of them at the end.
 use Rattle.std.proofs.Common.{◌≡◌, ℕ, suc, ◌+◌, ◌^◌, ◌<◌, ◌≤◌, max, Bool, true, List, [], ◌∷◌, ◌++◌, refl, ap, sym, ◌∙◌}
-use Rattle.std.proofs.Common.{subst, length, map}
+use Rattle.std.proofs.Common.{◌==◌, subst, length, map}
 use Rattle.std.proofs.Common.{get_or, replicate, arith, All, Option, None, Ok, Err, inl, inr}
 use Rattle.std.specs.Prelude.{IfSome, option_map}
 use Rattle.std.specs.List.{AllByRecursion}
@@ -28,11 +28,10 @@ use Rattle.script_texts.specs.Script.{Script, script_of}
 use Rattle.script_texts.specs.declared.script_rows.ScriptItem.{ScriptItem}
 use Rattle.task_script.proofs.BatchRuns.{begins, goes_on}
 use Rattle.task_script.proofs.Counting.{rows_of_batch}
-use Rattle.task_script.proofs.Dealing.{is_of}
 use Rattle.task_script.proofs.ReadSoFar.{read_none, read_on, read_to_end, fault_on, known_by}
 use Rattle.task_script.specs.Batches.{HasComeTo, HaveComeTo, RanRows, after_batch, batches_of, end_slot, fresh_progress, kept_of}
 use Rattle.task_script.specs.Batches.{progress_after, latest_slot, rows_counted, rows_kept}
-use Rattle.task_script.specs.Feeds.{AllArrive, AreInTime, AreItemsOf, FailsIn, HasReadRows, IsDealt, IsReadTo, RefusesScript, feed_of, rows_dealt}
+use Rattle.task_script.specs.Feeds.{AllArrive, AreInTime, AreItemsOf, FailsIn, IsDealt, IsReadTo, RefusesScript, feed_of, rows_dealt}
 use Rattle.task_script.specs.RowEnds.{arrival_of, arrivals_of, lines_of}
 use Rattle.task_script.specs.RunCounts.{rows_in}
 use Rattle.task_script.specs.declared.batches.KeptRows.{KeptRows}
@@ -236,14 +235,7 @@ so_far_none whole left plans slots dies ps progress same first bound none are = 
 }
 
 feeds_more : (xs ys : List ScriptItem) (die : ℕ) → feed_of (xs ++ ys) die ≡ feed_of xs die ++ feed_of ys die
-feeds_more xs ys die = filter-append (is_of die) xs ys
-
--- the same of numbers that are called otherwise
-pub read_as : (old new : Option Script) (dies dies2 slots slots2 : ℕ) (rows : List (List ScriptItem)) (ended ended2 : Bool)
-    → dies ≡ dies2 → slots ≡ slots2 → ended ≡ ended2 → HasReadRows old new dies slots rows ended
-    → HasReadRows old new dies2 slots2 rows ended2
-read_as old new dies dies2 slots slots2 rows ended ended2 a b c h =
-    subst (λ (x : ℕ × ℕ × Bool). HasReadRows old new x.0 x.1 rows x.2) (λ i. (a i, b i, c i)) h
+feeds_more xs ys die = filter-append (λ item. item.die == die) xs ys
 
 module _ (dies slots : ℕ) (items : List ScriptItem) (rows : List (List ScriptItem)) (d : IsDealt dies slots items rows) where
   dealt_arrive : (die : ℕ) → die < dies → AllArrive slots (feed_of items die)
@@ -254,7 +246,7 @@ module _ (dies slots : ℕ) (items : List ScriptItem) (rows : List (List ScriptI
   dealt_pages die below = subst RowsHavePages (d.rows die below)
       (All-get_or RowsHavePages rows die [] (omega (arith, below, d.all)) d.pages)
 
-  pub dealt_events : All (All (λ item. IsArrival item.event)) rows
+  dealt_events : All (All (λ item. IsArrival item.event)) rows
   dealt_events = All-weaker (AllArrive slots) (All (λ item. IsArrival item.event))
       (λ feed h. All-weaker (Arrives slots) (λ item. IsArrival item.event) (λ item here. here.1) feed h) rows d.arrive
 

@@ -1,153 +1,185 @@
--- How the rows of a script are dealt to their dies.
-use Rattle.std.proofs.Common.{◌≡◌, ℕ, ◌+◌, ◌<◌, ◌≤◌, ◌==◌, Bool, true, false, cond, List, [], ◌∷◌, ◌++◌, refl, ap, sym, ◌∙◌, subst, length}
-use Rattle.std.proofs.Common.{filter, replicate, get_or, length-append, arith, Option, Some, None, Ok, Err}
-use Rattle.std.proofs.lemmas.Bool.{eq-eqb, eqb-true, false≢true}
+-- How the rows of a script are dealt to their dies as they are read.
+use Rattle.std.proofs.Common.{◌≡◌, inl, inr, ℕ, ◌+◌, ◌<◌, ◌≤◌, ◌==◌, Bool, true, false, cond, List, [], ◌∷◌, ◌++◌, refl, ap, sym, ◌∙◌, subst}
+use Rattle.std.proofs.Common.{append_assoc, filter, replicate, get_or, length, length-append, arith, Option, Some, None, Ok, Err}
+use Rattle.std.proofs.lemmas.Bool.{eq-eqb, eqb-true}
 use Rattle.std.proofs.lemmas.List.{append-nil, length-set, length-replicate, get_or-replicate, get_or-set_same, get_or-set_other}
-use Rattle.std.proofs.lemmas.List.{get_or_default, replicate-append-replicate}
-use Rattle.std.specs.Prelude.{All}
-use Rattle.std.proofs.lemmas.List.Elements.{All-get_or, All-nil, All-push, All-replicate, All-same, All-set, All-weaker, filter-append}
-use Rattle.std.proofs.lemmas.List.Elements.{filter_passes}
+use Rattle.std.proofs.lemmas.List.{get_or_default}
+use Rattle.std.specs.Prelude.{IfSome}
+use Rattle.std.proofs.lemmas.List.Elements.{All-nil, All-push, filter-append}
 use Rattle.std.proofs.lemmas.List.Folds.{sum_by-replicate}
 use Rattle.std.proofs.lemmas.List.Sums.{sum_by-set}
 use Rattle.std.proofs.Math.ListN.{set}
 use Rattle.slot_types.specs.declared.refusals.Refusal.{Refusal}
-use Rattle.script_texts.specs.AskedPages.{RowHasPages, RowsHavePages}
-use Rattle.script_texts.specs.Arrivals.{Arrives, IsRowFor}
-use Rattle.script_texts.specs.Script.{Script, Yields}
-use Rattle.script_texts.specs.declared.script_rows.ScriptItem.{ScriptItem}
-use Rattle.task_script.proofs.ReadSoFar.{read_none, read_more, read_all, read_end, read_fault}
-use Rattle.task_script.specs.Feeds.{AllArrive, FailsIn, feed_of, IsDealt, HasDealt, HasReadRows, rows_dealt}
+use Rattle.script_texts.specs.Arrivals.{IsHeadFor}
+use Rattle.script_texts.specs.RowTexts.{RowText}
+use Rattle.script_texts.specs.Script.{Gives, Reading}
+use Rattle.task_script.specs.Feeds.{rows_dealt}
+use Rattle.task_script.specs.RowTexts.{AreDealt, Ascend, HasReadTexts, LeavesOff, rows_then, texts_of}
+use Rattle.task_script.specs.declared.feeds.ReadEnd.TheVariants.{More, Ended, Refused}
 
--- Feeds
+-- By die
 
-abbrev pub is_of : ℕ → ScriptItem → Bool
-is_of die item = item.die == die
+abbrev is_of : ℕ → RowText → Bool
+is_of die row = row.head.die == die
 
-feed_one : (item : ScriptItem) (die : ℕ) (b : Bool) → is_of die item ≡ b → filter (is_of die) (item ∷ []) ≡ cond b (item ∷ []) []
-feed_one item die b e = ap (λ (c : Bool). cond c (item ∷ []) []) e
+texts_one : (row : RowText) (die : ℕ) (b : Bool) → is_of die row ≡ b → filter (is_of die) (row ∷ []) ≡ cond b (row ∷ []) []
+texts_one row die b e = ap (λ (c : Bool). cond c (row ∷ []) []) e
 
-feed_with : (items : List ScriptItem) (item : ScriptItem) (die : ℕ) (b : Bool) → is_of die item ≡ b → feed_of (items ++ item ∷ []) die
-    ≡ feed_of items die ++ cond b (item ∷ []) []
-feed_with items item die b e = filter-append (is_of die) items (item ∷ [])
-    ∙ ap (λ (xs : List ScriptItem). feed_of items die ++ xs) (feed_one item die b e)
+texts_with : (rows : List RowText) (row : RowText) (die : ℕ) (b : Bool) → is_of die row ≡ b → texts_of (rows ++ row ∷ []) die
+    ≡ texts_of rows die ++ cond b (row ∷ []) []
+texts_with rows row die b e = filter-append (is_of die) rows (row ∷ [])
+    ∙ ap (λ (xs : List RowText). texts_of rows die ++ xs) (texts_one row die b e)
 
-pub dealt_none : (dies slots : ℕ) → IsDealt dies slots [] (replicate dies [])
-dealt_none dies slots = record {
-  all = length-replicate dies [];
-  rows = λ die below. get_or-replicate dies die [] [] below;
-  arrive = All-replicate (AllArrive slots) dies [] (All-nil (Arrives slots));
-  pages = All-replicate RowsHavePages dies [] (All-nil RowHasPages);
-}
-
-dealt_at : (items : List ScriptItem) (feeds : List (List ScriptItem)) (item : ScriptItem) (die : ℕ) → item.die < length feeds
-    → get_or feeds item.die [] ≡ feed_of items item.die
-    → (b : Bool) → is_of die item ≡ b → get_or feeds die [] ≡ feed_of items die
-    → get_or (set feeds item.die (get_or feeds item.die [] ++ item ∷ [])) die [] ≡ feed_of (items ++ item ∷ []) die
-dealt_at items feeds item die below own true e other =
-    let same : item.die ≡ die = eqb-true item.die die e in
-    subst (λ d. get_or (set feeds item.die (get_or feeds item.die [] ++ item ∷ [])) d [] ≡ feed_of (items ++ item ∷ []) d) same
-    (get_or-set_same feeds item.die _ [] below ∙ (ap (λ (xs : List ScriptItem). xs ++ item ∷ []) own
-    ∙ sym (feed_with items item item.die true (ap (λ d. item.die == d) same ∙ e))))
-dealt_at items feeds item die below own false e other =
-    get_or-set_other feeds item.die die _ [] (λ (same : die ≡ item.die). differs same e)
-    ∙ (other ∙ (sym (append-nil (feed_of items die)) ∙ sym (feed_with items item die false e)))
+dealt_at : (rows : List RowText) (texts : List (List RowText)) (row : RowText) (die : ℕ) → row.head.die < length texts
+    → get_or texts row.head.die [] ≡ texts_of rows row.head.die
+    → (b : Bool) → is_of die row ≡ b → get_or texts die [] ≡ texts_of rows die
+    → get_or (set texts row.head.die (get_or texts row.head.die [] ++ row ∷ [])) die [] ≡ texts_of (rows ++ row ∷ []) die
+dealt_at rows texts row die below own true e other =
+    let same : row.head.die ≡ die = eqb-true row.head.die die e in
+    subst (λ d. get_or (set texts row.head.die (get_or texts row.head.die [] ++ row ∷ [])) d [] ≡ texts_of (rows ++ row ∷ []) d) same
+    (get_or-set_same texts row.head.die _ [] below ∙ (ap (λ (xs : List RowText). xs ++ row ∷ []) own
+    ∙ sym (texts_with rows row row.head.die true (ap (λ d. row.head.die == d) same ∙ e))))
+dealt_at rows texts row die below own false e other =
+    get_or-set_other texts row.head.die die _ [] (λ (same : die ≡ row.head.die). differs same e)
+    ∙ (other ∙ (sym (append-nil (texts_of rows die)) ∙ sym (texts_with rows row die false e)))
   where
-    differs : die ≡ item.die → is_of die item ≡ false → ⊥
+    differs : die ≡ row.head.die → is_of die row ≡ false → ⊥
     differs same is =
-        let yes : is_of die item ≡ true = eq-eqb item.die die (sym same) in
+        let yes : is_of die row ≡ true = eq-eqb row.head.die die (sym same) in
         absurd cc
 
-dealt_more : (dies slots : ℕ) (items : List ScriptItem) (feeds feeds2 : List (List ScriptItem)) (item : ScriptItem)
-    → IsRowFor dies slots item → RowHasPages item
-    → feeds2 ≡ set feeds item.die (get_or feeds item.die [] ++ item ∷ []) → IsDealt dies slots items feeds
-    → IsDealt dies slots (items ++ item ∷ []) feeds2
-dealt_more dies slots items feeds feeds2 item row paged is d =
-    subst (IsDealt dies slots (items ++ item ∷ [])) (sym is) (record {
-      all = length-set feeds item.die _ ∙ d.all;
-      rows = λ die below. dealt_at items feeds item die within (d.rows item.die row.0) (is_of die item) refl (d.rows die below);
-      arrive = All-set (AllArrive slots) feeds item.die _
-          (All-push (Arrives slots) (get_or feeds item.die []) item (All-get_or (AllArrive slots) feeds item.die [] within d.arrive) row.1)
-          d.arrive;
-      pages = All-set RowsHavePages feeds item.die _ (All-push RowHasPages (get_or feeds item.die []) item
-          (All-get_or RowsHavePages feeds item.die [] within d.pages) paged) d.pages;
+ascend_more : (from behind : ℕ) (rows : List RowText) (row : RowText) → Ascend from rows behind → behind ≤ row.head.line
+    → Ascend from (rows ++ row ∷ []) (row.head.line + 1)
+ascend_more from behind [] row up later = ((let first : from ≤ row.head.line = omega (arith, up, later) in first), omega arith)
+ascend_more from behind (r ∷ rows) row up later = (up.0, ascend_more (r.head.line + 1) behind rows row up.1 later)
+
+dealt_none : (dies slots : ℕ) → AreDealt dies slots 0 [] (replicate dies [])
+dealt_none dies slots = record {
+  all = length-replicate dies [];
+  own = λ die below. get_or-replicate dies die [] [] below;
+  heads = All-nil (λ (row : RowText). IsHeadFor dies slots row.head);
+  ascend = omega arith;
+}
+
+dealt_more : (dies slots behind : ℕ) (rows : List RowText) (texts texts2 : List (List RowText)) (row : RowText)
+    → IsHeadFor dies slots row.head → behind ≤ row.head.line
+    → texts2 ≡ set texts row.head.die (get_or texts row.head.die [] ++ row ∷ []) → AreDealt dies slots behind rows texts
+    → AreDealt dies slots (row.head.line + 1) (rows ++ row ∷ []) texts2
+dealt_more dies slots behind rows texts texts2 row head later is d =
+    subst (AreDealt dies slots (row.head.line + 1) (rows ++ row ∷ [])) (sym is) (record {
+      all = length-set texts row.head.die _ ∙ d.all;
+      own = λ die below. dealt_at rows texts row die within (d.own row.head.die head.0) (is_of die row) refl (d.own die below);
+      heads = All-push (λ (r : RowText). IsHeadFor dies slots r.head) rows row d.heads head;
+      ascend = ascend_more 0 behind rows row d.ascend later;
     })
   where
-    within : item.die < length feeds
-    within = omega (arith, row.0, d.all)
+    within : row.head.die < length texts
+    within = omega (arith, head.0, d.all)
 
--- Both
+-- Row by row of the script
 
-pub deals_none : (left : Option Script) (dies slots : ℕ) (feeds : List (List ScriptItem)) → feeds ≡ replicate dies []
-    → HasDealt left left dies slots feeds
-deals_none left dies slots feeds is = ([], read_none left, subst (IsDealt dies slots []) (sym is) (dealt_none dies slots))
+-- these rows were read so far, whose records are numbered below this number
+abbrev pub HasReadTo : Option (Reading RowText) → Option (Reading RowText) → ℕ → ℕ → List (List RowText) → ℕ → Type 0
+HasReadTo old left dies slots texts line = (h : HasReadTexts old left dies slots texts More) × (h.behind ≤ line)
 
-pub deals_more : (whole left new : Option Script) (dies slots : ℕ) (feeds feeds2 : List (List ScriptItem)) (item : ScriptItem)
-    (old feed : List ScriptItem) → IsRowFor dies slots item → RowHasPages item
-    → old ≡ get_or feeds item.die old → feed ≡ old ++ item ∷ [] → feeds2 ≡ set feeds item.die feed → Yields left new (Ok (Some item))
-    → HasDealt whole left dies slots feeds → HasDealt whole new dies slots feeds2
-deals_more whole left new dies slots feeds feeds2 item old feed row paged at grown is step h =
-    let below : item.die < length feeds = omega (arith, row.0, h.2.all) in
-    let same : old ≡ get_or feeds item.die [] = at ∙ get_or_default feeds item.die old [] below in (
-      h.0 ++ item ∷ [],
-      read_more whole left new h.0 item h.1 step,
-      dealt_more dies slots h.0 feeds feeds2 item row paged (is
-          ∙ ap (set feeds item.die) (grown ∙ ap (λ (xs : List ScriptItem). xs ++ item ∷ []) same)) h.2,
+pub reads_none : (left : Option (Reading RowText)) (dies slots line : ℕ) (texts : List (List RowText)) → texts ≡ replicate dies []
+    → HasReadTo left left dies slots texts line
+reads_none left dies slots line texts is = (
+  record {
+    rows = [];
+    behind = 0;
+    dealt = subst (AreDealt dies slots 0 []) (sym is) (dealt_none dies slots);
+    read = by left;
+  },
+  omega arith,
+)
+  where
+    by : (left : Option (Reading RowText)) → IfSome left (λ all. (more : Reading RowText) × (all ≡ rows_then [] more) × (left ≡ Some more))
+    by None = tt
+    by (Some all) = (all, refl, refl)
+
+pub reads_row : (old left new : Option (Reading RowText)) (dies slots line line2 : ℕ) (texts texts2 : List (List RowText)) (row : RowText)
+    (was own : List RowText) → IsHeadFor dies slots row.head → (line ≤ row.head.line) × (line2 ≡ row.head.line + 1)
+    → was ≡ get_or texts row.head.die was → own ≡ was ++ row ∷ [] → texts2 ≡ set texts row.head.die own → Gives left new (Ok (Some row))
+    → HasReadTo old left dies slots texts line → HasReadTo old new dies slots texts2 line2
+reads_row old left new dies slots line line2 texts texts2 row was own head lines at grown is step (h, behind) =
+    let below : row.head.die < length texts = omega (arith, head.0, h.dealt.all) in
+    let same : was ≡ get_or texts row.head.die [] = at ∙ get_or_default texts row.head.die was [] below in (
+      record {
+        rows = h.rows ++ row ∷ [];
+        behind = row.head.line + 1;
+        dealt = dealt_more dies slots h.behind h.rows texts texts2 row head (omega (arith, behind, lines.0)) (is
+            ∙ ap (set texts row.head.die) (grown ∙ ap (λ (xs : List RowText). xs ++ row ∷ []) same)) h.dealt;
+        read = by old h.read;
+      },
+      omega (arith, lines.1),
     )
+  where
+    given : (left : Option (Reading RowText)) (more all : Reading RowText) → left ≡ Some more → all ≡ rows_then h.rows more
+        → Gives left new (Ok (Some row)) → (rest : Reading RowText) × (all ≡ rows_then (h.rows ++ row ∷ []) rest) × (new ≡ Some rest)
+    given None more all left_is all_is step = absurd cc
+    given (Some now) more all left_is all_is (rest, new_is, now_is) =
+        let one : now ≡ more = cc in (
+          rest,
+          all_is ∙ (ap (rows_then h.rows) (sym one ∙ now_is)
+              ∙ λ i. record { items = sym (append_assoc h.rows (row ∷ []) rest.items) i; fault = rest.fault }),
+          new_is,
+        )
 
--- of what was left these rows were read, and nothing is left
-pub deals_all : (old left new : Option Script) (dies slots : ℕ) (feeds : List (List ScriptItem)) → Yields left new (Ok None)
-    → HasDealt old left dies slots feeds → HasReadRows old new dies slots feeds true
-deals_all old left new dies slots feeds step h = record {
-  items = h.0;
-  read = read_end old left new h.0 h.1 step;
-  dealt = h.2;
-  all = λ ended. read_all old left new h.0 h.1 step;
-}
+    by : (old : Option (Reading RowText)) → IfSome old (λ all. (more : Reading RowText) × (all ≡ rows_then h.rows more) × (left ≡ Some more))
+        → IfSome old (λ all. (more : Reading RowText) × (all ≡ rows_then (h.rows ++ row ∷ []) more) × (new ≡ Some more))
+    by None read = tt
+    by (Some all) (more, all_is, left_is) = given left more all left_is all_is step
 
--- or something may be
-pub deals_some : (old left : Option Script) (dies slots : ℕ) (feeds : List (List ScriptItem)) → HasDealt old left dies slots feeds
-    → HasReadRows old left dies slots feeds false
-deals_some old left dies slots feeds h = record {
-  items = h.0;
-  read = h.1;
-  dealt = h.2;
-  all = λ ended. absurd (false≢true ended);
-}
+-- nothing is left after them
+pub reads_end : (old left new : Option (Reading RowText)) (dies slots line : ℕ) (texts : List (List RowText)) → Gives left new (Ok None)
+    → HasReadTo old left dies slots texts line → HasReadTexts old new dies slots texts Ended
+reads_end old left new dies slots line texts step (h, behind) =
+    record { rows = h.rows; behind = h.behind; dealt = h.dealt; read = by old h.read }
+  where
+    given : (left : Option (Reading RowText)) (more : Reading RowText) → left ≡ Some more → Gives left new (Ok None) → LeavesOff new more Ended
+    given None more left_is step = absurd cc
+    given (Some now) more left_is step = let one : now ≡ more = cc in sym one ∙ step.0
 
-pub deals_fault : (old left new : Option Script) (dies slots : ℕ) (feeds : List (List ScriptItem)) (e : Refusal) → Yields left new (Err e)
-    → HasDealt old left dies slots feeds → FailsIn old e
-deals_fault old left new dies slots feeds e step h = read_fault old left new h.0 e h.1 step
+    by : (old : Option (Reading RowText)) → IfSome old (λ all. (more : Reading RowText) × (all ≡ rows_then h.rows more) × (left ≡ Some more))
+        → IfSome old (λ all. (more : Reading RowText) × (all ≡ rows_then h.rows more) × LeavesOff new more Ended)
+    by None read = tt
+    by (Some all) (more, all_is, left_is) = (more, all_is, given left more left_is step)
 
-pub no_more : (n : ℕ) (feeds : List (List ScriptItem)) → feeds ≡ replicate n [] → feeds ++ [] ∷ [] ≡ replicate (n + 1) []
-no_more n feeds is = ap (λ (xs : List (List ScriptItem)). xs ++ [] ∷ []) is ∙ replicate-append-replicate n 1 []
+-- or a fault
+pub reads_fault : (old left new : Option (Reading RowText)) (dies slots line : ℕ) (texts : List (List RowText)) (e : Refusal)
+    → Gives left new (Err e)
+    → HasReadTo old left dies slots texts line → HasReadTexts old new dies slots texts (Refused e)
+reads_fault old left new dies slots line texts e step (h, behind) =
+    record { rows = h.rows; behind = h.behind; dealt = h.dealt; read = by old h.read }
+  where
+    given : (left : Option (Reading RowText)) (more : Reading RowText) → left ≡ Some more → Gives left new (Err e)
+        → LeavesOff new more (Refused e)
+    given None more left_is step = absurd cc
+    given (Some now) more left_is (inl out) = inl out
+    given (Some now) more left_is (inr is) = let one : now ≡ more = cc in inr (sym one ∙ is)
 
--- the rows that a die has so far are all of it
-pub dealt_own : (whole left : Option Script) (dies slots : ℕ) (feeds : List (List ScriptItem)) (item : ScriptItem) (old : List ScriptItem)
-    → IsRowFor dies slots item
-    → old ≡ get_or feeds item.die old → HasDealt whole left dies slots feeds → All (λ (row : ScriptItem). row.die ≡ item.die) old
-dealt_own whole left dies slots feeds item old row at h =
-    let below : item.die < length feeds = omega (arith, row.0, h.2.all) in
-    let is : old ≡ feed_of h.0 item.die = at ∙ get_or_default feeds item.die old [] below ∙ h.2.rows item.die row.0 in
-    All-same (λ (row : ScriptItem). row.die ≡ item.die) old (feed_of h.0 item.die) is
-    (All-weaker (λ (row : ScriptItem). is_of item.die row ≡ true) (λ row. row.die ≡ item.die)
-    (λ (row : ScriptItem) same. eqb-true row.die item.die same) (feed_of h.0 item.die) (filter_passes (is_of item.die) h.0))
+    by : (old : Option (Reading RowText)) → IfSome old (λ all. (more : Reading RowText) × (all ≡ rows_then h.rows more) × (left ≡ Some more))
+        → IfSome old (λ all. (more : Reading RowText) × (all ≡ rows_then h.rows more) × LeavesOff new more (Refused e))
+    by None read = tt
+    by (Some all) (more, all_is, left_is) = (more, all_is, given left more left_is step)
 
 -- How many rows are dealt
 
-pub few_none : (dies : ℕ) (feeds : List (List ScriptItem)) → feeds ≡ replicate dies [] → rows_dealt feeds ≤ 0
-few_none dies feeds is =
-    omega (arith, ap rows_dealt is, sum_by-replicate (λ (xs : List ScriptItem). length xs) dies [])
+pub few_none : (dies : ℕ) (texts : List (List RowText)) → texts ≡ replicate dies [] → rows_dealt texts ≤ 0
+few_none dies texts is =
+    omega (arith, ap rows_dealt is, sum_by-replicate (λ (xs : List RowText). length xs) dies [])
 
-pub few_more : (whole left : Option Script) (dies slots : ℕ) (feeds feeds2 : List (List ScriptItem)) (item : ScriptItem)
-    (old feed : List ScriptItem) (n : ℕ) → IsRowFor dies slots item → old ≡ get_or feeds item.die old → feed ≡ old ++ item ∷ []
-    → feeds2 ≡ set feeds item.die feed → HasDealt whole left dies slots feeds → rows_dealt feeds ≤ n → rows_dealt feeds2 ≤ n + 1
-few_more whole left dies slots feeds feeds2 item old feed n row at grown is h few =
+pub few_more : (texts texts2 : List (List RowText)) (row : RowText) (was own : List RowText) (n : ℕ) → row.head.die < length texts
+    → was ≡ get_or texts row.head.die was → own ≡ was ++ row ∷ [] → texts2 ≡ set texts row.head.die own
+    → rows_dealt texts ≤ n → rows_dealt texts2 ≤ n + 1
+few_more texts texts2 row was own n below at grown is few =
     omega (
       arith,
       ap rows_dealt is,
-      sum_by-set (λ (xs : List ScriptItem). length xs) feeds item.die feed old (omega (arith, row.0, h.2.all)),
-      ap (λ (xs : List ScriptItem). length xs) at,
-      ap (λ (xs : List ScriptItem). length xs) grown,
-      length-append old (item ∷ []),
+      sum_by-set (λ (xs : List RowText). length xs) texts row.head.die own was below,
+      ap (λ (xs : List RowText). length xs) at,
+      ap (λ (xs : List RowText). length xs) grown,
+      length-append was (row ∷ []),
       few,
     )

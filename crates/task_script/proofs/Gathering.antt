@@ -2,33 +2,38 @@
 use Rattle.std.proofs.Common.{◌≡◌, ℕ, suc, ◌+◌, ◌<◌, ◌≤◌, max, Bool, true, false, List, [], ◌∷◌, ◌++◌, refl, ap, sym, ◌∙◌}
 use Rattle.std.proofs.Common.{subst, length}
 use Rattle.std.proofs.Common.{append_assoc, arith, ◌==◌, Option}
-use Rattle.std.specs.Prelude.{option_map}
+use Rattle.std.specs.Prelude.{All, option_map}
 use Rattle.std.specs.Io.KnownBytes.{Appends}
 use Rattle.std.specs.List.{AllByRecursion, AllZip}
 use Rattle.std.proofs.lemmas.List.{append-nil}
-use Rattle.std.proofs.lemmas.List.Elements.{recursion_from_All}
+use Rattle.std.proofs.lemmas.List.Elements.{All-from_recursion, recursion_from_All}
+use Rattle.atomic_table.specs.Seated.{TableId}
 use Rattle.slot_types.specs.declared.plans.DiePlan.{DiePlan}
 use Rattle.slot_core.specs.Core.{Core}
 use Rattle.die_service.specs.Stores.{DiePass, IsClosedWith}
 use Rattle.report_texts.specs.ReportText.{report_text}
 use Rattle.script_texts.specs.Arrivals.{Arrives}
-use Rattle.script_texts.specs.Script.{Script, script_of}
+use Rattle.script_texts.specs.RowTexts.{RowText}
+use Rattle.script_texts.specs.Script.{Reading, Script, script_of}
 use Rattle.script_texts.specs.declared.script_rows.ScriptItem.{ScriptItem}
 use Rattle.report_texts.specs.TextSoFar.{TextSoFar, die_added, joined_text, text_so_far}
 use Rattle.report_texts.proofs.TextParts.{text_more}
 use Rattle.report_texts.specs.declared.reports.DieReport.{DieReport}
 use Rattle.task_script.proofs.BatchRuns.{closed_run, die_start}
-use Rattle.task_script.proofs.Batching.{SoFar, come_more, in_time_more, items_are}
+use Rattle.task_script.proofs.Batching.{all_sole, come_more, in_time_more, items_are}
 use Rattle.task_script.proofs.Counting.{counts_join}
+use Rattle.task_script.proofs.ReadingAhead.{Ahead}
+use Rattle.task_script.proofs.RowReading.{as_script, reads_last}
 use Rattle.task_script.proofs.Parting.{adds_nothing, no_cert, no_rows, parts_text}
-use Rattle.task_script.specs.Batches.{Closes, RanRows, HasComeTo, HaveComeTo, joined_after, latest_slot}
+use Rattle.task_script.specs.Batches.{Closes, HasComeTo, HaveComeTo, RanTexts, joined_after, latest_slot}
 use Rattle.task_script.specs.DieReports.{die_report_of}
 use Rattle.task_script.specs.DieRuns.{DieRun, run_at}
-use Rattle.task_script.specs.Feeds.{AreInTime, AreItemsOf, HasReadRows, feed_of}
+use Rattle.task_script.specs.Feeds.{AreInTime, AreItemsOf, feed_of}
 use Rattle.task_script.specs.RunCounts.{count_of, sum_of_counts}
 use Rattle.task_script.specs.TextRuns.{AreRuns, RanScript, RunsText, ends_of, reports_from, with_rows}
 use Rattle.task_script.specs.StoreRuns.{reports_of}
 use Rattle.task_script.specs.declared.batches.Progress.{Progress}
+use Rattle.task_script.specs.declared.feeds.ReadEnd.TheVariants.{Ended}
 use Rattle.task_script.specs.declared.run_counts.RowEnd.{RowEnd}
 use Rattle.task_script.specs.declared.run_counts.RunCount.{RunCount}
 use Rattle.die_log.specs.Model.Start.{Start, fresh}
@@ -155,13 +160,25 @@ runs_text text plans slots said count old new r written = record {
 }
 
 -- the text of the reports, and the count, where no row of the script is left after these, which were run
-pub script_ran : (text : Option (List ℕ)) (left new : Option Script) (plans : List DiePlan) (slots : ℕ) (ps qs : List DiePass)
-    (before after : List Progress) (rows : List (List ScriptItem))
-    (s : SoFar 0 (option_map (script_of (length plans) slots) text) left plans slots ps before)
-    (r : HasReadRows left new (length plans) slots rows true) → RanRows slots rows ps before qs after
+pub script_ran : (text : Option (List ℕ)) (left : Option (Reading RowText)) (plans : List DiePlan) (slots : ℕ) (store : List TableId)
+    (ps qs : List DiePass) (before after : List Progress) (texts : List (List RowText))
+    → Ahead (option_map (script_of (length plans) slots) text) left plans slots ps before texts Ended
+    → RanTexts slots store ps before texts qs after
     → (said : List TextSoFar) (count : RunCount) → Closes qs after said count → RanScript text plans slots said count
-script_ran text left new plans slots ps qs before after rows s r ran said count closes =
+script_ran text left plans slots store ps qs before after texts a ran said count closes =
+    let s = a.so_far in
+    let r = reads_last a.before left (length plans) slots texts ran.rows a.read ran.read in
     ran_script text plans slots qs after said count (s.items ++ r.items)
-    (items_are text left (length plans) slots s.items r.items s.read (r.all refl))
-    (in_time_more (length plans) slots s.items r.items rows s.in_time r.dealt)
-    (come_more slots (length plans) slots plans ps qs before after rows s.items r.items refl s.come r.dealt ran) closes
+    (items_are text (as_script a.before) (length plans) slots s.items r.items s.read r.all)
+    (in_time_more (length plans) slots s.items r.items ran.rows s.in_time r.dealt)
+    (come_more slots (length plans) slots plans ps qs before after ran.rows s.items r.items refl s.come r.dealt ran.ran) closes
+
+-- each pass of it is the only one of its die
+pub ran_sole : (whole : Option Script) (left : Option (Reading RowText)) (plans : List DiePlan) (slots : ℕ) (store : List TableId)
+    (ps qs : List DiePass) (before after : List Progress) (texts : List (List RowText))
+    → Ahead whole left plans slots ps before texts Ended → RanTexts slots store ps before texts qs after
+    → All (λ (p : DiePass). p.view.sole ≡ true) qs
+ran_sole whole left plans slots store ps qs before after texts a ran =
+    let r = reads_last a.before left (length plans) slots texts ran.rows a.read ran.read in
+    All-from_recursion (λ (p : DiePass). p.view.sole ≡ true) qs (all_sole slots (feed_of (a.so_far.items ++ r.items)) 0 plans qs after
+    (come_more slots (length plans) slots plans ps qs before after ran.rows a.so_far.items r.items refl a.so_far.come r.dealt ran.ran))

@@ -3,6 +3,8 @@ pub mod Calling
 pub mod KeptRows
 pub mod ReadSoFar
 pub mod Dealing
+pub mod RowReading
+pub mod OpsReading
 pub mod Parting
 pub mod Gathering
 pub mod Transcripts

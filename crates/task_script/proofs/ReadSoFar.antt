@@ -1,9 +1,8 @@
 -- The rows of a script that were read so far.
-use Rattle.std.proofs.Common.{◌≡◌, ◌⊎◌, List, [], ◌∷◌, ◌++◌, refl, ap, sym, ◌∙◌, subst, append_assoc, inl, inr, Option, Some, None, Ok, Err}
+use Rattle.std.proofs.Common.{◌≡◌, List, [], ◌∷◌, ◌++◌, refl, ap, sym, ◌∙◌, subst, append_assoc, Option, Some, None, Ok, Err}
 use Rattle.std.specs.Prelude.{IfSome, option_map}
 use Rattle.std.proofs.lemmas.List.{append-nil}
 use Rattle.slot_types.specs.declared.refusals.Refusal.{Refusal}
-use Rattle.text_base.specs.Readings.{IsOutside}
 use Rattle.script_texts.specs.Script.{Script, Yields, with_front}
 use Rattle.script_texts.specs.declared.script_rows.ScriptItem.{ScriptItem}
 use Rattle.task_script.specs.Feeds.{with_items, IsReadTo}
@@ -13,7 +12,7 @@ read_none None = tt
 read_none (Some (Ok items)) = refl
 read_none (Some (Err e)) = refl
 
-items_more : (items : List ScriptItem) (item : ScriptItem) (more : Script) → with_items items (with_front item more)
+pub items_more : (items : List ScriptItem) (item : ScriptItem) (more : Script) → with_items items (with_front item more)
     ≡ with_items (items ++ item ∷ []) more
 items_more items item (Ok more) = ap (λ (xs : List ScriptItem). Ok xs) (sym (append_assoc items (item ∷ []) more))
 items_more items item (Err e) = refl
@@ -32,21 +31,6 @@ read_all None left new items so_far step = tt
 read_all (Some all) None new items so_far step = absurd so_far
 read_all (Some all) (Some more) new items so_far step = so_far
     ∙ (ap (with_items items) step.0 ∙ ap (λ (xs : List ScriptItem). Ok xs) (append-nil items))
-
--- nothing is left then
-pub read_end : (whole left new : Option Script) (items : List ScriptItem) → IsReadTo whole left items → Yields left new (Ok None)
-    → IsReadTo whole new items
-read_end None left new items so_far step = tt
-read_end (Some all) None new items so_far step = absurd so_far
-read_end (Some all) (Some more) new items so_far step = subst (λ (o : Option Script). IsReadTo (Some all) o items) (sym step.1)
-    (so_far ∙ ap (with_items items) step.0)
-
-pub read_fault : (whole left new : Option Script) (items : List ScriptItem) (e : Refusal) → IsReadTo whole left items
-    → Yields left new (Err e) → IsOutside e ⊎ IfSome whole (λ all. all ≡ Err e)
-read_fault None left new items e so_far step = inr tt
-read_fault (Some all) None new items e so_far step = absurd so_far
-read_fault (Some all) (Some more) new items e so_far (inl out) = inl out
-read_fault (Some all) (Some more) new items e so_far (inr is) = inr (so_far ∙ ap (with_items items) is)
 
 -- What was read of what was left
 

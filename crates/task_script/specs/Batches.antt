@@ -2,7 +2,6 @@
 use Rattle.std.specs.Prelude.{◌≡◌, ℕ, ◌+◌, ◌-◌, ◌^◌, ◌<◌, ◌≤◌, max, true, List, [], ◌∷◌, All, None, length, map, sum_by}
 use Rattle.std.specs.List.{AllZip}
 use Rattle.atomic_table.specs.Seated.{TableId}
-use Rattle.slot_types.specs.Arrivals.{IsArrival}
 use Rattle.slot_types.specs.declared.plans.DiePlan.{DiePlan}
 use Rattle.flash_die.specs.Memory.{Memory}
 use Rattle.turn_lock.specs.Log.{AllBy}
@@ -16,10 +15,12 @@ use Rattle.die_service.specs.Logs.{log_of}
 use Rattle.die_service.specs.Runs.{AskedEvent, HaveRun}
 use Rattle.die_service.specs.Stores.{DiePass, IsClosedWith}
 use Rattle.report_texts.specs.TextSoFar.{TextSoFar}
+use Rattle.script_texts.specs.RowTexts.{RowText}
 use Rattle.script_texts.specs.declared.script_rows.ScriptItem.{ScriptItem}
 use Rattle.task_script.specs.DieRuns.{MakesCalls, calls_of, fresh_run, run_at}
 use Rattle.task_script.specs.Feeds.{rows_dealt}
 use Rattle.task_script.specs.RowEnds.{arrivals_of, lines_of, ends_from}
+use Rattle.task_script.specs.RowTexts.{AreOfOneDie, AreRead}
 use Rattle.task_script.specs.RunCounts.{count_of, counted_after, rows_in, sum_of_counts}
 use Rattle.task_script.specs.DieTexts.{report_parts}
 use Rattle.task_script.specs.declared.batches.KeptRows.{KeptRows}
@@ -82,21 +83,23 @@ pub record RanRows (until : ℕ) (rows : List (List ScriptItem)) (ps : List DieP
   pub whole : All (λ end. end.stop ≡ None) ends
   pub after_is : after ≡ progress_after before (kept_of until before rows) ends
 
--- these rows may be run next on the dies of a store, and so many rows may be counted
-pub record CanRun (store : List TableId) (ps : List DiePass) (progress : List Progress) (rows : List (List ScriptItem)) (workers : ℕ)
+-- these rows may be run next on the dies of a store, once their operations are read, and so many rows may be counted
+pub record CanRun (store : List TableId) (ps : List DiePass) (progress : List Progress) (texts : List (List RowText)) (workers : ℕ)
     : Type 0 where
   pub own : map (λ (p : DiePass). p.lock) ps ≡ store
-  pub dealt : length rows ≡ length store
+  pub dealt : length texts ≡ length store
   pub far : length progress ≡ length store
-  pub arrive : All (λ items. All (λ item. IsArrival item.event) items) rows
-  pub few : rows_counted progress + rows_dealt rows < 2 ^ 64
+  pub one_die : All AreOfOneDie texts
+  pub few : rows_counted progress + rows_dealt texts < 2 ^ 64
   pub threads : (1 ≤ workers) × (workers ≤ 16)
 
--- they were run, up to the last of each die, and counted
-pub record GoesOn (store : List TableId) (ps : List DiePass) (progress : List Progress) (rows : List (List ScriptItem))
+-- their operations were read, and they were run, each die up to its last row, but not less than up to slot `until`, and counted
+pub record RanTexts (until : ℕ) (store : List TableId) (ps : List DiePass) (progress : List Progress) (texts : List (List RowText))
     (qs : List DiePass) (after : List Progress) : Type 0 where
-  pub counted : rows_counted after ≡ rows_counted progress + rows_dealt rows
-  pub ran : RanRows 0 rows ps progress qs after
+  pub rows : List (List ScriptItem)
+  pub read : AreRead texts rows
+  pub ran : RanRows until rows ps progress qs after
+  pub counted : rows_counted after ≡ rows_counted progress + rows_dealt texts
   pub own : map (λ (p : DiePass). p.lock) qs ≡ store
 
 -- What is known of a die that ran its rows in batches, from the view of its pass: where no other pass called it, these

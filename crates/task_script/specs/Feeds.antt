@@ -1,5 +1,5 @@
 -- The rows of a script, by die.
-use Rattle.std.specs.Prelude.{◌≡◌, ◌==◌, ◌⊎◌, ⊤, ℕ, ◌<◌, Bool, true, List, [], ◌++◌, All, filter, length}
+use Rattle.std.specs.Prelude.{◌≡◌, ◌==◌, ◌⊎◌, ⊤, ℕ, ◌<◌, List, [], ◌++◌, All, filter, length}
 use Rattle.std.specs.Prelude.{get_or, sum_by, Option, Some, None, IfSome}
 use Rattle.std.specs.Prelude.{Ok, Err}
 use Rattle.slot_types.specs.declared.refusals.Refusal.{Refusal}
@@ -29,8 +29,8 @@ abbrev pub AreItemsOf : Option (List ℕ) → ℕ → ℕ → List ScriptItem �
 AreItemsOf text dies slots items = IfSome text (λ bytes. script_of dies slots bytes ≡ Ok items)
 
 -- how many rows these are, of all dies
-abbrev pub rows_dealt : List (List ScriptItem) → ℕ
-rows_dealt feeds = sum_by (λ (items : List ScriptItem). length items) feeds
+abbrev pub rows_dealt : {A : Type 0} → List (List A) → ℕ
+rows_dealt {A = A} feeds = sum_by (λ (rows : List A). length rows) feeds
 
 -- memory ran out, or the reader failed; or the script has this fault
 abbrev pub RefusesScript : Option (List ℕ) → ℕ → ℕ → Refusal → Type 0
@@ -48,17 +48,6 @@ abbrev pub IsReadTo : Option Script → Option Script → List ScriptItem → Ty
 IsReadTo None left items = ⊤
 IsReadTo (Some all) None items = ⊥
 IsReadTo (Some all) (Some more) items = all ≡ with_items items more
-
--- so far these feeds were dealt
-abbrev pub HasDealt : Option Script → Option Script → ℕ → ℕ → List (List ScriptItem) → Type 0
-HasDealt whole left dies slots feeds = (items : List ScriptItem) × IsReadTo whole left items × IsDealt dies slots items feeds
-
--- of what was left these rows were read, by die, and they are all of it or not
-pub record HasReadRows (old new : Option Script) (dies slots : ℕ) (rows : List (List ScriptItem)) (ended : Bool) : Type 0 where
-  pub items : List ScriptItem
-  pub read : IsReadTo old new items
-  pub dealt : IsDealt dies slots items rows
-  pub all : ended ≡ true → IfSome old (λ left. left ≡ Ok items)
 
 -- memory ran out, or the reader failed; or what was left has this fault
 abbrev pub FailsIn : Option Script → Refusal → Type 0

@@ -1,6 +1,8 @@
 pub mod RowEnds
 pub mod DieReports
 pub mod Feeds
+pub mod RowTexts
+pub mod DieOps
 pub mod RunCounts
 pub mod DieRuns
 pub mod LogPages

@@ -1,88 +1,104 @@
-//! The rows of a script, by die.
+//! The rows of a script as they are read, by die.
 
-ghost use Rattle.std.specs.Prelude.{◌≡◌, ◌≤◌, ℕ, Option, [], length, replicate, IfOk, IfErr};
+ghost use Rattle.std.specs.Prelude.{◌≡◌, ◌≤◌, [], replicate, IfOk};
 ghost use Rattle.slot_types.specs.Refusal.{FailsForMemory};
-ghost use Rattle.script_texts.specs.ScriptLeft.{dies_of, script_left, slots_of};
-ghost use Rattle.task_script.specs.Feeds.{FailsIn, HasReadRows, rows_dealt};
+ghost use Rattle.script_texts.specs.ScriptLeft.{dies_of, script_rows_left, slots_of};
+ghost use Rattle.task_script.specs.Feeds.{rows_dealt};
+ghost use Rattle.task_script.specs.RowTexts.{HasReadTexts};
 
-use crate::rows::DieRows;
+use crate::row_texts::RowTexts;
 use script_texts::ScriptReader;
-use slot_types::{PackedOps, Refusal};
+use slot_types::Refusal;
 use std::alloc::Global;
 use std::io::Read;
 
 /// How many rows are read before they are run, at most.
 const BATCH_ROWS: u32 = 16_384;
 
-/// After how many operations no further row is read before these are run. No contract depends on it.
-const BATCH_OPS: usize = 262_144;
+/// After how many bytes of operations no further row is read before these are run: the texts of two batches are kept
+/// at a time. No contract depends on it.
+const BATCH_BYTES: usize = 4_194_304;
 
-/// The rows that were read from a script, by die.
+/// Why no further row is read before those that were read are run.
+#[derive(Clone, Copy, PartialEq, Eq, Debug, Drop)]
+pub enum ReadEnd {
+    /// They are as many as are run at a time.
+    More,
+    /// The script has no further row.
+    Ended,
+    /// The script is at fault after them, or reading it was refused. A fault in the operations of these rows comes
+    /// before that.
+    Refused(Refusal),
+}
+
+/// The rows that were read from a script, by die, and how the reading ended.
 #[derive(Drop)]
 pub struct ReadRows {
-    pub dies: Vec<DieRows>,
-    /// Whether the script has no further row.
-    pub ended: bool,
+    pub dies: Vec<RowTexts>,
+    pub end: ReadEnd,
 }
 
 /// By die no row.
-fn no_rows(alloc: Global, dies: usize) -> Result<Vec<DieRows>, Refusal>
+fn no_rows(alloc: Global, dies: usize) -> Result<Vec<RowTexts>, Refusal>
     ensures ok { IfOk result (λ rows. rows.items ≡ replicate dies []) }
     ensures refused { FailsForMemory result }
 {
     let mut rows = Vec::new(alloc);
     for _ in 0..dies {
-        rows.push(DieRows::new(alloc))?;
+        rows.push(RowTexts::new(alloc))?;
     }
     Ok(rows)
 }
 
 /// By die the next rows of a script for so many dies, as many as are run at a time, or all that are left: 16,384 at
-/// most. Their operations are read, row by row, into what the caller lends.
+/// most. Their operations aren't read yet. The only refusal is NoMemory.
 pub fn read_rows<R: Read>(
     alloc: Global,
     script: &mut ScriptReader<R>,
-    ops: &mut PackedOps,
     dies: usize,
 ) -> Result<ReadRows, Refusal>
     requires dies { dies_of script.old ≡ dies }
     ensures rows { IfOk result (λ rows.
-        HasReadRows (script_left R.remaining script.old) (script_left R.remaining script.new) dies
-        (slots_of script.old) rows.dies.items rows.ended) }
+        HasReadTexts (script_rows_left R.remaining script.old)
+        (script_rows_left R.remaining script.new) dies (slots_of script.old) rows.dies.items
+        rows.end) }
     ensures few { IfOk result (λ rows. rows_dealt rows.dies.items ≤ 16384) }
-    ensures refused { IfErr result (FailsIn (script_left R.remaining script.old)) }
+    ensures refused { FailsForMemory result }
     ensures dies { dies_of script.new ≡ dies_of script.old }
     ensures slots { slots_of script.new ≡ slots_of script.old }
 {
     let mut rows = no_rows(alloc, dies)?;
-    let mut left = BATCH_OPS;
+    let mut left = BATCH_BYTES;
     for _ in 0..BATCH_ROWS {
-        match script.next_into(ops) {
+        match script.next_row() {
             Ok(Some(head)) => {
-                let die = head.die as usize;
-                match rows[die].add(&head, &ops.lend()) {
-                    Ok(()) => {}
-                    Err(refusal) => return Err(refusal),
+                let ops = script.ops_text();
+                let size = ops.len();
+                rows[head.die as usize].add(&head, ops)?;
+                if size >= left {
+                    return Ok(ReadRows {
+                        dies: rows,
+                        end: ReadEnd::More,
+                    });
                 }
+                left -= size;
             }
             Ok(None) => {
                 return Ok(ReadRows {
                     dies: rows,
-                    ended: true,
+                    end: ReadEnd::Ended,
                 });
             }
-            Err(refusal) => return Err(refusal),
+            Err(refusal) => {
+                return Ok(ReadRows {
+                    dies: rows,
+                    end: ReadEnd::Refused(refusal),
+                });
+            }
         }
-        if ops.len() >= left {
-            return Ok(ReadRows {
-                dies: rows,
-                ended: false,
-            });
-        }
-        left -= ops.len();
     }
     Ok(ReadRows {
         dies: rows,
-        ended: false,
+        end: ReadEnd::More,
     })
 }

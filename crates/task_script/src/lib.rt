@@ -3,11 +3,13 @@
 #![tactic(auto)]
 
 mod batches;
+mod die_ops;
 mod die_reports;
 mod die_texts;
 mod feeds;
 mod laws;
 mod read_ahead;
+mod row_texts;
 mod rows;
 mod run_counts;
 mod stores;

@@ -9,16 +9,18 @@ ghost use Rattle.task_script.specs.TextRuns.{RanScript, RunsText};
 ghost use Rattle.task_script.specs.Feeds.{RefusesScript};
 ghost use Rattle.text_base.specs.Writing.{KeepsFlag, RefusesOrCuts};
 
-use crate::batches::{Progress, RunDies, no_progress, run_rows};
+use crate::batches::{Progress, RunDies, no_progress};
+use crate::die_ops::rows_of;
 use crate::die_texts::parts_of;
-use crate::read_ahead::{read_next, run_and_read};
+use crate::feeds::ReadEnd;
+use crate::read_ahead::{read_next, run_and_read, run_texts};
 use crate::run_counts::RunCount;
 use crate::stores::new_store;
 use die_service::{Store, close};
 use flash_die::MemoryNand;
 use report_texts::{ReportText, write_parts};
 use script_texts::ScriptReader;
-use slot_types::{MAX_SLOT, PackedOps, Refusal, StorePlan};
+use slot_types::{MAX_SLOT, Refusal, StorePlan};
 use std::alloc::Global;
 use std::io::Read;
 use std::sync::Wait;
@@ -77,8 +79,8 @@ fn finish<R: Threads + Wait + Sync>(
     }
 }
 
-/// Runs a script on fresh dies in memory. Its rows are read and run batch by batch: while a batch is run, the next one
-/// is read, so that no more of the script is kept than two batches of rows.
+/// Runs a script on fresh dies in memory. Its rows are read and run batch by batch: while the operations of a batch are
+/// read and it is run, the next one is read, so that no more of the script is kept than two batches of rows.
 fn run_script<R: Threads + Wait + Sync, S: Read + Drop>(
     rt: &R,
     alloc: Global,
@@ -99,15 +101,24 @@ fn run_script<R: Threads + Wait + Sync, S: Read + Drop>(
     let progress = no_progress(alloc, plan.len())?;
     let reader = ScriptReader::new(alloc, script, plan, slots)?;
     let mut dies = RunDies { passes, progress };
-    let mut read = read_next(alloc, reader, PackedOps::new(alloc), plan.len())?;
+    let mut read = read_next(alloc, reader, plan.len())?;
     for _ in 0..u32::MAX {
-        if read.rows.ended {
-            let ran = run_rows(rt, alloc, &store, dies, read.rows.dies, slots, workers)?;
-            return finish(rt, alloc, store, ran, workers);
+        match read.rows.end {
+            ReadEnd::More => {
+                let (ran, next) = run_and_read(rt, alloc, &store, dies, read, workers)?;
+                dies = ran;
+                read = next;
+            }
+            ReadEnd::Ended => {
+                let texts = read.rows.dies;
+                let ran = run_texts(rt, alloc, &store, dies, texts, slots, workers)?;
+                return finish(rt, alloc, store, ran, workers);
+            }
+            ReadEnd::Refused(refusal) => {
+                rows_of(rt, alloc, read.rows.dies, workers)?;
+                return Err(refusal);
+            }
         }
-        let (ran, next) = run_and_read(rt, alloc, &store, dies, read, workers)?;
-        dies = ran;
-        read = next;
     }
     // No script has so many rows: each record has a number of its own below 2^32, and a batch has a row.
     Err(Refusal::ReadFault)
@@ -119,9 +130,9 @@ fn run_script<R: Threads + Wait + Sync, S: Read + Drop>(
 /// no event, and doesn't stop the run; it is counted.
 ///
 /// What is written is proved to be the report read off the exact logs of the accepted rows and the slots, whatever the
-/// number of workers. By one worker no thread is started; by more, each batch of rows is run by so many, while this
-/// thread reads the next one, and so many make the lines of the report, die by die. A thread that can't be started is
-/// done without. May wait for the workers.
+/// number of workers. By one worker no thread is started; by more, so many read the operations of each batch of rows,
+/// die by die, and run it, while this thread takes the next rows off the script, and so many make the lines of the
+/// report, die by die. A thread that can't be started is done without. May wait for the workers.
 ///
 /// So is this: on a die whose rows keep its plan, with times that pass their test, no lateness in the report is above
 /// 0, and no row is refused but out of memory, or after one that was.

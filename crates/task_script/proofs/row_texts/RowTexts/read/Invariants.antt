@@ -1,0 +1,13 @@
+use Rattle.std.proofs.Common.{◌≡◌, ℕ, All}
+use Rattle.csv.specs.Records.{fields_of}
+use Rattle.script_texts.specs.RowTexts.{RowText}
+use Rattle.script_texts.specs.declared.script_rows.ScriptItem.{ScriptItem}
+use Rattle.task_script.specs.RowTexts.{read_of}
+use Rattle.task_script.proofs.RowReading.{IsReadBefore}
+use Rattle.task_script.proofs.row_texts.RowTexts.read.Given as goal
+
+abbrev pub invariant-loop-place : goal.invariant-loop-place
+invariant-loop-place l = record {
+  so_far : IsReadBefore (read_of l.fn.self) l.self-inside.heads.items (fields_of l.self-inside.texts) l.place l.rows;
+  own : (die : ℕ) → All (λ (row : RowText). row.head.die ≡ die) l.fn.self → All (λ (item : ScriptItem). item.die ≡ die) l.rows;
+}
