@@ -1,5 +1,5 @@
 -- What a row of a script is refused for is a fault of its record, and never of a reader.
-use Rattle.std.proofs.Common.{◌≡◌, ◌≢◌, ◌==◌, ℕ, Bool, true, false, List, Option, Some, None, Result, Ok, Err, refl, ap, ◌∙◌, length}
+use Rattle.std.proofs.Common.{◌≡◌, ◌≢◌, ◌==◌, ℕ, Bool, true, false, List, Option, Some, None, Result, Ok, Err, ap, ◌∙◌, length}
 use Rattle.std.specs.Prelude.{◌||◌, codes, nat_eq, nat_lt, option_and_then, slice_index, if◌then◌else◌}
 use Rattle.std.specs.Cmp.Lexicographic.{pointwise}
 use Rattle.csv.specs.Records.{field_at}
@@ -10,7 +10,7 @@ use Rattle.slot_types.specs.declared.refusals.Refusal.TheVariants.{ReadFault, Sc
 use Rattle.text_base.specs.Number.{number_of}
 use Rattle.text_base.specs.Readings.{◌>>=◌}
 use Rattle.script_texts.specs.declared.script_rows.RowHead.{RowHead}
-use Rattle.script_texts.specs.ScriptRows.{at_in, collects_at, collects_of, die_in, fault, head_of, kind_or, number_at, or_fault}
+use Rattle.script_texts.specs.ScriptRows.{at_in, collects_at, die_in, fault, head_of, kind_or, number_at, or_fault}
 
 of-record : {A : Type 0} (line : ℕ) (c : Cause) (e : Refusal) → fault {A = A} line c ≡ Err e → e ≢ ReadFault
 of-record line c e is read =

@@ -95,19 +95,25 @@ pub fn reading_into_a_list_has_one_answer<R: Read>()
 /// Reading the next row as it stands (`next_row`) has one answer, where the text is known, and leaves one text of its
 /// operations and one script, unless memory or its reader fails.
 pub fn reading_the_next_row_has_one_answer<R: Read>()
-    ensures { (all : Reading RowText) (before left right : ScriptReader R)
+    ensures row { (all : Reading RowText) (before left right : ScriptReader R)
         (one other : Result (Option RowHead) Refusal) →
         script_rows_left R.remaining before ≡ Some all →
         ReadsRow R.remaining before left one → ReadsRow R.remaining before right other →
         ((one ≡ other) × IfOk one (λ o. IfSome o (λ head. ops_text left ≡ ops_text right))
         × (script_rows_left R.remaining left ≡ script_rows_left R.remaining right))
         ⊎ IsErrAnd one IsOutside ⊎ IsErrAnd other IsOutside }
+    ensures fits { (fits : Bool) (before left right : ScriptReader R)
+        (answer : Result (Option RowHead) Refusal) →
+        script_fits R.remaining before ≡ Some fits →
+        ReadsRow R.remaining before left answer → ReadsRow R.remaining before right answer →
+        script_fits R.remaining left ≡ script_fits R.remaining right }
 {}
 
 /// Reading the operations of a row (`read_ops`) has one answer, and leaves one list. Left open is whether there is
 /// memory for it.
 pub fn reading_operations_has_one_answer()
-    ensures { (head : RowHead) (text : List ℕ) (left right : List Op) (one other : Result (Unit {0}) Refusal) →
+    ensures { (head : RowHead) (text : List ℕ) (left right : List Op)
+        (one other : Result (Unit {0}) Refusal) →
         Shows (λ _. row_of head left) one (item_in (row_text head text)) →
         Shows (λ _. row_of head right) other (item_in (row_text head text)) →
         OnOk one (HasOwnOps head left) → OnOk other (HasOwnOps head right) →

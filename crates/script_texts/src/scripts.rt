@@ -1,6 +1,6 @@
 //! Scripts, row by row.
 
-ghost use Rattle.std.specs.Prelude.{◌≡◌, ◌<◌, ◌≤◌, IfOk, IfSome, None, length, option_map};
+ghost use Rattle.std.specs.Prelude.{◌≡◌, ◌<◌, ◌≤◌, IfOk, IfSome, None, false, length, option_map};
 ghost use Rattle.slot_types.specs.Refusal.{FailsForMemory};
 ghost use Rattle.text_base.specs.Plain.{IsPlain};
 
@@ -42,7 +42,7 @@ impl<R: Read> ScriptReader<R> {
     ghost use Rattle.script_texts.specs.Script.{reading_of, script_of};
     ghost use Rattle.script_texts.specs.Heads.{HasOwnOps, row_read};
     ghost use Rattle.script_texts.specs.NextItem.{ReadsNext, ReadsRow};
-    ghost use Rattle.script_texts.specs.ScriptLeft.{dies_of, ops_text, reading_left, script_fits, script_left, slots_of};
+    ghost use Rattle.script_texts.specs.ScriptLeft.{dies_of, ops_text, reader_failed, reading_left, script_fits, script_left, slots_of};
     ghost use Rattle.text_base.specs.Marks.{is_within};
 
     /// A reader of a script for the dies of a store and so many slots. The only refusal is NoMemory.
@@ -62,6 +62,7 @@ impl<R: Read> ScriptReader<R> {
             ≡ option_map (script_of (length plan.now) slots) (R.remaining reader)) }
         ensures bound { IfOk result (λ script.
             script_fits R.remaining script ≡ option_map (is_within 67108864) (R.remaining reader)) }
+        ensures fresh { IfOk result (λ script. reader_failed script ≡ false) }
         ensures refused { FailsForMemory result }
     {
         let lasts = vec![in alloc; 0u32; plan.len()]?;
@@ -82,9 +83,9 @@ impl<R: Read> ScriptReader<R> {
     ///
     /// ScriptRow has the number of the first record at fault, and its first fault in this order: TooManyRows for a
     /// record numbered above 1,000,001; Header where record 1 isn't the header or there is no record; Fields where it
-    /// doesn't have seven fields; Number; Kind; Die for a die that isn't there; At; Ops. ReadFault comes exactly where
-    /// csv's reader fails, since the reader below it does or goes on beyond its bound; the records before it are judged
-    /// first. NoMemory comes where memory is refused.
+    /// doesn't have seven fields; Number; Kind; Die for a die that isn't there; At; Ops. ReadFault comes where
+    /// the reader below csv fails or goes on beyond its bound, and only where csv's reader has failed; that fails for
+    /// lack of memory, too, and the answer is then NoMemory. The records before it are judged first.
     pub fn next(&mut self) -> Result<Option<ScriptItem>, Refusal>
         ensures { ReadsNext R.remaining self.old self.new result }
     {

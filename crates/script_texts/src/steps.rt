@@ -6,11 +6,11 @@ ghost use Rattle.csv.specs.Records.{fields_of};
 ghost use Rattle.text_base.specs.CsvRecordsLeft.{fits_left, rows_left};
 ghost use Rattle.text_base.specs.Fields.{field_or};
 ghost use Rattle.text_base.specs.Plain.{IsPlain};
-ghost use Rattle.text_base.specs.Readings.{TellsFailure};
 ghost use Rattle.script_texts.specs.Arrivals.{IsHeadFor};
 ghost use Rattle.script_texts.specs.RowTexts.{row_with_text};
 ghost use Rattle.script_texts.specs.Script.{StepFits, StepOf, after_row, rows_from, script_at, script_from};
 ghost use Rattle.script_texts.specs.ScriptHeader.{is_script_header};
+ghost use Rattle.script_texts.specs.ScriptLeft.{TellsFailure};
 
 use crate::script_rows::{RowHead, head_in};
 use csv::{ByteRecord, Reader};

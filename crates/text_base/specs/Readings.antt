@@ -1,5 +1,5 @@
 -- What a call that reads a text gave, beside what the text says.
-use Rattle.std.specs.Prelude.{◌≡◌, ◌≢◌, ◌⊎◌, Bool, true, Result, Ok, Err}
+use Rattle.std.specs.Prelude.{◌≡◌, ◌⊎◌, Result, Ok, Err}
 use Rattle.slot_types.specs.declared.refusals.Refusal.{Refusal}
 use Rattle.slot_types.specs.declared.refusals.Refusal.TheVariants.{NoMemory, ReadFault}
 
@@ -20,9 +20,3 @@ GivesReading result read = Shows (λ x. x) result read
 -- a refusal that is no fault of a text: memory ran out, or the reader failed
 abbrev pub IsOutside : Refusal → Type 0
 IsOutside refusal = (refusal ≡ NoMemory) ⊎ (refusal ≡ ReadFault)
-
--- whether a reader of records has failed stays with an answer; a refusal that is no fault of the text comes where it fails, and
--- another but ReadFault, where it stays
-abbrev pub TellsFailure : {X : Type 0} → Bool → Bool → Result X Refusal → Type 0
-TellsFailure old new (Ok x) = new ≡ old
-TellsFailure old new (Err e) = (IsOutside e × (new ≡ true)) ⊎ ((e ≢ ReadFault) × (new ≡ old))

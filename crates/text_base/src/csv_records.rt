@@ -1,12 +1,12 @@
 //! The records of a text, by csv's defaults.
 
-ghost use Rattle.std.specs.Prelude.{◌≡◌, ◌<◌, ◌^◌, true, All, IfOk, IfErr, option_map};
+ghost use Rattle.std.specs.Prelude.{◌≡◌, ◌<◌, ◌^◌, false, true, All, IfOk, IfErr, OnErr, OnOk, option_map};
 ghost use Rattle.csv.specs.Reading.{error_kind, has_failed, is_io};
 ghost use Rattle.csv.specs.Records.{fields_of, field_at};
 ghost use Rattle.text_base.specs.Fields.{has_text};
 ghost use Rattle.text_base.specs.Fields.{field_or};
 ghost use Rattle.text_base.specs.Plain.{IsPlain};
-ghost use Rattle.text_base.specs.Readings.{IsOutside, TellsFailure};
+ghost use Rattle.text_base.specs.Readings.{IsOutside};
 ghost use Rattle.text_base.specs.Marks.{is_within};
 ghost use Rattle.text_base.specs.CsvRecords.{TakesRow, rows_of};
 ghost use Rattle.text_base.specs.CsvRecordsLeft.{KeepsFit, fits_left, rows_left};
@@ -20,6 +20,7 @@ use std::io::Read;
 /// A reader of all records within the bound, of any length, the first among them.
 pub fn rows_in<R: Read>(alloc: Global, reader: R) -> Reader<Bounded<R>>
     ensures plain { IsPlain result }
+    ensures fresh { has_failed result ≡ false }
     ensures rows { rows_left R.remaining result ≡ option_map rows_of (R.remaining reader) }
     ensures fits { fits_left R.remaining result
         ≡ option_map (is_within 67108864) (R.remaining reader) }
@@ -34,6 +35,7 @@ pub fn rows_in<R: Read>(alloc: Global, reader: R) -> Reader<Bounded<R>>
 pub fn rows_up_to<R: Read>(alloc: Global, reader: R, most: usize) -> Reader<Bounded<R>>
     requires { most < 2 ^ 32 }
     ensures plain { IsPlain result }
+    ensures fresh { has_failed result ≡ false }
     ensures rows { rows_left R.remaining result ≡ option_map rows_of (R.remaining reader) }
     ensures fits { fits_left R.remaining result ≡ option_map (is_within most) (R.remaining reader) }
 {
@@ -74,7 +76,8 @@ pub fn take_row<R: Read>(
         KeepsFit (fits_left R.remaining rows.old) (fits_left R.remaining rows.new) found) }
     ensures plain { IfOk result (λ found. IsPlain rows.new) }
     ensures outside { IfErr result (λ e. IsOutside e) }
-    ensures failed { TellsFailure (has_failed rows.old) (has_failed rows.new) result }
+    ensures goes { OnOk result (has_failed rows.new ≡ has_failed rows.old) }
+    ensures failed { OnErr result (has_failed rows.new ≡ true) }
 {
     match rows.read_byte_record(row) {
         Ok(found) => {

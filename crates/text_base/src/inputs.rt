@@ -13,18 +13,19 @@ use std::io::Read;
 /// The most calls of a reader for its next bytes, if all but the last are interrupted.
 const MAX_CALLS: usize = 1_048_576;
 
-/// A reader of which contracts see whether a call of it has failed.
+/// A reader of which contracts see whether a call of `take` has failed.
 pub trait Input: Read {
     ghost use Rattle.std.specs.Prelude.{Bool, Option};
 
-    // whether a call has failed, where that is known
+    // whether a call of `take` has failed, where that is known
     ghost has_failed: { Self → Option Bool };
 
     /// Puts the next bytes at the front of a buffer, and answers how many: none at the end, or where the buffer has no
     /// room. ReadFault where the reader fails; then it has given none.
     fn take(&mut self, buf: &mut [u8]) -> Result<usize, Refusal>
         ensures bound { ReadsAtMost result buf.new }
-        ensures bytes { ReadConsumes (Self.remaining self.old) (Self.remaining self.new) result buf.new }
+        ensures bytes { ReadConsumes (Self.remaining self.old) (Self.remaining self.new) result
+            buf.new }
         ensures refused { IfErr result (λ refusal. refusal ≡ Refusal.ReadFault) }
         ensures works { OnOk result (KeepsFlag (has_failed self.old) (has_failed self.new)) }
         ensures failed { OnErr result (SetsFlag (has_failed self.old) (has_failed self.new)) };
@@ -70,13 +71,14 @@ impl<R: Read> FlaggedReader<R> {
     }
 }
 
-/// Its calls are those of the reader, and leave the flag.
+/// Its calls are those of the reader.
 impl<R: Read> Read for FlaggedReader<R> {
     ghost remaining = { λ flagged. R.remaining flagged.inner };
 
     fn read(&mut self, buf: &mut [u8]) -> io::Result<usize>
         ensures bound { ReadsAtMost result buf.new }
-        ensures bytes { ReadConsumes (R.remaining self.old.inner) (R.remaining self.new.inner) result buf.new }
+        ensures bytes { ReadConsumes (R.remaining self.old.inner) (R.remaining self.new.inner)
+            result buf.new }
     {
         self.inner.read(buf)
     }

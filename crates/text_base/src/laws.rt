@@ -37,7 +37,8 @@ pub fn taking_a_row_has_one_answer()
 
 /// Adding the digits of a page (`put_page`) leaves one text. Left open is whether it fails, and with which error.
 pub fn adding_a_page_has_one_answer<E>()
-    ensures added { (page : PageData) (before left right : List ℕ) (one other : Result (Unit {0}) E) →
+    ensures added { (page : PageData) (before left right : List ℕ)
+        (one other : Result (Unit {0}) E) →
         OnOk one (left ≡ before ++ page_word page) → OnOk other (right ≡ before ++ page_word page) →
         OnErr one (left ≡ before) → OnErr other (right ≡ before) →
         ((one ≡ other) × (left ≡ right)) ⊎ IsErr one ⊎ IsErr other }
@@ -49,7 +50,8 @@ pub fn adding_a_page_has_one_answer<E>()
 /// Adding an item to a list that takes what words say (`push`) has one answer. Left open is whether there is memory
 /// for it.
 pub fn adding_an_item_has_one_answer<T>()
-    ensures added { (item : T) (before left right : List T) (one other : Result (Unit {0}) Refusal) →
+    ensures added { (item : T) (before left right : List T)
+        (one other : Result (Unit {0}) Refusal) →
         OnOk one (left ≡ before ++ item ∷ []) → OnOk other (right ≡ before ++ item ∷ []) →
         FailsForMemory one → FailsForMemory other →
         ((one ≡ other) × OnOk one (left ≡ right))
@@ -112,7 +114,8 @@ pub fn putting_bytes_has_one_answer()
 /// What a reader gives in one call (`take`) are the next of its bytes, where they are known. Left open are whether it
 /// fails, which its flag then says, and how many bytes it gives.
 pub fn taking_bytes_has_one_answer()
-    ensures { (known here there : List ℕ) (left right : Option (List ℕ)) (one other : Result ℕ Refusal) →
+    ensures { (known here there : List ℕ) (left right : Option (List ℕ))
+        (one other : Result ℕ Refusal) →
         ReadsAtMost one here → ReadsAtMost other there →
         ReadConsumes (Some known) left one here → ReadConsumes (Some known) right other there →
         IfErr one (λ refusal. refusal ≡ Refusal.ReadFault) →
