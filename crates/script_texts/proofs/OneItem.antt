@@ -81,13 +81,13 @@ module _ {R : Type 0} (rem : R → Option (List ℕ)) where
   one_item all before left right one other is h h' k k' =
       with_whole left right one other (items_alike all before left right one other is h h' k k')
 
-  fits_alike : (fits : Bool) (old new new' : Option Bool) (o : Option ScriptItem) → old ≡ Some fits
-      → EndsFit old new (Ok o) → EndsFit old new' (Ok o) → new ≡ new'
+  fits_alike : {A : Type 0} (fits : Bool) (old new new' : Option Bool) (o : Option A) → old ≡ Some fits
+      → EndsFit {A = A} old new (Ok o) → EndsFit {A = A} old new' (Ok o) → new ≡ new'
   fits_alike fits None new new' o is h h' = absurd (cc)
   fits_alike fits (Some f) new new' None is h h' = h.1 ∙ sym h'.1
   fits_alike fits (Some f) new new' (Some x) is h h' = h ∙ sym h'
 
-  pub one_fit : (fits : Bool) (before left right : ScriptReader R) (answer : Result (Option ScriptItem) Refusal)
+  pub one_fit : {A : Type 0} (fits : Bool) (before left right : ScriptReader R) (answer : Result (Option A) Refusal)
       → script_fits rem before ≡ Some fits → EndsFit (script_fits rem before) (script_fits rem left) answer
       → EndsFit (script_fits rem before) (script_fits rem right) answer → Recalls before left answer → Recalls before right answer
       → script_fits rem left ≡ script_fits rem right

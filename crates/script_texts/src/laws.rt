@@ -3,7 +3,7 @@
 //! Each law is a function that does nothing. Its premises are the clauses of a call that decide, said of two answers
 //! `one` and `other`, which leave the readers `left` and `right`, where there was the reader `before`.
 
-ghost use Rattle.std.specs.Prelude.{◌≡◌, ◌⊎◌, [], ℕ, Bool, List, Option, Some, None, Result, Ok, Err, IfOk, IfSome, OnErr, OnOk, IsErrAnd, option_map};
+ghost use Rattle.std.specs.Prelude.{◌≡◌, ◌⊎◌, [], ℕ, Bool, List, Option, Some, Result, Err, IfOk, IfSome, OnErr, OnOk, IsErrAnd, option_map};
 ghost use Rattle.slot_types.specs.declared.events.Op.{Op};
 ghost use Rattle.slot_types.specs.declared.refusals.Refusal.{Refusal};
 ghost use Rattle.slot_types.specs.Refusal.{FailsForMemory};

@@ -50,8 +50,9 @@ fn no_rows(alloc: Global, dies: usize) -> Result<Vec<RowTexts>, Refusal>
     Ok(rows)
 }
 
-/// By die the next rows of a script for so many dies, as many as are run at a time, or all that are left: 16,384 at
-/// most. Their operations aren't read yet. The only refusal is NoMemory.
+/// By die the next rows of a script for so many dies: those up to its end or its first fault, or as many as are run at
+/// a time, 16,384 at most, and no further one once they have 4 MiB of operations. Their operations aren't read yet.
+/// `end` says what came then. The only refusal of this call is NoMemory.
 pub fn read_rows<R: Read>(
     alloc: Global,
     script: &mut ScriptReader<R>,

@@ -1,6 +1,6 @@
 //! The rows of a die as they stand, until their operations are read.
 
-ghost use Rattle.std.specs.Prelude.{◌≡◌, ◌∷◌, ◌++◌, [], OnOk};
+ghost use Rattle.std.specs.Prelude.{◌≡◌, ◌⊎◌, ◌∷◌, ◌++◌, [], OnErr, OnOk};
 ghost use Rattle.slot_types.specs.Refusal.{FailsForMemory};
 ghost use Rattle.script_texts.specs.RowTexts.{row_text};
 ghost use Rattle.text_base.specs.Readings.{GivesReading};
@@ -46,11 +46,12 @@ impl RowTexts {
         }
     }
 
-    /// Adds a row, of its head and the text of its operations. The only refusal is NoMemory, after which no row may be
-    /// left.
+    /// Adds a row, of its head and the text of its operations. The only refusal is NoMemory; then the rows are as they
+    /// were, or none is left.
     pub fn add(&mut self, head: &RowHead, ops: &[u8]) -> Result<(), Refusal>
         ensures ok { OnOk result (self.new ≡ self.old ++ row_text head.now ops.now ∷ []) }
         ensures refused { FailsForMemory result }
+        ensures kept { OnErr result ((self.new ≡ self.old) ⊎ (self.new ≡ [])) }
     {
         self.heads.reserve(1)?;
         match self.texts.push_field(ops) {

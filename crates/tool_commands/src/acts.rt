@@ -78,7 +78,8 @@ pub fn act<P: Read + Drop, S: Read + Drop, C: Read + Drop, K: Shelf, W: Output, 
     err: &mut E,
 ) -> u8
     requires { FitsRun command }
-    ensures { EndsSo W.contents W.has_failed command.entry (P.remaining plan) (S.remaining script) out.old
+    ensures { EndsSo W.contents W.has_failed command.entry (P.remaining plan)
+        (S.remaining script) out.old
         out.new
         result }
 {

@@ -28,7 +28,8 @@ fn print_arrivals<R: Read + Drop, W: Output>(
     ensures printed { OnOk result
         (PrintsArrivals (R.remaining plan) slots (W.contents out.old) (W.contents out.new)) }
     ensures part { OnErr result
-        (IsNotWhole W.contents W.has_failed (PrintsArrivals (R.remaining plan) slots) out.old out.new) }
+        (IsNotWhole W.contents W.has_failed (PrintsArrivals (R.remaining plan) slots) out.old
+        out.new) }
 {
     let store = read_plan_from(alloc, &mut FlaggedReader::new(plan))?;
     let script = arrivals(alloc, &store, slots, manner)?;
@@ -97,7 +98,8 @@ pub fn act_arrivals<R: Read + Drop, W: Output, E: Write>(
     err: &mut E,
 ) -> u8
     requires slots { slots ≤ MAX_SLOT }
-    ensures { Ends W.contents W.has_failed (PrintsArrivals (R.remaining plan) slots) out.old out.new result }
+    ensures { Ends W.contents W.has_failed (PrintsArrivals (R.remaining plan) slots) out.old out.new
+        result }
 {
     let made = print_arrivals(alloc, plan, slots, manner, out);
     end_arrivals(alloc, err, manner, made)

@@ -121,7 +121,8 @@ pub fn act_explain<P: Read + Drop, C: Read + Drop, W: Output, E: Write>(
     out: &mut W,
     err: &mut E,
 ) -> u8
-    ensures { EndsSaying W.contents W.has_failed (Explains (P.remaining plan)) accepted_status out.old out.new
+    ensures { EndsSaying W.contents W.has_failed (Explains (P.remaining plan)) accepted_status
+        out.old out.new
         result }
 {
     match from {

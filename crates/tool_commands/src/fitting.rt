@@ -18,7 +18,8 @@ fn print_fit<R: Read + Drop, W: Output>(
     out: &mut W,
 ) -> Result<(), FitFault>
     ensures printed { OnOk result (PrintsPassingPlan (W.contents out.old) (W.contents out.new)) }
-    ensures part { OnErr result (IsNotWhole W.contents W.has_failed PrintsPassingPlan out.old out.new) }
+    ensures part { OnErr result
+        (IsNotWhole W.contents W.has_failed PrintsPassingPlan out.old out.new) }
     ensures unfound { IsUnfound result → out.new ≡ out.old }
 {
     let sheet = plan_text(alloc, &mut FlaggedReader::new(sheet))?;

@@ -71,9 +71,8 @@ fn print_kept<P: Read + Drop, S: Read + Drop, W: Output>(
         (W.contents out.new))) }
     ensures astray { result ≡ Ok None → out.new ≡ out.old }
     ensures part { OnErr result
-        (IsNotWhole W.contents W.has_failed (Says (PrintsKept (P.remaining plan) (S.remaining script) slots))
-        out.old
-        out.new) }
+        (IsNotWhole W.contents W.has_failed
+        (Says (PrintsKept (P.remaining plan) (S.remaining script) slots)) out.old out.new) }
 {
     match kept_of(alloc, plan, script, slots)? {
         Some(kept) => {
@@ -118,7 +117,8 @@ pub fn act_keeps<P: Read + Drop, S: Read + Drop, W: Output, E: Write>(
     err: &mut E,
 ) -> u8
     requires slots { slots ≤ MAX_SLOT }
-    ensures { EndsSaying W.contents W.has_failed (PrintsKept (P.remaining plan) (S.remaining script) slots)
+    ensures { EndsSaying W.contents W.has_failed
+        (PrintsKept (P.remaining plan) (S.remaining script) slots)
         verdict_status out.old out.new result }
 {
     let kept = print_kept(alloc, plan, script, slots, out);
