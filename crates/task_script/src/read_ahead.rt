@@ -67,6 +67,7 @@ pub fn run_texts<R: Threads + Wait + Sync>(
     ensures refused { IfErr result (FailsToRead texts.items) }
 {
     let rows = rows_of(rt, alloc, texts, workers)?;
+    // Each answer has a proof of its own.
     match run_rows(rt, alloc, store, dies, rows, until, workers) {
         Ok(ran) => Ok(ran),
         Err(refusal) => Err(refusal),

@@ -1,8 +1,10 @@
 //! Runs whose reader or writer fails at a call.
 
+ghost use Rattle.std.specs.Prelude.{◌≤◌};
+
 use crate::faults::{choppy_writer, failing_at};
 use example_texts::{TWO_DIES, TWO_REPORT, TWO_SCRIPT};
-use slot_types::Refusal;
+use slot_types::{Cause, Refusal};
 use std::alloc::Global;
 use std::io::Read;
 use std::sync::Wait;
@@ -10,15 +12,28 @@ use std::thread::Threads;
 use task_script::{RunCount, read_plan, run_text};
 use text_base::Output;
 
-/// What a run answers on two dies for five slots by one worker, with its writer.
+/// What a run answers on two dies for five slots by so many workers, with its writer.
+fn run_by<R: Threads + Wait + Sync, S: Read + Drop, W: Output>(
+    rt: &R,
+    alloc: Global,
+    script: S,
+    writer: &mut W,
+    workers: u32,
+) -> Result<RunCount, Refusal>
+    requires workers { (1 ≤ workers) × (workers ≤ 16) }
+{
+    let plan = read_plan(alloc, TWO_DIES.as_bytes())?;
+    run_text(rt, alloc, &plan, script, writer, 5, workers)
+}
+
+/// The same by one worker.
 fn run<R: Threads + Wait + Sync, S: Read + Drop, W: Output>(
     rt: &R,
     alloc: Global,
     script: S,
     writer: &mut W,
 ) -> Result<RunCount, Refusal> {
-    let plan = read_plan(alloc, TWO_DIES.as_bytes())?;
-    run_text(rt, alloc, &plan, script, writer, 5, 1)
+    run_by(rt, alloc, script, writer, 1)
 }
 
 fn counted(accepted: u64, refused: u64, first: Option<(u32, u8)>) -> RunCount {
@@ -57,6 +72,34 @@ fn a_failing_reader_writes_nothing(rt: HostRuntime) {
         } else {
             assert!(rt; ended == Ok(counted(5, 0, None)), "{call}");
             assert_eq!(rt; text.as_slice(), TWO_REPORT.as_bytes());
+        }
+    }
+}
+
+/// A job whose operations are none, and another behind it.
+const WRONG_OPS: &str = "at,die,task,kind,release,due,ops
+0,0,0,job,0,2,X
+0,0,0,job,0,2,R3
+";
+
+/// The first 49 bytes end with the record at fault: they are read in eight calls, of one byte and of seven. What fails
+/// behind them is not reported.
+#[test]
+fn a_fault_of_operations_comes_before_a_failing_reader(rt: HostRuntime) {
+    let alloc = rt.alloc();
+    for call in 1..20 {
+        let wanted = if call <= 8 {
+            Refusal::ReadFault
+        } else {
+            Refusal::ScriptRow {
+                line: 2,
+                cause: Cause::Ops,
+            }
+        };
+        for workers in 1..5 {
+            let mut text = Vec::new(alloc);
+            let ended = run_by(&rt, alloc, failing_at(WRONG_OPS, call), &mut text, workers);
+            assert!(rt; ended == Err(wanted) && text.is_empty(), "{call} {workers}");
         }
     }
 }
