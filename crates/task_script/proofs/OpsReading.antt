@@ -77,7 +77,7 @@ read_at (t ∷ texts) (old ∷ olds) (new ∷ news) zero were read below = let w
 read_at (t ∷ texts) (old ∷ olds) (new ∷ news) (suc k) were read below =
     let rest : map (λ (die : DieOps). die.texts) olds ≡ map Some texts = cc in read_at texts olds news k rest read.1 (omega (arith, below))
 
--- The refusal that is told
+-- The refusal that is reported
 
 -- it is the known one, or that of one of these dies, and comes before all others
 record IsTold (known : Option Refusal) (dies : List Script) (e : Refusal) : Type 0 where

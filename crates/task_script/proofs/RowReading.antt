@@ -369,7 +369,7 @@ fault_above from behind (row ∷ rows) die f up is =
         here again (after_err (item_in row) (read_of (texts_of rows die)) f (sym (own_row row rows die same) ∙ is))
     by again false same = let above = again (sym (other_row row rows die same) ∙ is) in omega (arith, above, up.0)
 
--- it is the fault of all, or behind it
+-- it is the fault of all, or comes after it
 first_by_die : (from behind : ℕ) (rows : List RowText) (die : ℕ) (e f : Refusal) → Ascend from rows behind → read_of rows ≡ Err e
     → read_of (texts_of rows die) ≡ Err f → (f ≡ e) ⊎ (order_of e < order_of f)
 first_by_die from behind [] die e f up is there = absurd (none_fail e is)

@@ -10,7 +10,7 @@ use Rattle.task_script.specs.declared.die_ops.DieOps.{DieOps}
 abbrev pub IsReadIn : DieOps → DieOps → Type 0
 IsReadIn old new = IfSome old.texts (λ texts. GivesReading new.rows (read_of texts))
 
--- of a refusal that is known, if any, and that of one die more the one that is told
+-- of a refusal that is known, if any, and that of one die more the one that is reported
 abbrev pub with_die : Option Refusal → Script → Option Refusal
 with_die known (Ok items) = known
 with_die None (Err e) = Some e

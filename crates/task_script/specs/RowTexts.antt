@@ -66,7 +66,7 @@ pub record HasReadTexts (old new : Option (Reading RowText)) (dies slots : ℕ) 
 
 -- When their operations are read
 
--- in which order refusals are told: the want of memory, and then the faults by their records
+-- in which order refusals are reported: out of memory, and then the faults by their records
 abbrev pub order_of : Refusal → ℕ
 order_of NoMemory = 0
 order_of (ScriptRow line cause) = line + 1

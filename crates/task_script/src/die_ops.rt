@@ -60,7 +60,7 @@ fn read_all<R: Threads + Sync>(rt: &R, alloc: Global, dies: &mut [DieOps], threa
     thread::for_each_mut(rt, dies, threads as usize, &read);
 }
 
-/// In which order refusals are told: the want of memory, and then the faults by their records.
+/// In which order refusals are reported: out of memory, and then the faults by their records.
 fn order_of(refusal: Refusal) -> u64
     ensures { result ≡ order_of refusal }
 {
@@ -71,7 +71,7 @@ fn order_of(refusal: Refusal) -> u64
     }
 }
 
-/// Of a refusal that is known, if any, and that of one die more the one that is told.
+/// Of a refusal that is known, if any, and that of one die more the one that is reported.
 fn with_die(known: Option<Refusal>, rows: &Result<DieRows, Refusal>) -> Option<Refusal>
     ensures { result ≡ with_die known rows.now }
 {
@@ -84,7 +84,7 @@ fn with_die(known: Option<Refusal>, rows: &Result<DieRows, Refusal>) -> Option<R
     }
 }
 
-/// Of the refusals of dies the one that is told.
+/// Of the refusals of dies the one that is reported.
 fn first_refusal(dies: &[DieOps]) -> Option<Refusal>
     ensures { result ≡ with_dies None (map (λ die. die.rows) dies.now) }
 {

@@ -76,14 +76,14 @@ fn a_failing_reader_writes_nothing(rt: HostRuntime) {
     }
 }
 
-/// A job whose operations are none, and another behind it.
+/// A job whose operations are none, and another after it.
 const WRONG_OPS: &str = "at,die,task,kind,release,due,ops
 0,0,0,job,0,2,X
 0,0,0,job,0,2,R3
 ";
 
 /// The first 49 bytes end with the record at fault: they are read in eight calls, of one byte and of seven. What fails
-/// behind them is not reported.
+/// after them is not reported.
 #[test]
 fn a_fault_of_operations_comes_before_a_failing_reader(rt: HostRuntime) {
     let alloc = rt.alloc();
