@@ -17,5 +17,5 @@ returns-in_err-head-clause-failed g c =
     rw fault (inr (
       head-of-record c.args.slots c.args.lasts.now c.args.line (fields_of c.take_row.new.row) c.in_err-head.field-0.0
           (sym c.head_in.ensures.head ∙ c.in_err-head.was),
-      c.in_ok-take_row.ensures.failed,
+      c.in_ok-take_row.ensures.goes,
     ))
