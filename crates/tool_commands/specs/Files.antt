@@ -1,5 +1,5 @@
 -- Commands on the files that they name.
-use Rattle.std.specs.Prelude.{ℕ, List, Option, Some, None, ⊤}
+use Rattle.std.specs.Prelude.{Bool, ℕ, List, Option, Some, None, ⊤}
 use Rattle.flash_commands.specs.Files.{FileContents, GivesFile}
 use Rattle.tool_command_words.specs.declared.asked.Command.{Command}
 use Rattle.tool_command_words.specs.declared.asked.Command.TheVariants as command

@@ -11,9 +11,11 @@ returns-in_err-write-clause-part g c =
     on-error c.from_residual-in_err-write.result _
     (inr (
       c.in_err-write.ensures.failed,
-      report_text (reports_of 0 dies),
-      (dies, refl),
-      rw (whole_is (reports_of 0 dies) _ c.in_ok-dies.ensures.report) at c.in_err-write.ensures.part,
+      (
+        report_text (reports_of 0 dies),
+        (dies, refl),
+        rw (whole_is (reports_of 0 dies) _ c.in_ok-dies.ensures.report) at c.in_err-write.ensures.part,
+      ),
     ))
 
 pub returns-clause-printed : goal.returns-clause-printed
