@@ -9,7 +9,7 @@ use Rattle.text_base.specs.Marks.{is_within}
 use Rattle.text_base.proofs.MarkLaws.{within-short}
 use Rattle.checkpoint_texts.specs.CheckpointOf.{Reading, checkpoint_from, checkpoint_of, dies_from, header_of, most_records, whole_at}
 use Rattle.checkpoint_texts.specs.Gathering.{between, with_record}
-use Rattle.checkpoint_texts.specs.Readings.{IsOutside, Says}
+use Rattle.checkpoint_texts.specs.Readings.{Says}
 use Rattle.checkpoint_texts.specs.declared.fault.RecordFault.TheVariants as fault
 use Rattle.checkpoint_texts.specs.declared.fault.TextFault.{TextFault}
 use Rattle.checkpoint_texts.specs.declared.fault.TextFault.TheVariants.{NoMemory, Broken}
@@ -25,10 +25,6 @@ high-line n high = grind (arith)
 pub says-same : (read r : Reading) → read ≡ r → Says (Some read) r
 says-same read (Ok x) same = same
 says-same read (Err e) same = inr same
-
-pub says-outside : (known : Option Reading) (e : TextFault) → IsOutside e → Says known (Err e)
-says-outside None e out = tt
-says-outside (Some read) e out = inl out
 
 -- what is known of the records so far says the same
 said-on : (whole : Option Reading) (here r : Reading) → Stays whole (Some here) → Says (Some here) r → Says whole r
@@ -93,14 +89,6 @@ dies-end g n fields left new None r takes is so-far = tt
 dies-end g n fields None new (Some w) r takes is so-far = absurd (cc so-far)
 dies-end g n fields (Some rows) new (Some w) r takes is so-far =
     said-on (Some w) (dies_from g n rows) r so-far (says-same (dies_from g n rows) r (rw takes (record-none g n) ∙ sym is))
-
--- at the end of a text it fits
-pub fits-end : (r : Reading) (fits left new : Option Bool) → Stays fits left → KeepsFit left new false
-    → OnOk r (IfSome fits (λ fit. fit ≡ true))
-fits-end (Err e) fits left new stays keeps = tt
-fits-end (Ok x) None left new stays keeps = tt
-fits-end (Ok x) (Some fit) None new stays keeps = absurd (cc stays)
-fits-end (Ok x) (Some fit) (Some own) new stays keeps = let same : own ≡ fit = cc stays in sym same ∙ keeps
 
 pub fits-then : (a b c : Option Bool) → Stays a b → KeepsFit b c true → Stays a c
 fits-then None b c one two = tt

@@ -5,7 +5,8 @@ ghost use Rattle.std.specs.Io.KnownBytes.{Appends};
 ghost use Rattle.csv.specs.Writing.{default_writer, row_text};
 ghost use Rattle.slot_types.specs.Refusal.{FailsForMemory};
 ghost use Rattle.report_texts.specs.ReportText.{records_text};
-ghost use Rattle.text_base.specs.Writing.{AppendsPart, KeepsFlag, SetsFlag};
+ghost use Rattle.text_base.specs.Flags.{KeepsFlag, SetsFlag};
+ghost use Rattle.text_base.specs.Writing.{AppendsPart};
 ghost use Rattle.checkpoint_texts.specs.CheckpointText.{block_record, checkpoint_text, die_records, page_record, task_record};
 
 use crate::lines::{put_block, put_end, put_header, put_saved_page, put_task};

@@ -287,20 +287,6 @@ arrive_by from (a ∷ feed) is = (is.0, arrive_by a.at feed is.2)
 pub all_arrive : (from : ℕ) (feed : List Arrival) → IsInOrder from feed → AllArrive feed
 all_arrive from feed is = All-from_recursion (λ (a : Arrival). IsArrival a.event) feed (arrive_by from feed is)
 
--- the test goes over one row more
-pub follows_on : (from2 n : ℕ) (rows : List FeedRow) (row : FeedRow) (b : Bool) → slice_get rows n ≡ Some row → follows from2 row ≡ true
-    → b ≡ all_follow from2 (drop n rows) → b ≡ all_follow row.at (drop (n + 1) rows)
-follows_on from2 n rows row b at is so_far = so_far ∙ ap (all_follow from2) (drop_next rows n row at)
-    ∙ ap (λ (c : Bool). c && all_follow row.at (drop (n + 1) rows)) is
-
-pub follows_not : (from2 n : ℕ) (rows : List FeedRow) (row : FeedRow) (b : Bool) → slice_get rows n ≡ Some row → follows from2 row ≡ false
-    → b ≡ all_follow from2 (drop n rows) → b ≡ false
-follows_not from2 n rows row b at is so_far = so_far ∙ ap (all_follow from2) (drop_next rows n row at)
-    ∙ ap (λ (c : Bool). c && all_follow row.at (drop (n + 1) rows)) is
-
-pub follows_all : (from2 n : ℕ) (rows : List FeedRow) (b : Bool) → length rows ≤ n → b ≡ all_follow from2 (drop n rows) → b ≡ true
-follows_all from2 n rows b past so_far = so_far ∙ ap (all_follow from2) (drop_past rows n past)
-
 -- A course
 
 get_some : {A B : Type 0} (f : A → B) (o : Option A) (y : B) → option_map f o ≡ Some y → (x : A) × (o ≡ Some x) × (f x ≡ y)

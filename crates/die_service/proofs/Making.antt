@@ -84,12 +84,6 @@ module _ {N : Type 0} where
       ∙ sym (map-append (λ (k : Core N). first_at k.start) cores (core ∷ []))
       ∙ ap (map (λ (k : Core N). first_at k.start)) (sym last)
 
-pub locks_more : {X L : Type 0} (lock : X → L) (ps qs : List X) (p : X) (dies dies2 : List L) (die : L) → qs ≡ ps ++ p ∷ []
-    → dies2 ≡ dies ++ die ∷ [] → lock p ≡ die → map lock ps ≡ dies → map lock qs ≡ dies2
-locks_more {X} {L} lock ps qs p dies dies2 die more last same so_far =
-    ap (map lock) more ∙ map-append lock ps (p ∷ []) ∙ ap (λ (l : List L). l ++ lock p ∷ []) so_far
-    ∙ ap (λ (l : L). dies ++ l ∷ []) same ∙ sym last
-
 pub last_all : {X : Type 0} (P : X → Type 0) (xs : List X) (x : X) → AllByRecursion P (xs ++ x ∷ []) → P x
 last_all P [] x all = all.0
 last_all P (y ∷ xs) x all = last_all P xs x all.1

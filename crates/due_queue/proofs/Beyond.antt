@@ -1,19 +1,9 @@
 -- The first key, given up and taken back, and what lies after it.
-use Rattle.std.proofs.Common.{◌≡◌, ℕ, zero, suc, ◌+◌, ◌-◌, ◌<◌, Bool, true, false, cond, refl, sym, ap, ◌∙◌, arith, List, [], ◌∷◌, map, Option, Some, None}
-use Rattle.std.proofs.Common.{option_map, Contains}
+use Rattle.std.proofs.Common.{◌≡◌, ℕ, zero, suc, ◌-◌, true, refl, List, [], ◌∷◌, map, Some, None}
+use Rattle.std.proofs.Common.{option_map}
 use Rattle.std.specs.List.{AllByRecursion}
 use Rattle.due_queue.specs.Queue.{beyond, with_key, first_of, rest_of, IsRising}
 use Rattle.due_queue.specs.Pairs.{is_pair_before}
-use Rattle.due_queue.proofs.Members.{absent-every}
-use Rattle.due_queue.proofs.Orders.{pairs_strict}
-
--- a first key isn't among the rest
-pub first_absent : (keys : List (ℕ × ℕ)) (k : ℕ × ℕ) → Some k ≡ first_of keys → IsRising is_pair_before keys → ¬ Contains (rest_of keys) k
-first_absent [] k is rising = absurd cc
-first_absent (x ∷ xs) k is rising =
-    let it : k ≡ x = cc in
-    rw it (absent-every (λ later. is_pair_before x later ≡ true) x xs
-    (λ same. let other = pairs_strict.one_way x x same in cc) rising.0)
 
 -- taken back, it is the first again
 pub taken_back : (keys : List (ℕ × ℕ)) (k : ℕ × ℕ) → Some k ≡ first_of keys → IsRising is_pair_before keys

@@ -59,15 +59,6 @@ take-set_later [] (suc m) i r h = refl
 take-set_later (q ∷ qs) (suc m) zero r h = absurd (omega arith)
 take-set_later (q ∷ qs) (suc m) (suc i) r h = ap (λ ps. q ∷ ps) (take-set_later qs m i r (omega arith))
 
--- so a longer last run leaves the marked ones, and so does one more
-pub marked-set : {T : Type 0} (rs : List (Run T)) (m i : ℕ) (r : Run T) → m ≤ i → length (spread (take m (set rs i r)))
-    ≡ length (spread (take m rs))
-marked-set rs m i r h = ap (λ qs. length (spread qs)) (take-set_later rs m i r h)
-
-pub marked-push : {T : Type 0} (rs : List (Run T)) (m : ℕ) (r : Run T) → m ≤ length rs → length (spread (take m (rs ++ r ∷ [])))
-    ≡ length (spread (take m rs))
-marked-push rs m r h = ap (λ qs. length (spread qs)) (take-append-le m rs (r ∷ []) h)
-
 -- Deeds
 
 -- the first slots are those of the first deeds

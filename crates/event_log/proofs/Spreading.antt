@@ -18,10 +18,6 @@ last_of-append (x ∷ []) [] z e = absurd (cc)
 last_of-append (x ∷ []) (y ∷ ys) z e = e
 last_of-append (x ∷ (w ∷ ws)) ys z e = last_of-append (w ∷ ws) ys z e
 
--- an item was added to a list, so it is the last
-pub last_of-push : {T : Type 0} (xs : List T) (x : T) → last_of (xs ++ x ∷ []) ≡ Some x
-last_of-push xs x = last_of-append xs (x ∷ []) x refl
-
 pub some_run : {T : Type 0} (rs : List (Run T)) (x : T) → last_of (spread rs) ≡ Some x → 0 < length rs
 some_run [] x e = absurd (cc)
 some_run (r ∷ rs) x e = omega arith

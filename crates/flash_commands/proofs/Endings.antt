@@ -8,7 +8,8 @@ use Rattle.plan_texts.specs.PlanReading.{IsStoreOf}
 use Rattle.task_script.specs.Feeds.{RefusesScript}
 use Rattle.task_script.specs.PlannedRuns.{RunsSo}
 use Rattle.task_script.specs.declared.run_counts.RunCount.{RunCount}
-use Rattle.text_base.specs.Writing.{AppendsPart, IsCut, RefusesOrCuts, SetsFlag}
+use Rattle.text_base.specs.Flags.{SetsFlag}
+use Rattle.text_base.specs.Writing.{AppendsPart, IsCut, RefusesOrCuts}
 use Rattle.flash_commands.specs.Acts.{IsFaultOf, IsRefusedFor, PrintsRun, PrintsSome, Refuses, RefusesRun}
 use Rattle.flash_commands.specs.Faults.{outcome_status}
 use Rattle.flash_commands.specs.declared.commands.Command.{Command}

@@ -5,7 +5,8 @@ ghost use Rattle.flash_commands.specs.Acts.{AuditsSome, HasThree, IsFaultOf, IsR
 ghost use Rattle.flash_commands.specs.Acts.{PrintsFigures, PrintsRun, RefusesAudit, RefusesRun};
 ghost use Rattle.plan_texts.specs.PlanReading.{RefusesPlanOf};
 ghost use Rattle.flash_commands.specs.Faults.{outcome_status};
-ghost use Rattle.text_base.specs.Writing.{KeepsFlag, RefusesOrCuts};
+ghost use Rattle.text_base.specs.Flags.{KeepsFlag};
+ghost use Rattle.text_base.specs.Writing.{RefusesOrCuts};
 
 use crate::audits::audit_by_threads;
 use crate::commands::Command;

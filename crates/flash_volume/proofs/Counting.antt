@@ -153,13 +153,6 @@ counts_written shape page place places counts =
 abbrev pub erases_written : Shape → Place → ℕ → List (Option ℕ) → List (Option ℕ)
 erases_written shape place worn erases = closed_when_filled shape.pages place.block (place.page + 1) worn erases
 
-pub written_some : (shape : Shape) (page : ℕ) (place : Place) (places : List (Option Place)) (counts : List (Option ℕ)) (block : ℕ) → block
-    ≢ place.block → is_some (count_of (counts_written shape page place places counts) block) ≡ is_some (count_of counts block)
-written_some shape page place places counts block other =
-    ap is_some (closed_other shape.pages place.block (place.page + 1) (count_by (is_in place.block) (set places page (Some place))) block
-    (counts_after_leaving (place_of places page) counts) (nat_lt (place.page + 1) shape.pages) refl other)
-    ∙ left_some (place_of places page) counts block
-
 lowered_was : (o : Option ℕ) (n : ℕ) → one_page_less o ≡ Some n → (m : ℕ) × (o ≡ Some m) × (n ≡ m - 1)
 lowered_was None n is = absurd (cc)
 lowered_was (Some m) n is = (m, refl, (let e : m - 1 ≡ n = cc in sym e))

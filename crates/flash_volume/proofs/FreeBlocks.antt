@@ -4,7 +4,6 @@ use Rattle.std.proofs.Common.{length-set, get_or-set_same, get_or-set_other}
 use Rattle.std.specs.Int.{bit_at, bit_not, trailing_zeros}
 use Rattle.std.proofs.lemmas.Bool.{cases_eq, cases_lt}
 use Rattle.std.proofs.lemmas.List.{get_or_past}
-use Rattle.std.proofs.lemmas.Nat.{and_le_l}
 use Rattle.std.proofs.lemmas.Nat.Bits.{bit_at-zero, bit_at-trailing_zeros, bit_at_and, bit_at_set_same, bit_at_set_other, bit_at-lt}
 use Rattle.std.proofs.lemmas.Nat.Bits.{bit_at_clear_same, bit_at_clear_other}
 use Rattle.flash_volume.specs.FreeBlocks.{bit_of, Summarizes, HasSet, IsLeastIn}
@@ -140,10 +139,6 @@ module _ (words : List ℕ) (summary word value : ℕ) (sums : Summarizes words 
 -- a word with a bit set isn't 0
 pub some_with : (word bit : ℕ) → bit < 64 → 0 < word_with word bit
 some_with word bit below = some_bit (word_with word bit) bit (bit_at_set_same w64 word bit below)
-
--- a word that isn't 0 without a bit wasn't 0 before
-pub some_before : (word bit : ℕ) → 0 < word_without word bit → 0 < word
-some_before word bit some = omega (arith, some, and_le_l word (bit_not w64 (1 * 2 ^ bit % 2 ^ 64)))
 
 module _ (words : List ℕ) (summary : ℕ) (sums : Summarizes words summary) where
   empty_word : (block : ℕ) → bit_at summary (block / 64) ≡ 0 → bit_of words block ≡ 0

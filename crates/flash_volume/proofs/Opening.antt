@@ -222,11 +222,6 @@ seen {shape} {failures} {blocks} {placing} {fills} {worn} {writing} {candidates}
   worn = stands.worn;
 }
 
--- the block that is remembered is the open one
-pub remembered : {shape : Shape} {failures : ℕ} {blocks : List Block} {placing : Placing} {fills worn : List ℕ} {writing : Option ℕ}
-    {candidates : Candidates} → IsSoundState shape failures blocks placing fills worn writing candidates → opened_in shape.pages blocks ≡ writing
-remembered {shape} stands = ap (λ (l : List ℕ). position (is_open_with shape.pages) l) (sym stands.fills_are) ∙ stands.writing_is
-
 pub fits : {shape : Shape} {failures : ℕ} {blocks : List Block} {placing : Placing} {fills worn : List ℕ} {writing : Option ℕ}
     {candidates : Candidates} (place : Place) → IsSoundState shape failures blocks placing fills worn writing candidates
     → open_in shape.pages blocks ≡ Some place.block → place.page ≡ filled_of (block_at blocks place.block) → Fits shape blocks place

@@ -36,24 +36,6 @@ moved_stand jobs other clock k h is_at = record {
 
 -- Time passes
 
-pub stand_on : (jobs : List JobRecord) (clock now : ℕ) (waiting : List WaitKey) (ready : List Key) → clock ≤ now
-    → AreQueued jobs clock waiting ready → AreQueued jobs now waiting ready
-stand_on jobs clock now waiting ready le q = record {
-  waits = q.waits;
-  stands = every (IsReleasedKey jobs clock) (IsReleasedKey jobs now)
-      (λ k s. record {
-        job = s.job;
-        is_at = s.is_at;
-        pending_is = s.pending_is;
-        due_is = s.due_is;
-        released = let h : s.job.release
-            ≤ clock = s.released in omega arith;
-      })
-      ready q.stands;
-  each = q.each;
-  apart = q.apart;
-}
-
 -- A job is released
 
 -- those that come after a key have other numbers

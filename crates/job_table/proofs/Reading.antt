@@ -185,9 +185,6 @@ get_none [] (suc count) n past = refl
 get_none (op ∷ ops) (suc count) zero past = absurd (omega arith)
 get_none (op ∷ ops) (suc count) (suc n) past = get_none ops count n (omega arith)
 
-pub op_past : (ops : List Op) (row : Row) (place : ℕ) → row.op_count ≤ place → slice_get (ops_at ops row) place ≡ None
-op_past ops row place past = get_none (drop row.first_op ops) row.op_count place past
-
 -- the writes before the next operation of a row
 pub writes_before_next : (ops : List Op) (row : Row) → IsRowOf ops row → row.work ≤ row.op_count → row.first_write + row.writes_done
     ≡ writes (take (row.first_op + row.work) ops)

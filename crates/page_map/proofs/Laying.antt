@@ -1,16 +1,13 @@
 -- A map as far as the first of given places are bound.
 use Rattle.std.proofs.Common.{◌≡◌, ℕ, ◌+◌, ◌<◌, ◌≤◌, List, length, Option, Some, None, refl, sym, ◌∙◌, ap, arith, inl, inr}
-use Rattle.std.specs.Prelude.{replicate, is_some, false}
+use Rattle.std.specs.Prelude.{is_some, false}
 use Rattle.std.proofs.Math.ListN.{set}
-use Rattle.std.proofs.lemmas.Bool.{cases_lt, cases_eq}
-use Rattle.std.proofs.lemmas.List.{length-replicate, length-set, get_or-set_other, get_or-set_same, ext_get_or}
+use Rattle.std.proofs.lemmas.Bool.{cases_eq}
+use Rattle.std.proofs.lemmas.List.{length-set, get_or-set_other, get_or-set_same, ext_get_or}
 use Rattle.slot_types.specs.declared.pages.Place.{Place}
 use Rattle.slot_types.specs.Places.{place_of, owner_of}
 use Rattle.page_map.specs.Placing.{HaveOwnCells}
-use Rattle.page_map.specs.PlacesFaults.{IsFirstShared}
-use Rattle.page_map.proofs.Owners.{owner_lies}
 use Rattle.page_map.proofs.Moving.{apart_with}
-use Rattle.page_map.proofs.Blank.{lies_nowhere}
 
 -- the first pages lie where they are given, no two in one cell, and the others nowhere
 pub record IsLaid (given places : List (Option Place)) (page : ℕ) : Type 0 where
@@ -26,14 +23,6 @@ none_else (Some x) h = absurd (h x refl)
 pub none_where : {X : Type 0} (o : Option X) → is_some o ≡ false → o ≡ None
 none_where None h = refl
 none_where (Some x) h = absurd cc
-
-pub laid_first : (given : List (Option Place)) (n : ℕ) → n ≡ length given → IsLaid given (replicate n None) 0
-laid_first given n is = record {
-  len = length-replicate n None ∙ is;
-  below = λ k below. absurd (omega (arith, below));
-  above = λ k above. lies_nowhere n k;
-  apart = record { apart = λ i j place at_i at_j. let none : place_of (replicate n None) i ≡ None = lies_nowhere n i in absurd (cc) };
-}
 
 -- a page that is given no place stays so
 pub laid_none : (given places : List (Option Place)) (page : ℕ) → IsLaid given places page → place_of given page ≡ None
@@ -63,24 +52,6 @@ laid_some given places page place so inside lies free =
       ];
       above = λ k above. get_or-set_other places page k (Some place) None (λ same. omega (arith, same)) ∙ so.above k (omega arith);
       apart = apart_with places page place so.apart fits free;
-    }
-
--- one that is given a cell with an owner shares it with a page before
-pub laid_shared : (given places : List (Option Place)) (page other : ℕ) (place : Place) → IsLaid given places page
-    → place_of given page ≡ Some place → owner_of places place ≡ Some other → IsFirstShared given page
-laid_shared given places page other place so lies owned =
-    let there : place_of places other ≡ Some place = owner_lies places other place owned in
-    let before : other < page = (elim (cases_lt other page) [
-      | inl below ↦ below
-      | inr past ↦ (let none : place_of places other ≡ None = so.above other past in absurd (cc))
-    ]) in
-    record {
-      place = place;
-      lies = lies;
-      other = other;
-      before = before;
-      also = sym (so.below other before) ∙ there;
-      first = λ i j q below_i below_j at_i at_j. so.apart.apart i j q (so.below i below_i ∙ at_i) (so.below j below_j ∙ at_j);
     }
 
 -- all of them

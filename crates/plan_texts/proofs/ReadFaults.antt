@@ -8,12 +8,11 @@ use Rattle.slot_types.specs.declared.refusals.Cause.TheVariants as cause
 use Rattle.slot_types.specs.declared.refusals.Refusal.{Refusal}
 use Rattle.slot_types.specs.declared.refusals.Refusal.TheVariants.{NoMemory, PlanText, ReadFault}
 use Rattle.text_base.specs.Readings.{◌>>=◌, IsOutside}
-use Rattle.text_base.specs.Writing.{KeepsFlag}
+use Rattle.text_base.specs.Flags.{KeepsFlag}
 use Rattle.text_base.proofs.WriterEnds.{no_flag}
-use Rattle.text_base.proofs.WritingLaws.{flag-kept-then, flag-set-then}
 use Rattle.toml.specs.Data.{Items, no_items, item, Members, get_member, as_array, as_table}
 use Rattle.toml.specs.Parse.{parse_document}
-use Rattle.plan_texts.specs.PlanReading.{TellsFault}
+use Rattle.plan_texts.specs.PlanReading.{FlagsReadFault}
 use Rattle.plan_texts.specs.PlanText.{are_tables, common_of, is_known, numbers_of, numbers_of_version, plan_of, table_of, tables_or, task_in}
 use Rattle.plan_texts.specs.PlanText.{task_of, task_times_read, tasks_of, times_in, top_of}
 use Rattle.plan_texts.specs.Stores.{RefusesPlan, RefusesStore}
@@ -24,28 +23,22 @@ use Rattle.plan_texts.specs.declared.numbers.TopNumbers.{TopNumbers}
 
 -- The flag
 
--- what a call says of a flag that was kept until then
-pub tells-then : {X : Type 0} (r : Result X Refusal) (a b c : Option Bool) → KeepsFlag a b → TellsFault r b c → TellsFault r a c
-tells-then (Ok x) a b c kept h = flag-kept-then a b c kept h
-tells-then (Err e) a b c kept (inl h) = inl (h.0, flag-set-then a b c kept h.1)
-tells-then (Err e) a b c kept (inr h) = inr (h.0, flag-kept-then a b c kept h.1)
-
 -- a call that isn't ReadFault leaves the flag
 pub tells-none : {X : Type 0} (r : Result X Refusal) (a b : Option Bool) → KeepsFlag a b → IfErr r (λ e. e ≢ ReadFault)
-    → TellsFault r a b
+    → FlagsReadFault r a b
 tells-none (Ok x) a b kept other = kept
 tells-none (Err e) a b kept other = inr (other, kept)
 
 -- of a flag that wasn't set, ReadFault comes where it is set
-pub fault_by_flag : {X : Type 0} (left : Option Bool) (one : Result X Refusal) → TellsFault one (Some false) left
+pub fault_by_flag : {X : Type 0} (left : Option Bool) (one : Result X Refusal) → FlagsReadFault one (Some false) left
     → (one ≡ Err ReadFault) ↔ (left ≡ Some true)
 fault_by_flag left (Ok x) h = (λ is. absurd (cc is), λ set. absurd (no_flag left h set))
 fault_by_flag left (Err e) (inl h) = (λ is. h.1, λ set. ap Err h.0)
 fault_by_flag left (Err e) (inr h) = (λ is. absurd (h.0 (cc is)), λ set. absurd (no_flag left h.1 set))
 
 -- and answers that leave the same flag are the same, but for memory
-pub one_by_flag : {X : Type 0} (left right : Option Bool) (one other : Result X Refusal) → TellsFault one (Some false) left
-    → TellsFault other (Some false) right → (one ≡ other) ⊎ IsErrAnd one IsOutside ⊎ IsErrAnd other IsOutside → left ≡ right
+pub one_by_flag : {X : Type 0} (left right : Option Bool) (one other : Result X Refusal) → FlagsReadFault one (Some false) left
+    → FlagsReadFault other (Some false) right → (one ≡ other) ⊎ IsErrAnd one IsOutside ⊎ IsErrAnd other IsOutside → left ≡ right
     → (one ≡ other) ⊎ (one ≡ Err NoMemory) ⊎ (other ≡ Err NoMemory)
 one_by_flag left right one other h k (inl same) flags = inl same
 one_by_flag left right (Ok x) other h k (inr (inl none)) flags = absurd none

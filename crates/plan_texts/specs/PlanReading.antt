@@ -6,7 +6,7 @@ use Rattle.slot_types.specs.declared.refusals.Refusal.{Refusal}
 use Rattle.slot_types.specs.declared.refusals.Refusal.TheVariants.{ReadFault}
 use Rattle.plan_texts.specs.PlanText.{plan_of}
 use Rattle.text_base.specs.Readings.{IsOutside}
-use Rattle.text_base.specs.Writing.{KeepsFlag, SetsFlag}
+use Rattle.text_base.specs.Flags.{KeepsFlag, SetsFlag}
 use Rattle.plan_texts.specs.Stores.{IsStore, RefusesPlan}
 use Rattle.plan_texts.specs.declared.numbers.PlanNumbers.{PlanNumbers}
 
@@ -15,9 +15,9 @@ abbrev pub TakesMore : Option (List ℕ) → Option (List ℕ) → List ℕ → 
 TakesMore left rest old new n = (more : List ℕ) × (new ≡ old ++ more) × (length more ≡ n) × Consumes left rest more × (n ≡ 0 → IsAtEnd rest)
 
 -- the reader's flag is set where the answer is ReadFault, and stays with any other answer
-abbrev pub TellsFault : {X : Type 0} → Result X Refusal → Option Bool → Option Bool → Type 0
-TellsFault (Ok x) old new = KeepsFlag old new
-TellsFault (Err refusal) old new = ((refusal ≡ ReadFault) × SetsFlag old new) ⊎ ((refusal ≢ ReadFault) × KeepsFlag old new)
+abbrev pub FlagsReadFault : {X : Type 0} → Result X Refusal → Option Bool → Option Bool → Type 0
+FlagsReadFault (Ok x) old new = KeepsFlag old new
+FlagsReadFault (Err refusal) old new = ((refusal ≡ ReadFault) × SetsFlag old new) ⊎ ((refusal ≢ ReadFault) × KeepsFlag old new)
 
 -- the store that a plan's text makes
 abbrev pub IsStoreOf : Option (List ℕ) → List DiePlan → Type 0

@@ -5,7 +5,7 @@ ghost use Rattle.std.specs.Prelude.{◌≡◌, ◌⊎◌, ◌↔◌, ℕ, Bool, 
 ghost use Rattle.slot_types.specs.declared.plans.DiePlan.{DiePlan};
 ghost use Rattle.slot_types.specs.declared.refusals.Refusal.{Refusal as Refused};
 ghost use Rattle.text_base.specs.Readings.{GivesReading, IsOutside};
-ghost use Rattle.plan_texts.specs.PlanReading.{IsStoreOf, RefusesPlanOf, TellsFault};
+ghost use Rattle.plan_texts.specs.PlanReading.{IsStoreOf, RefusesPlanOf, FlagsReadFault};
 ghost use Rattle.plan_texts.specs.PlanText.{plan_of};
 ghost use Rattle.plan_texts.specs.Stores.{IsStore, RefusesPlan};
 ghost use Rattle.plan_texts.specs.declared.numbers.PlanNumbers.{PlanNumbers};
@@ -42,7 +42,7 @@ pub fn reading_the_text_has_one_answer()
         (one other : Result (List ℕ) Refused) →
         IfOk one (λ text. IfSome (Some known) (λ bytes. text ≡ take 1048577 bytes)) →
         IfOk other (λ text. IfSome (Some known) (λ bytes. text ≡ take 1048577 bytes)) →
-        TellsFault one (Some false) left → TellsFault other (Some false) right →
+        FlagsReadFault one (Some false) left → FlagsReadFault other (Some false) right →
         IfErr one IsOutside → IfErr other IsOutside →
         (left ≡ right →
         (one ≡ other) ⊎ (one ≡ Err Refusal.NoMemory) ⊎ (other ≡ Err Refusal.NoMemory))
@@ -60,7 +60,7 @@ pub fn reading_a_plan_from_a_reader_has_one_answer()
     ensures flagged { (known : List ℕ) (left right : Option Bool)
         (one other : Result (List DiePlan) Refused) →
         IfOk one (IsStoreOf (Some known)) → IfOk other (IsStoreOf (Some known)) →
-        TellsFault one (Some false) left → TellsFault other (Some false) right →
+        FlagsReadFault one (Some false) left → FlagsReadFault other (Some false) right →
         IfErr one (RefusesPlanOf (Some known)) → IfErr other (RefusesPlanOf (Some known)) →
         (left ≡ right →
         (one ≡ other) ⊎ (one ≡ Err Refusal.NoMemory) ⊎ (other ≡ Err Refusal.NoMemory))

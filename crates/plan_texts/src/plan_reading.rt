@@ -3,7 +3,7 @@
 ghost use Rattle.std.specs.Prelude.{◌≡◌, ◌<◌, ◌≤◌, All, IfOk, IfErr, IfSome, length, take};
 ghost use Rattle.plan_rules.specs.Bound.{MeetsBound};
 ghost use Rattle.plan_rules.specs.Times.{PassesItsTimes};
-ghost use Rattle.plan_texts.specs.PlanReading.{IsShort, IsStoreOf, RefusesPlanOf, TakesMore, TellsFault};
+ghost use Rattle.plan_texts.specs.PlanReading.{IsShort, IsStoreOf, RefusesPlanOf, TakesMore, FlagsReadFault};
 ghost use Rattle.text_base.specs.Readings.{IsOutside};
 
 use crate::stores::read_plan;
@@ -21,7 +21,7 @@ fn read_more<R: Input>(reader: &mut R, text: &mut Vec<u8>) -> Result<usize, Refu
         (TakesMore (R.remaining reader.old) (R.remaining reader.new) text.old.items
         text.new.items) }
     ensures room { IfOk result (λ _. length text.new.items ≤ 1048577) }
-    ensures flag { TellsFault result (R.has_failed reader.old) (R.has_failed reader.new) }
+    ensures flag { FlagsReadFault result (R.has_failed reader.old) (R.has_failed reader.new) }
     ensures refused { IfErr result IsOutside }
 {
     let mut chunk = [0u8; 4096];
@@ -38,7 +38,7 @@ fn read_more<R: Input>(reader: &mut R, text: &mut Vec<u8>) -> Result<usize, Refu
 pub fn plan_text<R: Input>(alloc: Global, reader: &mut R) -> Result<Vec<u8>, Refusal>
     ensures text { IfOk result (λ text.
         IfSome (R.remaining reader.old) (λ bytes. text.items ≡ take 1048577 bytes)) }
-    ensures flag { TellsFault result (R.has_failed reader.old) (R.has_failed reader.new) }
+    ensures flag { FlagsReadFault result (R.has_failed reader.old) (R.has_failed reader.new) }
     ensures refused { IfErr result IsOutside }
 {
     let mut text = Vec::new(alloc);
@@ -61,7 +61,7 @@ pub fn read_plan_from<R: Input>(alloc: Global, reader: &mut R) -> Result<StorePl
     ensures few { IfOk result (λ store. length store ≤ 8) }
     ensures bound { IfOk result (All MeetsBound) }
     ensures passes { IfOk result (All PassesItsTimes) }
-    ensures flag { TellsFault result (R.has_failed reader.old) (R.has_failed reader.new) }
+    ensures flag { FlagsReadFault result (R.has_failed reader.old) (R.has_failed reader.new) }
     ensures refused { IfErr result (RefusesPlanOf (R.remaining reader.old)) }
 {
     let text = plan_text(alloc, reader)?;

@@ -3,16 +3,16 @@ use Rattle.std.proofs.Common.{◌≡◌, ◌<◌, ◌+◌, ℕ, List, [], ◌∷
 use Rattle.std.proofs.Common.{append-nil, length-append, arith}
 use Rattle.std.specs.Prelude.{OnOk, flat_map}
 use Rattle.std.specs.Io.KnownBytes.{Appends}
-use Rattle.std.proofs.KnownBytes.{Appends-nil, Appends-trans}
+use Rattle.std.proofs.KnownBytes.{Appends-trans}
 use Rattle.std.proofs.Math.Seq.{take-append-add}
-use Rattle.std.proofs.lemmas.List.{drop_all, drop_more, take-append-le}
+use Rattle.std.proofs.lemmas.List.{drop_more, take-append-le}
 use Rattle.csv.specs.Writing.{default_writer, row_text}
 use Rattle.report_texts.specs.ReportText.{cert_record, die_records, header_fields, records_text, report_text}
 use Rattle.report_texts.specs.TextSoFar.{TextSoFar, certs_of_parts, joined_text, rows_of_parts, text_so_far}
 use Rattle.report_texts.specs.declared.reports.DieReport.{DieReport}
 use Rattle.report_texts.proofs.TextParts.{whole_is}
 use Rattle.text_base.specs.Writing.{AppendsPart, AppendsUpTo}
-use Rattle.text_base.proofs.WritingLaws.{up-to-more, up-to-whole}
+use Rattle.text_base.proofs.WritingLaws.{up-to-more}
 
 -- a front of the piece that comes next was written
 pub part-after : (a b c : Option (List ℕ)) (text left piece rest : List ℕ) → AppendsUpTo a b text left → left ≡ piece ++ rest
@@ -43,9 +43,6 @@ second-part a b c first second took part =
 
 -- Pieces of a list, item by item
 
-pub piece-first : {A : Type 0} (f : A → List ℕ) (a : Option (List ℕ)) (xs : List A) → AppendsUpTo a a (flat_map f xs) (flat_map f xs)
-piece-first f a xs = ([], refl, Appends-nil a)
-
 piece-cut : {A : Type 0} (f : A → List ℕ) (xs : List A) (i : ℕ) (x : A) → i < length xs → x ≡ get_or xs i x
     → flat_map f (drop i xs) ≡ f x ++ flat_map f (drop (i + 1) xs)
 piece-cut f xs i x below is =
@@ -62,11 +59,6 @@ pub piece-part : {A : Type 0} (f : A → List ℕ) (a b c : Option (List ℕ)) (
     → AppendsPart a c (flat_map f xs)
 piece-part f a b c xs i x below is so-far part =
     part-after a b c (flat_map f xs) (flat_map f (drop i xs)) (f x) (flat_map f (drop (i + 1) xs)) so-far (piece-cut f xs i x below is) part
-
-pub pieces-all : {A : Type 0} (f : A → List ℕ) (a b : Option (List ℕ)) (xs : List A) (i : ℕ) → length xs < i + 1
-    → AppendsUpTo a b (flat_map f xs) (flat_map f (drop i xs)) → Appends a b (flat_map f xs)
-pieces-all f a b xs i above so-far =
-    up-to-whole a b (flat_map f xs) (flat_map f (drop i xs)) so-far (ap (flat_map f) (drop_all i xs (omega (arith, above))))
 
 -- what holds after an error, from what held after it
 pub on-error-then : {A E : Type 0} (r : Result A E) (P Q : Type 0) → (P → Q) → OnErr r P → OnErr r Q

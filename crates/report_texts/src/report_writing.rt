@@ -7,7 +7,8 @@ ghost use Rattle.report_texts.specs.ReportText.{report_text};
 ghost use Rattle.report_texts.specs.RowNumbers.{row_with};
 ghost use Rattle.report_texts.specs.TextSoFar.{cert_added, certs_of_parts, die_added, joined_text, no_lines, row_added};
 ghost use Rattle.report_texts.specs.TextSoFar.{rows_added, rows_of_parts, text_so_far, whole_text};
-ghost use Rattle.text_base.specs.Writing.{AppendsPart, KeepsFlag, SetsFlag};
+ghost use Rattle.text_base.specs.Flags.{KeepsFlag, SetsFlag};
+ghost use Rattle.text_base.specs.Writing.{AppendsPart};
 
 use crate::report_lines::{put_cert, put_header, put_row};
 use crate::reports::{DieReport, Report, ReportRow};

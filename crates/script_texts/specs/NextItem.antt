@@ -8,7 +8,7 @@ use Rattle.script_texts.specs.Arrivals.{IsHeadFor, IsRowFor}
 use Rattle.script_texts.specs.AskedPages.{RowHasPages}
 use Rattle.script_texts.specs.Script.{EndsFit, Gives, Yields}
 use Rattle.script_texts.specs.ScriptLeft.{Recalls, dies_of, line_of, ops_text, reader_failed, reading_left, script_fits, script_left, script_rows_left}
-use Rattle.script_texts.specs.ScriptLeft.{TellsFailure, slots_of}
+use Rattle.script_texts.specs.ScriptLeft.{FailsAtReadFault, slots_of}
 use Rattle.script_texts.specs.RowTexts.{row_with_text}
 
 -- the next item is read, or that there is none, or the first fault, which is answered again
@@ -22,7 +22,7 @@ pub record ReadsNext {R : Type 0} (remaining : R → Option (List ℕ)) (old new
   pub dies : dies_of new ≡ dies_of old
   pub slots : slots_of new ≡ slots_of old
   pub again : Recalls old new result
-  pub failed : old.refused ≡ None → TellsFailure (reader_failed old) (reader_failed new) result
+  pub failed : old.refused ≡ None → FailsAtReadFault (reader_failed old) (reader_failed new) result
 
 -- the next row is read as it stands, or that there is none, or the first fault but for those of operations, which is answered again
 pub record ReadsRow {R : Type 0} (remaining : R → Option (List ℕ)) (old new : ScriptReader R) (result : Result (Option RowHead) Refusal)
@@ -34,4 +34,4 @@ pub record ReadsRow {R : Type 0} (remaining : R → Option (List ℕ)) (old new 
   pub dies : dies_of new ≡ dies_of old
   pub slots : slots_of new ≡ slots_of old
   pub again : Recalls old new result
-  pub failed : old.refused ≡ None → TellsFailure (reader_failed old) (reader_failed new) result
+  pub failed : old.refused ≡ None → FailsAtReadFault (reader_failed old) (reader_failed new) result

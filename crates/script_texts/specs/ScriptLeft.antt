@@ -40,9 +40,9 @@ reader_failed s = has_failed s.rows
 
 -- ReadFault comes where the reader of records has failed, and where that fails no other refusal comes but a lack of memory; else
 -- it stays as it was
-abbrev pub TellsFailure : {X : Type 0} → Bool → Bool → Result X Refusal → Type 0
-TellsFailure old new (Ok x) = new ≡ old
-TellsFailure old new (Err e) = (IsOutside e × (new ≡ true)) ⊎ ((e ≢ ReadFault) × (new ≡ old))
+abbrev pub FailsAtReadFault : {X : Type 0} → Bool → Bool → Result X Refusal → Type 0
+FailsAtReadFault old new (Ok x) = new ≡ old
+FailsAtReadFault old new (Err e) = (IsOutside e × (new ≡ true)) ⊎ ((e ≢ ReadFault) × (new ≡ old))
 
 -- for how many dies a reader reads
 abbrev pub dies_of : {R : Type 0} → ScriptReader R → ℕ

@@ -10,7 +10,7 @@ ghost use Rattle.script_texts.specs.Arrivals.{IsHeadFor};
 ghost use Rattle.script_texts.specs.RowTexts.{row_with_text};
 ghost use Rattle.script_texts.specs.Script.{StepFits, StepOf, after_row, rows_from, script_at, script_from};
 ghost use Rattle.script_texts.specs.ScriptHeader.{is_script_header};
-ghost use Rattle.script_texts.specs.ScriptLeft.{TellsFailure};
+ghost use Rattle.script_texts.specs.ScriptLeft.{FailsAtReadFault};
 
 use crate::script_rows::{RowHead, head_in};
 use csv::{ByteRecord, Reader};
@@ -52,7 +52,7 @@ fn read_head<R: Read>(
     ensures fits { StepFits (fits_left R.remaining rows.old) (fits_left R.remaining rows.new)
         result }
     ensures plain { IfOk result (λ _. IsPlain rows.new) }
-    ensures failed { TellsFailure (has_failed rows.old) (has_failed rows.new) result }
+    ensures failed { FailsAtReadFault (has_failed rows.old) (has_failed rows.new) result }
     ensures few { IfOk result (λ o. IfSome o (λ _. line ≤ 1000001)) }
     ensures row { IfOk result (λ o. IfSome o (IsHeadFor (length lasts.now) slots)) }
     ensures line { IfOk result (λ o. IfSome o (λ head. head.line ≡ line)) }
@@ -84,7 +84,7 @@ fn read_first<R: Read>(
     ensures fits { StepFits (fits_left R.remaining rows.old) (fits_left R.remaining rows.new)
         result }
     ensures plain { IfOk result (λ _. IsPlain rows.new) }
-    ensures failed { TellsFailure (has_failed rows.old) (has_failed rows.new) result }
+    ensures failed { FailsAtReadFault (has_failed rows.old) (has_failed rows.new) result }
     ensures row { IfOk result (λ o. IfSome o (IsHeadFor (length lasts.now) slots)) }
     ensures line { IfOk result (λ o. IfSome o (λ head. head.line ≡ 2)) }
 {
@@ -114,7 +114,7 @@ pub fn read_step<R: Read>(
     ensures fits { StepFits (fits_left R.remaining rows.old) (fits_left R.remaining rows.new)
         result }
     ensures plain { IfOk result (λ _. IsPlain rows.new) }
-    ensures failed { TellsFailure (has_failed rows.old) (has_failed rows.new) result }
+    ensures failed { FailsAtReadFault (has_failed rows.old) (has_failed rows.new) result }
     ensures few { IfOk result (λ o. IfSome o (λ _. line ≤ 1000001)) }
     ensures row { IfOk result (λ o. IfSome o (IsHeadFor (length lasts.now) slots)) }
     ensures line { IfOk result (λ o. IfSome o (λ head. head.line ≡ max line 2)) }

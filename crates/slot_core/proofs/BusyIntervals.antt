@@ -18,7 +18,7 @@ use Rattle.late_cert.specs.declared.certificates.Certificate.{Certificate}
 use Rattle.late_cert.specs.Schedule.{Slots, slot_at}
 use Rattle.late_cert.specs.Rows.{RowsRise, row_of, number_in, is_done, due_of, completion_of}
 use Rattle.late_cert.specs.Bound.{is_listed}
-use Rattle.late_cert.specs.BusyInterval.{key_at_most, is_within, IsBusyInterval, start_of, is_carried, jobs_of}
+use Rattle.late_cert.specs.BusyInterval.{is_within, IsBusyInterval, start_of, is_carried, jobs_of}
 use Rattle.late_cert.specs.Build.{busy_interval_of, busy_interval_if_done}
 use Rattle.late_cert.proofs.Marks.{carried-none}
 use Rattle.late_cert.proofs.OneBusyInterval.{same-start, same-jobs}
@@ -91,14 +91,6 @@ done_row rs n r at done = by_stage r.stage refl done
     by_stage (stages.Done c g) e ended =
         let is : row_of (rows_in 0 rs) n ≡ row_as (stages.Done c g) n r = row_is rs n r at ∙ ap (λ (s : Stage). row_as s n r) e in
         (rw is refl, rw (is, at, e) refl)
-
--- whether a number with a row comes by the key of another
-pub within_is : (rows : List JobRow) (j k due : ℕ) (row : JobRow) → row_of rows k ≡ Some row → due ≡ due_of rows j
-    → is_within rows j (Some k) ≡ key_at_most row.due k due j
-within_is rows j k due row is due_is = rw (is, due_is) refl
-
-pub not_within : (rows : List JobRow) (j k : ℕ) → row_of rows k ≡ None → is_within rows j (Some k) ≡ false
-not_within rows j k none = rw none refl
 
 -- Numbers
 
@@ -244,12 +236,6 @@ walk_ends rows whole left before j n start numbers count o w is some outside =
     sym (w.stays ∙ start-stays rows whole j start (start - 1) o (omega (arith, t.fits))
     (t.carry (start - 1) (omega (arith, t.fits)) (omega (arith, t.fits))) outside)
 
--- no slot is left
-pub walk_is_over : (rows : List JobRow) (whole left : Slots) (j n start : ℕ) (numbers : List ℕ) → IsWalked rows whole left j n start numbers
-    → left ≡ [] → start ≡ start_of rows whole j n
-walk_is_over rows whole left j n start numbers w none =
-    let zero_is : start ≡ 0 = w.start_is ∙ ap length none in zero_is ∙ sym (w.stays ∙ ap (start_of rows whole j) zero_is)
-
 -- The busy interval
 
 numbers_are : (rows : List JobRow) → RowsRise rows → (c : Slots) (j n : ℕ) (numbers jobs : List ℕ)
@@ -308,13 +294,6 @@ pub walked_is : (rows : List JobRow) → RowsRise rows → (c : Slots) (j : ℕ)
 walked_is rows r c j row completion start numbers jobs is done start_is carried rises same =
     interval_is rows r c j row completion start numbers jobs is done
     (start_is ∙ ap (λ (n : ℕ). start_of rows c n completion) (row_named rows j row is)) carried rises same
-
-pub not_done_by_row : (rows : List JobRow) (c : Slots) (j : ℕ) (row : JobRow) → row_of rows j ≡ Some row → row.completion ≡ None
-    → None ≡ busy_interval_if_done rows c j
-not_done_by_row rows c j row is none = rw (is, none) refl
-
-pub not_done_without_row : (rows : List JobRow) (c : Slots) (j : ℕ) → row_of rows j ≡ None → None ≡ busy_interval_if_done rows c j
-not_done_without_row rows c j none = rw none refl
 
 -- Later slots
 

@@ -37,7 +37,6 @@ use Rattle.slot_core.proofs.Recording.{records-submit, records-collect}
 use Rattle.slot_core.proofs.Heading.{pending_is}
 use Rattle.slot_core.proofs.Flashing.{flash-submit, flash-collect, fresh_state, fresh_flash}
 use Rattle.die_log.specs.Model.Start.{Start, over, fresh}
-use Rattle.die_log.specs.Model.Opening.{IsOpening}
 use Rattle.die_log.proofs.Openings.{fresh_opens, fresh_erases}
 
 -- Arrivals
@@ -243,10 +242,6 @@ admit_made v w task count ops r is enough made accepted =
 if_ok : {A E : Type 0} (r : Result A E) (P Q : A → Type 0) → IfOk r P → ((x : A) → P x → Q x) → IfOk r Q
 if_ok (Ok x) P Q h f = f x h
 if_ok (Err e) P Q h f = tt
-
-if_err : {A E : Type 0} (r : Result A E) (P Q : E → Type 0) → IfErr r P → ((e : E) → P e → Q e) → IfErr r Q
-if_err (Ok x) P Q h f = tt
-if_err (Err e) P Q h f = f e h
 
 pub if_ok_both : {A E : Type 0} (r : Result A E) (P Q R : A → Type 0) → IfOk r P → IfOk r Q → ((x : A) → P x → Q x → R x) → IfOk r R
 if_ok_both (Ok x) P Q R h k f = f x h k

@@ -1,5 +1,5 @@
 -- A call of a die has one answer, and leaves one die but for the device; so has a run.
-use Rattle.std.proofs.Common.{◌≡◌, ◌⊎◌, inl, inr, ℕ, Bool, true, false, List, [], ◌∷◌, All, Ok, Err, refl, ap, sym, ◌∙◌, subst}
+use Rattle.std.proofs.Common.{◌≡◌, ◌⊎◌, inl, inr, ℕ, Bool, true, false, List, [], ◌∷◌, All, Ok, Err, refl, ap, sym, ◌∙◌}
 use Rattle.std.specs.declared.result.Result.{Result}
 use Rattle.std.specs.List.{AllByRecursion}
 use Rattle.std.proofs.lemmas.List.Elements.{recursion_from_All}
@@ -10,7 +10,6 @@ use Rattle.slot_types.specs.declared.replies.Reply.{Reply}
 use Rattle.slot_types.specs.declared.replies.Reply.TheVariants.{Refused, Taken, Slot as Answered}
 use Rattle.flash_die.specs.declared.nand.NandCall.{NandCall}
 use Rattle.die_log.specs.Model.Log.{Log}
-use Rattle.die_log.specs.Model.Start.{Start}
 use Rattle.die_log.specs.Model.Answers.{answer, with_answer}
 use Rattle.slot_core.specs.Core.{Core}
 use Rattle.slot_core.specs.Calls.{reserved_after, RefusesCall, EndsCall, IsCall, IsByChance, AreAlike}
@@ -36,13 +35,6 @@ record IsReported {N : Type 0} (caller : ℕ) (event : Event) (result : Result R
   stopped_is : after.stopped ≡ before.stopped
   log_is : after.log ≡ log_by before.stopped caller event (answer before.start before.log event) before.log
   reserved_is : after.reserved ≡ reserved_by before.stopped (answer before.start before.log event) before.reserved
-
-refused_log : (caller : ℕ) (event : Event) (reply : Reply) (refusal : Refusal) (log : Log) → reply ≡ Refused refusal
-    → with_answer caller event reply log ≡ log
-refused_log caller event reply refusal log is = rw is refl
-
-refused_reserved : (reply : Reply) (refusal : Refusal) (reserved : ℕ) → reply ≡ Refused refusal → reserved_after reply reserved ≡ reserved
-refused_reserved reply refusal reserved is = rw is refl
 
 decided : {N : Type 0} (caller : ℕ) (event : Event) (result : Result Reply Refusal) (before after : Core N)
     → EndsCall caller event result before after → IsByChance result ⊎ IsReported caller event result before after

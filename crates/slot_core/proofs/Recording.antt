@@ -7,7 +7,6 @@ use Rattle.std.proofs.lemmas.Bool.{ne_eqb, eq-eqb}
 use Rattle.std.proofs.lemmas.List.{length_push}
 use Rattle.std.proofs.lemmas.List.Elements.{filter_map-append}
 use Rattle.std.proofs.lemmas.Option.{same_Some}
-use Rattle.slot_types.specs.declared.plans.DiePlan.{DiePlan}
 use Rattle.slot_types.specs.declared.acts.Act.{Act}
 use Rattle.slot_types.specs.declared.acts.Act.TheVariants as does
 use Rattle.slot_types.specs.declared.events.Op.{Op}
@@ -17,7 +16,7 @@ use Rattle.slot_types.specs.declared.replies.SlotReply.{SlotReply}
 use Rattle.slot_types.specs.declared.replies.Entry.{Entry}
 use Rattle.slot_types.specs.declared.replies.Waived.{Waived}
 use Rattle.job_table.specs.declared.stages.Stage.{Stage}
-use Rattle.job_table.specs.Jobs.{JobRecord, new_job, new_collection, with_read, with_stage}
+use Rattle.job_table.specs.Jobs.{JobRecord, new_job, new_collection, with_stage}
 use Rattle.job_table.specs.Jobs as jobs_table
 use Rattle.job_table.specs.Table.{changed_at}
 use Rattle.die_log.specs.Model.Log.{Log, Job, jobs, job_at, waived_collections, act_of, acts, now}
@@ -54,9 +53,6 @@ some_left (op ∷ ops) h = grind (arith, nat_tests)
 
 some_slots : (n : ℕ) → 0 < n → (0 == n) ≡ false
 some_slots n h = grind (arith, nat_tests)
-
-job_from : ℕ → ℕ → ℕ → ℕ → List Op → Job
-job_from number task release due ops = record { number = number; collects = false; task = task; release = release; due = due; ops = ops }
 
 -- an accepted job is one more record, which has not begun
 pub records-submit : (start : Start) (past : Log) (caller task release due : ℕ) (ops : List Op) → IsExact start past → 0 < length ops

@@ -4,11 +4,8 @@ use Rattle.std.proofs.Common.{◌∙◌, length, map, filter, take, slice_get, a
 use Rattle.std.specs.Prelude.{is_some}
 use Rattle.std.specs.List.{cons_option}
 use Rattle.std.proofs.lemmas.Bool.{true≢false}
-use Rattle.std.proofs.lemmas.List.{take_all}
 use Rattle.std.proofs.lemmas.Option.{same_Some, none-some}
-use Rattle.slot_types.specs.declared.plans.DiePlan.{DiePlan}
 use Rattle.slot_types.specs.declared.replies.Waived.{Waived}
-use Rattle.plan_rules.specs.Bound.{MeetsBound}
 use Rattle.late_cert.specs.declared.rows.JobRow.{JobRow}
 use Rattle.late_cert.specs.Rows.{RowsRise}
 use Rattle.job_table.specs.Jobs.{JobRecord}
@@ -84,9 +81,6 @@ rows_passed rs n r made at row_is is = sym (append_none made)
 pub rows_past : (rs : List JobRecord) (n : ℕ) (made : List JobRow) → slice_get rs n ≡ None → made ≡ rows_in 0 (take n rs) → made
     ≡ rows_in 0 (take (n + 1) rs)
 rows_past rs n made at is = is ∙ ap (rows_in 0) (sym (take_past rs n at))
-
-pub rows_all : (rs : List JobRecord) (n : ℕ) (made : List JobRow) → n ≡ length rs → made ≡ rows_in 0 (take n rs) → made ≡ rows_in 0 rs
-rows_all rs n made all is = is ∙ ap (rows_in 0) (take_all n rs (omega (arith, all)))
 
 -- Where there is no row
 

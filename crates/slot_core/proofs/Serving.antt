@@ -6,7 +6,7 @@ use Rattle.std.specs.Prelude.{count_by, MatchOption, MatchBool}
 use Rattle.std.specs.List.{sum_by, cons_option}
 use Rattle.std.proofs.lemmas.Bool.{eqb-true}
 use Rattle.std.proofs.lemmas.Option.{same_Some, none-some}
-use Rattle.std.proofs.lemmas.List.{length-replicate, length_push}
+use Rattle.std.proofs.lemmas.List.{length_push}
 use Rattle.std.proofs.lemmas.List.Elements.{filter_map-append}
 use Rattle.std.proofs.lemmas.List.Sums.{sum_by-cons}
 use Rattle.slot_types.specs.declared.plans.DiePlan.{DiePlan}
@@ -215,10 +215,3 @@ reads_counted start (e ∷ past) x l = by_kind e.event e.reply l.1.numbered l.1.
     by_kind events.Slot (replies.Slot s) is legal h = ran_reads start past e.caller s s.waived s.ran refl legal.1 h
     by_kind events.Slot (replies.Taken number) is legal h = absurd is
     by_kind events.Slot (replies.Refused r) is legal h = absurd is
-
--- a job whose next operation is a read has fewer reads than it asked for
-pub read_left : (start : Start) (log : Log) (n : ℕ) (j : Job) (op : Op) → IsExact start log → IsLegal start log → job_at log n ≡ Some j
-    → j.collects ≡ false → slice_get j.ops (work j.number log) ≡ Some op → is_read op ≡ true
-    → length (reads_of (acts j.number log)) < count_by is_read j.ops
-read_left start log n j op x l at plain next is =
-    omega (arith, (reads_counted start log x l n j at).1 plain, read_among j.ops (work j.number log) op next is)

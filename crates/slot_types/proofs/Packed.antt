@@ -106,9 +106,6 @@ count_reads (op ∷ ops) =
 pub writes-append : (xs ys : List Op) → writes (xs ++ ys) ≡ writes xs + writes ys
 writes-append xs ys = sum_by-append one_if xs ys
 
-pub reads-append : (xs ys : List Op) → count_by is_read (xs ++ ys) ≡ count_by is_read xs + count_by is_read ys
-reads-append xs ys = sum_by-append read_if xs ys
-
 -- Parts
 
 bytes_split : (ops : List Op) (n : ℕ) → bytes_of ops ≡ bytes_of (take n ops) ++ bytes_of (drop n ops)

@@ -12,8 +12,7 @@ use Rattle.slot_types.specs.declared.replies.SlotReply.{SlotReply}
 use Rattle.slot_types.specs.declared.replies.Reply.TheVariants as replies
 use Rattle.flash_die.specs.declared.nand.NandCall.{NandCall}
 use Rattle.flash_die.specs.declared.nand.NandCall.TheVariants as needs
-use Rattle.flash_die.specs.Faulty.{Faulty, EndsAsReported, armed_device}
-use Rattle.flash_die.specs.Memory.{Memory}
+use Rattle.flash_die.specs.Faulty.{Faulty, EndsAsReported}
 use Rattle.die_log.specs.Model.Log.{now}
 use Rattle.die_log.specs.Model.Answers.{answer, reply_if_accepted}
 use Rattle.die_log.specs.Model.NeededCalls.{needed_call}
@@ -30,7 +29,7 @@ use Rattle.stepped_die.specs.declared.mirror.MirrorNand.{MirrorNand}
 use Rattle.stepped_die.specs.declared.refusals.StepRefusal.{StepRefusal}
 use Rattle.stepped_die.specs.declared.refusals.StepRefusal.TheVariants as refuses
 use Rattle.stepped_die.specs.Arrivals.{WaitsAfter}
-use Rattle.stepped_die.specs.Steps.{HasEnded, HasFailed, HoldsBack, RefusesArrival}
+use Rattle.stepped_die.specs.Steps.{HasEnded, HoldsBack, RefusesArrival}
 use Rattle.stepped_die.specs.Stepped.{Stepped, IsPresent, IsStepped, mirror_of}
 use Rattle.stepped_die.specs.DeviceCalls.{DoesWell, IsDone, Changes, reported_by}
 use Rattle.stepped_die.proofs.Arriving.{arrival_leaves}
@@ -74,25 +73,6 @@ pub not_refused_here : (before after : Core Mirror) (begun : Begun) (r : Refusal
 not_refused_here before after begun r runs passes h call =
     no_fault (needed_call before.start before.log) before.device after.device passes
     (call.device.failed (ap Err (refused_for_fault before after begun r runs h call.ended).refusal_is))
-
--- an armed mirror carries out no call
-made_armed : (needed : Option NandCall) (before after : Mirror) → before.armed ≡ true → (needed ≡ None → ⊥)
-    → IsOnlyCall ends needed true before after → ⊥
-made_armed None before after armed some m = some refl
-made_armed (Some call) before after armed some m = true≢false ((m.said armed).fails)
-
--- what wasn't done is a call
-pub undone_is_call : (device : Memory) (needed : Option NandCall) (call : Option Call) (ok : Bool) (bytes : PageData)
-    → call ≡ reported_by device needed → ¬ IsDone call ok bytes → needed ≡ None → ⊥
-undone_is_call device needed call ok bytes is undone none =
-    undone (subst (λ (c : Option Call). IsDone c ok bytes) (sym (is ∙ ap (reported_by device) none)) tt)
-
-pub not_carried_out : (before after : Core Mirror) (begun : Begun) (reply : SlotReply) (ok : Bool) (bytes : PageData)
-    → before.device.armed ≡ true → IsPresent before begun → ¬ IsDone begun.call ok bytes
-    → IsCall ends failures false begun.caller events.Slot (Ok (replies.Slot reply)) before after → ⊥
-not_carried_out before after begun reply ok bytes armed h undone call =
-    made_armed (needed_call before.start before.log) before.device after.device armed
-    (undone_is_call (mirror_of before) (needed_call before.start before.log) begun.call ok bytes h.call_is undone) call.device.made
 
 -- What was asked was made
 
@@ -227,16 +207,6 @@ answered_running caller event before after (Err refusal) runs call = (
 pub present_of : (core : Core Mirror) (o : Option Begun) (begun : Begun) → o ≡ Some begun → IfSome o (IsPresent core) → IsPresent core begun
 present_of core o begun is h = subst (λ (x : Option Begun). IfSome x (IsPresent core)) is h
 
--- an arming changes nothing of what was asked
-pub armed_present : (before armed : Core Mirror) (begun : Begun) → armed ≡ record before { device = armed_device before.device }
-    → IsPresent before begun → IsPresent armed begun
-armed_present before armed begun is h = subst (λ (c : Core Mirror). IsPresent c begun) (sym is) (record {
-  slot_is = h.slot_is;
-  few = h.few;
-  call_is = h.call_is;
-  reserved = h.reserved;
-})
-
 pub ended_is : (ok : Bool) (bytes : PageData) (reply : SlotReply) (before : Stepped) (begun : Begun) (after : Core Mirror)
     → before.begun ≡ Some begun → before.core.device.armed ≡ false → IsPresent before.core begun → IsDone begun.call ok bytes
     → IsCall ends failures false begun.caller events.Slot (Ok (replies.Slot reply)) before.core after
@@ -250,37 +220,3 @@ ended_is ok bytes reply before begun after held passes h done call = record {
   start_stays = call.start_stays;
   idle = refl;
 }
-
-pub ended_keeps : (before after : Core Mirror) (begun : Begun) (reply : SlotReply) → before.device.armed ≡ false → IsPresent before begun
-    → IsCall ends failures false begun.caller events.Slot (Ok (replies.Slot reply)) before after
-    → IsStepped (record { core = after; begun = None })
-ended_keeps before after begun reply passes h call = record {
-  passes = λ runs. (called before after begun reply passes h call).1;
-  none = λ stops. refl;
-  present = tt;
-}
-
-pub failed_keeps : (after : Core Mirror) → after.stopped ≡ true → IsStepped (record { core = after; begun = None })
-failed_keeps after stops = record {
-  passes = λ runs. absurd (true≢false (sym stops ∙ runs));
-  none = λ stopped. refl;
-  present = tt;
-}
-
-pub failed_is : (ok : Bool) (bytes : PageData) (before : Stepped) (begun : Begun) (armed after : Core Mirror) (r : Refusal)
-    → before.begun ≡ Some begun → ¬ IsDone begun.call ok bytes → armed ≡ record before.core { device = armed_device before.core.device }
-    → before.core.stopped ≡ false → IsPresent before.core begun → IsCall ends failures false begun.caller events.Slot (Err r) armed after
-    → HasFailed ok bytes before (record { core = after; begun = None })
-failed_is ok bytes before begun armed after r held undone is runs h call =
-    let fault = refused_for_fault armed after begun r (ap (λ (c : Core Mirror). c.stopped) is ∙ runs)
-    (armed_present before.core armed begun is h) call.ended in
-    record {
-      begun = begun;
-      held = held;
-      undone = undone;
-      stops = fault.stops;
-      log_stays = fault.log_stays ∙ ap (λ (c : Core Mirror). c.log) is;
-      start_stays = call.start_stays ∙ ap (λ (c : Core Mirror). c.start) is;
-      reserve_stays = fault.reserve_stays ∙ ap (λ (c : Core Mirror). c.reserved) is;
-      idle = refl;
-    }

@@ -41,9 +41,6 @@ map_twice g f (x ∷ xs) = ap (λ l. g (f x) ∷ l) (map_twice g f xs)
 abbrev pub up_to : {A : Type 0} → ℕ → List A → List A → List A
 up_to k done left = take k done ++ drop k left
 
-pub up_to-none : {A : Type 0} (done left : List A) → up_to 0 done left ≡ left
-up_to-none done left = refl
-
 pub up_to-all : {A : Type 0} (k : ℕ) (done left : List A) → length done ≤ k → length left ≤ k → up_to k done left ≡ done
 up_to-all {A = A} k done left p q =
     ap (λ (l : List A). l ++ drop k left) (take_all k done p)

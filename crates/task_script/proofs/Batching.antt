@@ -1,12 +1,12 @@
 -- The dies of a store that run their rows in batches: where they begin, one batch more, and what is known of them at the end.
-use Rattle.std.proofs.Common.{◌≡◌, ℕ, suc, ◌+◌, ◌^◌, ◌<◌, ◌≤◌, max, Bool, true, List, [], ◌∷◌, ◌++◌, refl, ap, sym, ◌∙◌}
+use Rattle.std.proofs.Common.{◌≡◌, ℕ, suc, ◌+◌, ◌<◌, ◌≤◌, max, Bool, true, List, [], ◌∷◌, ◌++◌, refl, ap, sym, ◌∙◌}
 use Rattle.std.proofs.Common.{◌==◌, subst, length, map}
 use Rattle.std.proofs.Common.{get_or, replicate, arith, All, Option, None, Ok, Err, inl, inr}
 use Rattle.std.specs.Prelude.{IfSome, option_map}
 use Rattle.std.specs.List.{AllByRecursion}
 use Rattle.std.proofs.lemmas.List.{length-map}
 use Rattle.std.proofs.lemmas.List.Folds.{sum_by-replicate}
-use Rattle.std.proofs.lemmas.List.Sums.{get_or-le-sum_by, sum_by-cons}
+use Rattle.std.proofs.lemmas.List.Sums.{sum_by-cons}
 use Rattle.std.proofs.lemmas.List.Elements.{All-append, All-from_recursion, All-get_or, All-map, All-nil, All-same, All-weaker}
 use Rattle.std.proofs.lemmas.List.Elements.{filter-append}
 use Rattle.std.proofs.lemmas.List.Elements.{recursion_from_All}
@@ -28,10 +28,10 @@ use Rattle.script_texts.specs.Script.{Script, script_of}
 use Rattle.script_texts.specs.declared.script_rows.ScriptItem.{ScriptItem}
 use Rattle.task_script.proofs.BatchRuns.{begins, goes_on}
 use Rattle.task_script.proofs.Counting.{rows_of_batch}
-use Rattle.task_script.proofs.ReadSoFar.{read_none, read_on, read_to_end, fault_on, known_by}
+use Rattle.task_script.proofs.ReadSoFar.{FailsIn, IsDealt, IsReadTo, fault_on, known_by, read_none, read_on, read_to_end}
 use Rattle.task_script.specs.Batches.{HasComeTo, HaveComeTo, RanRows, after_batch, batches_of, end_slot, fresh_progress, kept_of}
 use Rattle.task_script.specs.Batches.{progress_after, latest_slot, rows_counted, rows_kept}
-use Rattle.task_script.specs.Feeds.{AllArrive, AreInTime, AreItemsOf, FailsIn, IsDealt, IsReadTo, RefusesScript, feed_of, rows_dealt}
+use Rattle.task_script.specs.Feeds.{AllArrive, AreInTime, AreItemsOf, RefusesScript, feed_of, rows_dealt}
 use Rattle.task_script.specs.RowEnds.{arrival_of, arrivals_of, lines_of}
 use Rattle.task_script.specs.RunCounts.{rows_in}
 use Rattle.task_script.specs.declared.batches.KeptRows.{KeptRows}
@@ -145,20 +145,6 @@ rows_after (at ∷ progress) (x ∷ kept) (end ∷ ends) k e =
       sum_by-cons (λ (r : KeptRows). length r.lines) x kept,
       rows_of_batch at.count x.lines end.refused,
       rows_after progress kept ends (omega (arith, k)) (omega (arith, e)),
-    )
-
--- those of one die are few enough to be counted, where those of all are
-pub rows_here : (progress : List Progress) (kept : List KeptRows) (die : ℕ) (at : Progress) (k : KeptRows) → die < length progress
-    → die < length kept → at ≡ get_or progress die at → k ≡ get_or kept die k → rows_counted progress + rows_kept kept < 2 ^ 64
-    → rows_in at.count + length k.lines < 2 ^ 64
-rows_here progress kept die at k below kept_below at_is k_is few =
-    omega (
-      arith,
-      few,
-      get_or-le-sum_by (λ (p : Progress). rows_in p.count) progress die at below,
-      get_or-le-sum_by (λ (r : KeptRows). length r.lines) kept die k kept_below,
-      ap (λ (p : Progress). rows_in p.count) at_is,
-      ap (λ (r : KeptRows). length r.lines) k_is,
     )
 
 -- at the beginning none is

@@ -1,9 +1,8 @@
 -- Counts of rows: row by row, and one after the other.
-use Rattle.std.proofs.Common.{◌≡◌, ℕ, suc, ◌+◌, ◌<◌, nat_lt, Bool, true, false, cond, List, [], ◌∷◌, ◌++◌, refl, ap, sym, ◌∙◌, drop, get_or}
+use Rattle.std.proofs.Common.{◌≡◌, ℕ, suc, ◌+◌, nat_lt, Bool, true, false, cond, List, [], ◌∷◌, ◌++◌, refl, ap, sym, ◌∙◌}
 use Rattle.std.proofs.Common.{length, arith, Option, Some, None, ◌==◌}
 use Rattle.std.specs.Prelude.{count_by, if◌then◌else◌, is_none, is_some}
 use Rattle.std.proofs.lemmas.Bool.{ltb-true, ltb-false, lt-ltb, le-ltb}
-use Rattle.std.proofs.lemmas.List.{drop_more}
 use Rattle.std.proofs.lemmas.List.Sums.{sum_by-cons}
 use Rattle.slot_types.specs.Refusal.{number_of}
 use Rattle.slot_types.specs.declared.refusals.Refusal.{Refusal}
@@ -83,20 +82,6 @@ taken_is place line lines (r ∷ refused) = by (r.place == place)
     by true = refl
     by false = refl
 
-pub row_more : (place line : ℕ) (lines : List ℕ) (refused later : List RefusedEvent) (refusal : Option Refusal)
-    (count count2 all : RunCount) → place < length lines → line ≡ get_or lines place line
-    → refusal ≡ (taken_at place refused).0 → later ≡ (taken_at place refused).1 → count2 ≡ counted_with count (row_end line refusal)
-    → counted_after count (ends_from place (drop place lines) refused) ≡ all
-    → counted_after count2 (ends_from (place + 1) (drop (place + 1) lines) later) ≡ all
-row_more place line lines refused later refusal count count2 all below at is rest added so_far =
-    let here : drop place lines ≡ line ∷ drop (place + 1) lines = drop_more lines place line below
-    ∙ ap (λ (l : ℕ). l ∷ drop (place + 1) lines) (sym at) in
-    ap (λ (c : RunCount). counted_after c (ends_from (place + 1) (drop (place + 1) lines) later)) added
-    ∙ (ap (λ (x : Option Refusal × List RefusedEvent). counted_after (counted_with count (row_end line x.0))
-    (ends_from (place + 1) (drop (place + 1) lines) x.1)) (λ i. (is i, rest i))
-    ∙ (ap (counted_after count) (sym (taken_is place line (drop (place + 1) lines) refused))
-    ∙ (ap (λ (xs : List ℕ). counted_after count (ends_from place xs refused)) (sym here) ∙ so_far)))
-
 -- Rows after others
 
 -- rows are counted after others
@@ -164,12 +149,6 @@ one_of_both (Some r) = refl
 
 with_one : (count : RunCount) (end : RowEnd) → rows_in (counted_with count end) ≡ rows_in count + 1
 with_one count end = omega (arith, one_of_both end.refusal)
-
--- one row more is counted
-pub one_row_more : (count count2 : RunCount) (line n place : ℕ) (refusal : Option Refusal)
-    → count2 ≡ counted_with count (row_end line refusal) → rows_in count ≡ n + place → rows_in count2 ≡ n + (place + 1)
-one_row_more count count2 line n place refusal added so_far =
-    omega (arith, ap rows_in added, with_one count (row_end line refusal), so_far)
 
 rows_after : (count : RunCount) (ends : List RowEnd) → rows_in (counted_after count ends) ≡ rows_in count + length ends
 rows_after count [] = omega arith

@@ -6,7 +6,8 @@ use Rattle.slot_types.specs.declared.refusals.Refusal.TheVariants.{WriteFault}
 use Rattle.slot_types.specs.declared.plans.DiePlan.{DiePlan}
 use Rattle.plan_rules.specs.Bound.{MeetsBound}
 use Rattle.report_texts.specs.ReportText.{report_text}
-use Rattle.text_base.specs.Writing.{AppendsPart, RefusesOrCuts, SetsFlag}
+use Rattle.text_base.specs.Flags.{SetsFlag}
+use Rattle.text_base.specs.Writing.{AppendsPart, RefusesOrCuts}
 use Rattle.report_texts.specs.TextSoFar.{TextSoFar}
 use Rattle.task_script.specs.Feeds.{RefusesScript}
 use Rattle.task_script.specs.PlannedRuns.{RunsSo}

@@ -80,7 +80,7 @@ read_at (t ∷ texts) (old ∷ olds) (new ∷ news) (suc k) were read below =
 -- The refusal that is reported
 
 -- it is the known one, or that of one of these dies, and comes before all others
-record IsTold (known : Option Refusal) (dies : List Script) (e : Refusal) : Type 0 where
+record IsReported (known : Option Refusal) (dies : List Script) (e : Refusal) : Type 0 where
   whose : (known ≡ Some e) ⊎ ((place : ℕ) × (place < length dies) × (get_or dies place (Ok []) ≡ Err e))
   first : IfSome known (λ g. order_of e ≤ order_of g)
   least : (k : ℕ) (f : Refusal) → k < length dies → get_or dies k (Ok []) ≡ Err f → order_of e ≤ order_of f
@@ -128,9 +128,9 @@ none_more (Some g) (Err d) is = by (nat_le (order_of g) (order_of d)) is
     by true is = absurd cc
     by false is = absurd cc
 
-told_none : (known : Option Refusal) (die : Script) (dies : List Script) (e : Refusal) → with_die known die ≡ None → IsTold None dies e
-    → IsTold known (die ∷ dies) e
-told_none known die dies e at t = let none = none_more known die at in record {
+reported_none : (known : Option Refusal) (die : Script) (dies : List Script) (e : Refusal) → with_die known die ≡ None → IsReported None dies e
+    → IsReported known (die ∷ dies) e
+reported_none known die dies e at t = let none = none_more known die at in record {
   whose = by t.whose;
   first = subst (λ (o : Option Refusal). IfSome o (λ g. order_of e ≤ order_of g)) (sym none.0) tt;
   least = each none.1;
@@ -146,9 +146,9 @@ told_none known die dies e at t = let none = none_more known die at in record {
     each ok zero f below is = absurd (ok f is)
     each ok (suc k) f below is = t.least k f (omega (arith, below)) is
 
-told_some : (known : Option Refusal) (die : Script) (dies : List Script) (e g : Refusal) → with_die known die ≡ Some g
-    → IsTold (Some g) dies e → IsTold known (die ∷ dies) e
-told_some known die dies e g at t = let w = one_more known die g at in record {
+reported_some : (known : Option Refusal) (die : Script) (dies : List Script) (e g : Refusal) → with_die known die ≡ Some g
+    → IsReported (Some g) dies e → IsReported known (die ∷ dies) e
+reported_some known die dies e g at t = let w = one_more known die g at in record {
   whose = by w.whose t.whose;
   first = before known w.first;
   least = each w.own;
@@ -171,17 +171,17 @@ told_some known die dies e g at t = let w = one_more known die g at in record {
     each own zero f below is = omega (arith, own f is, t.first)
     each own (suc k) f below is = t.least k f (omega (arith, below)) is
 
-told : (known : Option Refusal) (dies : List Script) (e : Refusal) → with_dies known dies ≡ Some e → IsTold known dies e
-told known [] e is = record {
+reported : (known : Option Refusal) (dies : List Script) (e : Refusal) → with_dies known dies ≡ Some e → IsReported known dies e
+reported known [] e is = record {
   whose = inl is;
   first = subst (λ (o : Option Refusal). IfSome o (λ g. order_of e ≤ order_of g)) (sym is) (omega arith);
   least = λ k f below at. absurd (omega (arith, below));
 }
-told known (die ∷ dies) e is = by (with_die known die) refl (told (with_die known die) dies e is)
+reported known (die ∷ dies) e is = by (with_die known die) refl (reported (with_die known die) dies e is)
   where
-    by : (o : Option Refusal) → with_die known die ≡ o → IsTold o dies e → IsTold known (die ∷ dies) e
-    by None at t = told_none known die dies e at t
-    by (Some g) at t = told_some known die dies e g at t
+    by : (o : Option Refusal) → with_die known die ≡ o → IsReported o dies e → IsReported known (die ∷ dies) e
+    by None at t = reported_none known die dies e at t
+    by (Some g) at t = reported_some known die dies e g at t
 
 -- of dies that were read by themselves, it is the first fault, or memory ran out
 pub ops_refused : (texts : List (List RowText)) (olds news : List DieOps) (e : Refusal)
@@ -192,8 +192,8 @@ ops_refused texts olds news e were read is = by t.whose
     dies : List Script
     dies = map (λ (die : DieOps). die.rows) news
 
-    t : IsTold None dies e
-    t = told None dies e is
+    t : IsReported None dies e
+    t = reported None dies e is
 
     many : length dies ≡ length texts
     many = length-map news (λ (die : DieOps). die.rows) ∙ (zip_length IsReadIn olds news read

@@ -1,11 +1,37 @@
 -- The rows of a script that were read so far.
 use Rattle.std.proofs.Common.{◌≡◌, List, [], ◌∷◌, ◌++◌, refl, ap, sym, ◌∙◌, subst, append_assoc, Option, Some, None, Ok, Err}
-use Rattle.std.specs.Prelude.{IfSome, option_map}
+use Rattle.std.specs.Prelude.{◌⊎◌, ⊤, ⊥, ℕ, ◌<◌, All, IfSome, get_or, length, option_map}
 use Rattle.std.proofs.lemmas.List.{append-nil}
 use Rattle.slot_types.specs.declared.refusals.Refusal.{Refusal}
+use Rattle.text_base.specs.Readings.{IsOutside}
+use Rattle.script_texts.specs.AskedPages.{RowsHavePages}
 use Rattle.script_texts.specs.Script.{Script, Yields, with_front}
 use Rattle.script_texts.specs.declared.script_rows.ScriptItem.{ScriptItem}
-use Rattle.task_script.specs.Feeds.{with_items, IsReadTo}
+use Rattle.task_script.specs.Feeds.{AllArrive, feed_of}
+
+-- these items, and then what is left
+abbrev pub with_items : List ScriptItem → Script → Script
+with_items items (Ok more) = Ok (items ++ more)
+with_items items (Err e) = Err e
+
+-- the whole is these items and what is left, where it is known
+abbrev pub IsReadTo : Option Script → Option Script → List ScriptItem → Type 0
+IsReadTo None left items = ⊤
+IsReadTo (Some all) None items = ⊥
+IsReadTo (Some all) (Some more) items = all ≡ with_items items more
+
+-- memory ran out, or the reader failed; or what was left has this fault
+abbrev pub FailsIn : Option Script → Refusal → Type 0
+FailsIn old refusal = IsOutside refusal ⊎ IfSome old (λ left. left ≡ Err refusal)
+
+-- the rows of so many dies, by die
+pub record IsDealt (dies slots : ℕ) (items : List ScriptItem) (feeds : List (List ScriptItem)) : Type 0 where
+  pub all : length feeds ≡ dies
+  pub rows : (die : ℕ) → die < dies → get_or feeds die [] ≡ feed_of items die
+  pub arrive : All (AllArrive slots) feeds
+  pub pages : All RowsHavePages feeds
+
+-- Items, one by one
 
 pub read_none : (whole : Option Script) → IsReadTo whole whole []
 read_none None = tt

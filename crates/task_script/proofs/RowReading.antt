@@ -27,10 +27,10 @@ use Rattle.script_texts.specs.ScriptRows.{event_of, fault}
 use Rattle.script_texts.proofs.ScriptPages.{ops_found, ops_read}
 use Rattle.script_texts.specs.declared.script_rows.RowHead.{RowHead}
 use Rattle.script_texts.specs.declared.script_rows.ScriptItem.{ScriptItem}
-use Rattle.task_script.specs.Feeds.{FailsIn, IsDealt, IsReadTo, feed_of, rows_dealt, with_items}
+use Rattle.task_script.specs.Feeds.{feed_of, rows_dealt}
 use Rattle.task_script.specs.RowTexts.{AreDealt, AreOfOneDie, AreRead, Ascend, FailsToRead, HasReadTexts, IsFirstFault, LeavesOff}
 use Rattle.task_script.specs.RowTexts.{order_of, read_of, rows_then, rows_with, texts_of}
-use Rattle.task_script.proofs.ReadSoFar.{items_more}
+use Rattle.task_script.proofs.ReadSoFar.{FailsIn, IsDealt, IsReadTo, items_more, with_items}
 use Rattle.task_script.specs.declared.feeds.ReadEnd.{ReadEnd}
 use Rattle.task_script.specs.declared.feeds.ReadEnd.TheVariants.{More, Ended, Refused}
 

@@ -7,7 +7,8 @@ ghost use Rattle.task_script.specs.Batches.{Closes, joined_counts, rows_counted}
 ghost use Rattle.task_script.specs.PlannedRuns.{RunsAsPlanned, RunsSo};
 ghost use Rattle.task_script.specs.TextRuns.{RanScript, RunsText};
 ghost use Rattle.task_script.specs.Feeds.{RefusesScript};
-ghost use Rattle.text_base.specs.Writing.{KeepsFlag, RefusesOrCuts};
+ghost use Rattle.text_base.specs.Flags.{KeepsFlag};
+ghost use Rattle.text_base.specs.Writing.{RefusesOrCuts};
 
 use crate::batches::{Progress, RunDies, no_progress};
 use crate::die_ops::rows_of;

@@ -50,9 +50,6 @@ unmarked-snoc xs =
     let len : length (xs ++ 256 ∷ []) - 1 ≡ length xs = omega (arith, length-append xs (256 ∷ [])) in
     rw (marked-snoc xs, len) (take-append_seam xs (256 ∷ []))
 
-pub unmarked-plain : (xs : List ℕ) → is_marked xs ≡ false → without_mark xs ≡ xs
-unmarked-plain xs plain = rw plain refl
-
 snoc-of : (c : ℕ) (rest : List ℕ) → last_of c rest ≡ 256 → (xs : List ℕ) × (c ∷ rest ≡ xs ++ 256 ∷ [])
 unfolding last_of
 snoc-of c [] e = ([], ap (λ x. x ∷ []) e)

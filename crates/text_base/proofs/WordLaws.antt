@@ -73,13 +73,6 @@ unfolding all_of
 word-more read xs new x word words more whole split is made so-far = rw made (front-more xs x (all_of read more)
     ∙ rw (split, ← is) at so-far)
 
--- one more word says nothing
-pub word-none : {A : Type 0} (read : List ℕ → Option A) (xs : List A) (word : List ℕ) (words more : List (List ℕ)) (whole : Option (List A))
-    → words ≡ word ∷ more
-    → None ≡ read word → front_words xs (all_of read words) ≡ whole → None ≡ whole
-unfolding all_of
-word-none read xs word words more whole split is so-far = rw (split, ← is) at so-far
-
 -- no word is left
 pub words-end : {A : Type 0} (read : List ℕ → Option A) (xs : List A) (left : Option (List ℕ)) (whole : Option (List A)) → left ≡ None
     → front_words xs (all_of read (words_of left)) ≡ whole → Some xs ≡ whole

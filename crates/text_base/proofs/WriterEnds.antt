@@ -4,7 +4,8 @@ use Rattle.std.specs.Prelude.{◌↔◌, IfErr, OnOk}
 use Rattle.std.specs.Io.KnownBytes.{Appends}
 use Rattle.slot_types.specs.declared.refusals.Refusal.{Refusal}
 use Rattle.slot_types.specs.declared.refusals.Refusal.TheVariants.{NoMemory, WriteFault}
-use Rattle.text_base.specs.Writing.{EndsWriting, HaveOneEnd, KeepsFlag, SetsFlag}
+use Rattle.text_base.specs.Flags.{KeepsFlag, SetsFlag}
+use Rattle.text_base.specs.Writing.{EndsWriting, HaveOneEnd}
 
 -- a text that is appended to known bytes leaves one text
 pub appended : (text known : List ℕ) (old left right : Option (List ℕ)) → old ≡ Some known → Appends old left text → Appends old right text

@@ -1,11 +1,12 @@
 -- Writing a text goes on where it stopped, and what isn't left at the end was written.
-use Rattle.std.proofs.Common.{◌≡◌, ◌<◌, ℕ, ◌-◌, List, [], ◌++◌, length, take, drop, Bool, Option, None, Some, Result, Ok, Err, OnErr, refl, sym, ap, ◌∙◌, subst, append_assoc}
-use Rattle.std.proofs.Common.{append-nil, length-append, arith}
+use Rattle.std.proofs.Common.{◌≡◌, ◌<◌, ℕ, ◌-◌, List, [], ◌++◌, length, take, drop, Bool, Option, None, Some, Result, Ok, Err, OnErr, sym, ap, ◌∙◌, subst, append_assoc}
+use Rattle.std.proofs.Common.{length-append, arith}
 use Rattle.std.specs.Io.KnownBytes.{Appends, Keeps}
 use Rattle.std.proofs.KnownBytes.{Appends-kept, Appends-trans}
 use Rattle.std.proofs.Math.Seq.{take-append_seam}
 use Rattle.std.proofs.lemmas.List.{length-drop, take-append-drop, take_all}
-use Rattle.text_base.specs.Writing.{AppendsPart, AppendsUpTo, KeepsFlag, SetsFlag}
+use Rattle.text_base.specs.Flags.{KeepsFlag, SetsFlag}
+use Rattle.text_base.specs.Writing.{AppendsPart, AppendsUpTo}
 
 -- one more call
 pub up-to-more : (a b c : Option (List ℕ)) (text left rest : List ℕ) → AppendsUpTo a b text left → AppendsUpTo b c left rest
@@ -21,11 +22,6 @@ up-to-taken a b c text left n up takes =
     take_all (length left - n) (drop n left) (omega (arith, length-drop n left)) in
     up-to-more a b c text left _ up (take n left, sym (ap (λ l. take n left ++ l) rest ∙ take-append-drop n left), takes)
 
--- where nothing is left, the whole is written
-pub up-to-whole : (a b : Option (List ℕ)) (text left : List ℕ) → AppendsUpTo a b text left → left ≡ [] → Appends a b text
-up-to-whole a b text left (front, parts, took) none =
-    subst (Appends a b) (sym (parts ∙ ap (λ l. front ++ l) none ∙ append-nil front)) took
-
 -- where something is left, and nothing more is written, it isn't
 pub up-to-part : (a b c : Option (List ℕ)) (text left : List ℕ) → AppendsUpTo a b text left → 0 < length left → Keeps b c
     → AppendsPart a c text
@@ -38,11 +34,6 @@ up-to-part a b c text left (front, parts, took) some kept =
 pub on-error : {A E : Type 0} (r : Result A E) (P : Type 0) → P → OnErr r P
 on-error (Ok x) P p = tt
 on-error (Err e) P p = p
-
--- before the first call each flag is as it was
-pub flag-kept : (a : Option Bool) → KeepsFlag a a
-flag-kept None = tt
-flag-kept (Some flag) = refl
 
 -- after calls that kept a flag it is what the next one makes of it
 pub flag-kept-then : (a b c : Option Bool) → KeepsFlag a b → KeepsFlag b c → KeepsFlag a c

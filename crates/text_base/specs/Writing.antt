@@ -4,6 +4,7 @@ use Rattle.std.specs.Prelude.{Result, Err, IfErr, OnOk}
 use Rattle.std.specs.Io.KnownBytes.{Appends}
 use Rattle.slot_types.specs.declared.refusals.Refusal.{Refusal}
 use Rattle.slot_types.specs.declared.refusals.Refusal.TheVariants.{NoMemory, WriteFault}
+use Rattle.text_base.specs.Flags.{KeepsFlag, SetsFlag}
 
 -- known bytes grew by a front of a text that isn't the whole of it
 abbrev pub AppendsPart : Option (List ℕ) → Option (List ℕ) → List ℕ → Type 0
@@ -12,16 +13,6 @@ AppendsPart old new text = (n : ℕ) × (n < length text) × Appends old new (ta
 -- known bytes grew by the front of a text, of which this is left
 abbrev pub AppendsUpTo : Option (List ℕ) → Option (List ℕ) → List ℕ → List ℕ → Type 0
 AppendsUpTo old new text left = (front : List ℕ) × (text ≡ front ++ left) × Appends old new front
-
--- a flag that is known stays as it was
-abbrev pub KeepsFlag : Option Bool → Option Bool → Type 0
-KeepsFlag None new = ⊤
-KeepsFlag (Some flag) new = new ≡ Some flag
-
--- a flag that is known is set
-abbrev pub SetsFlag : Option Bool → Option Bool → Type 0
-SetsFlag None new = ⊤
-SetsFlag (Some flag) new = new ≡ Some true
 
 -- of what prints so after nothing a front was written, and not the whole
 abbrev pub InPart : (Option (List ℕ) → Option (List ℕ) → Type 0) → Option (List ℕ) → Option (List ℕ) → Type 0

@@ -3,7 +3,7 @@
 ghost use Rattle.std.specs.Prelude.{◌≡◌, IfErr, OnErr, OnOk, Some, false};
 ghost use Rattle.std.specs.Io.{ReadsAtMost};
 ghost use Rattle.std.specs.Io.KnownBytes.{ReadConsumes};
-ghost use Rattle.text_base.specs.Writing.{KeepsFlag, SetsFlag};
+ghost use Rattle.text_base.specs.Flags.{KeepsFlag, SetsFlag};
 
 use crate::calls::read_again;
 use slot_types::Refusal;

@@ -16,7 +16,8 @@ ghost use Rattle.text_base.specs.CsvRecordsLeft.{KeepsFit};
 ghost use Rattle.text_base.specs.Pages.{page_word};
 ghost use Rattle.text_base.specs.Readings.{IsOutside};
 ghost use Rattle.text_base.specs.Words.{if_whole, list_of};
-ghost use Rattle.text_base.specs.Writing.{AppendsPart, KeepsFlag, SetsFlag};
+ghost use Rattle.text_base.specs.Flags.{KeepsFlag, SetsFlag};
+ghost use Rattle.text_base.specs.Writing.{AppendsPart};
 
 use slot_types::Refusal;
 

@@ -2,7 +2,7 @@
 
 ghost use Rattle.std.specs.Prelude.{◌≡◌, ◌<◌, ◌≤◌, IfErr, IfOk, None, OnErr, OnOk, Some, false, length, take};
 ghost use Rattle.std.specs.Io.KnownBytes.{Appends, Keeps};
-ghost use Rattle.text_base.specs.Writing.{KeepsFlag, SetsFlag};
+ghost use Rattle.text_base.specs.Flags.{KeepsFlag, SetsFlag};
 
 use slot_types::Refusal;
 use std::alloc::Global;

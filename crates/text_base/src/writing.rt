@@ -4,7 +4,8 @@
 
 ghost use Rattle.std.specs.Prelude.{◌≡◌, IfErr, OnErr, OnOk};
 ghost use Rattle.std.specs.Io.KnownBytes.{Appends};
-ghost use Rattle.text_base.specs.Writing.{AppendsPart, KeepsFlag, SetsFlag};
+ghost use Rattle.text_base.specs.Flags.{KeepsFlag, SetsFlag};
+ghost use Rattle.text_base.specs.Writing.{AppendsPart};
 
 use crate::outputs::Output;
 use slot_types::Refusal;

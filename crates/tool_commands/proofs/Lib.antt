@@ -1,3 +1,2 @@
 mod Audits
 mod EndedSo
-mod Opened

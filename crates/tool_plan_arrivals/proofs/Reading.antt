@@ -1,8 +1,7 @@
 -- How the rows of a script become the events of a die.
-use Rattle.std.proofs.Common.{◌≡◌, ℕ, ◌==◌, ◌-◌, Bool, true, false, cond, List, [], ◌∷◌, ◌++◌, ap, sym, ◌∙◌, subst, map}
+use Rattle.std.proofs.Common.{◌≡◌, ℕ, ◌-◌, List, [], ◌∷◌, ◌++◌, ap, sym, ◌∙◌, subst, map}
 use Rattle.std.proofs.Common.{replicate, append_assoc, arith, Option, Some, None, Ok}
 use Rattle.std.specs.Prelude.{option_map}
-use Rattle.std.proofs.lemmas.Bool.{eq-eqb, ne_eqb}
 use Rattle.std.proofs.lemmas.List.{append-nil}
 use Rattle.slot_types.specs.declared.events.Event.{Event}
 use Rattle.slot_types.specs.declared.events.Event.TheVariants as events
@@ -17,17 +16,6 @@ use Rattle.tool_plan_arrivals.specs.Steps.{later_events}
 use Rattle.tool_plan_arrivals.proofs.Carrying.{rows_over}
 
 -- Rows of a die
-
-feed_one : (item : ScriptItem) (rest : List ScriptItem) (die : ℕ) (b : Bool) → (item.die == die) ≡ b → feed_of (item ∷ rest) die
-    ≡ cond b (item ∷ feed_of rest die) (feed_of rest die)
-feed_one item rest die b e = ap (λ (c : Bool). cond c (item ∷ feed_of rest die) (feed_of rest die)) e
-
-pub feed_own : (item : ScriptItem) (rest : List ScriptItem) (die : ℕ) → item.die ≡ die → feed_of (item ∷ rest) die ≡ item ∷ feed_of rest die
-feed_own item rest die is = feed_one item rest die true (eq-eqb item.die die is)
-
-pub feed_other : (item : ScriptItem) (rest : List ScriptItem) (die : ℕ) → (item.die ≡ die → ⊥) → feed_of (item ∷ rest) die
-    ≡ feed_of rest die
-feed_other item rest die other = feed_one item rest die false (ne_eqb item.die die other)
 
 -- Reading
 

@@ -1,7 +1,6 @@
 -- What a slot adds to the counts of a log, and how great they are at most.
-use Rattle.std.proofs.Common.{◌≡◌, ◌∙◌, ap, sym, ℕ, ◌+◌, ◌<◌, ◌≤◌, Bool, true, false, List, [], ◌∷◌, ◌++◌, length, get_or, refl, arith}
-use Rattle.std.proofs.Common.{add_comm}
-use Rattle.std.specs.Prelude.{◌==◌, cond, count_by, is_some, slice_set, Some}
+use Rattle.std.proofs.Common.{◌≡◌, ◌∙◌, ap, sym, ℕ, ◌+◌, ◌<◌, ◌≤◌, Bool, true, false, List, [], ◌∷◌, length, get_or, refl, arith}
+use Rattle.std.specs.Prelude.{◌==◌, cond, is_some, slice_set, Some}
 use Rattle.std.proofs.lemmas.List.Sums.{sum_by-cons}
 use Rattle.std.proofs.lemmas.Grind.{common_steps}
 use Rattle.std.proofs.lemmas.List.{length-set}
@@ -128,17 +127,3 @@ after_erase_by blocks past old new reply job act brief ran is erases done items 
     after_erase blocks past old new reply (job, act) ran (rw is at erases) done (rw is at items) erased written copied worn
 
 -- What an accepted job or collection leaves
-
-unless_slot : (is : Reply → Bool) → CountsSlots is → (e : Entry) (n : ℕ) (past : Log) → e.reply ≡ replies.Taken n → slots_of is (e ∷ past)
-    ≡ slots_of is past
-unless_slot is only e n past taken = omega (arith, count_step is e past, ap {B = ℕ} (λ b. cond b 1 0) (ap is taken ∙ only.taken n))
-
-pub after_taken : (blocks : ℕ) (past : Log) (t : Tally) (e : Entry) (n : ℕ) → e.reply ≡ replies.Taken n → IsWearOf blocks past t
-    → IsWearOf blocks (e ∷ past) t
-after_taken blocks past t e n taken worn = record {
-  all = worn.all;
-  by_block = λ block is. omega (arith, worn.by_block block is, unless_slot (ends_erase_of block) (counts_ends_of block) e n past taken);
-  erased = omega (arith, worn.erased, unless_slot ends_erase counts_ends e n past taken);
-  written = omega (arith, worn.written, unless_slot does_write counts_writes e n past taken);
-  copied = omega (arith, worn.copied, unless_slot does_copy counts_copies e n past taken);
-}

@@ -33,15 +33,6 @@ pub no_position : {X : Type 0} (p : X → Bool) (xs : List X) → position p xs 
     ≡ false
 no_position p xs h i d lt = fails_before_first p xs i d (omega (arith, by_first p xs (position_or_len p xs) h))
 
--- where one passes, a place is found
-pub some_position : {X : Type 0} (p : X → Bool) (xs : List X) (i : ℕ) (d : X) → i < length xs → p (get_or xs i d) ≡ true → (k : ℕ)
-    × (position p xs ≡ Some k)
-some_position p xs i d lt h = by_found (position p xs) refl
-  where
-    by_found : (o : Option ℕ) → position p xs ≡ o → (k : ℕ) × (o ≡ Some k)
-    by_found None e = absurd (true≢false (sym h ∙ no_position p xs e i d lt))
-    by_found (Some k) e = (k, refl)
-
 -- Programs
 
 new_place : (page b at : ℕ) (q : Place) → Some (record { block = b; page = at }) ≡ Some q → (q.block ≡ b) × (q.page ≡ at)

@@ -68,10 +68,6 @@ either_or : (a b : Bool) → cond (a || b) 1 0 ≤ cond a 1 0 + cond b 1 0
 either_or true b = omega arith
 either_or false b = omega arith
 
-if_chosen : (b c : Bool) → cond (b && c) 1 0 ≤ cond b (cond c 1 0) 0
-if_chosen true c = omega arith
-if_chosen false c = omega arith
-
 count_none : (f : Slots) → count_by (λ o. false) f ≡ 0
 count_none [] = refl
 count_none (o ∷ f) = omega (arith, count_cons (λ o. false) o f, count_none f)

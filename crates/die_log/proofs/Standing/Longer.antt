@@ -63,9 +63,6 @@ elsewhere (y ∷ xs) x (suc k) apart = elsewhere xs x k (λ e. apart (omega (ari
 
 -- Acts
 
-own_of : ℕ → Carried → List Act
-own_of n c = cons_option (act_of n c) []
-
 acts_by : (n : ℕ) (r : Reply) (cs : List Carried) → filter_map (λ c. act_of n c) (with_slot r cs) ≡ filter_map (λ c. act_of n c) cs
     ++ cons_option (act_of n (ran_by r)) []
 acts_by n (replies.Taken number) cs = sym (append-nil (filter_map (λ c. act_of n c) cs))

@@ -1,6 +1,6 @@
 use Rattle.std.proofs.Common.{◌≤◌, ◌-◌, length}
 use Rattle.std.specs.Io.KnownBytes.{Consumes}
-use Rattle.text_base.specs.Writing.{KeepsFlag}
+use Rattle.text_base.specs.Flags.{KeepsFlag}
 use Rattle.plan_texts.proofs.plan_reading.plan_text.Given as goal
 
 abbrev pub invariant-loop-reader : goal.invariant-loop-reader

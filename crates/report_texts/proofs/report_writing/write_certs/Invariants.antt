@@ -1,5 +1,6 @@
 use Rattle.std.proofs.Common.{drop}
-use Rattle.text_base.specs.Writing.{AppendsUpTo, KeepsFlag}
+use Rattle.text_base.specs.Flags.{KeepsFlag}
+use Rattle.text_base.specs.Writing.{AppendsUpTo}
 use Rattle.report_texts.specs.TextSoFar.{certs_of_parts}
 use Rattle.report_texts.proofs.report_writing.write_certs.Given as goal
 

@@ -14,7 +14,8 @@ use Rattle.die_log.specs.Model.Log.{Log}
 use Rattle.die_log.specs.Model.Start.{fresh}
 use Rattle.die_log.specs.Model.Answers.{answer, IsAccepted}
 use Rattle.text_base.specs.Readings.{IsOutside}
-use Rattle.text_base.specs.Writing.{KeepsFlag, RefusesOrCuts, SetsFlag}
+use Rattle.text_base.specs.Flags.{KeepsFlag, SetsFlag}
+use Rattle.text_base.specs.Writing.{RefusesOrCuts}
 use Rattle.text_base.proofs.WriterEnds.{appended, fresh_flag, no_flag, set_flag}
 use Rattle.report_texts.specs.ReportText.{report_text}
 use Rattle.script_texts.specs.Script.{Script, script_of}

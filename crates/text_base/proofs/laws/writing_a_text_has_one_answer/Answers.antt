@@ -3,7 +3,8 @@ use Rattle.std.specs.Prelude.{◌↔◌, IfErr, OnOk, OnErr}
 use Rattle.std.specs.Io.KnownBytes.{Appends}
 use Rattle.slot_types.specs.declared.refusals.Refusal.{Refusal}
 use Rattle.slot_types.specs.declared.refusals.Refusal.TheVariants.{WriteFault}
-use Rattle.text_base.specs.Writing.{AppendsPart, KeepsFlag, SetsFlag}
+use Rattle.text_base.specs.Flags.{KeepsFlag, SetsFlag}
+use Rattle.text_base.specs.Writing.{AppendsPart}
 use Rattle.text_base.proofs.WriterEnds.{appended, no_flag}
 use Rattle.text_base.proofs.laws.writing_a_text_has_one_answer.Goals as goal
 

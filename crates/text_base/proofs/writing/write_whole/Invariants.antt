@@ -1,5 +1,6 @@
 use Rattle.std.proofs.Common.{length}
-use Rattle.text_base.specs.Writing.{AppendsUpTo, KeepsFlag}
+use Rattle.text_base.specs.Flags.{KeepsFlag}
+use Rattle.text_base.specs.Writing.{AppendsUpTo}
 use Rattle.text_base.proofs.writing.write_whole.Given as goal
 
 abbrev pub invariant-loop-left : goal.invariant-loop-left
