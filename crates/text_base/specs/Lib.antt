@@ -1,4 +1,5 @@
 pub mod Number
+pub mod Flags
 pub mod Writing
 pub mod Readings
 pub mod Words
