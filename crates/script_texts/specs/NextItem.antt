@@ -8,7 +8,8 @@ use Rattle.script_texts.specs.Arrivals.{IsHeadFor, IsRowFor}
 use Rattle.script_texts.specs.AskedPages.{RowHasPages}
 use Rattle.script_texts.specs.Script.{EndsFit, Gives, Yields}
 use Rattle.script_texts.specs.ScriptLeft.{Recalls, dies_of, line_of, ops_text, reader_failed, reading_left, script_fits, script_left, script_rows_left}
-use Rattle.script_texts.specs.ScriptLeft.{FailsAtReadFault, slots_of}
+use Rattle.text_base.specs.Readings.{FailsAtReadFault}
+use Rattle.script_texts.specs.ScriptLeft.{slots_of}
 use Rattle.script_texts.specs.RowTexts.{row_with_text}
 
 -- the next item is read, or that there is none, or the first fault, which is answered again

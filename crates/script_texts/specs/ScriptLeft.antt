@@ -1,12 +1,10 @@
 -- What a reader of scripts has left.
-use Rattle.std.specs.Prelude.{◌≡◌, ◌≢◌, ◌⊎◌, ℕ, Bool, true, List, length, Option, Some, None, IfSome, option_map, Result, Ok, Err, if◌then◌else◌}
+use Rattle.std.specs.Prelude.{◌≡◌, ℕ, Bool, true, List, length, Option, Some, None, IfSome, option_map, Result, Ok, Err, if◌then◌else◌}
 use Rattle.slot_types.specs.declared.refusals.Refusal.{Refusal}
 use Rattle.script_texts.specs.declared.scripts.ScriptReader.{ScriptReader}
 use Rattle.csv.specs.Reading.{has_failed}
 use Rattle.csv.specs.Records.{fields_of}
 use Rattle.text_base.specs.Fields.{field_or}
-use Rattle.text_base.specs.Readings.{IsOutside}
-use Rattle.slot_types.specs.declared.refusals.Refusal.TheVariants.{ReadFault}
 use Rattle.text_base.specs.CsvRecordsLeft.{fits_left, rows_left}
 use Rattle.script_texts.specs.RowTexts.{RowText}
 use Rattle.script_texts.specs.Script.{Reading, Script, at_end, items_in, script_at, whole}
@@ -37,12 +35,6 @@ script_fits rem s = unless_refused s.refused (if s.ended then Some true else fit
 -- whether its reader of records has failed
 abbrev pub reader_failed : {R : Type 0} → ScriptReader R → Bool
 reader_failed s = has_failed s.rows
-
--- ReadFault comes where the reader of records has failed, and where that fails no other refusal comes but a lack of memory; else
--- it stays as it was
-abbrev pub FailsAtReadFault : {X : Type 0} → Bool → Bool → Result X Refusal → Type 0
-FailsAtReadFault old new (Ok x) = new ≡ old
-FailsAtReadFault old new (Err e) = (IsOutside e × (new ≡ true)) ⊎ ((e ≢ ReadFault) × (new ≡ old))
 
 -- for how many dies a reader reads
 abbrev pub dies_of : {R : Type 0} → ScriptReader R → ℕ

@@ -10,7 +10,7 @@ ghost use Rattle.script_texts.specs.Arrivals.{IsHeadFor};
 ghost use Rattle.script_texts.specs.RowTexts.{row_with_text};
 ghost use Rattle.script_texts.specs.Script.{StepFits, StepOf, after_row, rows_from, script_at, script_from};
 ghost use Rattle.script_texts.specs.ScriptHeader.{is_script_header};
-ghost use Rattle.script_texts.specs.ScriptLeft.{FailsAtReadFault};
+ghost use Rattle.text_base.specs.Readings.{FailsAtReadFault};
 
 use crate::script_rows::{RowHead, head_in};
 use csv::{ByteRecord, Reader};

@@ -1,5 +1,5 @@
 -- What a call that reads a text gave, beside what the text says.
-use Rattle.std.specs.Prelude.{◌≡◌, ◌⊎◌, Result, Ok, Err}
+use Rattle.std.specs.Prelude.{◌≡◌, ◌≢◌, ◌⊎◌, Bool, true, Result, Ok, Err}
 use Rattle.slot_types.specs.declared.refusals.Refusal.{Refusal}
 use Rattle.slot_types.specs.declared.refusals.Refusal.TheVariants.{NoMemory, ReadFault}
 
@@ -20,3 +20,9 @@ GivesReading result read = Shows (λ x. x) result read
 -- a refusal that is no fault of a text: memory ran out, or the reader failed
 abbrev pub IsOutside : Refusal → Type 0
 IsOutside refusal = (refusal ≡ NoMemory) ⊎ (refusal ≡ ReadFault)
+
+-- whether a reader of records has failed: ReadFault comes where it then has, and where it fails no other refusal comes but a lack of
+-- memory; else it stays as it was
+abbrev pub FailsAtReadFault : {X : Type 0} → Bool → Bool → Result X Refusal → Type 0
+FailsAtReadFault old new (Ok x) = new ≡ old
+FailsAtReadFault old new (Err e) = (IsOutside e × (new ≡ true)) ⊎ ((e ≢ ReadFault) × (new ≡ old))
