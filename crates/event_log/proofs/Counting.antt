@@ -15,10 +15,30 @@ use Rattle.event_log.specs.declared.deeds.Deed.TheVariants.{Submit, Collect, Idl
 use Rattle.event_log.specs.declared.deeds.Deed.TheVariants.{CopyProgram, EraseSlot, LastEraseSlot}
 use Rattle.event_log.specs.Notes.{Note, is_none}
 use Rattle.event_log.specs.NoteRecords.{alike_deeds, alike_notes, new_records, records}
-use Rattle.event_log.specs.RecordCounts.{waives_none, is_erase, is_quiet, replied_alike, replies_alike, alike, count_if, record_count}
+use Rattle.event_log.specs.RecordCounts.{waives_none, erases_block, is_quiet, same_erase, replied_alike, replies_alike, alike, count_if, record_count}
 use Rattle.event_log.specs.Entries.{act_reading, act_doing, act_in, act_at, reply_of, entry_of, slots_in, entries_of, reads_before}
 
 -- No operation is an erase
+
+abbrev is_erase : Act → Bool
+is_erase (does.Erase block) = true
+is_erase _ = false
+
+of_no_block : (block : ℕ) (act : Act) → is_erase act ≡ false → erases_block block act ≡ false
+of_no_block block (does.Read page bytes) h = refl
+of_no_block block (does.Write page bytes) h = refl
+of_no_block block (does.Trim page) h = refl
+of_no_block block (does.CopyRead page) h = refl
+of_no_block block (does.CopyProgram page) h = refl
+of_no_block block (does.Erase b) h = absurd (cc)
+
+of_no_erase : (n : ℕ) (act : Act) (other : Option (ℕ × Act)) → is_erase act ≡ false → same_erase n act other ≡ false
+of_no_erase n (does.Read page bytes) other h = refl
+of_no_erase n (does.Write page bytes) other h = refl
+of_no_erase n (does.Trim page) other h = refl
+of_no_erase n (does.CopyRead page) other h = refl
+of_no_erase n (does.CopyProgram page) other h = refl
+of_no_erase n (does.Erase b) other h = absurd (cc)
 
 no_erase_read : (page : ℕ) (given : Option PageData) → is_erase (act_reading page given) ≡ false
 no_erase_read page None = refl
@@ -56,17 +76,11 @@ one_ends false b r = refl
 other_act : (a b q e : Bool) → e ≡ false → ((a && true) && (b && true) && (q && e)) ≡ (a && b && false)
 other_act a b q e h = rw (h, and_false q) (both_quiet a b false)
 
-same_erase : (a b q : Bool) → ((a && true) && (b && true) && (q && true)) ≡ (a && b && q)
-same_erase true true true = refl
-same_erase true true false = refl
-same_erase true false q = refl
-same_erase false b q = refl
-
 -- an entry whose act is no erase goes on with none
 acts_apart : (s : SlotReply) (n : ℕ) (act : Act) (r : Reply) → s.ran ≡ Some (n, act) → is_erase act ≡ false → replied_alike s r ≡ false
 acts_apart s n act (replies.Taken number) e h = refl
 acts_apart s n act (replies.Refused refusal) e h = refl
-acts_apart s n act (replies.Slot t) e h = rw (e, h) (and_false (is_quiet s && is_quiet t))
+acts_apart s n act (replies.Slot t) e h = rw (e, of_no_erase n act t.ran h) (and_false (is_quiet s && is_quiet t))
 
 -- nor does one that ends its job
 ends_apart : (s : SlotReply) (n : ℕ) (r : Reply) → s.finished ≡ Some n → replied_alike s r ≡ false
@@ -95,12 +109,13 @@ erase_alike jobs k m ws vs n b (Submit i) = sym (and_false (waives_none ws && wa
 erase_alike jobs k m ws vs n b (Collect i) = sym (and_false (waives_none ws && waives_none vs))
 erase_alike jobs k m ws vs n b Idle = both_quiet (waives_none ws) (waives_none vs) false
 erase_alike jobs k m ws vs n b (Operation i p) =
-    other_act (waives_none ws) (waives_none vs) (n == i) (is_erase (act_at jobs i p)) (no_erase jobs i p)
-erase_alike jobs k m ws vs n b (LastOperation i p) = one_ends (waives_none ws) (waives_none vs) ((n == i) && is_erase (act_at jobs i p))
+    other_act (waives_none ws) (waives_none vs) (n == i) (erases_block b (act_at jobs i p))
+    (of_no_block b (act_at jobs i p) (no_erase jobs i p))
+erase_alike jobs k m ws vs n b (LastOperation i p) = one_ends (waives_none ws) (waives_none vs) ((n == i) && erases_block b (act_at jobs i p))
 erase_alike jobs k m ws vs n b (CopyRead i p) = other_act (waives_none ws) (waives_none vs) (n == i) false refl
 erase_alike jobs k m ws vs n b (CopyProgram i p) = other_act (waives_none ws) (waives_none vs) (n == i) false refl
-erase_alike jobs k m ws vs n b (EraseSlot i c) = same_erase (waives_none ws) (waives_none vs) (n == i)
-erase_alike jobs k m ws vs n b (LastEraseSlot i c) = one_ends (waives_none ws) (waives_none vs) ((n == i) && true)
+erase_alike jobs k m ws vs n b (EraseSlot i c) = both_quiet (waives_none ws) (waives_none vs) ((n == i) && (b == c))
+erase_alike jobs k m ws vs n b (LastEraseSlot i c) = one_ends (waives_none ws) (waives_none vs) ((n == i) && (b == c))
 
 replied_as : (jobs : List JobRecord) (k m : ℕ) (ws vs : List Waived) (d e : Deed)
     → replies_alike (reply_of jobs k ws d) (reply_of jobs m vs e) ≡ (waives_none ws && waives_none vs && alike_deeds d e)

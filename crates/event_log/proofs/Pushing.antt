@@ -3,7 +3,6 @@ use Rattle.std.proofs.Common.{◌≡◌, ℕ, suc, ◌+◌, ◌<◌, ◌≤◌, 
 use Rattle.std.proofs.Common.{Option, Some, None, refl, ap, sym, ◌∙◌, length, map, reverse, append-nil, arith}
 use Rattle.std.proofs.lemmas.Bool.{false≢true}
 use Rattle.std.proofs.lemmas.Bool.Decides.{nat_tests}
-use Rattle.std.proofs.lemmas.Option.{same_Some}
 use Rattle.std.proofs.lemmas.List.{reverse-append, length-reverse}
 use Rattle.std.proofs.lemmas.List.Elements.{filter_map-append}
 use Rattle.slot_types.specs.declared.replies.Waived.{Waived}
@@ -15,8 +14,8 @@ use Rattle.event_log.specs.Spread.{last_of}
 use Rattle.event_log.specs.Waivers.{waiver_of}
 use Rattle.event_log.specs.Waivers.{waived_in, waived_at}
 use Rattle.event_log.specs.Notes.{Note, is_none, notes_of, waives_newest}
-use Rattle.event_log.specs.NoteRecords.{is_idle, alike_deeds, alike_notes, goes_on, new_records, records, is_some_number}
-use Rattle.event_log.specs.NoteRecords.{has_same_block, joins, kept_of, ErasesOneBlock, stands_alone, newest_stands_alone}
+use Rattle.event_log.specs.NoteRecords.{is_idle, alike_deeds, goes_on, has_same_caller, new_records, records, is_some_number}
+use Rattle.event_log.specs.NoteRecords.{stands_alone, newest_stands_alone}
 use Rattle.event_log.specs.SoundLog.{AreBefore, notes_in}
 
 -- The waivers of an event
@@ -291,92 +290,55 @@ idle_push deeds callers n waivers c e b =
     ap (λ (ws : List Waiver). notes_in (deeds ++ Idle ∷ []) (callers ++ c ∷ []) ws) (sym (append-nil waivers))
     ∙ notes_push deeds callers n waivers c Idle [] e b
 
--- Records that are kept
+-- What is kept once
 
-same_block_itself : (d : Deed) → has_same_block d d ≡ true
-same_block_itself (Submit n) = refl
-same_block_itself (Collect n) = refl
-same_block_itself Idle = refl
-same_block_itself (Operation n p) = refl
-same_block_itself (LastOperation n p) = refl
-same_block_itself (CopyRead n p) = refl
-same_block_itself (CopyProgram n p) = refl
-same_block_itself (EraseSlot n b) = the_same b
-same_block_itself (LastEraseSlot n b) = refl
+-- alike deeds are one deed
+one_deed : (d e : Deed) → alike_deeds d e ≡ true → e ≡ d
+one_deed (Submit n) e h = absurd (cc)
+one_deed (Collect n) e h = absurd (cc)
+one_deed Idle e h = idle_is e h
+one_deed (Operation n p) e h = absurd (cc)
+one_deed (LastOperation n p) e h = absurd (cc)
+one_deed (CopyRead n p) e h = absurd (cc)
+one_deed (CopyProgram n p) e h = absurd (cc)
+one_deed (EraseSlot n b) (Submit m) h = absurd (cc)
+one_deed (EraseSlot n b) (Collect m) h = absurd (cc)
+one_deed (EraseSlot n b) Idle h = absurd (cc)
+one_deed (EraseSlot n b) (Operation m q) h = absurd (cc)
+one_deed (EraseSlot n b) (LastOperation m q) h = absurd (cc)
+one_deed (EraseSlot n b) (CopyRead m q) h = absurd (cc)
+one_deed (EraseSlot n b) (CopyProgram m q) h = absurd (cc)
+one_deed (EraseSlot n b) (EraseSlot m o) h =
+    rw (the_number n m (first_of (n == m) (b == o) h), the_number b o (second_of (n == m) (b == o) h)) refl
+one_deed (EraseSlot n b) (LastEraseSlot m o) h = absurd (cc)
+one_deed (LastEraseSlot n b) e h = absurd (cc)
 
--- alike deeds of one block are one deed
-one_deed : (d e : Deed) → alike_deeds d e ≡ true → has_same_block d e ≡ true → e ≡ d
-one_deed (Submit n) e h k = absurd (cc)
-one_deed (Collect n) e h k = absurd (cc)
-one_deed Idle e h k = idle_is e h
-one_deed (Operation n p) e h k = absurd (cc)
-one_deed (LastOperation n p) e h k = absurd (cc)
-one_deed (CopyRead n p) e h k = absurd (cc)
-one_deed (CopyProgram n p) e h k = absurd (cc)
-one_deed (EraseSlot n b) (Submit m) h k = absurd (cc)
-one_deed (EraseSlot n b) (Collect m) h k = absurd (cc)
-one_deed (EraseSlot n b) Idle h k = absurd (cc)
-one_deed (EraseSlot n b) (Operation m q) h k = absurd (cc)
-one_deed (EraseSlot n b) (LastOperation m q) h k = absurd (cc)
-one_deed (EraseSlot n b) (CopyRead m q) h k = absurd (cc)
-one_deed (EraseSlot n b) (CopyProgram m q) h k = absurd (cc)
-one_deed (EraseSlot n b) (EraseSlot m o) h k = rw (the_number n m h, the_number b o k) refl
-one_deed (EraseSlot n b) (LastEraseSlot m o) h k = absurd (cc)
-one_deed (LastEraseSlot n b) e h k = absurd (cc)
+-- the newest deed is that of an event that goes on with it
+pub goes_on_same : (deeds : List Deed) (callers : List ℕ) (waivers : List Waiver) (s : Note) → length callers ≡ length deeds
+    → goes_on s (notes_in deeds callers waivers) ≡ true → last_of deeds ≡ Some s.deed
+goes_on_same deeds callers waivers s n on =
+    let newest = goes_on_alike deeds callers waivers s n on in newest.1 ∙ ap Some (one_deed s.deed newest.0 newest.2)
 
-not_true : (b : Bool) → (b ≡ true → ⊥) → b ≡ false
-not_true true h = absurd (h refl)
-not_true false h = refl
+no_callers : (callers : List ℕ) → length callers ≡ 0 → callers ≡ []
+no_callers [] n = refl
+no_callers (c ∷ cs) n = absurd (omega arith)
 
-same_as : (d e : Deed) (same : Bool) → alike_deeds d e ≡ true → (same ≡ true → e ≡ d) → (e ≡ d → same ≡ true) → has_same_block d e ≡ same
-same_as d e true h f g = rw (f refl) (same_block_itself d)
-same_as d e false h f g = not_true (has_same_block d e) (λ k. false≢true (g (one_deed d e h k)))
-
-joined_by : (a b c : Bool) → (a ≡ true → b ≡ c) → (a && b) ≡ (a && c)
-joined_by true b c h = h refl
-joined_by false b c h = refl
-
-joins_by_last : (deeds : List Deed) (callers : List ℕ) (waivers : List Waiver) (s : Note) (same : Bool) (last : Option Deed)
-    → last_of deeds ≡ last → length callers ≡ length deeds
-    → (same ≡ true → last_of deeds ≡ Some s.deed) → (last_of deeds ≡ Some s.deed → same ≡ true)
-    → (goes_on s (notes_in deeds callers waivers) && same) ≡ joins s (notes_in deeds callers waivers)
-joins_by_last deeds callers waivers s same None last n f g = rw (last_none deeds last) refl
-joins_by_last deeds callers waivers s same (Some d) last n f g =
+caller_is_by : (deeds : List Deed) (callers : List ℕ) (waivers : List Waiver) (s : Note) (last : Option Deed) → last_of deeds ≡ last
+    → length callers ≡ length deeds
+    → is_some_number (last_of callers) s.caller ≡ has_same_caller s (notes_in deeds callers waivers)
+caller_is_by deeds callers waivers s None last n =
+    let none = last_none deeds last in rw (none, no_callers callers (n ∙ ap length none)) refl
+caller_is_by deeds callers waivers s (Some d) last n =
     let who = last_with deeds callers d n last in
     let ds = last_split deeds d last in
     let cs = last_split callers who.0 who.1 in
-    let shown = newest_shown deeds ds.0 callers cs.0 waivers who.0 d ds.1 cs.1 in
-    let before = waived_at (length (reverse ds.0)) waivers in
-    rw shown (sym (joined_by (alike_notes s (record { caller = who.0; deed = d; waived = before })) (has_same_block s.deed d) same
-    (λ on. same_as s.deed d same (all_four (s.caller == who.0) (is_none s.waived) (is_none before) (alike_deeds s.deed d) on).3
-    (λ h. same_Some _ _ (sym last ∙ f h)) (λ e. g (last ∙ ap Some e)))))
+    rw (newest_shown deeds ds.0 callers cs.0 waivers who.0 d ds.1 cs.1, who.1) refl
 
--- whether one more event is kept with the newest
-pub joins_is : (deeds : List Deed) (callers : List ℕ) (waivers : List Waiver) (s : Note) (same : Bool) → length callers ≡ length deeds
-    → (same ≡ true → last_of deeds ≡ Some s.deed) → (last_of deeds ≡ Some s.deed → same ≡ true)
-    → (goes_on s (notes_in deeds callers waivers) && same) ≡ joins s (notes_in deeds callers waivers)
-joins_is deeds callers waivers s same n f g = joins_by_last deeds callers waivers s same (last_of deeds) refl n f g
+-- the last caller is that of the newest event
+pub caller_is : (deeds : List Deed) (callers : List ℕ) (waivers : List Waiver) (s : Note) → length callers ≡ length deeds
+    → is_some_number (last_of callers) s.caller ≡ has_same_caller s (notes_in deeds callers waivers)
+caller_is deeds callers waivers s n = caller_is_by deeds callers waivers s (last_of deeds) refl n
 
-and_true : (b : Bool) → b ≡ true → (b && true) ≡ true
-and_true true h = refl
-and_true false h = absurd (cc)
-
-pub joins_idle : (notes : List Note) (c : ℕ) (ws : List Waived) → goes_on (record { caller = c; deed = Idle; waived = ws }) notes ≡ true
-    → joins (record { caller = c; deed = Idle; waived = ws }) notes ≡ true
-joins_idle [] c ws on = absurd (cc)
-joins_idle (t ∷ past) c ws on = and_true _ on
-
-by_true : (a b : Bool) → (a ≡ true → (a && b) ≡ true) → (a && b) ≡ a
-by_true true b h = h refl
-by_true false b h = refl
-
-joins_goes : (s : Note) (past : List Note) → (goes_on s past ≡ true → joins s past ≡ true) → joins s past ≡ goes_on s past
-joins_goes s [] h = refl
-joins_goes s (t ∷ past) h = by_true (alike_notes s t) (has_same_block s.deed t.deed) h
-
--- as many records are kept as there are runs of like events
-pub kept_records : (notes : List Note) → ErasesOneBlock notes → kept_of notes ≡ records notes
-kept_records [] h = refl
-kept_records (s ∷ past) h =
-    ap (λ n. new_records (joins s past) + n) (kept_records past h.1)
-    ∙ ap (λ b. new_records b + records past) (joins_goes s past h.0) ∙ sym (records_push s past)
+pub same_caller : (deeds : List Deed) (callers : List ℕ) (waivers : List Waiver) (s : Note) → length callers ≡ length deeds
+    → last_of callers ≡ Some s.caller → has_same_caller s (notes_in deeds callers waivers) ≡ true
+same_caller deeds callers waivers s n last = sym (caller_is deeds callers waivers s n) ∙ rw last (the_same s.caller)

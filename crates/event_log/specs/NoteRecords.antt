@@ -8,15 +8,15 @@ abbrev pub is_idle : Deed → Bool
 is_idle Idle = true
 is_idle _ = false
 
--- a slot in the erase of this collection, with more to come
-abbrev pub erases_for : ℕ → Deed → Bool
-erases_for number (EraseSlot n block) = number == n
-erases_for number _ = false
+-- a slot in the erase of this block by this collection, with more to come
+abbrev pub erases_block : ℕ → ℕ → Deed → Bool
+erases_block number block (EraseSlot n b) = (number == n) && (block == b)
+erases_block number block _ = false
 
--- both idle, or both in the erase of one collection, with more to come
+-- both idle, or both in one erase, with more to come
 abbrev pub alike_deeds : Deed → Deed → Bool
 alike_deeds Idle other = is_idle other
-alike_deeds (EraseSlot n block) other = erases_for n other
+alike_deeds (EraseSlot n block) other = erases_block n block other
 alike_deeds _ other = false
 
 -- no later event counts as one record with it
@@ -56,24 +56,14 @@ abbrev pub goes_on : Note → List Note → Bool
 goes_on s [] = false
 goes_on s (t ∷ past) = alike_notes s t
 
--- Records that are kept
+-- Runs of callers
 
--- of two alike deeds: they are of one block, or of none
-abbrev pub has_same_block : Deed → Deed → Bool
-has_same_block (EraseSlot n block) (EraseSlot m other) = block == other
-has_same_block _ _ = true
+-- an event is by the caller of the newest
+abbrev pub has_same_caller : Note → List Note → Bool
+has_same_caller s [] = false
+has_same_caller s (t ∷ past) = s.caller == t.caller
 
--- it goes on with the newest run of like events and did the same, so that no record of its own is kept of it
-abbrev pub joins : Note → List Note → Bool
-joins s [] = false
-joins s (t ∷ past) = alike_notes s t && has_same_block s.deed t.deed
-
--- how many records of deeds are kept: neighbours that count as one run of like events and did the same are kept once
-abbrev pub kept_of : List Note → ℕ
-kept_of [] = 0
-kept_of (s ∷ past) = new_records (joins s past) + kept_of past
-
--- neighbours in one erase have one block, as in each log of a die
-abbrev pub ErasesOneBlock : List Note → Type 0
-ErasesOneBlock [] = Unit {0}
-ErasesOneBlock (s ∷ past) = (goes_on s past ≡ true → joins s past ≡ true) × ErasesOneBlock past
+-- how many maximal runs of one caller the events have
+abbrev pub caller_runs : List Note → ℕ
+caller_runs [] = 0
+caller_runs (s ∷ past) = new_records (has_same_caller s past) + caller_runs past

@@ -20,14 +20,20 @@ finishes_none (Some number) = false
 abbrev pub is_quiet : SlotReply → Bool
 is_quiet s = waives_none s.waived && finishes_none s.finished
 
-abbrev pub is_erase : Act → Bool
-is_erase (does.Erase block) = true
-is_erase _ = false
+-- this act was of the erase of this block
+abbrev pub erases_block : ℕ → Act → Bool
+erases_block block (does.Erase b) = block == b
+erases_block block _ = false
 
--- this was an act of the erase of this collection
-abbrev pub is_erase_of : ℕ → Option (ℕ × Act) → Bool
-is_erase_of number None = false
-is_erase_of number (Some (n, act)) = (number == n) && is_erase act
+-- this was an act of the erase of this block by this collection
+abbrev pub is_erase_of : ℕ → ℕ → Option (ℕ × Act) → Bool
+is_erase_of number block None = false
+is_erase_of number block (Some (n, act)) = (number == n) && erases_block block act
+
+-- both were acts of one erase
+abbrev pub same_erase : ℕ → Act → Option (ℕ × Act) → Bool
+same_erase number (does.Erase block) other = is_erase_of number block other
+same_erase number _ other = false
 
 abbrev pub is_idle : Option (ℕ × Act) → Bool
 is_idle None = true
@@ -36,7 +42,7 @@ is_idle (Some ran) = false
 -- both idle, or both acts of one erase
 abbrev pub ran_alike : Option (ℕ × Act) → Option (ℕ × Act) → Bool
 ran_alike None other = is_idle other
-ran_alike (Some (number, act)) other = is_erase act && is_erase_of number other
+ran_alike (Some (number, act)) other = same_erase number act other
 
 abbrev pub slots_alike : SlotReply → SlotReply → Bool
 slots_alike s t = is_quiet s && is_quiet t && ran_alike s.ran t.ran
@@ -50,7 +56,7 @@ replies_alike (replies.Slot s) other = replied_alike s other
 replies_alike _ other = false
 
 -- two successive entries are alike: slots of one caller, without waiver and without an end, both idle or both erase
--- acts of one collection
+-- acts of one erase
 abbrev pub alike : Entry → Entry → Bool
 alike e f = (e.caller == f.caller) && replies_alike e.reply f.reply
 

@@ -1,12 +1,12 @@
 -- What is always true of the parts of a log.
-use Rattle.std.specs.Prelude.{◌≡◌, ℕ, ◌+◌, ◌<◌, ◌≤◌, Bool, true, List, Some, length, reverse, take}
+use Rattle.std.specs.Prelude.{◌≡◌, ℕ, ◌+◌, ◌<◌, ◌≤◌, ◌^◌, Bool, true, List, Some, length, reverse, take}
 use Rattle.std.specs.List.{AllByRecursion, filter_map}
 use Rattle.event_log.specs.declared.deeds.Deed.{Deed}
 use Rattle.event_log.specs.declared.waivers.Waiver.{Waiver}
 use Rattle.event_log.specs.Notes.{Note, notes_of, waives_newest}
 use Rattle.event_log.specs.Slots.{slot_by}
 use Rattle.event_log.specs.Spread.{last_of}
-use Rattle.event_log.specs.NoteRecords.{records, kept_of, stands_alone}
+use Rattle.event_log.specs.NoteRecords.{caller_runs, records, stands_alone}
 
 -- the waivers are of events that were before this place
 abbrev pub AreBefore : ℕ → List Waiver → Type 0
@@ -15,13 +15,14 @@ AreBefore place waivers = AllByRecursion (λ w. w.event < place) waivers
 abbrev pub notes_in : List Deed → List ℕ → List Waiver → List Note
 notes_in deeds callers waivers = notes_of (reverse deeds) (reverse callers) waivers
 
--- each event has its caller, no waiver is of a later event, the runs of like events are counted, and equal deeds of one are kept once
-pub record IsSoundLog (deeds : List Deed) (callers : List ℕ) (waivers : List Waiver) (len count kept : ℕ) (waives : Bool) : Type 0 where
+-- each event has its caller, no waiver is of a later event, each run of like events is kept once, and so is each run of one caller
+pub record IsSoundLog (deeds : List Deed) (callers : List ℕ) (waivers : List Waiver) (len kept callers_kept : ℕ) (waives : Bool) : Type 0 where
   pub len_is : len ≡ length deeds
+  pub few : len < 2 ^ 32
   pub callers_are : length callers ≡ length deeds
   pub before : AreBefore len waivers
-  pub count_is : count ≡ records (notes_in deeds callers waivers)
-  pub kept_is : kept ≡ kept_of (notes_in deeds callers waivers)
+  pub kept_is : kept ≡ records (notes_in deeds callers waivers)
+  pub callers_kept_is : callers_kept ≡ caller_runs (notes_in deeds callers waivers)
   pub waives_is : waives ≡ waives_newest (notes_in deeds callers waivers)
 
 -- how many of the first deeds were slots

@@ -2,7 +2,7 @@
 
 ghost use Rattle.std.specs.Prelude.{◌≡◌};
 ghost use Rattle.event_log.specs.Slots.{slot_by};
-ghost use Rattle.event_log.specs.NoteRecords.{alike_deeds, erases_for};
+ghost use Rattle.event_log.specs.NoteRecords.{alike_deeds, erases_block};
 
 use slot_types::JobNo;
 use std::mem::size_of;
@@ -34,14 +34,14 @@ pub enum Deed {
 const _: () = prove!(size_of::<Deed>() == 12);
 
 impl Deed {
-    /// Whether two slots of one caller that waived nothing, and did this and that, count as one record: both idle, or
-    /// both in the erase of one collection, with more to come.
+    /// Whether two slots of one caller that waived nothing, and did this and that, are one record: both idle, or both in
+    /// one erase, with more to come.
     pub(crate) fn is_alike(self, other: Deed) -> bool
         ensures { result ≡ alike_deeds self other }
     {
         match self {
             Deed::Idle => matches!(other, Deed::Idle),
-            Deed::EraseSlot { number, .. } => other.erases_for(number),
+            Deed::EraseSlot { number, block } => other.erases_block(number, block),
             _ => false,
         }
     }
@@ -62,12 +62,12 @@ impl Deed {
         }
     }
 
-    /// Whether it is a slot in the erase of this collection, with more to come.
-    fn erases_for(self, collection: JobNo) -> bool
-        ensures { result ≡ erases_for collection self }
+    /// Whether it is a slot in the erase of this block by this collection, with more to come.
+    fn erases_block(self, collection: JobNo, erased: u32) -> bool
+        ensures { result ≡ erases_block collection erased self }
     {
         match self {
-            Deed::EraseSlot { number, .. } => collection.0 == number.0,
+            Deed::EraseSlot { number, block } => collection.0 == number.0 && erased == block,
             _ => false,
         }
     }

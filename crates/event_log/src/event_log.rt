@@ -1,11 +1,11 @@
 //! The log of a die, in parts.
 
-ghost use Rattle.std.specs.Prelude.{◌≡◌, ◌+◌, ◌<◌, ◌≤◌, ◌↔◌, ◌∷◌, ◌^◌, [], true, length, take, IsOk, OnOk, OnErr};
+ghost use Rattle.std.specs.Prelude.{◌≡◌, ◌+◌, ◌<◌, ◌≤◌, ◌∷◌, ◌^◌, [], true, length, take, IsOk, OnOk, OnErr};
 ghost use Rattle.slot_types.specs.Refusal.{FailsForMemory};
 ghost use Rattle.event_log.specs.Spread.{last_of};
 ghost use Rattle.event_log.specs.Notes.{Note};
 ghost use Rattle.event_log.specs.Slots.{carried_in};
-ghost use Rattle.event_log.specs.NoteRecords.{goes_on, new_records, records, kept_of, is_some_number, newest_stands_alone};
+ghost use Rattle.event_log.specs.NoteRecords.{goes_on, records, is_some_number, newest_stands_alone};
 
 use crate::deeds::Deed;
 use crate::runs::{Run, Runs};
@@ -27,7 +27,6 @@ pub struct EventLog {
     callers: Runs<u32>,
     waivers: Vec<Waiver>,
     len: u32,
-    records: u32,
     /// For how many more events there is room, however few of them are alike.
     room: usize,
     /// For how many more waivers there is room.
@@ -57,7 +56,7 @@ impl Model for EventLog {
     } };
 
     ghost invariant = { λ l.
-        IsSoundLog l.deeds.items l.callers.items l.waivers.items l.len l.records l.deeds.kept l.waives
+        IsSoundLog l.deeds.items l.callers.items l.waivers.items l.len l.deeds.kept l.callers.kept l.waives
         × HasPromisedRoom l.room l.waiver_room l.deeds.room l.callers.room (vec_len l.waivers) (vec_capacity l.waivers)
         × IsMarked l.deeds.items l.deeds.marked l.callers.marked };
 }
@@ -72,7 +71,6 @@ impl EventLog {
             callers: Runs::new(alloc),
             waivers: Vec::new(alloc),
             len: 0,
-            records: 0,
             room: 0,
             waiver_room: 0,
             waives: false,
@@ -90,7 +88,6 @@ impl EventLog {
         self.callers.clear();
         self.waivers.clear();
         self.len = 0;
-        self.records = 0;
         self.waives = false;
     }
 
@@ -105,14 +102,13 @@ impl EventLog {
     pub fn records(&self) -> u32
         ensures { result ≡ records self.now.notes }
     {
-        self.records
+        self.deeds.kept() as u32
     }
 
-    /// How many records of deeds it keeps. Neighbours that count as one run of like events and did the same are kept once, so these are as
-    /// many as the runs of like events, where each erase is of one block (see [`crate::laws`]).
+    /// How many records of deeds it keeps: one for each maximal run of alike events.
     pub fn kept(&self) -> usize
         ensures kept { result ≡ self.now.kept }
-        ensures counted { self.now.kept ≡ kept_of self.now.notes }
+        ensures counted { self.now.kept ≡ records self.now.notes }
     {
         self.deeds.kept()
     }
@@ -203,12 +199,9 @@ impl EventLog {
         ensures waiver_room { self.old.waiver_room ≡ self.new.waiver_room + length waived.now }
         ensures marked { self.new.marked ≡ self.old.marked }
     {
-        let same_deed = is_last_deed(&self.deeds, &deed);
         let same_caller = is_last_caller(&self.callers, caller);
         let goes_on = self.goes_on(caller, &deed, waived);
-        self.records = records_with(goes_on, self.records);
-        // Alike deeds differ where one erase had two blocks.
-        self.deeds.push_reserved(deed, goes_on & same_deed);
+        self.deeds.push_reserved(deed, goes_on);
         self.callers.push_reserved(caller, same_caller);
         note_waivers(&mut self.waivers, self.len, waived);
         self.len += 1;
@@ -236,24 +229,6 @@ impl EventLog {
         } else {
             self.push_reserved(caller, Deed::Idle, waived);
         }
-    }
-}
-
-/// How many records there are with an event that goes on with the newest, or doesn't.
-fn records_with(goes_on: bool, records: u32) -> u32
-    requires { records + 1 < 2 ^ 32 }
-    ensures { result ≡ new_records goes_on + records }
-{
-    if goes_on { records } else { records + 1 }
-}
-
-/// Whether the last deed, if there is one, is this one.
-fn is_last_deed(deeds: &Runs<Deed>, deed: &Deed) -> bool
-    ensures { result ≡ true ↔ last_of deeds.now.items ≡ Some deed.now }
-{
-    match deeds.last() {
-        Some(last) => last == *deed,
-        None => false,
     }
 }
 

@@ -9,7 +9,7 @@ ghost use Rattle.slot_types.specs.declared.refusals.Refusal.{Refusal};
 ghost use Rattle.slot_types.specs.Refusal.{FailsForMemory};
 ghost use Rattle.job_table.specs.Jobs.{JobRecord};
 ghost use Rattle.event_log.specs.Notes.{Note, Events};
-ghost use Rattle.event_log.specs.NoteRecords.{records, kept_of, ErasesOneBlock};
+ghost use Rattle.event_log.specs.NoteRecords.{records};
 ghost use Rattle.event_log.specs.Entries.{entries_of};
 ghost use Rattle.event_log.specs.GrownTable.{AllFit, Grew};
 ghost use Rattle.event_log.specs.RecordCounts.{record_count};
@@ -26,11 +26,6 @@ pub fn entries_stay()
 pub fn events_go_on_fitting()
     ensures { (jobs later : List JobRecord) (notes : List Note) → Grew jobs later
         → AllFit jobs notes → AllFit later notes }
-{}
-
-/// A log keeps as many records of deeds as there are runs of like events, where neighbours in one erase have one block.
-pub fn records_are_kept()
-    ensures { (notes : List Note) → ErasesOneBlock notes → kept_of notes ≡ records notes }
 {}
 
 /// A log takes as many records as its events have runs of like events, whatever the jobs.

@@ -1,6 +1,7 @@
 -- How a call of a die ends, and what follows of it.
 use Rattle.std.proofs.Common.{◌≡◌, ◌≢◌, ◌⊎◌, ◌↔◌, inl, inr, ℕ, zero, suc, ◌+◌, ◌<◌, Bool, true, false, List, [], ◌∷◌, Option, Some, None, Ok, Err, refl, ap, sym}
 use Rattle.std.proofs.Common.{◌∙◌, subst, arith, IfOk, IfErr}
+use Rattle.std.specs.Prelude.{IsSome}
 use Rattle.std.specs.declared.result.Result.{Result}
 use Rattle.std.specs.List.{AllByRecursion}
 use Rattle.std.proofs.lemmas.Bool.{true≢false}
@@ -210,5 +211,11 @@ module _ {N : Type 0} (ends : N → NandCall → Bool → N → Type 0) (failure
       by : RefusesCall event r before after → MayRefuse never before.start before.log event r
       by (inl h) = inl (inl h.answered)
       by (inr (inl h)) = inl (inr (h.accepted, h.refusal_is))
-      by (inr (inr (inl h))) = inr (inl (fails never (λ yes. call.device.never yes (ap Err h.refusal_is)), h.slot, h.accepted, h.refusal_is))
+      by (inr (inr (inl h))) = inr (inl (
+        fails never (λ yes. call.device.never yes (ap Err h.refusal_is)),
+        h.slot,
+        h.accepted,
+        h.refusal_is,
+        subst (λ (o : Option NandCall). IsSome o) (sym (call.device.failed (ap Err h.refusal_is)).needed_is) tt,
+      ))
       by (inr (inr (inr h))) = inr (inr (fails never (λ yes. true≢false (sym h.was_stopped ∙ runs yes)), h.refusal_is))

@@ -1,5 +1,5 @@
 -- How a call of a die ends: what it is answered, what it leaves, and what the device has had of it.
-use Rattle.std.specs.Prelude.{◌≡◌, ◌≢◌, ◌⊎◌, ℕ, ◌-◌, Bool, true, false, Option, None, Result, Ok, Err}
+use Rattle.std.specs.Prelude.{◌≡◌, ◌≢◌, ◌⊎◌, ℕ, ◌-◌, Bool, true, false, Option, None, IsSome, Result, Ok, Err}
 use Rattle.slot_types.specs.declared.events.Event.{Event}
 use Rattle.slot_types.specs.declared.events.Event.TheVariants as events
 use Rattle.slot_types.specs.declared.refusals.Refusal.{Refusal}
@@ -103,12 +103,13 @@ abbrev pub RefusedBy : Start → Log → Event → Refusal → Type 0
 RefusedBy start log event refusal = (answer start log event ≡ Refused refusal) ⊎ (IsAccepted (answer start log event) × (refusal ≡ NoMemory))
 
 -- A die with this log may refuse the event so: the log refuses it; or the log accepts it, and memory is refused; or the
--- log accepts it, it is a slot, and the device fails; or the device failed before. A device that never fails does
--- neither.
+-- log accepts it, it is a slot that needs the device, and the device fails; or the device failed before. A device that
+-- never fails does neither.
 abbrev pub MayRefuse : Bool → Start → Log → Event → Refusal → Type 0
 MayRefuse never_fails start log event refusal =
     RefusedBy start log event refusal
-    ⊎ ((never_fails ≡ false) × (event ≡ events.Slot) × IsAccepted (answer start log event) × (refusal ≡ DeviceFault))
+    ⊎ ((never_fails ≡ false) × (event ≡ events.Slot) × IsAccepted (answer start log event) × (refusal ≡ DeviceFault)
+    × IsSome (call_for event start log))
     ⊎ ((never_fails ≡ false) × (refusal ≡ DieStopped))
 
 -- memory was refused, or the device failed, which the log doesn't decide

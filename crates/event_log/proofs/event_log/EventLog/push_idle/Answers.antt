@@ -2,7 +2,7 @@ use Rattle.std.proofs.Common.{◌+◌, ◌∷◌, [], ap, sym, ◌∙◌, length
 use Rattle.event_log.specs.declared.deeds.Deed.TheVariants.{Idle}
 use Rattle.event_log.specs.Notes.{Events}
 use Rattle.event_log.specs.SoundLog.{notes_in}
-use Rattle.event_log.proofs.Pushing.{idle_goes_on, idle_push, records_push, joins_idle, length_of, before_later}
+use Rattle.event_log.proofs.Pushing.{idle_goes_on, idle_push, records_push, same_caller, length_of, before_later}
 use Rattle.event_log.proofs.Marking.{goes_on_unmarked, some_caller, slots-push, still_marked}
 use Rattle.event_log.proofs.event_log.EventLog.push_idle.Goals as goal
 
@@ -73,6 +73,14 @@ invariant_of-self c =
           c.self.invariant.0.len_is,
           length-append c.self.inside.deeds.items (Idle ∷ []),
         ));
+        few = omega (
+          arith,
+          c.requires.few,
+          c.self.invariant.0.len_is,
+          ap (λ (e : Events). length e.notes) c.self.view_is,
+          length_of c.self.inside.deeds.items
+              c.self.inside.callers.items c.self.inside.waivers.items c.self.invariant.0.callers_are,
+        );
         callers_are = rw (c.push_reserved.ensures.items, c.push_reserved-then-goes_on.ensures.items)
             (omega (
               arith,
@@ -82,22 +90,23 @@ invariant_of-self c =
               c.self.invariant.0.callers_are,
             ));
         before = before_later c.self.inside.len (c.self.inside.len + 1) c.self.inside.waivers.items (omega arith) c.self.invariant.0.before;
-        count_is = rw (
-          c.push_reserved.ensures.items,
-          c.push_reserved-then-goes_on.ensures.items,
-          pushed,
-          records_push (record { caller = c.args.caller; deed = Idle; waived = [] })
-              (notes_in c.self.inside.deeds.items c.self.inside.callers.items c.self.inside.waivers.items),
-          (rw newest.none at on),
-        ) (omega (arith, c.self.invariant.0.count_is));
         kept_is = rw (
           c.push_reserved.ensures.items,
           c.push_reserved-then-goes_on.ensures.items,
           pushed,
           c.push_reserved.ensures.kept,
-          joins_idle (notes_in c.self.inside.deeds.items c.self.inside.callers.items c.self.inside.waivers.items) c.args.caller []
-              (rw newest.none at on),
+          records_push (record { caller = c.args.caller; deed = Idle; waived = [] })
+              (notes_in c.self.inside.deeds.items c.self.inside.callers.items c.self.inside.waivers.items),
+          (rw newest.none at on),
         ) (omega (arith, c.self.invariant.0.kept_is));
+        callers_kept_is = rw (
+          c.push_reserved.ensures.items,
+          c.push_reserved-then-goes_on.ensures.items,
+          pushed,
+          c.push_reserved-then-goes_on.ensures.kept,
+          same_caller c.self.inside.deeds.items c.self.inside.callers.items c.self.inside.waivers.items
+              (record { caller = c.args.caller; deed = Idle; waived = [] }) c.self.invariant.0.callers_are newest.same,
+        ) (omega (arith, c.self.invariant.0.callers_kept_is));
         waives_is = rw (c.push_reserved.ensures.items, c.push_reserved-then-goes_on.ensures.items, pushed)
             (c.self.invariant.0.waives_is ∙ newest.quiet);
       },

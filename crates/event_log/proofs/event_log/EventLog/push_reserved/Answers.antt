@@ -1,22 +1,10 @@
 use Rattle.std.proofs.Common.{◌+◌, ◌∷◌, [], ap, sym, ◌∙◌, length, not, arith, length-append}
 use Rattle.event_log.specs.Notes.{Events}
 use Rattle.event_log.specs.SoundLog.{notes_in}
-use Rattle.event_log.specs.NoteRecords.{new_records, kept_of}
-use Rattle.event_log.proofs.Pushing.{notes_push, records_push, joins_is, few_records, length_of, before_push, is_none_is, same_some, second_of}
-use Rattle.event_log.proofs.Pushing.{first_of}
+use Rattle.event_log.specs.NoteRecords.{caller_runs, new_records}
+use Rattle.event_log.proofs.Pushing.{notes_push, records_push, caller_is, goes_on_same, length_of, before_push, is_none_is, same_some}
 use Rattle.event_log.proofs.Marking.{goes_on_unmarked, some_caller, slots-push, still_marked}
 use Rattle.event_log.proofs.event_log.EventLog.push_reserved.Goals as goal
-
-pub records_with-self-inside-requires : goal.records_with-self-inside-requires
-records_with-self-inside-requires c =
-    omega (
-      arith,
-      c.requires.few,
-      c.self.invariant.0.count_is,
-      ap (λ (e : Events). length e.notes) c.self.view_is,
-      few_records
-          (notes_in c.self.inside.deeds.items c.self.inside.callers.items c.self.inside.waivers.items),
-    )
 
 pub push_reserved-requires-clause-few : goal.push_reserved-requires-clause-few
 push_reserved-requires-clause-few c =
@@ -30,7 +18,9 @@ push_reserved-requires-clause-few c =
 
 pub push_reserved-requires-clause-like : goal.push_reserved-requires-clause-like
 push_reserved-requires-clause-like c =
-    λ both. c.is_last_deed-same_deed.ensures.0 (second_of c.goes_on-goes_on.result c.is_last_deed-same_deed.result both)
+    λ on. goes_on_same c.self.inside.deeds.items c.self.inside.callers.items c.self.inside.waivers.items
+    (record { caller = c.args.caller; deed = c.args.deed; waived = c.args.waived.now }) c.self.invariant.0.callers_are
+    (rw (← c.self.view_is) at (sym c.goes_on-goes_on.ensures ∙ on))
 
 pub push_reserved-requires-2-clause-few : goal.push_reserved-requires-2-clause-few
 push_reserved-requires-2-clause-few c =
@@ -48,10 +38,9 @@ push_reserved-requires-2-clause-like c = λ same. same_some _ c.args.caller (sym
 
 pub push_reserved-requires-clause-unmarked : goal.push_reserved-requires-clause-unmarked
 push_reserved-requires-clause-unmarked c =
-    λ both. goes_on_unmarked c.self.inside.deeds.items c.self.inside.callers.items c.self.inside.waivers.items _ c.self.inside.deeds.marked
+    λ on. goes_on_unmarked c.self.inside.deeds.items c.self.inside.callers.items c.self.inside.waivers.items _ c.self.inside.deeds.marked
     c.self.inside.callers.marked c.self.invariant.0.callers_are c.self.invariant.2
-    (rw (← c.self.view_is) at (sym c.goes_on-goes_on.ensures
-    ∙ first_of c.goes_on-goes_on.result c.is_last_deed-same_deed.result both))
+    (rw (← c.self.view_is) at (sym c.goes_on-goes_on.ensures ∙ on))
 
 pub push_reserved-requires-2-clause-unmarked : goal.push_reserved-requires-2-clause-unmarked
 push_reserved-requires-2-clause-unmarked c =
@@ -80,6 +69,14 @@ invariant_of-self c =
           length-append c.self.inside.deeds.items
               (c.args.deed ∷ []),
         ));
+        few = omega (
+          arith,
+          c.requires.few,
+          c.self.invariant.0.len_is,
+          ap (λ (e : Events). length e.notes) c.self.view_is,
+          length_of c.self.inside.deeds.items
+              c.self.inside.callers.items c.self.inside.waivers.items c.self.invariant.0.callers_are,
+        );
         callers_are = rw (c.push_reserved.ensures.items, c.push_reserved-2.ensures.items)
             (omega (
               arith,
@@ -90,18 +87,6 @@ invariant_of-self c =
             ));
         before = rw c.note_waivers.ensures.noted (before_push c.self.inside.len c.self.inside.waivers.items c.args.waived.now
             c.self.invariant.0.before);
-        count_is = rw (
-          c.push_reserved.ensures.items,
-          c.push_reserved-2.ensures.items,
-          c.note_waivers.ensures.noted,
-          events,
-          c.records_with-self-inside.ensures,
-          c.goes_on-goes_on.ensures,
-          c.self.invariant.0.count_is,
-          ← c.self.view_is,
-        )
-            (sym (records_push (record { caller = c.args.caller; deed = c.args.deed; waived = c.args.waived.now })
-            (notes_in c.self.inside.deeds.items c.self.inside.callers.items c.self.inside.waivers.items)));
         kept_is = rw (
           c.push_reserved.ensures.items,
           c.push_reserved-2.ensures.items,
@@ -112,10 +97,21 @@ invariant_of-self c =
           c.self.invariant.0.kept_is,
           ← c.self.view_is,
         )
-            (ap (λ b. new_records b + kept_of (notes_in c.self.inside.deeds.items c.self.inside.callers.items c.self.inside.waivers.items))
-            (joins_is c.self.inside.deeds.items c.self.inside.callers.items c.self.inside.waivers.items
-            (record { caller = c.args.caller; deed = c.args.deed; waived = c.args.waived.now }) c.is_last_deed-same_deed.result
-            c.self.invariant.0.callers_are c.is_last_deed-same_deed.ensures.0 c.is_last_deed-same_deed.ensures.1));
+            (sym (records_push (record { caller = c.args.caller; deed = c.args.deed; waived = c.args.waived.now })
+            (notes_in c.self.inside.deeds.items c.self.inside.callers.items c.self.inside.waivers.items)));
+        callers_kept_is = rw (
+          c.push_reserved.ensures.items,
+          c.push_reserved-2.ensures.items,
+          c.note_waivers.ensures.noted,
+          events,
+          c.push_reserved-2.ensures.kept,
+          c.is_last_caller-same_caller.ensures,
+          c.self.invariant.0.callers_kept_is,
+        )
+            (ap (λ b. new_records b + caller_runs (notes_in c.self.inside.deeds.items c.self.inside.callers.items
+            c.self.inside.waivers.items))
+            (caller_is c.self.inside.deeds.items c.self.inside.callers.items c.self.inside.waivers.items
+            (record { caller = c.args.caller; deed = c.args.deed; waived = c.args.waived.now }) c.self.invariant.0.callers_are));
         waives_is = rw (
           c.push_reserved.ensures.items,
           c.push_reserved-2.ensures.items,
