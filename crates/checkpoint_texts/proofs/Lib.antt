@@ -1,4 +1,5 @@
 pub mod ReadingLaws
+pub mod RecordFaults
 pub mod LineLaws
 pub mod Back
 pub mod Short

@@ -1,5 +1,5 @@
 -- What a call that reads a checkpoint gave, beside what its text says.
-use Rattle.std.specs.Prelude.{◌≡◌, ◌⊎◌, ⊤, ℕ, Option, Some, None, Result, Ok, Err}
+use Rattle.std.specs.Prelude.{◌≡◌, ◌≢◌, ◌⊎◌, ⊤, ℕ, Bool, true, Option, Some, None, Result, Ok, Err}
 use Rattle.checkpoint_texts.specs.declared.fault.RecordFault.{RecordFault}
 use Rattle.checkpoint_texts.specs.declared.fault.TextFault.{TextFault}
 use Rattle.checkpoint_texts.specs.declared.fault.TextFault.TheVariants.{NoMemory, ReadFault, Broken}
@@ -33,3 +33,9 @@ abbrev pub Says : {X : Type 0} → Option (Result X TextFault) → Result X Text
 Says None result = ⊤
 Says (Some read) (Ok x) = read ≡ Ok x
 Says (Some read) (Err e) = IsOutside e ⊎ (read ≡ Err e)
+
+-- whether a reader of records has failed: ReadFault comes where it then has, and where it fails no other fault comes but a lack of
+-- memory; else it stays as it was
+abbrev pub FailsAtReadFault : {X : Type 0} → Bool → Bool → Result X TextFault → Type 0
+FailsAtReadFault old new (Ok x) = new ≡ old
+FailsAtReadFault old new (Err e) = (IsOutside e × (new ≡ true)) ⊎ ((e ≢ ReadFault) × (new ≡ old))

@@ -63,7 +63,8 @@ impl From<Refusal> for TextFault {
     ghost use Rattle.slot_types.specs.declared.refusals.Refusal.TheVariants as refusals;
     ghost use Rattle.checkpoint_texts.specs.declared.fault.TextFault.TheVariants as faults;
 
-    ghost from_gives = { λ refusal fault. refusal ≡ refusals.NoMemory → fault ≡ faults.NoMemory };
+    ghost from_gives = { λ refusal fault. (refusal ≡ refusals.NoMemory → fault ≡ faults.NoMemory)
+        × (refusal ≡ refusals.ReadFault → fault ≡ faults.ReadFault) };
 
     fn from(refusal: Refusal) -> Self {
         TextFault::outside(refusal)
@@ -75,6 +76,7 @@ impl TextFault {
     pub(crate) fn outside(refusal: Refusal) -> TextFault
         ensures outside { IsOutside result }
         ensures memory { refusal ≡ refusals.NoMemory → result ≡ faults.NoMemory }
+        ensures reader { refusal ≡ refusals.ReadFault → result ≡ faults.ReadFault }
     {
         match refusal {
             Refusal::NoMemory => TextFault::NoMemory,

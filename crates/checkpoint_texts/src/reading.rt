@@ -1,6 +1,7 @@
 //! Checkpoints read from texts.
 
 ghost use Rattle.std.specs.Prelude.{◌≡◌, ◌≤◌, true, IfErr, IfOk, IfSome, OnOk, [], length, option_map};
+ghost use Rattle.csv.specs.Reading.{has_failed};
 ghost use Rattle.csv.specs.Records.{fields_of};
 ghost use Rattle.report_texts.specs.RecordsLeft.{Stays};
 ghost use Rattle.text_base.specs.CsvRecords.{TakesRow};
@@ -8,7 +9,7 @@ ghost use Rattle.text_base.specs.CsvRecordsLeft.{KeepsFit, fits_left, rows_left}
 ghost use Rattle.text_base.specs.Plain.{IsPlain};
 ghost use Rattle.checkpoint_texts.specs.CheckpointOf.{checkpoint_from, checkpoint_of, dies_from, header_of};
 ghost use Rattle.checkpoint_texts.specs.Gathering.{between};
-ghost use Rattle.checkpoint_texts.specs.Readings.{IsOutside, Says};
+ghost use Rattle.checkpoint_texts.specs.Readings.{FailsAtReadFault, IsOutside, Says};
 
 use crate::fault::{RecordFault, TextFault};
 use crate::gathered::{gather, no_dies, whole};
@@ -36,6 +37,7 @@ fn next<R: Read>(rows: &mut Reader<Bounded<R>>, row: &mut ByteRecord) -> Result<
         KeepsFit (fits_left R.remaining rows.old) (fits_left R.remaining rows.new) found) }
     ensures plain { IfOk result (λ found. IsPlain rows.new) }
     ensures outside { IfErr result (λ e. IsOutside e) }
+    ensures failed { FailsAtReadFault (has_failed rows.old) (has_failed rows.new) result }
 {
     match take_row(rows, row) {
         Ok(found) => Ok(found),
@@ -74,6 +76,7 @@ fn take_dies<R: Read>(
     ensures store { Says (option_map (dies_from (between []) 2) (rows_left R.remaining rows.old))
         result }
     ensures fits { OnOk result (IfSome (fits_left R.remaining rows.old) (λ fits. fits ≡ true)) }
+    ensures failed { FailsAtReadFault (has_failed rows.old) (has_failed rows.new) result }
 {
     let mut gathered = no_dies(alloc);
     let mut line = 2;
@@ -106,6 +109,7 @@ fn take_store<R: Read>(
     requires { IsPlain rows.old }
     ensures store { Says (option_map checkpoint_from (rows_left R.remaining rows.old)) result }
     ensures fits { OnOk result (IfSome (fits_left R.remaining rows.old) (λ fits. fits ≡ true)) }
+    ensures failed { FailsAtReadFault (has_failed rows.old) (has_failed rows.new) result }
 {
     if !next(rows, row)? {
         return Err(TextFault::Broken {

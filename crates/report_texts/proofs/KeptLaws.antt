@@ -20,7 +20,7 @@ use Rattle.report_texts.specs.declared.gathered.KeptSoFar.{KeptSoFar}
 use Rattle.report_texts.specs.declared.report_rows.DieRow.{DieRow}
 use Rattle.report_texts.specs.declared.reports.DieReport.{DieReport}
 use Rattle.report_texts.proofs.NumberLaws.{numbered-dies, numbered-more}
-use Rattle.report_texts.proofs.ProgressLaws.{further, progress}
+use Rattle.report_texts.proofs.ProgressLaws.{further, length-last, progress}
 use Rattle.report_texts.proofs.ReadingLaws.{certs-end, certs-fault, certs-more, certs-over, front_dies, rows-broken, rows-end, rows-more}
 use Rattle.report_texts.proofs.ReadingLaws.{says-text, says-then}
 use Rattle.report_texts.proofs.RecordLaws.{reads-on}
@@ -84,6 +84,9 @@ pub record AreRowsRead {K : Type 0} (kept : DieReport → K) (so_far : KeptSoFar
   pub whole : Gathered
   pub is : so_far ≡ kept_so_far kept whole
   pub few : length whole.rows ≤ 65536
+  pub low : whole.die < 8
+  pub dies : length whole.done ≤ whole.die
+  pub early : line ≤ progress whole.die (length whole.rows) + 2
   pub numbered : GathersNumbered whole
   pub read : Stays before (option_map (rows_from whole line) left)
 
@@ -96,11 +99,14 @@ stays-same (Some x) = refl
 
 -- no row yet
 pub rows-start : {K : Type 0} (kept : DieReport → K) (so_far : KeptSoFar K) (line : ℕ) (left : Option (List Fields))
-    → so_far ≡ kept_so_far kept no_rows → AreRowsRead kept so_far (option_map (rows_from no_rows line) left) line left
-rows-start kept so_far line left is = record {
+    → so_far ≡ kept_so_far kept no_rows → line ≡ 2 → AreRowsRead kept so_far (option_map (rows_from no_rows line) left) line left
+rows-start kept so_far line left is second = record {
   whole = no_rows;
   is = is;
   few = omega arith;
+  low = omega arith;
+  dies = omega arith;
+  early = omega (arith, second);
   numbered = (All-nil HasNumbers, tt);
   read = stays-same (option_map (rows_from no_rows line) left);
 }
@@ -113,10 +119,14 @@ pub rows-next : {K : Type 0} (kept : DieReport → K) (old new : KeptSoFar K) (b
     → Some new ≡ option_map (kept_so_far kept) (gathered_with rows.whole fields) → AreRowsRead kept new before line2 next
 rows-next kept old new before line line2 found own fields left next at lines loses rows row =
     let (more, is-row, is) = mapped (kept_so_far kept) (gathered_with rows.whole fields) new row in
+    let far = further rows.whole more fields rows.few is-row in
     record {
       whole = more;
       is = is;
-      few = (further rows.whole more fields rows.few is-row).few;
+      few = far.few;
+      low = far.low;
+      dies = far.dies rows.dies;
+      early = omega (arith, lines, rows.early, far.grows);
       numbered = numbered-more rows.whole more fields is-row rows.numbered;
       read = rows-more rows.whole more line line2 found own fields left next before at is-row lines loses rows.read;
     }
@@ -130,6 +140,23 @@ rows-further kept old new before line fields left rows row =
     let (more, is-row, is) = mapped (kept_so_far kept) (gathered_with rows.whole fields) new row in
     let far = further rows.whole more fields rows.few is-row in
     rw (rows.is, is) (far.grows, far.bound)
+
+-- a record of a row has a low number
+pub rows-early : {K : Type 0} (kept : DieReport → K) (so_far : KeptSoFar K) (before : Option Reading) (line : ℕ)
+    (left : Option (List Fields))
+    → AreRowsRead kept so_far before line left → line ≤ 524290
+rows-early kept so_far before line left rows = omega (arith, rows.early, rows.low, rows.few)
+
+-- there are at most eight dies
+pub rows-few : {K : Type 0} (kept : DieReport → K) (so_far : KeptSoFar K) (all : List K) (before : Option Reading) (line : ℕ)
+    (left : Option (List Fields))
+    → all ≡ with_last so_far.done so_far.rows so_far.last → AreRowsRead kept so_far before line left → length all ≤ 8
+rows-few kept so_far all before line left is rows =
+    let longer : length (with_last so_far.done so_far.rows so_far.last) ≤ length so_far.done + 1 =
+    length-last so_far.done so_far.rows so_far.last in
+    let done : length so_far.done ≡ length rows.whole.done = ap (λ (s : KeptSoFar _). length s.done) rows.is
+    ∙ length-map rows.whole.done kept in
+    rw is (omega (arith, longer, done, rows.dies, rows.low))
 
 -- a record that is no row that may come next
 pub rows-stop : {K A : Type 0} (kept : DieReport → K) (before : List Fields → Reading) (after : A → List Fields → Reading)
@@ -252,6 +279,16 @@ pub kept-then : {K A : Type 0} (kept : DieReport → K) (before : List Fields �
     → Reads before mid o n (Ok x) → SaysKept kept (option_map (mid x) n) r → SaysKept kept (option_map before o) r
 kept-then kept before mid o n x (Ok all) one said = (said.0, said.1, said.2, says-then before mid o n x (Ok said.0) one said.3)
 kept-then kept before mid o n x (Err e) one said = says-then before mid o n x (Err e) one said
+
+-- a call, and then one that was refused
+pub says-stop : {A B : Type 0} (before : List Fields → Reading) (mid : A → List Fields → Reading)
+    (after : B → List Fields → Reading) (o n m : Option (List Fields)) (x : A) (e : Refusal)
+    → Reads before mid o n (Ok x) → Reads (mid x) after n m (Err e) → Says (option_map before o) (Err e)
+says-stop before mid after None n m x e one stop = tt
+says-stop before mid after (Some records) None m x e one stop = absurd (cc one.1)
+says-stop before mid after (Some records) (Some rest) m x e one (inl out) = inl out
+says-stop before mid after (Some records) (Some rest) m x e one (inr bad) =
+    let same : one.0 ≡ rest = cc one.1 in inr (one.2 ∙ ap (mid x) same ∙ bad)
 
 -- what the known records tell, the records of a known text tell
 pub kept-text : {K A : Type 0} (kept : DieReport → K) (rows : A → List Fields) (before : List Fields → Reading) (text : Option A)

@@ -3,6 +3,7 @@ pub mod PlainRecords
 pub mod TextParts
 pub mod LineLaws
 pub mod RecordLaws
+pub mod ReaderFaults
 pub mod ProgressLaws
 pub mod ReadingLaws
 pub mod NumberLaws

@@ -3,7 +3,7 @@ use Rattle.std.proofs.Common.{◌≡◌, ℕ, ◌+◌, ◌*◌, ◌<◌, ◌≤�
 use Rattle.std.proofs.Common.{arith}
 use Rattle.std.specs.Prelude.{◌&&◌, nat_lt}
 use Rattle.std.proofs.lemmas.Bool.{and_parts, cases_Bool, ltb-true}
-use Rattle.report_texts.specs.ReportOf.{Gathered, gathered_with, if_follows, may_follow, with_row}
+use Rattle.report_texts.specs.ReportOf.{Gathered, all_dies, gathered_with, if_follows, may_follow, report_on, with_last, with_row}
 use Rattle.report_texts.specs.ReportRows.{◌>>=◌, has_outcome, if_sound, is_placed, is_sound, is_timed, row_in, sound_row}
 use Rattle.report_texts.specs.declared.report_rows.DieRow.{DieRow}
 
@@ -38,8 +38,17 @@ progress die rows = die * 65536 + rows
 -- the rows come further, within their limits
 pub record IsFurther (g more : Gathered) : Type 0 where
   pub few : length more.rows ≤ 65536
+  pub low : more.die < 8
+  pub dies : length g.done ≤ g.die → length more.done ≤ more.die
   pub grows : progress g.die (length g.rows) < progress more.die (length more.rows)
   pub bound : progress more.die (length more.rows) ≤ 524288
+
+-- the last die is one more
+pub length-last : {D : Type 0} (done : List D) (rows : ℕ) (last : D) → length (with_last done rows last) ≤ length done + 1
+length-last done rows last = elim (cases_Bool (rows == 0)) [
+  | inl none ↦ rw none (omega (arith, length-append done []))
+  | inr some ↦ rw some (omega (arith, length-append done (last ∷ [])))
+]
 
 row-further : (g : Gathered) (x : DieRow) → length g.rows ≤ 65536 → is_sound x ≡ true → may_follow g x ≡ true
     → IsFurther g (with_row g x)
@@ -50,10 +59,23 @@ row-further g x few sound follows =
           let is : x.row.job ≡ length g.rows = grind (arith, rw same at follows) in
           let of_die : x.die ≡ g.die = grind (arith, same) in
           let longer : length (g.rows ++ x.row ∷ []) ≡ length g.rows + 1 = length-append g.rows (x.row ∷ []) in
-          rw same (record { few = omega (arith, place); grows = omega arith; bound = omega (arith, place) })
+          rw same (record {
+            few = omega (arith, place);
+            low = omega (arith, place, of_die);
+            dies = λ dies. omega (arith, of_die);
+            grows = omega arith;
+            bound = omega (arith, place);
+          })
       | inr later ↦
           let after : g.die < x.die = ltb-true g.die x.die (and_parts (nat_lt g.die x.die) (x.row.job == 0) (rw later at follows)).0 in
-          rw later (record { few = omega arith; grows = omega arith; bound = omega (arith, place) })
+          let longer : length (all_dies g) ≤ length g.done + 1 = length-last g.done (length g.rows) (report_on g.die g.rows) in
+          rw later (record {
+            few = omega arith;
+            low = place.0;
+            dies = λ dies. omega (arith, longer, after);
+            grows = omega arith;
+            bound = omega (arith, place);
+          })
     ]
 
 row-of : (g more : Gathered) (o : Option DieRow) → (o >>= if_follows g) ≡ Some more

@@ -102,6 +102,13 @@ pub fit-lost : (left new : Option Bool) (had found : Bool) → had ≡ true → 
     → Stays (with_fit had left) (with_fit found new)
 fit-lost left new had found yes_had keeps = rw yes_had (fit-taken left new found keeps)
 
+-- what fits after some steps fits as a whole
+pub fit-on : {A : Type 0} (r : Result A Refusal) (a b : Option Bool) → Stays a b → OnOk r (IfSome b (λ fit. fit ≡ true))
+    → OnOk r (IfSome a (λ fit. fit ≡ true))
+fit-on (Err e) a b stays fit = tt
+fit-on (Ok x) None b stays fit = tt
+fit-on (Ok x) (Some own) b stays fit = rw stays at fit
+
 -- a text that fits its bound is as short
 pub fit-short : {A : Type 0} (r : Result A Refusal) (text : Option (List ℕ)) (fits : Option Bool)
     → Stays (option_map (is_within 67108864) text) fits → OnOk r (IfSome fits (λ fit. fit ≡ true))

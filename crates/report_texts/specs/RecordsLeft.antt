@@ -1,5 +1,6 @@
 -- The records that are left of a text, with the one at hand.
 use Rattle.std.specs.Prelude.{◌≡◌, ℕ, List, [], ◌∷◌, ⊤, Bool, true, Option, Some, None, option_map, if◌then◌else◌}
+use Rattle.csv.specs.Reading.{has_failed}
 use Rattle.csv.specs.Records.{fields_of}
 use Rattle.text_base.specs.Plain.{IsPlain}
 use Rattle.text_base.specs.CsvRecords.{Fields}
@@ -31,6 +32,10 @@ record_line r = r.line
 
 abbrev pub IsReady : {R : Type 0} → Records R → Type 0
 IsReady r = IsPlain r.rows
+
+-- whether csv's reader has failed
+abbrev pub reader_failed : {R : Type 0} → Records R → Bool
+reader_failed r = has_failed r.rows
 
 -- the record at hand and those after it, where they are known
 abbrev pub with_hand : Bool → Fields → Option (List Fields) → Option (List Fields)

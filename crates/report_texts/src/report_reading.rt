@@ -1,10 +1,11 @@
 //! Reports read from texts, whole or for their work alone.
 
-ghost use Rattle.std.specs.Prelude.{◌≡◌, ◌≤◌, List, map, true, IfOk, IfSome, OnOk, length, option_map};
+ghost use Rattle.std.specs.Prelude.{◌≡◌, ◌≤◌, ◌<◌, ◌+◌, List, map, true, IfOk, IfSome, OnOk, length, option_map};
 ghost use Rattle.csv.specs.Records.{fields_of};
+ghost use Rattle.text_base.specs.Readings.{FailsAtReadFault};
 ghost use Rattle.report_texts.specs.KeptDies.{ReadsCert, ReadsKept, SaysKept};
 ghost use Rattle.report_texts.specs.Numbering.{AreNumbered};
-ghost use Rattle.report_texts.specs.RecordsLeft.{IsReady, Stays, record_line, records_fit, records_left};
+ghost use Rattle.report_texts.specs.RecordsLeft.{IsReady, Stays, reader_failed, record_line, records_fit, records_left};
 ghost use Rattle.report_texts.specs.ReportHeader.{is_report_header};
 ghost use Rattle.report_texts.specs.ReportOf.{Reads, Says, certs_from, no_rows, report_from, report_of, rows_from};
 ghost use Rattle.report_texts.specs.ReportWork.{AllRise, SaysWork};
@@ -50,6 +51,9 @@ fn take_header<R: Read>(records: &mut Records<R>) -> Result<(), Refusal>
     ensures fits { OnOk result
         (Stays (records_fit R.remaining records.old) (records_fit R.remaining records.new)) }
     ensures ready { OnOk result (IsReady records.new) }
+    ensures second { OnOk result (record_line records.new ≡ 2) }
+    ensures failed { FailsAtReadFault (reader_failed records.old) (reader_failed records.new)
+        result }
 {
     let Some(fields) = records.get() else {
         return Err(Refusal::ReportText { line: 1 });
@@ -65,13 +69,18 @@ fn take_rows<R: Read, K: KeptDie>(
     alloc: Global,
     records: &mut Records<R>,
 ) -> Result<Items<K>, Refusal>
-    requires { IsReady records.old }
+    requires ready { IsReady records.old }
+    requires second { record_line records.old ≡ 2 }
     ensures read { ReadsKept K.kept_of (rows_from no_rows (record_line records.old)) (λ dies.
         certs_from dies (record_line records.new))
         (records_left R.remaining records.old) (records_left R.remaining records.new) result }
     ensures fits { OnOk result
         (Stays (records_fit R.remaining records.old) (records_fit R.remaining records.new)) }
     ensures ready { OnOk result (IsReady records.new) }
+    ensures line { OnOk result (record_line records.new ≤ 524290) }
+    ensures few { IfOk result (λ dies. length dies ≤ 8) }
+    ensures failed { FailsAtReadFault (reader_failed records.old) (reader_failed records.new)
+        result }
 {
     let mut kept = no_rows(alloc);
     while let Some(fields) = records.get_row() {
@@ -95,13 +104,17 @@ fn take_cert<R: Read, K: KeptDie>(
     records: &mut Records<R>,
     die: &mut K,
 ) -> Result<(), Refusal>
-    requires { IsReady records.old }
+    requires ready { IsReady records.old }
+    requires line { record_line records.old < 4294967295 }
     ensures read { (d : DieReport) → die.old ≡ K.kept_of d →
         ReadsCert K.kept_of d die.new (record_line records.old) (record_line records.new)
         (records_left R.remaining records.old) (records_left R.remaining records.new) result }
     ensures fits { OnOk result
         (Stays (records_fit R.remaining records.old) (records_fit R.remaining records.new)) }
     ensures ready { OnOk result (IsReady records.new) }
+    ensures line { OnOk result (record_line records.new ≤ record_line records.old + 1) }
+    ensures failed { FailsAtReadFault (reader_failed records.old) (reader_failed records.new)
+        result }
 {
     let Some(worst) = die.worst() else {
         return Ok(());
@@ -123,12 +136,16 @@ fn take_certs<R: Read, K: KeptDie>(
     records: &mut Records<R>,
     dies: Items<K>,
 ) -> Result<Items<K>, Refusal>
-    requires { IsReady records.old }
+    requires ready { IsReady records.old }
+    requires line { record_line records.old ≤ 524290 }
+    requires few { length dies ≤ 8 }
     ensures kept { (ds : List DieReport) → dies ≡ map K.kept_of ds → AreNumbered ds →
         SaysKept K.kept_of (option_map (certs_from ds (record_line records.old))
         (records_left R.remaining records.old)) result }
     ensures fits { OnOk result (IfSome (records_fit R.remaining records.old) (λ fits.
         fits ≡ true)) }
+    ensures failed { FailsAtReadFault (reader_failed records.old) (reader_failed records.new)
+        result }
 {
     let mut dies = dies.into_vec();
     for i in 0..dies.len() {
@@ -145,15 +162,32 @@ fn take_certs<R: Read, K: KeptDie>(
     Ok(Items::from_vec(dies))
 }
 
+/// Takes a report from its header on, and keeps of its dies what `K` does.
+fn take_kept<R: Read, K: KeptDie>(
+    alloc: Global,
+    records: &mut Records<R>,
+) -> Result<Items<K>, Refusal>
+    requires ready { IsReady records.old }
+    requires first { record_line records.old ≡ 1 }
+    ensures kept { SaysKept K.kept_of (option_map report_from
+        (records_left R.remaining records.old)) result }
+    ensures fits { OnOk result (IfSome (records_fit R.remaining records.old) (λ fits.
+        fits ≡ true)) }
+    ensures failed { FailsAtReadFault (reader_failed records.old) (reader_failed records.new)
+        result }
+{
+    take_header(records)?;
+    let dies = take_rows(alloc, records)?;
+    take_certs(alloc, records, dies)
+}
+
 /// Reads a report, and keeps of its dies what `K` does.
 fn read_kept<R: Read + Drop, K: KeptDie>(alloc: Global, reader: R) -> Result<Items<K>, Refusal>
     ensures kept { SaysKept K.kept_of (option_map report_of (R.remaining reader)) result }
     ensures bound { OnOk result (IfSome (R.remaining reader) (λ text. length text ≤ 67108864)) }
 {
     let mut records = records_in(alloc, reader)?;
-    take_header(&mut records)?;
-    let dies = take_rows(alloc, &mut records)?;
-    take_certs(alloc, &mut records, dies)
+    take_kept(alloc, &mut records)
 }
 
 /// Reads a report, csv as `ScriptReader` reads it, within the same bound.

@@ -1,10 +1,10 @@
 //! The records of a report, with the one at hand.
 
-ghost use Rattle.std.specs.Prelude.{◌≡◌, ◌+◌, IfOk, IfErr, OnOk, option_map, true};
+ghost use Rattle.std.specs.Prelude.{◌≡◌, ◌+◌, ◌<◌, false, IfOk, IfErr, OnOk, option_map, true};
 ghost use Rattle.csv.specs.Records.{fields_of};
-ghost use Rattle.text_base.specs.Readings.{IsOutside};
+ghost use Rattle.text_base.specs.Readings.{FailsAtReadFault, IsOutside};
 ghost use Rattle.report_texts.specs.RecordsLeft.{IsReady, Loses, Stays, at_hand, is_found, record_line, records_fit, records_left};
-ghost use Rattle.report_texts.specs.RecordsLeft.{row_at_hand};
+ghost use Rattle.report_texts.specs.RecordsLeft.{reader_failed, row_at_hand};
 ghost use Rattle.text_base.specs.Marks.{is_within};
 ghost use Rattle.text_base.specs.CsvRecords.{rows_of};
 
@@ -33,6 +33,7 @@ pub fn records_in<R: Read + Drop>(alloc: Global, reader: R) -> Result<Records<R>
         (records_fit R.remaining made)) }
     ensures ready { IfOk result (λ made. IsReady made) }
     ensures line { IfOk result (λ made. record_line made ≡ 1) }
+    ensures fresh { IfOk result (λ made. reader_failed made ≡ false) }
     ensures refused { IfErr result (λ e. IsOutside e) }
 {
     let mut records = Records {
@@ -82,6 +83,7 @@ impl<R: Read> Records<R> {
     pub fn advance(&mut self) -> Result<(), Refusal>
         requires ready { IsReady self.old }
         requires found { is_found self.old ≡ true }
+        requires line { record_line self.old < 4294967295 }
         ensures next { OnOk result
             (Loses (records_left R.remaining self.old) (records_left R.remaining self.new)) }
         ensures fits { OnOk result
@@ -89,11 +91,8 @@ impl<R: Read> Records<R> {
         ensures ready { OnOk result (IsReady self.new) }
         ensures line { OnOk result (record_line self.new ≡ record_line self.old + 1) }
         ensures refused { IfErr result (λ e. IsOutside e) }
+        ensures failed { FailsAtReadFault (reader_failed self.old) (reader_failed self.new) result }
     {
-        // A text within the bound has fewer records than this.
-        if self.line == u32::MAX {
-            return Err(Refusal::ReadFault);
-        }
         self.found = take_row(&mut self.rows, &mut self.fields)?;
         self.line += 1;
         Ok(())

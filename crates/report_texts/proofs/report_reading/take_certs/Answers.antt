@@ -1,4 +1,4 @@
-use Rattle.std.proofs.Common.{arith, rules, ◌<◌, ◌≤◌, ◌∙◌, sym, length, length-set}
+use Rattle.std.proofs.Common.{arith, rules, ◌<◌, ◌≤◌, ◌∙◌, refl, sym, length, length-set}
 use Rattle.csv.specs.Records.{fields_of}
 use Rattle.report_texts.specs.RecordsLeft.{record_line}
 use Rattle.report_texts.proofs.KeptLaws.{certs-done, certs-next, certs-past, certs-start, certs-stop, stays-same}
@@ -7,7 +7,10 @@ use Rattle.report_texts.proofs.report_reading.take_certs.Goals as goal
 
 pub loop-i-init : goal.loop-i-init
 loop-i-init g c = record {
-  ready = c.requires;
+  ready = c.requires.ready;
+  failed = refl;
+  line = omega (arith, c.requires.line);
+  few = search rules;
   fits = stays-same _;
   len = search rules;
   read = λ ds is numbered. certs-start _ _ ds _ _ is numbered;
@@ -25,6 +28,9 @@ loop-i-preserved g c =
     let below : c.loop-i.i < length dies = omega (arith, c.loop-i.invariant.len) in
     record {
       ready = c.in-Ok.ensures.ready;
+      failed = c.in-Ok.ensures.failed ∙ c.loop-i.invariant.failed;
+      line = omega (arith, c.in-Ok.ensures.line, c.loop-i.invariant.line);
+      few = c.loop-i.invariant.few;
       fits = stays-then _ _ _ c.loop-i.invariant.fits c.in-Ok.ensures.fits;
       len = length-set dies c.loop-i.i c.take_cert.new.die ∙ c.loop-i.invariant.len;
       read = λ ds is numbered. certs-next _ dies c.loop-i.i (record_line c.loop-i.records) (record_line c.take_cert.new.records)
