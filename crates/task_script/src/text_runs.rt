@@ -41,7 +41,7 @@ struct RanStore {
 #[derive(Drop)]
 struct StoppedRun<S> {
     refusal: Refusal,
-    /// The script's reader, where reading the script was refused.
+    /// The script's reader, where it is the script that was refused.
     reader: Option<ScriptReader<S>>,
 }
 
@@ -107,8 +107,8 @@ fn finish<R: Threads + Wait + Sync>(
 /// Runs a script on fresh dies in memory. Its rows are read and run batch by batch: while the operations of a batch are
 /// read and it is run, the next one is read, so that no more of the script is kept than two batches of rows.
 ///
-/// Refused as the first fault of the script, or as NoMemory; or as ReadFault, which comes only with the script's reader,
-/// whose csv has failed.
+/// Refused as the first fault of the script, as NoMemory, or as ReadFault: that comes only together with the script's
+/// reader, whose csv reader has failed.
 fn run_all_batches<R: Threads + Wait + Sync, S: Read + Drop>(
     rt: &R,
     alloc: Global,
@@ -199,8 +199,9 @@ fn run_script<R: Threads + Wait + Sync, S: Read + Drop>(
 /// batch, and of the next one. A die is given up once its lines are made.
 ///
 /// It ends with the first fault of the script, as [`ScriptReader`](crate::ScriptReader) says it; with `ReadFault`, where
-/// reading the script fails; or with `NoMemory`. Nothing is written before the whole script was read and run, and nothing with these. `WriteFault`
-/// comes exactly where the writer fails: a front of the report was then written that isn't the whole.
+/// reading the script fails; or with `NoMemory`. Nothing is written before the whole script was read and run, and
+/// nothing with these. `WriteFault` comes exactly where the writer fails: a front of the report was then written that
+/// isn't the whole.
 pub fn run_text<R: Threads + Wait + Sync, S: Read + Drop, W: Output>(
     rt: &R,
     alloc: Global,
