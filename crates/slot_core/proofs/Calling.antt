@@ -216,6 +216,6 @@ module _ {N : Type 0} (ends : N → NandCall → Bool → N → Type 0) (failure
         h.slot,
         h.accepted,
         h.refusal_is,
-        subst (λ (o : Option NandCall). IsSome o) (sym (call.device.failed (ap Err h.refusal_is)).needed_is) tt,
+        subst (λ (o : Option NandCall). IsSome o) (sym (call.device.failed (ap Err h.refusal_is)).needed_is) refl,
       ))
       by (inr (inr (inr h))) = inr (inr (fails never (λ yes. true≢false (sym h.was_stopped ∙ runs yes)), h.refusal_is))
