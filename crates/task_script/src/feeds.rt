@@ -52,8 +52,8 @@ fn no_rows(alloc: Global, dies: usize) -> Result<Vec<RowTexts>, Refusal>
 
 /// By die the next rows of a script for so many dies: those up to its end or its first fault, or as many as are run at
 /// a time, 16,384 at most, and no further one once they have 4 MiB of operations. Their operations aren't read yet.
-/// `end` says what came then: where it is `More`, there is a row among them, and where it is ReadFault, csv's reader has
-/// failed. The only refusal of this call is NoMemory.
+/// `end` says what came then: where it is `More`, a row was read, and where it is ReadFault, csv's reader has failed.
+/// The only refusal of this call is NoMemory.
 pub fn read_rows<R: Read>(
     alloc: Global,
     script: &mut ScriptReader<R>,

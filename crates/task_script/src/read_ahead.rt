@@ -27,8 +27,8 @@ pub struct ReadScript<S> {
     pub rows: ReadRows,
 }
 
-/// Reads the next rows of a script for so many dies: one at least, unless the script ends or is refused, as ReadFault only
-/// where csv's reader has failed. The only refusal of this call is NoMemory.
+/// Reads the next rows of a script for so many dies: one at least, unless the script ends or is refused, as ReadFault
+/// only where csv's reader has failed. The only refusal of this call is NoMemory.
 pub fn read_next<S: Read + Drop>(
     alloc: Global,
     reader: ScriptReader<S>,

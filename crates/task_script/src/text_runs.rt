@@ -198,10 +198,10 @@ fn run_script<R: Threads + Wait + Sync, S: Read + Drop>(
 /// Rows are read and run batch by batch, so that the script is never kept whole: what is kept of it are the rows of a
 /// batch, and of the next one. A die is given up once its lines are made.
 ///
-/// It ends with the first fault of the script, as [`ScriptReader`](crate::ScriptReader) says it; with `ReadFault`, where
-/// reading the script fails; or with `NoMemory`. Nothing is written before the whole script was read and run, and
-/// nothing with these. `WriteFault` comes exactly where the writer fails: a front of the report was then written that
-/// isn't the whole.
+/// It ends with the first fault of the script, as [`ScriptReader`](crate::ScriptReader) says it; with `ReadFault`,
+/// where reading the script fails; or with `NoMemory`. Nothing is written before the whole script was read and run,
+/// and nothing with these. `WriteFault` comes exactly where the writer fails: a front of the report was then written
+/// that isn't the whole.
 pub fn run_text<R: Threads + Wait + Sync, S: Read + Drop, W: Output>(
     rt: &R,
     alloc: Global,
