@@ -37,22 +37,22 @@ struct RanStore {
     count: RunCount,
 }
 
-/// Why a run is given up.
+/// A run of a script that was refused.
 #[derive(Drop)]
-struct StoppedRun<S> {
+struct RefusedRun<S> {
     refusal: Refusal,
     /// The script's reader, where it is the script that was refused.
     reader: Option<ScriptReader<S>>,
 }
 
 /// Memory ran out, or the operations of rows are at fault.
-impl<S> From<Refusal> for StoppedRun<S> {
+impl<S> From<Refusal> for RefusedRun<S> {
     ghost use Rattle.std.specs.Prelude.{◌≡◌};
 
-    ghost from_gives = { λ refusal stopped. stopped.refusal ≡ refusal };
+    ghost from_gives = { λ refusal run. run.refusal ≡ refusal };
 
-    fn from(refusal: Refusal) -> StoppedRun<S> {
-        StoppedRun {
+    fn from(refusal: Refusal) -> RefusedRun<S> {
+        RefusedRun {
             refusal,
             reader: None,
         }
@@ -116,17 +116,17 @@ fn run_all_batches<R: Threads + Wait + Sync, S: Read + Drop>(
     script: S,
     slots: u32,
     workers: u32,
-) -> Result<RanStore, StoppedRun<S>>
+) -> Result<RanStore, RefusedRun<S>>
     requires some { 1 ≤ length plan.now }
     requires dies { length plan.now ≤ 8 }
     requires bound { All MeetsBound plan.now }
     requires workers { (1 ≤ workers) × (workers ≤ 16) }
     ensures ran { IfOk result (λ ran.
         RanScript (S.remaining script) plan.now slots ran.parts.items ran.count) }
-    ensures refused { IfErr result (λ stopped.
-        RefusesScript (S.remaining script) (length plan.now) slots stopped.refusal) }
-    ensures failed { IfErr result (λ stopped. stopped.refusal ≡ ReadFault →
-        IsSomeAnd stopped.reader (λ reader. reader_failed reader ≡ true)) }
+    ensures refused { IfErr result (λ run.
+        RefusesScript (S.remaining script) (length plan.now) slots run.refusal) }
+    ensures failed { IfErr result (λ run. run.refusal ≡ ReadFault →
+        IsSomeAnd run.reader (λ reader. reader_failed reader ≡ true)) }
 {
     let (store, passes) = new_store(alloc, plan.as_slice())?;
     let progress = no_progress(alloc, plan.len())?;
@@ -148,7 +148,7 @@ fn run_all_batches<R: Threads + Wait + Sync, S: Read + Drop>(
             }
             ReadEnd::Refused(refusal) => {
                 rows_of(rt, alloc, read.rows.dies, workers)?;
-                return Err(StoppedRun {
+                return Err(RefusedRun {
                     refusal,
                     reader: Some(read.reader),
                 });
@@ -178,7 +178,7 @@ fn run_script<R: Threads + Wait + Sync, S: Read + Drop>(
 {
     match run_all_batches(rt, alloc, plan, script, slots, workers) {
         Ok(ran) => Ok(ran),
-        Err(stopped) => Err(stopped.refusal),
+        Err(run) => Err(run.refusal),
     }
 }
 
