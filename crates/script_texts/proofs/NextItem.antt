@@ -79,5 +79,5 @@ module _ {R : Type 0} (rem : R → Option (List ℕ)) (old mid : ScriptReader R)
         dies = dies ∙ r.dies;
         slots = slots ∙ r.slots;
         again = (refused, rw r.again.0 tt);
-        failed = λ none. inr (no-read-fault (row_text head (ops_text mid)) e why, failed ∙ r.failed none);
+        failed = inr (no-read-fault (row_text head (ops_text mid)) e why, failed ∙ r.failed);
       }

@@ -1,5 +1,5 @@
 -- What reading the next item or row of a script answers and leaves.
-use Rattle.std.specs.Prelude.{◌≡◌, ℕ, ◌+◌, ◌≤◌, List, Option, None, Result, IfOk, IfSome}
+use Rattle.std.specs.Prelude.{◌≡◌, ℕ, ◌+◌, ◌≤◌, List, Option, Result, IfOk, IfSome}
 use Rattle.slot_types.specs.declared.refusals.Refusal.{Refusal}
 use Rattle.script_texts.specs.declared.script_rows.RowHead.{RowHead}
 use Rattle.script_texts.specs.declared.script_rows.ScriptItem.{ScriptItem}
@@ -23,7 +23,7 @@ pub record ReadsNext {R : Type 0} (remaining : R → Option (List ℕ)) (old new
   pub dies : dies_of new ≡ dies_of old
   pub slots : slots_of new ≡ slots_of old
   pub again : Recalls old new result
-  pub failed : old.refused ≡ None → FailsAtReadFault (reader_failed old) (reader_failed new) result
+  pub failed : FailsAtReadFault (reader_failed old) (reader_failed new) result
 
 -- the next row is read as it stands, or that there is none, or the first fault but for those of operations, which is answered again
 pub record ReadsRow {R : Type 0} (remaining : R → Option (List ℕ)) (old new : ScriptReader R) (result : Result (Option RowHead) Refusal)
@@ -32,7 +32,8 @@ pub record ReadsRow {R : Type 0} (remaining : R → Option (List ℕ)) (old new 
   pub bound : EndsFit (script_fits remaining old) (script_fits remaining new) result
   pub row : IfOk result (λ o. IfSome o (IsHeadFor (dies_of old) (slots_of old)))
   pub line : IfOk result (λ o. IfSome o (λ head. (line_of old ≤ head.line) × (line_of new ≡ head.line + 1)))
+  pub few : IfOk result (λ o. IfSome o (λ head. head.line ≤ 1000001))
   pub dies : dies_of new ≡ dies_of old
   pub slots : slots_of new ≡ slots_of old
   pub again : Recalls old new result
-  pub failed : old.refused ≡ None → FailsAtReadFault (reader_failed old) (reader_failed new) result
+  pub failed : FailsAtReadFault (reader_failed old) (reader_failed new) result

@@ -1,7 +1,9 @@
 //! Scripts, row by row.
 
-ghost use Rattle.std.specs.Prelude.{◌≡◌, ◌<◌, ◌≤◌, IfOk, IfSome, None, false, length, option_map};
+ghost use Rattle.std.specs.Prelude.{◌≡◌, ◌<◌, ◌≤◌, IfOk, IfSome, None, Some, false, true, length, option_map};
+ghost use Rattle.csv.specs.Reading.{has_failed};
 ghost use Rattle.slot_types.specs.Refusal.{FailsForMemory};
+ghost use Rattle.slot_types.specs.declared.refusals.Refusal.TheVariants.{ReadFault};
 ghost use Rattle.text_base.specs.Plain.{IsPlain};
 
 use crate::script_rows::{RowHead, ScriptItem, read_ops};
@@ -36,6 +38,7 @@ pub struct ScriptReader<R> {
     ghost plain: { refused ≡ None → IsPlain rows },
     ghost counted: { 0 < line },
     ghost bounded: { line ≤ 1000002 },
+    ghost failed: { refused ≡ Some ReadFault → has_failed rows ≡ true },
 }
 
 impl<R: Read> ScriptReader<R> {
@@ -120,7 +123,7 @@ impl<R: Read> ScriptReader<R> {
     /// The next row as it stands, for a caller that reads its operations later or elsewhere, by
     /// [`read_ops`](crate::read_ops): its head. Their text is [`ops_text`](ScriptReader::ops_text) until the next call;
     /// it isn't judged here, and a fault in it ends the script before all rows that come after. Each row has a greater
-    /// record number than those before it.
+    /// record number than those before it, and none one above 1,000,001.
     ///
     /// Every other fault is refused as [`next`](ScriptReader::next) says, and answered again.
     pub fn next_row(&mut self) -> Result<Option<RowHead>, Refusal>

@@ -1,5 +1,5 @@
 -- How the rows of a script are dealt to their dies as they are read.
-use Rattle.std.proofs.Common.{◌≡◌, inl, inr, ℕ, ◌+◌, ◌<◌, ◌≤◌, ◌==◌, Bool, true, false, cond, List, [], ◌∷◌, ◌++◌, refl, ap, sym, ◌∙◌, subst}
+use Rattle.std.proofs.Common.{◌≡◌, ◌≢◌, ◌⊎◌, inl, inr, ℕ, ◌+◌, ◌<◌, ◌≤◌, ◌==◌, Bool, true, false, cond, List, [], ◌∷◌, ◌++◌, refl, ap, sym, ◌∙◌, subst}
 use Rattle.std.proofs.Common.{append_assoc, filter, replicate, get_or, length, length-append, arith, Option, Some, None, Ok, Err}
 use Rattle.std.proofs.lemmas.Bool.{eq-eqb, eqb-true}
 use Rattle.std.proofs.lemmas.List.{append-nil, length-set, length-replicate, get_or-replicate, get_or-set_same, get_or-set_other}
@@ -10,6 +10,8 @@ use Rattle.std.proofs.lemmas.List.Folds.{sum_by-replicate}
 use Rattle.std.proofs.lemmas.List.Sums.{sum_by-set}
 use Rattle.std.proofs.Math.ListN.{set}
 use Rattle.slot_types.specs.declared.refusals.Refusal.{Refusal}
+use Rattle.slot_types.specs.declared.refusals.Refusal.TheVariants.{ReadFault}
+use Rattle.text_base.specs.Readings.{IsOutside}
 use Rattle.script_texts.specs.Arrivals.{IsHeadFor}
 use Rattle.script_texts.specs.RowTexts.{RowText}
 use Rattle.script_texts.specs.Script.{Gives, Reading}
@@ -163,6 +165,11 @@ reads_fault old left new dies slots line texts e step (h, behind) =
         → IfSome old (λ all. (more : Reading RowText) × (all ≡ rows_then h.rows more) × LeavesOff new more (Refused e))
     by None read = tt
     by (Some all) (more, all_is, left_is) = (more, all_is, given left more left_is step)
+
+-- where that is ReadFault, the reader of records has failed
+pub of_reader : (old new : Bool) (e : Refusal) → (IsOutside e × (new ≡ true)) ⊎ ((e ≢ ReadFault) × (new ≡ old)) → e ≡ ReadFault → new ≡ true
+of_reader old new e (inl (outside, failed)) is = failed
+of_reader old new e (inr (other, same)) is = absurd (other is)
 
 -- How many rows are dealt
 

@@ -1,6 +1,6 @@
 -- The rows of a script that were read so far.
 use Rattle.std.proofs.Common.{◌≡◌, List, [], ◌∷◌, ◌++◌, refl, ap, sym, ◌∙◌, subst, append_assoc, Option, Some, None, Ok, Err}
-use Rattle.std.specs.Prelude.{◌⊎◌, ⊤, ⊥, ℕ, ◌<◌, All, IfSome, get_or, length, option_map}
+use Rattle.std.specs.Prelude.{◌⊎◌, ⊤, ℕ, ◌<◌, All, IfSome, get_or, length, option_map}
 use Rattle.std.proofs.lemmas.List.{append-nil}
 use Rattle.slot_types.specs.declared.refusals.Refusal.{Refusal}
 use Rattle.text_base.specs.Readings.{IsOutside}

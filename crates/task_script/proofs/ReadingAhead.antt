@@ -11,10 +11,10 @@ use Rattle.script_texts.specs.Script.{Reading, Script, script_of}
 use Rattle.script_texts.specs.declared.script_rows.ScriptItem.{ScriptItem}
 use Rattle.task_script.specs.Batches.{CanRun, RanTexts, rows_counted}
 use Rattle.task_script.specs.Feeds.{RefusesScript, rows_dealt}
-use Rattle.task_script.specs.RowTexts.{AreRead, FailsToRead, HasReadTexts}
+use Rattle.task_script.specs.RowTexts.{AreRead, FailsToRead, GoesOn, HasReadTexts}
 use Rattle.task_script.specs.declared.batches.Progress.{Progress}
 use Rattle.task_script.specs.declared.feeds.ReadEnd.{ReadEnd}
-use Rattle.task_script.specs.declared.feeds.ReadEnd.TheVariants.{More, Refused}
+use Rattle.task_script.specs.declared.feeds.ReadEnd.TheVariants.{More, Ended, Refused}
 use Rattle.task_script.proofs.Batching.{SoFar, as_many, fails_by, so_far_more}
 use Rattle.task_script.proofs.RowReading.{as_script, fails_after, fails_within, one_die_each, reads_more}
 
@@ -80,3 +80,9 @@ ahead_can whole left plans slots ps progress texts end store workers own threads
         threads = threads;
       },
     )
+
+-- where more may be left after these rows, the next record's number has grown from an earlier one, too
+pub goes_from : (first old new : ℕ) (end : ReadEnd) → first ≤ old → GoesOn old new end → GoesOn first new end
+goes_from first old new More before grown = (omega (arith, before, grown.0), grown.1)
+goes_from first old new Ended before grown = tt
+goes_from first old new (Refused e) before grown = tt

@@ -1,5 +1,5 @@
 -- What the rows of a script say once their operations are read, die by die.
-use Rattle.std.proofs.Common.{◌≡◌, ◌⊎◌, inl, inr, ℕ, zero, suc, ◌+◌, ◌<◌, ◌≤◌, ◌==◌, Bool, true, false, cond, List, [], ◌∷◌, ◌++◌, refl, ap, sym}
+use Rattle.std.proofs.Common.{◌≡◌, ◌≢◌, ◌⊎◌, inl, inr, ℕ, zero, suc, ◌+◌, ◌<◌, ◌≤◌, ◌==◌, Bool, true, false, cond, List, [], ◌∷◌, ◌++◌, refl, ap, sym}
 use Rattle.std.proofs.Common.{◌∙◌, subst, length, get_or, drop, arith, Option, Some, None, Result, Ok, Err}
 use Rattle.std.specs.Prelude.{All, IfSome, option_map}
 use Rattle.std.specs.List.{AllByRecursion, AllZip}
@@ -15,7 +15,7 @@ use Rattle.slot_types.specs.declared.events.Event.TheVariants.{Submit, Collect}
 use Rattle.slot_types.specs.declared.events.Op.{Op}
 use Rattle.slot_types.specs.declared.refusals.Cause.TheVariants as cause
 use Rattle.slot_types.specs.declared.refusals.Refusal.{Refusal}
-use Rattle.slot_types.specs.declared.refusals.Refusal.TheVariants.{NoMemory, ScriptRow}
+use Rattle.slot_types.specs.declared.refusals.Refusal.TheVariants.{NoMemory, ReadFault, ScriptRow}
 use Rattle.text_base.specs.Fields.{field_or}
 use Rattle.text_base.specs.Ops.{ops_of, ops_or}
 use Rattle.text_base.specs.Readings.{◌>>=◌}
@@ -24,6 +24,7 @@ use Rattle.script_texts.specs.AskedPages.{AsksPages, RowHasPages, WritesPage}
 use Rattle.script_texts.specs.RowTexts.{RowText, item_in, item_with, row_text}
 use Rattle.script_texts.specs.Script.{Reading, Script, items_from, items_in, items_or, then_rest, whole, with_front}
 use Rattle.script_texts.specs.ScriptRows.{event_of, fault}
+use Rattle.script_texts.proofs.RowItems.{no-read-fault}
 use Rattle.script_texts.proofs.ScriptPages.{ops_found, ops_read}
 use Rattle.script_texts.specs.declared.script_rows.RowHead.{RowHead}
 use Rattle.script_texts.specs.declared.script_rows.ScriptItem.{ScriptItem}
@@ -587,3 +588,16 @@ fails_within old new dies slots texts end e h (inr f) = inr (by old h.read (deal
     by None read is = tt
     by (Some all) (more, all_is, left) is = ap (λ (r : Reading RowText). whole (items_in r)) all_is
         ∙ fault_then h.rows e is more.items more.fault
+
+-- it is never ReadFault
+rows_fault : (rows : List RowText) (e : Refusal) → read_of rows ≡ Err e → e ≢ ReadFault
+rows_fault [] e is = absurd (none_fail e is)
+rows_fault (row ∷ rows) e is = by (λ later. rows_fault rows e later) (fails row rows e is)
+  where
+    by : (read_of rows ≡ Err e → e ≢ ReadFault) → Fails row rows e → e ≢ ReadFault
+    by again (inl here) = no-read-fault row e (inr here)
+    by again (inr (item, first, later)) = again later
+
+pub not_of_reader : (texts : List (List RowText)) (e : Refusal) → FailsToRead texts e → e ≢ ReadFault
+not_of_reader texts e (inl memory) is = absurd (cc (sym memory ∙ is))
+not_of_reader texts e (inr f) is = rows_fault (get_or texts f.die []) e f.fault is

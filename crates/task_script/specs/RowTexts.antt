@@ -1,8 +1,8 @@
 -- Rows of a script as they stand, by die, and what reading their operations gives.
-use Rattle.std.specs.Prelude.{◌≡◌, ◌==◌, ◌⊎◌, ℕ, ◌<◌, ◌≤◌, ◌+◌, List, [], ◌∷◌, ◌++◌, All, filter, get_or, length, map}
+use Rattle.std.specs.Prelude.{◌≡◌, ◌==◌, ◌⊎◌, ⊤, ℕ, ◌<◌, ◌≤◌, ◌+◌, Bool, true, List, [], ◌∷◌, ◌++◌, All, filter, get_or, length, map}
 use Rattle.std.specs.Prelude.{Option, Some, None, IfSome, Ok, Err}
 use Rattle.slot_types.specs.declared.refusals.Refusal.{Refusal}
-use Rattle.slot_types.specs.declared.refusals.Refusal.TheVariants.{NoMemory, ScriptRow}
+use Rattle.slot_types.specs.declared.refusals.Refusal.TheVariants.{NoMemory, ReadFault, ScriptRow}
 use Rattle.script_texts.specs.Arrivals.{IsHeadFor}
 use Rattle.script_texts.specs.RowTexts.{RowText, row_text}
 use Rattle.script_texts.specs.Script.{Reading, Script, at_end, at_fault, items_from, whole}
@@ -56,6 +56,18 @@ abbrev pub LeavesOff : Option (Reading RowText) → Reading RowText → ReadEnd 
 LeavesOff new more More = new ≡ Some more
 LeavesOff new more Ended = more ≡ at_end
 LeavesOff new more (Refused e) = IsOutside e ⊎ (more ≡ at_fault e)
+
+-- ReadFault ends the reading only where the script's reader of records has failed
+abbrev pub EndsWithReader : Bool → ReadEnd → Type 0
+EndsWithReader failed More = ⊤
+EndsWithReader failed Ended = ⊤
+EndsWithReader failed (Refused e) = e ≡ ReadFault → failed ≡ true
+
+-- where more may be left, the next record's number has grown, and it is at most one above 1,000,001, the greatest of a row
+abbrev pub GoesOn : ℕ → ℕ → ReadEnd → Type 0
+GoesOn old new More = (old < new) × (new ≤ 1000002)
+GoesOn old new Ended = ⊤
+GoesOn old new (Refused e) = ⊤
 
 -- of what was left these rows were read, by die
 pub record HasReadTexts (old new : Option (Reading RowText)) (dies slots : ℕ) (texts : List (List RowText)) (end : ReadEnd) : Type 0 where

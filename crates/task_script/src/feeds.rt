@@ -2,9 +2,9 @@
 
 ghost use Rattle.std.specs.Prelude.{◌≡◌, ◌≤◌, [], replicate, IfOk};
 ghost use Rattle.slot_types.specs.Refusal.{FailsForMemory};
-ghost use Rattle.script_texts.specs.ScriptLeft.{dies_of, script_rows_left, slots_of};
+ghost use Rattle.script_texts.specs.ScriptLeft.{dies_of, line_of, reader_failed, script_rows_left, slots_of};
 ghost use Rattle.task_script.specs.Feeds.{rows_dealt};
-ghost use Rattle.task_script.specs.RowTexts.{HasReadTexts};
+ghost use Rattle.task_script.specs.RowTexts.{EndsWithReader, GoesOn, HasReadTexts};
 
 use crate::row_texts::RowTexts;
 use script_texts::ScriptReader;
@@ -26,8 +26,8 @@ pub enum ReadEnd {
     More,
     /// The script has no further row.
     Ended,
-    /// The script is at fault after them, or reading it was refused. A fault in the operations of these rows comes
-    /// before that.
+    /// The script is at fault after them, or reading it was refused: as ReadFault only where csv's reader has failed. A
+    /// fault in the operations of these rows comes before that.
     Refused(Refusal),
 }
 
@@ -52,7 +52,8 @@ fn no_rows(alloc: Global, dies: usize) -> Result<Vec<RowTexts>, Refusal>
 
 /// By die the next rows of a script for so many dies: those up to its end or its first fault, or as many as are run at
 /// a time, 16,384 at most, and no further one once they have 4 MiB of operations. Their operations aren't read yet.
-/// `end` says what came then. The only refusal of this call is NoMemory.
+/// `end` says what came then: where it is `More`, a row was read, and where it is ReadFault, csv's reader has failed.
+/// The only refusal of this call is NoMemory.
 pub fn read_rows<R: Read>(
     alloc: Global,
     script: &mut ScriptReader<R>,
@@ -64,6 +65,9 @@ pub fn read_rows<R: Read>(
         (script_rows_left R.remaining script.new) dies (slots_of script.old) rows.dies.items
         rows.end) }
     ensures few { IfOk result (λ rows. rows_dealt rows.dies.items ≤ 16384) }
+    ensures more { IfOk result (λ rows.
+        GoesOn (line_of script.old) (line_of script.new) rows.end) }
+    ensures failed { IfOk result (λ rows. EndsWithReader (reader_failed script.new) rows.end) }
     ensures refused { FailsForMemory result }
     ensures dies { dies_of script.new ≡ dies_of script.old }
     ensures slots { slots_of script.new ≡ slots_of script.old }

@@ -1,11 +1,11 @@
 //! Batches of a script's rows, each of which is read while the one before it is run.
 
 ghost use Rattle.std.specs.Prelude.{◌≡◌, ◌≤◌, IfErr, IfOk, length};
-ghost use Rattle.script_texts.specs.ScriptLeft.{dies_of, script_rows_left, slots_of};
+ghost use Rattle.script_texts.specs.ScriptLeft.{dies_of, line_of, reader_failed, script_rows_left, slots_of};
 ghost use Rattle.slot_types.specs.Refusal.{FailsForMemory};
 ghost use Rattle.task_script.specs.Batches.{CanRun, RanTexts};
 ghost use Rattle.task_script.specs.Feeds.{rows_dealt};
-ghost use Rattle.task_script.specs.RowTexts.{FailsToRead, HasReadTexts};
+ghost use Rattle.task_script.specs.RowTexts.{EndsWithReader, FailsToRead, GoesOn, HasReadTexts};
 
 use crate::batches::{RunDies, run_rows};
 use crate::die_ops::rows_of;
@@ -27,7 +27,8 @@ pub struct ReadScript<S> {
     pub rows: ReadRows,
 }
 
-/// Reads the next rows of a script for so many dies. The only refusal is NoMemory.
+/// Reads the next rows of a script for so many dies: one at least, unless the script ends or is refused, as ReadFault
+/// only where csv's reader has failed. The only refusal of this call is NoMemory.
 pub fn read_next<S: Read + Drop>(
     alloc: Global,
     reader: ScriptReader<S>,
@@ -39,6 +40,10 @@ pub fn read_next<S: Read + Drop>(
         (script_rows_left S.remaining read.reader) dies (slots_of reader) read.rows.dies.items
         read.rows.end) }
     ensures few { IfOk result (λ read. rows_dealt read.rows.dies.items ≤ 16384) }
+    ensures more { IfOk result (λ read.
+        GoesOn (line_of reader) (line_of read.reader) read.rows.end) }
+    ensures failed { IfOk result (λ read.
+        EndsWithReader (reader_failed read.reader) read.rows.end) }
     ensures refused { FailsForMemory result }
     ensures dies { IfOk result (λ read. dies_of read.reader ≡ dies) }
     ensures slots { IfOk result (λ read. slots_of read.reader ≡ slots_of reader) }
@@ -98,6 +103,10 @@ pub fn run_and_read<R: Threads + Wait + Sync, S: Read + Drop>(
         (script_rows_left S.remaining made.1.reader) (length store.now) (slots_of read.reader)
         made.1.rows.dies.items made.1.rows.end) }
     ensures few { IfOk result (λ made. rows_dealt made.1.rows.dies.items ≤ 16384) }
+    ensures more { IfOk result (λ made.
+        GoesOn (line_of read.reader) (line_of made.1.reader) made.1.rows.end) }
+    ensures failed { IfOk result (λ made.
+        EndsWithReader (reader_failed made.1.reader) made.1.rows.end) }
     ensures dies { IfOk result (λ made. dies_of made.1.reader ≡ length store.now) }
     ensures slots { IfOk result (λ made. slots_of made.1.reader ≡ slots_of read.reader) }
     ensures refused { IfErr result (FailsToRead read.rows.dies.items) }

@@ -1,7 +1,9 @@
 //! Scripts that are run on the dies of a store.
 
-ghost use Rattle.std.specs.Prelude.{◌≡◌, ◌<◌, ◌≤◌, ◌^◌, All, length, map, true, IfOk, IfErr, OnOk};
+ghost use Rattle.std.specs.Prelude.{◌≡◌, ◌<◌, ◌≤◌, ◌^◌, All, length, map, true, IfOk, IfErr, IsSomeAnd, OnOk};
+ghost use Rattle.script_texts.specs.ScriptLeft.{reader_failed};
 ghost use Rattle.slot_types.specs.Refusal.{FailsForMemory};
+ghost use Rattle.slot_types.specs.declared.refusals.Refusal.TheVariants.{ReadFault};
 ghost use Rattle.plan_rules.specs.Bound.{MeetsBound};
 ghost use Rattle.task_script.specs.Batches.{Closes, joined_counts, rows_counted};
 ghost use Rattle.task_script.specs.PlannedRuns.{RunsAsPlanned, RunsSo};
@@ -33,6 +35,28 @@ use text_base::Output;
 struct RanStore {
     parts: Vec<ReportText>,
     count: RunCount,
+}
+
+/// A run of a script that was refused.
+#[derive(Drop)]
+struct RefusedRun<S> {
+    refusal: Refusal,
+    /// The script's reader, where it is the script that was refused.
+    reader: Option<ScriptReader<S>>,
+}
+
+/// Memory ran out, or the operations of rows are at fault.
+impl<S> From<Refusal> for RefusedRun<S> {
+    ghost use Rattle.std.specs.Prelude.{◌≡◌};
+
+    ghost from_gives = { λ refusal run. run.refusal ≡ refusal };
+
+    fn from(refusal: Refusal) -> RefusedRun<S> {
+        RefusedRun {
+            refusal,
+            reader: None,
+        }
+    }
 }
 
 /// The count of the rows of all dies.
@@ -82,21 +106,27 @@ fn finish<R: Threads + Wait + Sync>(
 
 /// Runs a script on fresh dies in memory. Its rows are read and run batch by batch: while the operations of a batch are
 /// read and it is run, the next one is read, so that no more of the script is kept than two batches of rows.
-fn run_script<R: Threads + Wait + Sync, S: Read + Drop>(
+///
+/// Refused as the first fault of the script, as NoMemory, or as ReadFault: that comes only together with the script's
+/// reader, whose csv reader has failed.
+fn run_all_batches<R: Threads + Wait + Sync, S: Read + Drop>(
     rt: &R,
     alloc: Global,
     plan: &StorePlan,
     script: S,
     slots: u32,
     workers: u32,
-) -> Result<RanStore, Refusal>
+) -> Result<RanStore, RefusedRun<S>>
     requires some { 1 ≤ length plan.now }
     requires dies { length plan.now ≤ 8 }
     requires bound { All MeetsBound plan.now }
     requires workers { (1 ≤ workers) × (workers ≤ 16) }
     ensures ran { IfOk result (λ ran.
         RanScript (S.remaining script) plan.now slots ran.parts.items ran.count) }
-    ensures refused { IfErr result (RefusesScript (S.remaining script) (length plan.now) slots) }
+    ensures refused { IfErr result (λ run.
+        RefusesScript (S.remaining script) (length plan.now) slots run.refusal) }
+    ensures failed { IfErr result (λ run. run.refusal ≡ ReadFault →
+        IsSomeAnd run.reader (λ reader. reader_failed reader ≡ true)) }
 {
     let (store, passes) = new_store(alloc, plan.as_slice())?;
     let progress = no_progress(alloc, plan.len())?;
@@ -113,16 +143,43 @@ fn run_script<R: Threads + Wait + Sync, S: Read + Drop>(
             ReadEnd::Ended => {
                 let texts = read.rows.dies;
                 let ran = run_texts(rt, alloc, &store, dies, texts, slots, workers)?;
-                return finish(rt, alloc, store, ran, workers);
+                let whole = finish(rt, alloc, store, ran, workers)?;
+                return Ok(whole);
             }
             ReadEnd::Refused(refusal) => {
                 rows_of(rt, alloc, read.rows.dies, workers)?;
-                return Err(refusal);
+                return Err(RefusedRun {
+                    refusal,
+                    reader: Some(read.reader),
+                });
             }
         }
     }
-    // No script has so many rows: each record has a number of its own below 2^32, and a batch has a row.
-    Err(Refusal::ReadFault)
+    // No script has so many batches: each but the last has a row, and no row has a number above 1,000,001.
+    unreachable!()
+}
+
+/// Runs a script on fresh dies in memory, without its reader after that.
+fn run_script<R: Threads + Wait + Sync, S: Read + Drop>(
+    rt: &R,
+    alloc: Global,
+    plan: &StorePlan,
+    script: S,
+    slots: u32,
+    workers: u32,
+) -> Result<RanStore, Refusal>
+    requires some { 1 ≤ length plan.now }
+    requires dies { length plan.now ≤ 8 }
+    requires bound { All MeetsBound plan.now }
+    requires workers { (1 ≤ workers) × (workers ≤ 16) }
+    ensures ran { IfOk result (λ ran.
+        RanScript (S.remaining script) plan.now slots ran.parts.items ran.count) }
+    ensures refused { IfErr result (RefusesScript (S.remaining script) (length plan.now) slots) }
+{
+    match run_all_batches(rt, alloc, plan, script, slots, workers) {
+        Ok(ran) => Ok(ran),
+        Err(run) => Err(run.refusal),
+    }
 }
 
 /// Runs a script on a store of 1 to 8 dies in memory by 1 to 16 workers, and writes the report of what became of it.
@@ -141,9 +198,10 @@ fn run_script<R: Threads + Wait + Sync, S: Read + Drop>(
 /// Rows are read and run batch by batch, so that the script is never kept whole: what is kept of it are the rows of a
 /// batch, and of the next one. A die is given up once its lines are made.
 ///
-/// It ends with the first fault of the script, as [`ScriptReader`](crate::ScriptReader) says it; with `ReadFault`; or
-/// with `NoMemory`. Nothing is written before the whole script was read and run, and nothing with these. `WriteFault`
-/// comes exactly where the writer fails: a front of the report was then written that isn't the whole.
+/// It ends with the first fault of the script, as [`ScriptReader`](crate::ScriptReader) says it; with `ReadFault`,
+/// where reading the script fails; or with `NoMemory`. Nothing is written before the whole script was read and run,
+/// and nothing with these. `WriteFault` comes exactly where the writer fails: a front of the report was then written
+/// that isn't the whole.
 pub fn run_text<R: Threads + Wait + Sync, S: Read + Drop, W: Output>(
     rt: &R,
     alloc: Global,

@@ -1,4 +1,4 @@
-use Rattle.std.proofs.Common.{◌≡◌, ◌≤◌}
+use Rattle.std.proofs.Common.{◌≡◌, ◌≤◌, ◌<◌, ◌+◌}
 use Rattle.script_texts.specs.ScriptLeft.{dies_of, line_of, script_rows_left, slots_of}
 use Rattle.task_script.specs.Feeds.{rows_dealt}
 use Rattle.task_script.proofs.Dealing.{HasReadTo}
@@ -11,4 +11,6 @@ invariant-loop g l = record {
   read : HasReadTo (script_rows_left g.R.Read.remaining l.fn.script) (script_rows_left g.R.Read.remaining l.script) l.dies
       (slots_of l.fn.script) l.rows.items (line_of l.script);
   few : rows_dealt l.rows.items ≤ l.counter;
+  later : line_of l.fn.script + l.counter ≤ line_of l.script;
+  below : 0 < l.counter → line_of l.script ≤ 1000002;
 }

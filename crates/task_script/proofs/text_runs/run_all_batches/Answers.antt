@@ -2,9 +2,9 @@ use Rattle.std.proofs.Common.{rules, ◌∙◌, arith}
 use Rattle.slot_types.specs.declared.refusals.Refusal.{Refusal}
 use Rattle.task_script.proofs.Batching.{none_counted, so_far_none}
 use Rattle.task_script.proofs.Gathering.{ran_sole, script_ran}
-use Rattle.task_script.proofs.ReadingAhead.{ahead_can, ahead_fails, ahead_more, ahead_refused, texts_as}
-use Rattle.task_script.proofs.Results.{ok_weaker}
-use Rattle.task_script.proofs.text_runs.run_script.Goals as goal
+use Rattle.task_script.proofs.ReadingAhead.{ahead_can, ahead_fails, ahead_more, ahead_refused, goes_from, texts_as}
+use Rattle.task_script.proofs.RowReading.{not_of_reader}
+use Rattle.task_script.proofs.text_runs.run_all_batches.Goals as goal
 
 pub loop-init : goal.loop-init
 loop-init g c = record {
@@ -19,6 +19,9 @@ loop-init g c = record {
   };
   few = none_counted _ _ c.in_ok-progress.ensures.ok;
   next = c.in_ok-read.ensures.few;
+  failed = c.in_ok-read.ensures.failed;
+  more = goes_from _ _ _ _ (omega arith) c.in_ok-read.ensures.more;
+  batches = omega arith;
 }
 
 pub run_and_read-requires-clause-run : goal.run_and_read-requires-clause-run
@@ -47,6 +50,7 @@ loop-preserved g c =
     let can = ahead_can _ _ c.args.plan.now c.args.slots _ _ _ _ _ _ c.loop.invariant.own c.requires.workers
     (omega (arith, c.loop.invariant.few, c.loop.invariant.next)) c.loop.invariant.ahead in
     let read = texts_as _ _ _ _ _ _ _ _ can.0 c.loop.invariant.slots c.in_ok-ran-in-More.ensures.read in
+    let grown = rw c.in-More.is at c.loop.invariant.more in
     record {
       own = c.in_ok-ran-in-More.ensures.ran.own;
       dies = c.in_ok-ran-in-More.ensures.dies ∙ can.0;
@@ -55,6 +59,9 @@ loop-preserved g c =
           c.in_ok-ran-in-More.ensures.ran read;
       few = omega (arith, c.loop.invariant.few, c.loop.invariant.next, c.in_ok-ran-in-More.ensures.ran.counted);
       next = c.in_ok-ran-in-More.ensures.few;
+      failed = c.in_ok-ran-in-More.ensures.failed;
+      more = goes_from _ _ _ _ (omega (arith, grown.0)) c.in_ok-ran-in-More.ensures.more;
+      batches = omega (arith, grown.0, grown.1);
     }
 
 pub finish-requires-clause-sole : goal.finish-requires-clause-sole
@@ -66,8 +73,9 @@ finish-requires-clause-counted g c = omega (arith, c.loop.invariant.few, c.loop.
 
 pub returns-in-Ended-clause-ran : goal.returns-in-Ended-clause-ran
 returns-in-Ended-clause-ran g c =
-    ok_weaker _ _ c.finish.result (λ made closes. script_ran _ _ c.args.plan.now c.args.slots _ _ _ _ _ _
-    (rw c.in-Ended.is at c.loop.invariant.ahead) c.in_ok-ran-in-Ended.ensures.ran made.parts.items made.count closes) c.finish.ensures.closed
+    let whole = c.in_ok-whole-in-Ended.whole in
+    script_ran _ _ c.args.plan.now c.args.slots _ _ _ _ _ _ (rw c.in-Ended.is at c.loop.invariant.ahead) c.in_ok-ran-in-Ended.ensures.ran
+    whole.parts.items whole.count c.in_ok-whole-in-Ended.ensures.closed
 
 pub returns-in-Refused-clause-refused : goal.returns-in-Refused-clause-refused
 returns-in-Refused-clause-refused g c =
@@ -85,3 +93,15 @@ returns-in_err-ran-in-Ended-clause-refused g c =
 pub returns-in_err-rows_of-in-Refused-clause-refused : goal.returns-in_err-rows_of-in-Refused-clause-refused
 returns-in_err-rows_of-in-Refused-clause-refused g c =
     search (rules, λ (e : Refusal). ahead_fails _ _ c.args.plan.now c.args.slots _ _ _ _ e c.loop.invariant.ahead)
+
+pub returns-in-Refused-clause-failed : goal.returns-in-Refused-clause-failed
+returns-in-Refused-clause-failed g c = rw c.in-Refused.is at c.loop.invariant.failed
+
+pub returns-in_err-ran-in-More-clause-failed : goal.returns-in_err-ran-in-More-clause-failed
+returns-in_err-ran-in-More-clause-failed g c = search (rules, not_of_reader)
+
+pub returns-in_err-ran-in-Ended-clause-failed : goal.returns-in_err-ran-in-Ended-clause-failed
+returns-in_err-ran-in-Ended-clause-failed g c = search (rules, not_of_reader)
+
+pub returns-in_err-rows_of-in-Refused-clause-failed : goal.returns-in_err-rows_of-in-Refused-clause-failed
+returns-in_err-rows_of-in-Refused-clause-failed g c = search (rules, not_of_reader)
