@@ -290,6 +290,25 @@ says-stop before mid after (Some records) (Some rest) m x e one (inl out) = inl 
 says-stop before mid after (Some records) (Some rest) m x e one (inr bad) =
     let same : one.0 ≡ rest = cc one.1 in inr (one.2 ∙ ap (mid x) same ∙ bad)
 
+-- a call that was refused
+pub says-refused : {A : Type 0} (before : List Fields → Reading) (after : A → List Fields → Reading) (o n : Option (List Fields))
+    (e : Refusal)
+    → Reads before after o n (Err e) → Says (option_map before o) (Err e)
+says-refused before after None n e stop = tt
+says-refused before after (Some records) n e stop = stop
+
+-- what is known of the records stays, from the first on
+pub says-first : (before : List Fields → Reading) (unread left : Option (List Fields)) (r : Reading)
+    → Stays unread left → Says (option_map before left) r → Says (option_map before unread) r
+says-first before None left r stays said = tt
+says-first before (Some records) left r stays said = rw stays at said
+
+pub kept-first : {K : Type 0} (kept : DieReport → K) (before : List Fields → Reading) (unread left : Option (List Fields))
+    (r : Result (List K) Refusal)
+    → Stays unread left → SaysKept kept (option_map before left) r → SaysKept kept (option_map before unread) r
+kept-first kept before unread left (Ok all) stays said = (said.0, said.1, said.2, says-first before unread left (Ok said.0) stays said.3)
+kept-first kept before unread left (Err e) stays said = says-first before unread left (Err e) stays said
+
 -- what the known records tell, the records of a known text tell
 pub kept-text : {K A : Type 0} (kept : DieReport → K) (rows : A → List Fields) (before : List Fields → Reading) (text : Option A)
     (left : Option (List Fields)) (r : Result (List K) Refusal)

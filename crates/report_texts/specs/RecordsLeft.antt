@@ -37,6 +37,14 @@ IsReady r = IsPlain r.rows
 abbrev pub reader_failed : {R : Type 0} → Records R → Bool
 reader_failed r = has_failed r.rows
 
+-- the records that csv's reader has still to read, where they are known
+abbrev pub records_unread : {R : Type 0} → (R → Option (List ℕ)) → Records R → Option (List Fields)
+records_unread rem r = rows_left rem r.rows
+
+-- whether their text fits its bound, where it is known
+abbrev pub unread_fit : {R : Type 0} → (R → Option (List ℕ)) → Records R → Option Bool
+unread_fit rem r = fits_left rem r.rows
+
 -- the record at hand and those after it, where they are known
 abbrev pub with_hand : Bool → Fields → Option (List Fields) → Option (List Fields)
 with_hand found fields rest = if found then option_map (λ more. fields ∷ more) rest else Some []

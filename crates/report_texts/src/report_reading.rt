@@ -6,6 +6,7 @@ ghost use Rattle.text_base.specs.Readings.{FailsAtReadFault};
 ghost use Rattle.report_texts.specs.KeptDies.{ReadsCert, ReadsKept, SaysKept};
 ghost use Rattle.report_texts.specs.Numbering.{AreNumbered};
 ghost use Rattle.report_texts.specs.RecordsLeft.{IsReady, Stays, reader_failed, record_line, records_fit, records_left};
+ghost use Rattle.report_texts.specs.RecordsLeft.{records_unread, unread_fit};
 ghost use Rattle.report_texts.specs.ReportHeader.{is_report_header};
 ghost use Rattle.report_texts.specs.ReportOf.{Reads, Says, certs_from, no_rows, report_from, report_of, rows_from};
 ghost use Rattle.report_texts.specs.ReportWork.{AllRise, SaysWork};
@@ -162,7 +163,7 @@ fn take_certs<R: Read, K: KeptDie>(
     Ok(Items::from_vec(dies))
 }
 
-/// Takes a report from its header on, and keeps of its dies what `K` does.
+/// Takes a report, and keeps of its dies what `K` does.
 fn take_kept<R: Read, K: KeptDie>(
     alloc: Global,
     records: &mut Records<R>,
@@ -170,12 +171,13 @@ fn take_kept<R: Read, K: KeptDie>(
     requires ready { IsReady records.old }
     requires first { record_line records.old ≡ 1 }
     ensures kept { SaysKept K.kept_of (option_map report_from
-        (records_left R.remaining records.old)) result }
-    ensures fits { OnOk result (IfSome (records_fit R.remaining records.old) (λ fits.
+        (records_unread R.remaining records.old)) result }
+    ensures fits { OnOk result (IfSome (unread_fit R.remaining records.old) (λ fits.
         fits ≡ true)) }
     ensures failed { FailsAtReadFault (reader_failed records.old) (reader_failed records.new)
         result }
 {
+    records.begin()?;
     take_header(records)?;
     let dies = take_rows(alloc, records)?;
     take_certs(alloc, records, dies)
@@ -186,7 +188,7 @@ fn read_kept<R: Read + Drop, K: KeptDie>(alloc: Global, reader: R) -> Result<Ite
     ensures kept { SaysKept K.kept_of (option_map report_of (R.remaining reader)) result }
     ensures bound { OnOk result (IfSome (R.remaining reader) (λ text. length text ≤ 67108864)) }
 {
-    let mut records = records_in(alloc, reader)?;
+    let mut records = records_in(alloc, reader);
     take_kept(alloc, &mut records)
 }
 

@@ -1,10 +1,10 @@
 //! The records of a report, with the one at hand.
 
-ghost use Rattle.std.specs.Prelude.{◌≡◌, ◌+◌, ◌<◌, false, IfOk, IfErr, OnOk, option_map, true};
+ghost use Rattle.std.specs.Prelude.{◌≡◌, ◌+◌, ◌<◌, false, IfErr, OnOk, option_map, true};
 ghost use Rattle.csv.specs.Records.{fields_of};
 ghost use Rattle.text_base.specs.Readings.{FailsAtReadFault, IsOutside};
 ghost use Rattle.report_texts.specs.RecordsLeft.{IsReady, Loses, Stays, at_hand, is_found, record_line, records_fit, records_left};
-ghost use Rattle.report_texts.specs.RecordsLeft.{reader_failed, row_at_hand};
+ghost use Rattle.report_texts.specs.RecordsLeft.{reader_failed, records_unread, row_at_hand, unread_fit};
 ghost use Rattle.text_base.specs.Marks.{is_within};
 ghost use Rattle.text_base.specs.CsvRecords.{rows_of};
 
@@ -24,26 +24,22 @@ pub struct Records<R> {
     line: u32,
 }
 
-/// The records of a reader, at the first of them.
-pub fn records_in<R: Read + Drop>(alloc: Global, reader: R) -> Result<Records<R>, Refusal>
-    ensures first { IfOk result (λ made.
-        Stays (option_map rows_of (R.remaining reader)) (records_left R.remaining made)) }
-    ensures fits { IfOk result (λ made.
-        Stays (option_map (is_within 67108864) (R.remaining reader))
-        (records_fit R.remaining made)) }
-    ensures ready { IfOk result (λ made. IsReady made) }
-    ensures line { IfOk result (λ made. record_line made ≡ 1) }
-    ensures fresh { IfOk result (λ made. reader_failed made ≡ false) }
-    ensures refused { IfErr result (λ e. IsOutside e) }
+/// The records of a reader, before the first of them.
+pub fn records_in<R: Read>(alloc: Global, reader: R) -> Records<R>
+    ensures unread { records_unread R.remaining result
+        ≡ option_map rows_of (R.remaining reader) }
+    ensures fits { unread_fit R.remaining result
+        ≡ option_map (is_within 67108864) (R.remaining reader) }
+    ensures ready { IsReady result }
+    ensures line { record_line result ≡ 1 }
+    ensures fresh { reader_failed result ≡ false }
 {
-    let mut records = Records {
+    Records {
         rows: rows_in(alloc, reader),
         fields: ByteRecord::new(alloc),
         found: false,
         line: 1,
-    };
-    records.found = take_row(&mut records.rows, &mut records.fields)?;
-    Ok(records)
+    }
 }
 
 impl<R: Read> Records<R> {
@@ -77,6 +73,22 @@ impl<R: Read> Records<R> {
             return None;
         }
         Some(fields)
+    }
+
+    /// Takes the first record.
+    pub fn begin(&mut self) -> Result<(), Refusal>
+        requires { IsReady self.old }
+        ensures first { OnOk result
+            (Stays (records_unread R.remaining self.old) (records_left R.remaining self.new)) }
+        ensures fits { OnOk result
+            (Stays (unread_fit R.remaining self.old) (records_fit R.remaining self.new)) }
+        ensures ready { OnOk result (IsReady self.new) }
+        ensures line { record_line self.new ≡ record_line self.old }
+        ensures refused { IfErr result (λ e. IsOutside e) }
+        ensures failed { FailsAtReadFault (reader_failed self.old) (reader_failed self.new) result }
+    {
+        self.found = take_row(&mut self.rows, &mut self.fields)?;
+        Ok(())
     }
 
     /// Goes on to the next record.
