@@ -34,8 +34,8 @@ Says None result = ⊤
 Says (Some read) (Ok x) = read ≡ Ok x
 Says (Some read) (Err e) = IsOutside e ⊎ (read ≡ Err e)
 
--- whether a reader of records has failed: ReadFault comes where it then has, and where it fails no other fault comes but a lack of
--- memory; else it stays as it was
+-- whether a reader of records has failed: ReadFault comes where it then has, and where it fails no other fault comes but
+-- a lack of memory; else it stays as it was
 abbrev pub FailsAtReadFault : {X : Type 0} → Bool → Bool → Result X TextFault → Type 0
 FailsAtReadFault old new (Ok x) = new ≡ old
 FailsAtReadFault old new (Err e) = (IsOutside e × (new ≡ true)) ⊎ ((e ≢ ReadFault) × (new ≡ old))
