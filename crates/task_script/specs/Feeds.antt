@@ -4,7 +4,7 @@ use Rattle.slot_types.specs.declared.refusals.Refusal.{Refusal}
 use Rattle.script_texts.specs.Arrivals.{Arrives}
 use Rattle.script_texts.specs.AskedPages.{RowsHavePages}
 use Rattle.text_base.specs.Readings.{IsOutside}
-use Rattle.script_texts.specs.Script.{Script, script_of}
+use Rattle.script_texts.specs.Script.{script_of}
 use Rattle.script_texts.specs.declared.script_rows.ScriptItem.{ScriptItem}
 
 -- so do all of these rows: each asks for any event but a slot, by the end of so many slots

@@ -59,6 +59,16 @@ impl<S> From<Refusal> for RefusedRun<S> {
     }
 }
 
+impl<S: Drop> From<RefusedRun<S>> for Refusal {
+    ghost use Rattle.std.specs.Prelude.{◌≡◌};
+
+    ghost from_gives = { λ run refusal. refusal ≡ run.refusal };
+
+    fn from(run: RefusedRun<S>) -> Refusal {
+        run.refusal
+    }
+}
+
 /// The count of the rows of all dies.
 fn joined(progress: &[Progress]) -> RunCount
     requires counted { rows_counted progress.now < 2 ^ 64 }
@@ -109,7 +119,7 @@ fn finish<R: Threads + Wait + Sync>(
 ///
 /// Refused as the first fault of the script, as NoMemory, or as ReadFault: that comes only together with the script's
 /// reader, whose csv reader has failed.
-fn run_all_batches<R: Threads + Wait + Sync, S: Read + Drop>(
+fn run_script<R: Threads + Wait + Sync, S: Read + Drop>(
     rt: &R,
     alloc: Global,
     plan: &StorePlan,
@@ -157,29 +167,6 @@ fn run_all_batches<R: Threads + Wait + Sync, S: Read + Drop>(
     }
     // No script has so many batches: each but the last has a row, and no row has a number above 1,000,001.
     unreachable!()
-}
-
-/// Runs a script on fresh dies in memory, without its reader after that.
-fn run_script<R: Threads + Wait + Sync, S: Read + Drop>(
-    rt: &R,
-    alloc: Global,
-    plan: &StorePlan,
-    script: S,
-    slots: u32,
-    workers: u32,
-) -> Result<RanStore, Refusal>
-    requires some { 1 ≤ length plan.now }
-    requires dies { length plan.now ≤ 8 }
-    requires bound { All MeetsBound plan.now }
-    requires workers { (1 ≤ workers) × (workers ≤ 16) }
-    ensures ran { IfOk result (λ ran.
-        RanScript (S.remaining script) plan.now slots ran.parts.items ran.count) }
-    ensures refused { IfErr result (RefusesScript (S.remaining script) (length plan.now) slots) }
-{
-    match run_all_batches(rt, alloc, plan, script, slots, workers) {
-        Ok(ran) => Ok(ran),
-        Err(run) => Err(run.refusal),
-    }
 }
 
 /// Runs a script on a store of 1 to 8 dies in memory by 1 to 16 workers, and writes the report of what became of it.

@@ -4,7 +4,7 @@ use Rattle.task_script.proofs.Batching.{none_counted, so_far_none}
 use Rattle.task_script.proofs.Gathering.{ran_sole, script_ran}
 use Rattle.task_script.proofs.ReadingAhead.{ahead_can, ahead_fails, ahead_more, ahead_refused, goes_from, texts_as}
 use Rattle.task_script.proofs.RowReading.{not_of_reader}
-use Rattle.task_script.proofs.text_runs.run_all_batches.Goals as goal
+use Rattle.task_script.proofs.text_runs.run_script.Goals as goal
 
 pub loop-init : goal.loop-init
 loop-init g c = record {

@@ -6,7 +6,7 @@ use Rattle.task_script.specs.Batches.{rows_counted}
 use Rattle.task_script.specs.Feeds.{rows_dealt}
 use Rattle.task_script.specs.RowTexts.{EndsWithReader, GoesOn}
 use Rattle.task_script.proofs.ReadingAhead.{Ahead}
-use Rattle.task_script.proofs.text_runs.run_all_batches.Given as goal
+use Rattle.task_script.proofs.text_runs.run_script.Given as goal
 
 abbrev pub invariant-loop : goal.invariant-loop
 invariant-loop g l = record {
