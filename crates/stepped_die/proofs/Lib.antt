@@ -1,3 +1,4 @@
 pub mod Arriving
 pub mod Ending
 pub mod Naming
+pub mod OneAnswer

@@ -86,6 +86,8 @@ impl SteppedDie {
     ) -> Result<JobNo, StepRefusal>
         ensures stopped { (result ≡ Err (StepRefusal.Die Refusal.DieStopped))
             ↔ (self.old.core.stopped ≡ true) }
+        ensures held { self.old.core.stopped ≡ false
+            → ((result ≡ Err StepRefusal.Begun) ↔ HoldsBack release self.old.begun) }
         ensures taken { IfOk result (λ number.
             HasEntered caller (events.Submit task release due ops.now) number self.old.core
             self.new.core) }
@@ -125,6 +127,8 @@ impl SteppedDie {
     ) -> Result<JobNo, StepRefusal>
         ensures stopped { (result ≡ Err (StepRefusal.Die Refusal.DieStopped))
             ↔ (self.old.core.stopped ≡ true) }
+        ensures held { self.old.core.stopped ≡ false
+            → ((result ≡ Err StepRefusal.Begun) ↔ HoldsBack release self.old.begun) }
         ensures taken { IfOk result (λ number.
             HasEntered caller (events.Collect task release due) number self.old.core
             self.new.core) }

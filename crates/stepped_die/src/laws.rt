@@ -1,15 +1,27 @@
-//! Why jobs and collections may arrive while a slot has begun: a law, which is a function that does nothing.
+//! Why jobs and collections may arrive while a slot has begun, and that what a die answers leaves no choice.
+//!
+//! Each law is a function that does nothing. The premises of a law of one answer are the clauses of a call that decide,
+//! said of two answers `one` and `other`, which leave the dies `left` and `right`, where there was the die `before`.
 
-ghost use Rattle.std.specs.Prelude.{◌≡◌, ℕ};
+ghost use Rattle.std.specs.Prelude.{◌≡◌, ◌⊎◌, ◌↔◌, ℕ, true, false, Result, IfOk, IfErr, OnErr};
+ghost use Rattle.slot_types.specs.Arrivals.{IsArrival};
 ghost use Rattle.slot_types.specs.declared.events.Event.{Event};
+ghost use Rattle.slot_types.specs.declared.refusals.Refusal.{Refusal};
 ghost use Rattle.slot_types.specs.declared.replies.Reply.{Reply};
+ghost use Rattle.slot_core.specs.Calls.{HasEntered};
 ghost use Rattle.slot_core.specs.Core.{with_entry};
 ghost use Rattle.die_log.specs.Model.Log.{Log, now};
 ghost use Rattle.die_log.specs.Model.Answers.{answer, IsExact};
 ghost use Rattle.die_log.specs.Model.NeededCalls.{needed_call};
 ghost use Rattle.die_log.specs.Model.Opening.{IsOpening};
 ghost use Rattle.die_log.specs.Model.Start.{Start};
+ghost use Rattle.stepped_die.specs.declared.refusals.StepRefusal.{StepRefusal};
 ghost use Rattle.stepped_die.specs.Arrivals.{WaitsAfter};
+ghost use Rattle.stepped_die.specs.Stepped.{Stepped};
+ghost use Rattle.stepped_die.specs.Steps.{HoldsBack, RefusesArrival};
+
+use crate::refusals::StepRefusal;
+use slot_types::Refusal;
 
 /// A job or collection that is accepted with a release above the present slot leaves what that slot is answered, and
 /// the call of the device that it needs.
@@ -24,4 +36,26 @@ pub fn arrivals_leave_the_slot()
         answer start past event ≡ Reply.Taken number → WaitsAfter (now past) event →
         needed_call start (with_entry caller event (Reply.Taken number) past)
         ≡ needed_call start past }
+{}
+
+/// Accepting a job or collection (`submit`, `collect`) has one answer, and leaves one die. Left open is whether there is
+/// memory for it.
+pub fn an_arrival_has_one_answer()
+    ensures { (caller release : ℕ) (event : Event) (one other : Result ℕ StepRefusal)
+        (before left right : Stepped) → IsArrival event →
+        ((one ≡ Err (StepRefusal.Die Refusal.DieStopped)) ↔ (before.core.stopped ≡ true)) →
+        ((other ≡ Err (StepRefusal.Die Refusal.DieStopped)) ↔ (before.core.stopped ≡ true)) →
+        (before.core.stopped ≡ false
+        → ((one ≡ Err StepRefusal.Begun) ↔ HoldsBack release before.begun)) →
+        (before.core.stopped ≡ false
+        → ((other ≡ Err StepRefusal.Begun) ↔ HoldsBack release before.begun)) →
+        IfOk one (λ number. HasEntered caller event number before.core left.core) →
+        IfOk other (λ number. HasEntered caller event number before.core right.core) →
+        left.begun ≡ before.begun → right.begun ≡ before.begun →
+        IfErr one (RefusesArrival release event before left) →
+        IfErr other (RefusesArrival release event before right) →
+        OnErr one (left ≡ before) → OnErr other (right ≡ before) →
+        ((one ≡ other) × (left ≡ right))
+        ⊎ (one ≡ Err (StepRefusal.Die Refusal.NoMemory))
+        ⊎ (other ≡ Err (StepRefusal.Die Refusal.NoMemory)) }
 {}
