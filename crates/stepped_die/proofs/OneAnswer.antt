@@ -1,19 +1,22 @@
 -- A call of a die has one answer, and leaves one die, unless memory is refused to it.
-use Rattle.std.proofs.Common.{◌≡◌, ◌⊎◌, ◌↔◌, ℕ, Bool, true, false, Option, Some, None, Ok, Err, refl, sym, ap, subst, ◌∙◌, inl, inr}
-use Rattle.std.specs.Prelude.{Result, IfOk, IfErr, OnErr}
+use Rattle.std.proofs.Common.{◌≡◌, ◌≤◌, ◌⊎◌, ◌↔◌, ℕ, Bool, true, false, Option, Some, None, Ok, Err, refl, sym, ap, subst, ◌∙◌, inl, inr}
+use Rattle.std.specs.Prelude.{Result, IfOk, IfErr, IsSome, OnErr, max}
 use Rattle.std.proofs.lemmas.Bool.{true≢false}
 use Rattle.slot_types.specs.Arrivals.{IsArrival}
 use Rattle.slot_types.specs.declared.events.Event.{Event}
+use Rattle.slot_types.specs.declared.limits.TheConstants.{MAX_SLOT}
 use Rattle.slot_types.specs.declared.refusals.Refusal.{Refusal}
-use Rattle.slot_types.specs.declared.refusals.Refusal.TheVariants.{DieStopped, NoMemory}
+use Rattle.slot_types.specs.declared.refusals.Refusal.TheVariants.{ClockEnd, DieStopped, NoMemory}
 use Rattle.slot_types.specs.declared.replies.Reply.{Reply}
 use Rattle.slot_types.specs.declared.replies.Reply.TheVariants.{Refused, Taken}
 use Rattle.die_log.specs.Model.Answers.{answer}
+use Rattle.die_log.specs.Model.Log.{now}
 use Rattle.slot_core.specs.Calls.{HasEntered, RefusesCall}
 use Rattle.slot_core.specs.Core.{Core, with_entry}
+use Rattle.stepped_die.specs.declared.calls.Begun.{Begun}
 use Rattle.stepped_die.specs.declared.refusals.StepRefusal.{StepRefusal}
 use Rattle.stepped_die.specs.declared.refusals.StepRefusal.TheVariants as refuses
-use Rattle.stepped_die.specs.Steps.{HoldsBack, RefusesArrival}
+use Rattle.stepped_die.specs.Steps.{HasBegun, HoldsBack, RefusesArrival, RefusesBeginning}
 use Rattle.stepped_die.specs.Stepped.{Stepped}
 use Rattle.stepped_die.proofs.Ending.{Mirror}
 
@@ -114,4 +117,92 @@ module _ (caller release : ℕ) (event : Event) (before : Stepped) (arrives : Is
             (a.taken.logged
             ∙ (ap (λ (number : ℕ). record before.core { log = with_entry caller event (Taken number) before.core.log }) same ∙ sym b.taken.logged))
             (a.begun ∙ sym b.begun),
+      )
+
+-- The beginning of a slot
+
+-- what `begin` says
+pub record Begins (caller : ℕ) (result : Result Begun StepRefusal) (before after : Stepped) : Type 0 where
+  pub stopped : (result ≡ Err (refuses.Die DieStopped)) ↔ (before.core.stopped ≡ true)
+  pub twice : before.core.stopped ≡ false → ((result ≡ Err refuses.Begun) ↔ IsSome before.begun)
+  pub end : before.core.stopped ≡ false → before.begun ≡ None
+      → ((result ≡ Err (refuses.Die ClockEnd)) ↔ (MAX_SLOT ≤ now before.core.log))
+  pub begun : IfOk result (λ begun. HasBegun caller begun before after)
+  pub refused : OnErr result (after ≡ before)
+  pub cause : IfErr result (RefusesBeginning before)
+
+-- a slot isn't begun for one of four causes
+refuses_beginning : (before : Stepped) (d : StepRefusal) → RefusesBeginning before d
+    → ((d ≡ refuses.Die DieStopped) × (before.core.stopped ≡ true))
+    ⊎ ((d ≡ refuses.Begun) × (before.core.stopped ≡ false) × IsSome before.begun)
+    ⊎ ((d ≡ refuses.Die ClockEnd) × (before.core.stopped ≡ false) × (MAX_SLOT ≤ now before.core.log))
+    ⊎ ((d ≡ refuses.Die NoMemory) × (before.core.reserved ≡ 0))
+refuses_beginning before (refuses.Die DieStopped) h = inl (refl, h)
+refuses_beginning before refuses.Begun h = inr (inl (refl, h.0, h.1))
+refuses_beginning before (refuses.Die ClockEnd) h = inr (inr (inl (refl, h.0, h.1)))
+refuses_beginning before (refuses.Die NoMemory) h = inr (inr (inr (refl, h.1)))
+refuses_beginning before _ h = absurd h
+
+none_or_some : {A : Type 0} (o : Option A) → (o ≡ None) ⊎ IsSome o
+none_or_some None = inl refl
+none_or_some (Some a) = inr refl
+
+same_begun : (b c : Begun) → b.caller ≡ c.caller → b.slot ≡ c.slot → b.call ≡ c.call → b.runs ≡ c.runs → b ≡ c
+same_begun b c caller slot call runs = λ i. record { caller = caller i; slot = slot i; call = call i; runs = runs i }
+
+module _ (caller : ℕ) (before : Stepped) where
+  abbrev SaysBegun : Result Begun StepRefusal → Stepped → Type 0
+  SaysBegun result after = Begins caller result before after
+
+  -- one answer and one die; or memory was refused to one of them, and none is reserved
+  abbrev AgreeBegun : Result Begun StepRefusal → Result Begun StepRefusal → Stepped → Stepped → Type 0
+  AgreeBegun one other left right =
+      ((one ≡ other) × (left ≡ right))
+      ⊎ ((before.core.reserved ≡ 0) × ((one ≡ Err (refuses.Die NoMemory)) ⊎ (other ≡ Err (refuses.Die NoMemory))))
+
+  turned_begun : (one other : Result Begun StepRefusal) (left right : Stepped) → AgreeBegun other one right left → AgreeBegun one other left right
+  turned_begun one other left right (inl same) = inl (sym same.0, sym same.1)
+  turned_begun one other left right (inr (none, inl memory)) = inr (none, inr memory)
+  turned_begun one other left right (inr (none, inr memory)) = inr (none, inl memory)
+
+  -- where the present slot is the last, no slot is begun, unless one has begun
+  at_end : (one other : Result Begun StepRefusal) (left right : Stepped) → before.core.stopped ≡ false → MAX_SLOT ≤ now before.core.log
+      → SaysBegun one left → SaysBegun other right → one ≡ Err (refuses.Die ClockEnd) → other ≡ Err (refuses.Die ClockEnd)
+  at_end one other left right runs last a b is = by (none_or_some before.begun)
+    where
+      by : (before.begun ≡ None) ⊎ IsSome before.begun → other ≡ Err (refuses.Die ClockEnd)
+      by (inl none) = (b.end runs none).1 last
+      by (inr some) = let e = (a.twice runs).1 some in absurd cc
+
+  one_unbegun : (d : StepRefusal) (other : Result Begun StepRefusal) (left right : Stepped) → SaysBegun (Err d) left → SaysBegun other right
+      → AgreeBegun (Err d) other left right
+  one_unbegun d other left right a b = by (refuses_beginning before d a.cause)
+    where
+      alike : other ≡ Err d → AgreeBegun (Err d) other left right
+      alike is = inl (refused_alike d other before left right a.refused b.refused is)
+
+      by : ((d ≡ refuses.Die DieStopped) × (before.core.stopped ≡ true))
+          ⊎ ((d ≡ refuses.Begun) × (before.core.stopped ≡ false) × IsSome before.begun)
+          ⊎ ((d ≡ refuses.Die ClockEnd) × (before.core.stopped ≡ false) × (MAX_SLOT ≤ now before.core.log))
+          ⊎ ((d ≡ refuses.Die NoMemory) × (before.core.reserved ≡ 0)) → AgreeBegun (Err d) other left right
+      by (inl (is, stops)) = alike (b.stopped.1 stops ∙ sym (ap Err is))
+      by (inr (inl (is, runs, some))) = alike ((b.twice runs).1 some ∙ sym (ap Err is))
+      by (inr (inr (inl (is, runs, last)))) = alike (at_end (Err d) other left right runs last a b (ap Err is) ∙ sym (ap Err is))
+      by (inr (inr (inr (is, none)))) = inr (none, inl (ap Err is))
+
+  pub one_beginning : (one other : Result Begun StepRefusal) (left right : Stepped) → SaysBegun one left → SaysBegun other right
+      → AgreeBegun one other left right
+  one_beginning (Err d) other left right a b = one_unbegun d other left right a b
+  one_beginning (Ok m) (Err d) left right a b = turned_begun (Ok m) (Err d) left right (one_unbegun d (Ok m) right left b a)
+  one_beginning (Ok m) (Ok n) left right a b =
+      let x = a.begun in
+      let y = b.begun in
+      let same : m ≡ n = same_begun m n (x.caller_is ∙ sym y.caller_is) (x.slot_is ∙ sym y.slot_is) (x.said ∙ sym y.said)
+      (x.runs_next ∙ sym y.runs_next) in
+      inl (
+        ap Ok same,
+        x.begins ∙ (ap (λ (begun : Begun). record {
+          core = record before.core { reserved = max before.core.reserved 1 };
+          begun = Some begun;
+        }) same ∙ sym y.begins),
       )

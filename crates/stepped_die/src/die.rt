@@ -3,7 +3,9 @@
 ghost use Rattle.std.specs.Prelude.{◌≡◌, ◌≢◌, ◌⊎◌, ◌↔◌, ◌≤◌, [], true, false, None, Some, max, IsSome, IfOk, IfErr, OnOk, OnErr};
 ghost use Rattle.slot_types.specs.declared.refusals.Refusal.{Refusal};
 ghost use Rattle.slot_types.specs.declared.events.Event.TheVariants as events;
+ghost use Rattle.slot_types.specs.declared.limits.TheConstants.{MAX_SLOT};
 ghost use Rattle.slot_types.specs.Refusal.{FailsForMemory};
+ghost use Rattle.die_log.specs.Model.Log.{now};
 ghost use Rattle.slot_core.specs.Calls.{HasEntered};
 ghost use Rattle.slot_core.specs.WithinSlot.{idle_reply};
 ghost use Rattle.slot_core.specs.Renewals.{MayBeRenewed, renewed_core};
@@ -160,6 +162,9 @@ impl SteppedDie {
             ↔ (self.old.core.stopped ≡ true) }
         ensures twice { self.old.core.stopped ≡ false
             → ((result ≡ Err StepRefusal.Begun) ↔ IsSome self.old.begun) }
+        ensures end { self.old.core.stopped ≡ false → self.old.begun ≡ None
+            → ((result ≡ Err (StepRefusal.Die Refusal.ClockEnd))
+            ↔ (MAX_SLOT ≤ now self.old.core.log)) }
         ensures begun { IfOk result (λ begun. HasBegun caller begun self.old self.new) }
         ensures refused { OnErr result (self.new ≡ self.old) }
         ensures cause { IfErr result (RefusesBeginning self.old) }

@@ -3,9 +3,10 @@
 //! Each law is a function that does nothing. The premises of a law of one answer are the clauses of a call that decide,
 //! said of two answers `one` and `other`, which leave the dies `left` and `right`, where there was the die `before`.
 
-ghost use Rattle.std.specs.Prelude.{◌≡◌, ◌⊎◌, ◌↔◌, ℕ, true, false, Result, IfOk, IfErr, OnErr};
+ghost use Rattle.std.specs.Prelude.{◌≡◌, ◌⊎◌, ◌↔◌, ◌≤◌, ℕ, true, false, None, Result, IfOk, IfErr, IsSome, OnErr};
 ghost use Rattle.slot_types.specs.Arrivals.{IsArrival};
 ghost use Rattle.slot_types.specs.declared.events.Event.{Event};
+ghost use Rattle.slot_types.specs.declared.limits.TheConstants.{MAX_SLOT};
 ghost use Rattle.slot_types.specs.declared.refusals.Refusal.{Refusal};
 ghost use Rattle.slot_types.specs.declared.replies.Reply.{Reply};
 ghost use Rattle.slot_core.specs.Calls.{HasEntered};
@@ -15,10 +16,11 @@ ghost use Rattle.die_log.specs.Model.Answers.{answer, IsExact};
 ghost use Rattle.die_log.specs.Model.NeededCalls.{needed_call};
 ghost use Rattle.die_log.specs.Model.Opening.{IsOpening};
 ghost use Rattle.die_log.specs.Model.Start.{Start};
+ghost use Rattle.stepped_die.specs.declared.calls.Begun.{Begun};
 ghost use Rattle.stepped_die.specs.declared.refusals.StepRefusal.{StepRefusal};
 ghost use Rattle.stepped_die.specs.Arrivals.{WaitsAfter};
 ghost use Rattle.stepped_die.specs.Stepped.{Stepped};
-ghost use Rattle.stepped_die.specs.Steps.{HoldsBack, RefusesArrival};
+ghost use Rattle.stepped_die.specs.Steps.{HasBegun, HoldsBack, RefusesArrival, RefusesBeginning};
 
 use crate::refusals::StepRefusal;
 use slot_types::Refusal;
@@ -58,4 +60,29 @@ pub fn an_arrival_has_one_answer()
         ((one ≡ other) × (left ≡ right))
         ⊎ (one ≡ Err (StepRefusal.Die Refusal.NoMemory))
         ⊎ (other ≡ Err (StepRefusal.Die Refusal.NoMemory)) }
+{}
+
+/// Beginning a slot (`begin`) has one answer, and leaves one die. Left open is whether there is memory for the slot,
+/// where none is reserved.
+pub fn beginning_a_slot_has_one_answer()
+    ensures { (caller : ℕ) (one other : Result Begun StepRefusal) (before left right : Stepped) →
+        ((one ≡ Err (StepRefusal.Die Refusal.DieStopped)) ↔ (before.core.stopped ≡ true)) →
+        ((other ≡ Err (StepRefusal.Die Refusal.DieStopped)) ↔ (before.core.stopped ≡ true)) →
+        (before.core.stopped ≡ false
+        → ((one ≡ Err StepRefusal.Begun) ↔ IsSome before.begun)) →
+        (before.core.stopped ≡ false
+        → ((other ≡ Err StepRefusal.Begun) ↔ IsSome before.begun)) →
+        (before.core.stopped ≡ false → before.begun ≡ None
+        → ((one ≡ Err (StepRefusal.Die Refusal.ClockEnd)) ↔ (MAX_SLOT ≤ now before.core.log))) →
+        (before.core.stopped ≡ false → before.begun ≡ None
+        → ((other ≡ Err (StepRefusal.Die Refusal.ClockEnd)) ↔ (MAX_SLOT ≤ now before.core.log)))
+        →
+        IfOk one (λ begun. HasBegun caller begun before left) →
+        IfOk other (λ begun. HasBegun caller begun before right) →
+        OnErr one (left ≡ before) → OnErr other (right ≡ before) →
+        IfErr one (RefusesBeginning before) → IfErr other (RefusesBeginning before) →
+        ((one ≡ other) × (left ≡ right))
+        ⊎ ((before.core.reserved ≡ 0)
+        × ((one ≡ Err (StepRefusal.Die Refusal.NoMemory))
+        ⊎ (other ≡ Err (StepRefusal.Die Refusal.NoMemory)))) }
 {}
