@@ -88,6 +88,13 @@ passes_by : (needed : Option NandCall) (before after : Mirror) → before.armed 
 passes_by None before after passes m = ap (λ (d : Mirror). d.armed) m ∙ passes
 passes_by (Some call) before after passes m = (m.free passes).armed ∙ passes
 
+-- of the device, only the mirror has had a call
+passed_by : (needed : Option NandCall) (before after : Mirror) → before.armed ≡ false → IsOnlyCall ends needed true before after
+    → after ≡ record before { inner = after.inner }
+passed_by None before after passes m = λ i. record { inner = after.inner; armed = (m i).armed; failed = (m i).failed }
+passed_by (Some call) before after passes m =
+    λ i. record { inner = after.inner; armed = (m.free passes).armed i; failed = (m.free passes).failed i }
+
 pub called : (before after : Core Mirror) (begun : Begun) (reply : SlotReply) → before.device.armed ≡ false → IsPresent before begun
     → IsCall ends failures false begun.caller events.Slot (Ok (replies.Slot reply)) before after
     → Changes (mirror_of before) begun.call (mirror_of after) × (after.device.armed ≡ false)
@@ -217,6 +224,7 @@ ended_is ok bytes reply before begun after held passes h done call = record {
   done = done;
   carried = call.ended;
   called = (called before.core after begun reply passes h call).0;
+  passed_on = passed_by (needed_call before.core.start before.core.log) before.core.device after.device passes call.device.made;
   start_stays = call.start_stays;
   idle = refl;
 }

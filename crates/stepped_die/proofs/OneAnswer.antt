@@ -1,23 +1,30 @@
 -- A call of a die has one answer, and leaves one die, unless memory is refused to it.
 use Rattle.std.proofs.Common.{◌≡◌, ◌≤◌, ◌⊎◌, ◌↔◌, ℕ, Bool, true, false, Option, Some, None, Ok, Err, refl, sym, ap, subst, ◌∙◌, inl, inr}
-use Rattle.std.specs.Prelude.{Result, IfOk, IfErr, IsSome, OnErr, max}
+use Rattle.std.specs.Prelude.{Result, IfOk, IfErr, IsSome, OnErr, OnOk, max}
 use Rattle.std.proofs.lemmas.Bool.{true≢false}
 use Rattle.slot_types.specs.Arrivals.{IsArrival}
 use Rattle.slot_types.specs.declared.events.Event.{Event}
+use Rattle.slot_types.specs.declared.events.Event.TheVariants as events
 use Rattle.slot_types.specs.declared.limits.TheConstants.{MAX_SLOT}
+use Rattle.slot_types.specs.declared.pages.PageData.{PageData}
 use Rattle.slot_types.specs.declared.refusals.Refusal.{Refusal}
-use Rattle.slot_types.specs.declared.refusals.Refusal.TheVariants.{ClockEnd, DieStopped, NoMemory}
+use Rattle.slot_types.specs.declared.refusals.Refusal.TheVariants.{ClockEnd, DeviceFault, DieStopped, NoMemory}
 use Rattle.slot_types.specs.declared.replies.Reply.{Reply}
-use Rattle.slot_types.specs.declared.replies.Reply.TheVariants.{Refused, Taken}
+use Rattle.slot_types.specs.declared.replies.Reply.TheVariants.{Refused, Slot, Taken}
+use Rattle.slot_types.specs.declared.replies.SlotReply.{SlotReply}
 use Rattle.die_log.specs.Model.Answers.{answer}
 use Rattle.die_log.specs.Model.Log.{now}
+use Rattle.flash_die.specs.Memory.{Memory}
 use Rattle.slot_core.specs.Calls.{HasEntered, RefusesCall}
 use Rattle.slot_core.specs.Core.{Core, with_entry}
 use Rattle.stepped_die.specs.declared.calls.Begun.{Begun}
+use Rattle.stepped_die.specs.declared.calls.Call.{Call}
+use Rattle.stepped_die.specs.declared.calls.Call.TheVariants as calls
 use Rattle.stepped_die.specs.declared.refusals.StepRefusal.{StepRefusal}
 use Rattle.stepped_die.specs.declared.refusals.StepRefusal.TheVariants as refuses
-use Rattle.stepped_die.specs.Steps.{HasBegun, HoldsBack, RefusesArrival, RefusesBeginning}
-use Rattle.stepped_die.specs.Stepped.{Stepped}
+use Rattle.stepped_die.specs.DeviceCalls.{Changes, IsDone}
+use Rattle.stepped_die.specs.Steps.{HasBegun, HasEnded, HasFailed, HoldsBack, RefusesArrival, RefusesBeginning}
+use Rattle.stepped_die.specs.Stepped.{Stepped, mirror_of}
 use Rattle.stepped_die.proofs.Ending.{Mirror}
 
 -- one answer and one die; or memory was refused to one of them
@@ -206,3 +213,127 @@ module _ (caller : ℕ) (before : Stepped) where
           begun = Some begun;
         }) same ∙ sym y.begins),
       )
+
+-- The end of a slot
+
+-- what `end` says
+pub record Ends (ok : Bool) (bytes : PageData) (result : Result (Unit {0}) StepRefusal) (reply : SlotReply) (before after : Stepped) : Type 0 where
+  pub stopped : (result ≡ Err (refuses.Die DieStopped)) ↔ (before.core.stopped ≡ true)
+  pub idle : before.core.stopped ≡ false → ((result ≡ Err refuses.NotBegun) ↔ (before.begun ≡ None))
+  pub ended : OnOk result (HasEnded ok bytes reply before after)
+  pub failed : result ≡ Err (refuses.Die DeviceFault) → HasFailed ok bytes before after
+  pub refused : IfErr result (λ refusal. (refusal ≡ refuses.Die DeviceFault)
+      ⊎ (((refusal ≡ refuses.Die DieStopped) ⊎ (refusal ≡ refuses.NotBegun)) × (after ≡ before)))
+
+same_core : (left right : Core Mirror) → left.start ≡ right.start → left.device ≡ right.device → left.stopped ≡ right.stopped
+    → left.reserved ≡ right.reserved → left.log ≡ right.log → left ≡ right
+same_core left right start device stopped reserved log =
+    λ i. record { start = start i; device = device i; stopped = stopped i; reserved = reserved i; log = log i }
+
+one_slot : (o : Option Begun) (b c : Begun) → o ≡ Some b → o ≡ Some c → b ≡ c
+one_slot o b c is also = cc
+
+one_reply : (o : Reply) (s t : SlotReply) → o ≡ Slot s → o ≡ Slot t → s ≡ t
+one_reply o s t is also = cc
+
+-- a call changes a mirror in one way
+one_change : (call : Option Call) (before left right : Memory) → Changes before call left → Changes before call right → left ≡ right
+one_change None before left right a b = a ∙ sym b
+one_change (Some (calls.Read place bytes)) before left right a b = a.0 ∙ sym b.0
+one_change (Some (calls.Program place bytes)) before left right a b = a ∙ sym b
+one_change (Some (calls.Erase block last)) before left right a b = a.0 ∙ sym b.0
+
+same_device : (before left right : Mirror) → left ≡ record before { inner = left.inner } → right ≡ record before { inner = right.inner }
+    → left.inner.memory ≡ right.inner.memory → left ≡ right
+same_device before left right a b memory =
+    a ∙ ((λ i. record before { inner = record { memory = memory i } }) ∙ sym b)
+
+module _ (ok : Bool) (bytes : PageData) (before : Stepped) where
+  -- two slots that were carried out
+  both_ended : (here there : SlotReply) (left right : Stepped) → HasEnded ok bytes here before left → HasEnded ok bytes there before right
+      → (left ≡ right) × (here ≡ there)
+  both_ended here there left right a b =
+      let slot : a.begun ≡ b.begun = one_slot before.begun a.begun b.begun a.held b.held in
+      let reply : here ≡ there = one_reply (answer before.core.start before.core.log events.Slot) here there a.carried.answered b.carried.answered in
+      let memory : mirror_of left.core ≡ mirror_of right.core = one_change b.begun.call (mirror_of before.core) (mirror_of left.core)
+      (mirror_of right.core)
+      (subst (λ (begun : Begun). Changes (mirror_of before.core) begun.call (mirror_of left.core)) slot a.called) b.called in (
+        same_die left right
+            (same_core left.core right.core (a.start_stays ∙ sym b.start_stays)
+            (same_device before.core.device left.core.device right.core.device a.passed_on b.passed_on memory)
+            (a.carried.runs ∙ sym b.carried.runs) (a.carried.used ∙ sym b.carried.used)
+            (a.carried.logged ∙ (λ i. with_entry (slot i).caller events.Slot (Slot (reply i)) before.core.log) ∙ sym b.carried.logged))
+            (a.idle ∙ sym b.idle),
+        reply,
+      )
+
+  both_failed : (left right : Stepped) → HasFailed ok bytes before left → HasFailed ok bytes before right → left ≡ right
+  both_failed left right a b = same_die left right
+      (same_core left.core right.core (a.start_stays ∙ sym b.start_stays) (a.let_fail ∙ sym b.let_fail) (a.stops ∙ sym b.stops)
+      (a.reserve_stays ∙ sym b.reserve_stays) (a.log_stays ∙ sym b.log_stays))
+      (a.idle ∙ sym b.idle)
+
+  not_both_ways : (reply : SlotReply) (left right : Stepped) → HasEnded ok bytes reply before left → HasFailed ok bytes before right → ⊥
+  not_both_ways reply left right a b = b.undone (subst (λ (begun : Begun). IsDone begun.call ok bytes)
+      (one_slot before.begun a.begun b.begun a.held b.held) a.done)
+
+  abbrev SaysEnded : Result (Unit {0}) StepRefusal → SlotReply → Stepped → Type 0
+  SaysEnded result reply after = Ends ok bytes result reply before after
+
+  -- the two refusals that change nothing
+  abbrev IsUntouched : StepRefusal → Type 0
+  IsUntouched d = (d ≡ refuses.Die DieStopped) ⊎ (d ≡ refuses.NotBegun)
+
+  untouched_alike : (d : StepRefusal) (other : Result (Unit {0}) StepRefusal) (here there : SlotReply) (left right : Stepped) → IsUntouched d
+      → SaysEnded (Err d) here left → SaysEnded other there right → other ≡ Err d
+  untouched_alike d other here there left right (inl stops) a b = b.stopped.1 (a.stopped.0 (ap Err stops)) ∙ sym (ap Err stops)
+  untouched_alike d other here there left right (inr none) a b = by before.core.stopped refl
+    where
+      by : (stopped : Bool) → before.core.stopped ≡ stopped → other ≡ Err d
+      by true stops = let e = a.stopped.1 stops in absurd cc
+      by false runs = (b.idle runs).1 ((a.idle runs).0 (ap Err none)) ∙ sym (ap Err none)
+
+  untouched_stays : (d : StepRefusal) (other : Result (Unit {0}) StepRefusal) (there : SlotReply) (right : Stepped) → IsUntouched d
+      → SaysEnded other there right → other ≡ Err d → right ≡ before
+  untouched_stays d (Ok x) there right kind b is = absurd cc
+  untouched_stays d (Err e) there right kind b is = by b.refused kind
+    where
+      by : (e ≡ refuses.Die DeviceFault) ⊎ (IsUntouched e × (right ≡ before)) → IsUntouched d → right ≡ before
+      by (inl fault) (inl stops) = absurd cc
+      by (inl fault) (inr none) = absurd cc
+      by (inr stays) k = stays.1
+
+  -- a slot that was carried out isn't refused
+  not_refused_too : (x : Unit {0}) (d : StepRefusal) (here there : SlotReply) (left right : Stepped) → SaysEnded (Ok x) here left
+      → SaysEnded (Err d) there right → ⊥
+  not_refused_too x d here there left right a b = by b.refused
+    where
+      by : (d ≡ refuses.Die DeviceFault) ⊎ (IsUntouched d × (right ≡ before)) → ⊥
+      by (inl fault) = not_both_ways here left right a.ended (b.failed (ap Err fault))
+      by (inr stays) = let e = untouched_alike d (Ok x) there here right left stays.0 b a in absurd cc
+
+  both_refused : (d e : StepRefusal) (here there : SlotReply) (left right : Stepped) → SaysEnded (Err d) here left → SaysEnded (Err e) there right
+      → (d ≡ e) × (left ≡ right)
+  both_refused d e here there left right a b = by a.refused b.refused
+    where
+      same : (x y : StepRefusal) → ◌≡◌ {A = Result (Unit {0}) StepRefusal} (Err x) (Err y) → x ≡ y
+      same x y is = cc
+
+      by : (d ≡ refuses.Die DeviceFault) ⊎ (IsUntouched d × (left ≡ before)) → (e ≡ refuses.Die DeviceFault) ⊎ (IsUntouched e × (right ≡ before))
+          → (d ≡ e) × (left ≡ right)
+      by (inl fault) (inl also) = (fault ∙ sym also, both_failed left right (a.failed (ap Err fault)) (b.failed (ap Err also)))
+      by (inr stays) other =
+          let is : ◌≡◌ {A = Result (Unit {0}) StepRefusal} (Err e) (Err d) = untouched_alike d (Err e) here there left right stays.0 a b in
+          (sym (same e d is), stays.1 ∙ sym (untouched_stays d (Err e) there right stays.0 b is))
+      by (inl fault) (inr stays) =
+          let is : ◌≡◌ {A = Result (Unit {0}) StepRefusal} (Err d) (Err e) = untouched_alike e (Err d) there here right left stays.0 b a in
+          (same d e is, untouched_stays e (Err d) here left stays.0 a is ∙ sym stays.1)
+
+  pub one_ending : (one other : Result (Unit {0}) StepRefusal) (here there : SlotReply) (left right : Stepped) → SaysEnded one here left
+      → SaysEnded other there right → (one ≡ other) × (left ≡ right) × OnOk one (here ≡ there)
+  one_ending (Ok x) (Ok y) here there left right a b =
+      let same = both_ended here there left right a.ended b.ended in (refl, same.0, same.1)
+  one_ending (Ok x) (Err d) here there left right a b = absurd (not_refused_too x d here there left right a b)
+  one_ending (Err d) (Ok y) here there left right a b = absurd (not_refused_too y d there here right left b a)
+  one_ending (Err d) (Err e) here there left right a b =
+      let same = both_refused d e here there left right a b in (ap Err same.0, same.1, tt)

@@ -3,12 +3,14 @@
 //! Each law is a function that does nothing. The premises of a law of one answer are the clauses of a call that decide,
 //! said of two answers `one` and `other`, which leave the dies `left` and `right`, where there was the die `before`.
 
-ghost use Rattle.std.specs.Prelude.{◌≡◌, ◌⊎◌, ◌↔◌, ◌≤◌, ℕ, true, false, None, Result, IfOk, IfErr, IsSome, OnErr};
+ghost use Rattle.std.specs.Prelude.{◌≡◌, ◌⊎◌, ◌↔◌, ◌≤◌, ℕ, Bool, true, false, None, Result, IfOk, IfErr, IsSome, OnErr, OnOk};
 ghost use Rattle.slot_types.specs.Arrivals.{IsArrival};
 ghost use Rattle.slot_types.specs.declared.events.Event.{Event};
 ghost use Rattle.slot_types.specs.declared.limits.TheConstants.{MAX_SLOT};
+ghost use Rattle.slot_types.specs.declared.pages.PageData.{PageData};
 ghost use Rattle.slot_types.specs.declared.refusals.Refusal.{Refusal};
 ghost use Rattle.slot_types.specs.declared.replies.Reply.{Reply};
+ghost use Rattle.slot_types.specs.declared.replies.SlotReply.{SlotReply};
 ghost use Rattle.slot_core.specs.Calls.{HasEntered};
 ghost use Rattle.slot_core.specs.Core.{with_entry};
 ghost use Rattle.die_log.specs.Model.Log.{Log, now};
@@ -20,7 +22,7 @@ ghost use Rattle.stepped_die.specs.declared.calls.Begun.{Begun};
 ghost use Rattle.stepped_die.specs.declared.refusals.StepRefusal.{StepRefusal};
 ghost use Rattle.stepped_die.specs.Arrivals.{WaitsAfter};
 ghost use Rattle.stepped_die.specs.Stepped.{Stepped};
-ghost use Rattle.stepped_die.specs.Steps.{HasBegun, HoldsBack, RefusesArrival, RefusesBeginning};
+ghost use Rattle.stepped_die.specs.Steps.{HasBegun, HasEnded, HasFailed, HoldsBack, RefusesArrival, RefusesBeginning};
 
 use crate::refusals::StepRefusal;
 use slot_types::Refusal;
@@ -85,4 +87,28 @@ pub fn beginning_a_slot_has_one_answer()
         ⊎ ((before.core.reserved ≡ 0)
         × ((one ≡ Err (StepRefusal.Die Refusal.NoMemory))
         ⊎ (other ≡ Err (StepRefusal.Die Refusal.NoMemory)))) }
+{}
+
+/// Ending a slot (`end`) has one answer, by what the device answered, and leaves one die; where the slot is carried out,
+/// it has one reply. Left open is what a reply holds after a refusal.
+pub fn ending_a_slot_has_one_answer()
+    ensures { (ok : Bool) (bytes : PageData) (one other : Result (Unit {0}) StepRefusal)
+        (here there : SlotReply) (before left right : Stepped) →
+        ((one ≡ Err (StepRefusal.Die Refusal.DieStopped)) ↔ (before.core.stopped ≡ true)) →
+        ((other ≡ Err (StepRefusal.Die Refusal.DieStopped)) ↔ (before.core.stopped ≡ true)) →
+        (before.core.stopped ≡ false
+        → ((one ≡ Err StepRefusal.NotBegun) ↔ (before.begun ≡ None))) →
+        (before.core.stopped ≡ false
+        → ((other ≡ Err StepRefusal.NotBegun) ↔ (before.begun ≡ None))) →
+        OnOk one (HasEnded ok bytes here before left) →
+        OnOk other (HasEnded ok bytes there before right) →
+        (one ≡ Err (StepRefusal.Die Refusal.DeviceFault) → HasFailed ok bytes before left) →
+        (other ≡ Err (StepRefusal.Die Refusal.DeviceFault) → HasFailed ok bytes before right) →
+        IfErr one (λ refusal. (refusal ≡ StepRefusal.Die Refusal.DeviceFault)
+        ⊎ (((refusal ≡ StepRefusal.Die Refusal.DieStopped) ⊎ (refusal ≡ StepRefusal.NotBegun))
+        × (left ≡ before))) →
+        IfErr other (λ refusal. (refusal ≡ StepRefusal.Die Refusal.DeviceFault)
+        ⊎ (((refusal ≡ StepRefusal.Die Refusal.DieStopped) ⊎ (refusal ≡ StepRefusal.NotBegun))
+        × (right ≡ before))) →
+        (one ≡ other) × (left ≡ right) × OnOk one (here ≡ there) }
 {}
