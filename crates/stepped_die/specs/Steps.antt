@@ -11,6 +11,8 @@ use Rattle.plan_rules.specs.Bound.{MeetsBound}
 use Rattle.slot_types.specs.declared.events.Event.TheVariants as events
 use Rattle.slot_types.specs.declared.replies.Reply.TheVariants.{Slot}
 use Rattle.slot_types.specs.declared.replies.SlotReply.{SlotReply}
+use Rattle.flash_die.specs.Faulty.{unarmed_device}
+use Rattle.flash_die.specs.Memory.{fresh_memory}
 use Rattle.die_log.specs.Model.Log.{now}
 use Rattle.die_log.specs.Model.NeededCalls.{needed_call}
 use Rattle.die_log.specs.Model.Start.{fresh}
@@ -28,16 +30,17 @@ use Rattle.stepped_die.specs.DeviceCalls.{IsDone, Changes, reported_by}
 -- a die on which nothing was done
 pub record IsNew (plan : DiePlan) (die : Stepped) : Type 0 where
   pub start : die.core.start ≡ fresh plan
+  pub device : die.core.device ≡ unarmed_device (record { memory = fresh_memory plan.shape })
   pub runs : die.core.stopped ≡ false
   pub reserves : die.core.reserved ≡ 0
   pub log : die.core.log ≡ []
   pub idle : die.begun ≡ None
 
--- why no die is made of a plan: its shape is out of its limits; else it doesn't meet its bound; or there was no memory
+-- why no die is made of a plan: its shape is out of its limits; else it doesn't meet its bound; or it does, and there was no memory
 abbrev pub RefusesNewDie : DiePlan → Refusal → Type 0
 RefusesNewDie plan BadShape = ¬ IsShape plan.shape
 RefusesNewDie plan BadPlan = IsShape plan.shape × ¬ MeetsBound plan
-RefusesNewDie plan NoMemory = ⊤
+RefusesNewDie plan NoMemory = MeetsBound plan
 RefusesNewDie plan _ = ⊥
 
 -- A slot has begun: it is the log's present one, and what is reported is the one call that it needs, and for whom.

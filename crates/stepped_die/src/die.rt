@@ -5,6 +5,7 @@ ghost use Rattle.slot_types.specs.declared.refusals.Refusal.{Refusal};
 ghost use Rattle.slot_types.specs.declared.events.Event.TheVariants as events;
 ghost use Rattle.slot_types.specs.declared.limits.TheConstants.{MAX_SLOT};
 ghost use Rattle.slot_types.specs.Refusal.{FailsForMemory};
+ghost use Rattle.plan_rules.specs.Bound.{MeetsBound};
 ghost use Rattle.die_log.specs.Model.Log.{now};
 ghost use Rattle.slot_core.specs.Calls.{HasEntered};
 ghost use Rattle.slot_core.specs.WithinSlot.{idle_reply};
@@ -51,6 +52,7 @@ impl SteppedDie {
     /// else `NoMemory`.
     pub fn new(alloc: Global, plan: DiePlan) -> Result<SteppedDie, Refusal>
         ensures ok { IfOk result (IsNew plan) }
+        ensures bound { OnOk result (MeetsBound plan) }
         ensures cause { IfErr result (RefusesNewDie plan) }
     {
         bound(&plan)?;
@@ -257,6 +259,8 @@ impl SteppedDie {
     /// Starts the log anew at a quiet moment, as [`DieCore::renew`]. `DieStopped` where a fault has stopped the die;
     /// else `Begun` where a slot has begun. Every refusal changes nothing.
     pub fn renew(&mut self) -> Result<(), StepRenewalRefusal>
+        ensures begun { self.old.core.stopped ≡ false
+            → ((result ≡ Err StepRenewalRefusal.Begun) ↔ IsSome self.old.begun) }
         ensures ok { OnOk result ((self.new ≡ record self.old { core = renewed_core self.old.core })
             × MayBeRenewed self.old.core) }
         ensures cause { IfErr result (RefusesRenewing self.old) }
