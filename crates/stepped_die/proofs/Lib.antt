@@ -2,3 +2,4 @@ pub mod Arriving
 pub mod Ending
 pub mod Naming
 pub mod OneAnswer
+pub mod OneLife

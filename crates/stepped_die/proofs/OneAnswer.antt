@@ -43,7 +43,7 @@ refused_alike : {T : Type 0} (d : StepRefusal) (other : Result T StepRefusal) (b
 refused_alike d (Ok x) before left right a b is = absurd cc
 refused_alike d (Err e) before left right a b is = (sym is, a ∙ sym b)
 
-same_die : (left right : Stepped) → left.core ≡ right.core → left.begun ≡ right.begun → left ≡ right
+pub same_die : (left right : Stepped) → left.core ≡ right.core → left.begun ≡ right.begun → left ≡ right
 same_die left right core begun = λ i. record { core = core i; begun = begun i }
 
 -- Arrivals
@@ -225,7 +225,7 @@ pub record Ends (ok : Bool) (bytes : PageData) (result : Result (Unit {0}) StepR
   pub refused : IfErr result (λ refusal. (refusal ≡ refuses.Die DeviceFault)
       ⊎ (((refusal ≡ refuses.Die DieStopped) ⊎ (refusal ≡ refuses.NotBegun)) × (after ≡ before)))
 
-same_core : (left right : Core Mirror) → left.start ≡ right.start → left.device ≡ right.device → left.stopped ≡ right.stopped
+pub same_core : (left right : Core Mirror) → left.start ≡ right.start → left.device ≡ right.device → left.stopped ≡ right.stopped
     → left.reserved ≡ right.reserved → left.log ≡ right.log → left ≡ right
 same_core left right start device stopped reserved log =
     λ i. record { start = start i; device = device i; stopped = stopped i; reserved = reserved i; log = log i }
