@@ -1,5 +1,5 @@
 -- A die is made, renewed, written down and resumed with one answer, unless memory is refused.
-use Rattle.std.proofs.Common.{◌≡◌, ◌≢◌, ◌⊎◌, ◌↔◌, Bool, true, false, List, Option, None, Ok, Err, refl, sym, ap, subst, ◌∙◌, inl, inr}
+use Rattle.std.proofs.Common.{◌≡◌, ◌≢◌, ◌⊎◌, ◌↔◌, false, List, Ok, Err, refl, sym, ap, subst, ◌∙◌, inl, inr}
 use Rattle.std.specs.Prelude.{Result, IfOk, IfErr, IsSome, OnErr, OnOk}
 use Rattle.slot_types.specs.declared.pages.PageData.{PageData}
 use Rattle.slot_types.specs.declared.plans.DiePlan.{DiePlan}
@@ -16,8 +16,6 @@ use Rattle.die_checkpoint.proofs.Excluding.{fault_breaks}
 use Rattle.die_checkpoint.proofs.OneFault.{one_fault}
 use Rattle.die_log.specs.Model.Flash.{contents}
 use Rattle.die_log.specs.Model.Opening.{renewed_start}
-use Rattle.slot_core.specs.declared.renewals.RenewalRefusal.{RenewalRefusal}
-use Rattle.slot_core.specs.declared.resumptions.CheckpointRefusal.{CheckpointRefusal}
 use Rattle.slot_core.specs.declared.resumptions.CheckpointRefusal.TheVariants as untaken
 use Rattle.slot_core.specs.Renewals.{MayBeRenewed, renewed_core}
 use Rattle.slot_core.specs.Resumptions.{checkpoint_of}
