@@ -153,13 +153,17 @@ same_new plan left right a b = same_die left right
 
 -- one of three causes
 abbrev Unmade : DiePlan → Refusal → Type 0
-Unmade plan d = ((d ≡ BadShape) × ¬ IsShape plan.shape) ⊎ ((d ≡ BadPlan) × IsShape plan.shape × ¬ MeetsBound plan) ⊎ ((d ≡ NoMemory) × MeetsBound plan)
+Unmade plan d = ((d ≡ BadShape) × ¬ IsShape plan.shape) ⊎ ((d ≡ BadPlan) × IsShape plan.shape × ¬ MeetsBound plan) ⊎ (d ≡ NoMemory)
 
 refuses_new : (plan : DiePlan) (d : Refusal) → RefusesNewDie plan d → Unmade plan d
 refuses_new plan BadShape h = inl (refl, h)
 refuses_new plan BadPlan h = inr (inl (refl, h.0, h.1))
-refuses_new plan NoMemory h = inr (inr (refl, h))
+refuses_new plan NoMemory h = inr (inr refl)
 refuses_new plan _ h = absurd h
+
+-- `new` says that memory alone was refused
+abbrev LacksMemory : DiePlan → Result Stepped Refusal → Type 0
+LacksMemory plan result = result ≡ Err NoMemory → MeetsBound plan
 
 module _ (plan : DiePlan) where
   abbrev AgreeNew : Result Stepped Refusal → Result Stepped Refusal → Type 0
@@ -171,24 +175,25 @@ module _ (plan : DiePlan) where
       by : Unmade plan d → d ≡ NoMemory
       by (inl (is, shape)) = absurd (shape meets.shape)
       by (inr (inl (is, shape, bound))) = absurd (bound meets)
-      by (inr (inr (is, all))) = is
+      by (inr (inr is)) = is
 
-  both_unmade : (d e : Refusal) → RefusesNewDie plan d → RefusesNewDie plan e → AgreeNew (Err d) (Err e)
-  both_unmade d e h k = by (refuses_new plan d h) (refuses_new plan e k)
+  both_unmade : (d e : Refusal) → RefusesNewDie plan d → RefusesNewDie plan e → LacksMemory plan (Err d) → LacksMemory plan (Err e)
+      → AgreeNew (Err d) (Err e)
+  both_unmade d e h k lacks lacks' = by (refuses_new plan d h) (refuses_new plan e k)
     where
       by : Unmade plan d → Unmade plan e → AgreeNew (Err d) (Err e)
-      by (inr (inr (is, meets))) other = inr (meets, inl (ap Err is))
+      by (inr (inr is)) other = inr (lacks (ap Err is), inl (ap Err is))
       by (inl (is, shape)) (inl (also, shape')) = inl (ap Err (is ∙ sym also))
       by (inl (is, shape)) (inr (inl (also, shape', bound))) = absurd (shape shape')
-      by (inl (is, shape)) (inr (inr (also, meets))) = inr (meets, inr (ap Err also))
+      by (inl (is, shape)) (inr (inr also)) = inr (lacks' (ap Err also), inr (ap Err also))
       by (inr (inl (is, shape, bound))) (inl (also, shape')) = absurd (shape' shape)
       by (inr (inl (is, shape, bound))) (inr (inl (also, shape', bound'))) = inl (ap Err (is ∙ sym also))
-      by (inr (inl (is, shape, bound))) (inr (inr (also, meets))) = inr (meets, inr (ap Err also))
+      by (inr (inl (is, shape, bound))) (inr (inr also)) = inr (lacks' (ap Err also), inr (ap Err also))
 
 pub one_making : (plan : DiePlan) (one other : Result Stepped Refusal) → IfOk one (IsNew plan) → IfOk other (IsNew plan)
     → OnOk one (MeetsBound plan) → OnOk other (MeetsBound plan) → IfErr one (RefusesNewDie plan) → IfErr other (RefusesNewDie plan)
-    → AgreeNew plan one other
-one_making plan (Ok left) (Ok right) a b m n h k = inl (ap Ok (same_new plan left right a b))
-one_making plan (Ok left) (Err e) a b m n h k = inr (m, inr (ap Err (made_or_memory plan e m k)))
-one_making plan (Err d) (Ok right) a b m n h k = inr (n, inl (ap Err (made_or_memory plan d n h)))
-one_making plan (Err d) (Err e) a b m n h k = both_unmade plan d e h k
+    → LacksMemory plan one → LacksMemory plan other → AgreeNew plan one other
+one_making plan (Ok left) (Ok right) a b m n h k l l' = inl (ap Ok (same_new plan left right a b))
+one_making plan (Ok left) (Err e) a b m n h k l l' = inr (m, inr (ap Err (made_or_memory plan e m k)))
+one_making plan (Err d) (Ok right) a b m n h k l l' = inr (n, inl (ap Err (made_or_memory plan d n h)))
+one_making plan (Err d) (Err e) a b m n h k l l' = both_unmade plan d e h k l l'

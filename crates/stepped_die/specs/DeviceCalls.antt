@@ -8,7 +8,7 @@ use Rattle.flash_die.specs.declared.nand.NandCall.TheVariants as needs
 use Rattle.stepped_die.specs.declared.calls.Call.{Call}
 use Rattle.stepped_die.specs.declared.calls.Call.TheVariants as calls
 
--- a call takes the device from these blocks to those
+-- a call takes a device to this one, of which the blocks alone may be others
 abbrev pub Does : Memory → NandCall → Memory → Type 0
 Does before (needs.Read place) after = after ≡ before
 Does before (needs.Program place bytes) after = after ≡ record before { blocks = blocks_after_program before.blocks place.block bytes }

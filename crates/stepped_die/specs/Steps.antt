@@ -1,5 +1,5 @@
 -- What beginning and ending a slot does, and why a call is refused.
-use Rattle.std.specs.Prelude.{◌≡◌, ◌≤◌, ◌+◌, ℕ, Bool, true, false, Option, Some, None, [], IfSome, IsSome, max}
+use Rattle.std.specs.Prelude.{◌≡◌, ◌≤◌, ◌+◌, ℕ, Bool, true, false, Option, Some, None, [], IfSome, IsSome, max, ⊤}
 use Rattle.slot_types.specs.declared.plans.DiePlan.{DiePlan}
 use Rattle.slot_types.specs.declared.pages.PageData.{PageData}
 use Rattle.slot_types.specs.declared.events.Event.{Event}
@@ -36,11 +36,11 @@ pub record IsNew (plan : DiePlan) (die : Stepped) : Type 0 where
   pub log : die.core.log ≡ []
   pub idle : die.begun ≡ None
 
--- why no die is made of a plan: its shape is out of its limits; else it doesn't meet its bound; or it does, and there was no memory
+-- why no die is made of a plan: its shape is out of its limits; else it doesn't meet its bound; or there was no memory
 abbrev pub RefusesNewDie : DiePlan → Refusal → Type 0
 RefusesNewDie plan BadShape = ¬ IsShape plan.shape
 RefusesNewDie plan BadPlan = IsShape plan.shape × ¬ MeetsBound plan
-RefusesNewDie plan NoMemory = MeetsBound plan
+RefusesNewDie plan NoMemory = ⊤
 RefusesNewDie plan _ = ⊥
 
 -- A slot has begun: it is the log's present one, and what is reported is the one call that it needs, and for whom.
@@ -60,7 +60,7 @@ pub record HasBegun (caller : ℕ) (begun : Begun) (before after : Stepped) : Ty
   }
 
 -- A slot has ended: the device did what it was asked, and the slot is the log's next entry. The mirror has had that
--- call, and no other; else nothing changes of the device.
+-- call, and no other; nothing else of the device changes.
 pub record HasEnded (ok : Bool) (bytes : PageData) (reply : SlotReply) (before after : Stepped) : Type 0 where
   pub begun : Begun
   pub held : before.begun ≡ Some begun
@@ -72,7 +72,7 @@ pub record HasEnded (ok : Bool) (bytes : PageData) (reply : SlotReply) (before a
   pub idle : after.begun ≡ None
 
 -- A slot has failed: the device didn't do what it was asked, or a read gave other bytes than its cell was programmed
--- with. The die is stopped, and its log is that before the slot. The mirror has had no call: one was let fail.
+-- with. The die is stopped, its log is that before the slot, and the mirror has had no call.
 pub record HasFailed (ok : Bool) (bytes : PageData) (before after : Stepped) : Type 0 where
   pub begun : Begun
   pub held : before.begun ≡ Some begun

@@ -54,6 +54,7 @@ impl SteppedDie {
         ensures ok { IfOk result (IsNew plan) }
         ensures bound { OnOk result (MeetsBound plan) }
         ensures cause { IfErr result (RefusesNewDie plan) }
+        ensures memory { result ≡ Err Refusal.NoMemory → MeetsBound plan }
     {
         bound(&plan)?;
         let mirror = MirrorNand::new(alloc, plan.shape)?;

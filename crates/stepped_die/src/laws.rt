@@ -182,6 +182,8 @@ pub fn making_a_die_has_one_answer()
         IfOk one (IsNew plan) → IfOk other (IsNew plan) →
         OnOk one (MeetsBound plan) → OnOk other (MeetsBound plan) →
         IfErr one (RefusesNewDie plan) → IfErr other (RefusesNewDie plan) →
+        (one ≡ Err Refusal.NoMemory → MeetsBound plan) →
+        (other ≡ Err Refusal.NoMemory → MeetsBound plan) →
         (one ≡ other)
         ⊎ (MeetsBound plan × ((one ≡ Err Refusal.NoMemory) ⊎ (other ≡ Err Refusal.NoMemory))) }
 {}
