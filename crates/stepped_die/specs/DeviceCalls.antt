@@ -42,5 +42,6 @@ abbrev pub Changes : Memory → Option Call → Memory → Type 0
 Changes before None after = after ≡ before
 Changes before (Some (calls.Read place bytes)) after = (after ≡ before) × (bytes ≡ cell_at before.blocks place)
 Changes before (Some (calls.Program place bytes)) after = after ≡ record before { blocks = blocks_after_program before.blocks place.block bytes }
-Changes before (Some (calls.Erase block last)) after = (after ≡ record before { blocks = blocks_after_erase_slot before.blocks before.shape.erase_slots block })
+Changes before (Some (calls.Erase block last)) after =
+    (after ≡ record before { blocks = blocks_after_erase_slot before.blocks before.shape.erase_slots block })
     × (last ≡ ((block_at before.blocks block).erasing + 1 == before.shape.erase_slots))

@@ -53,8 +53,8 @@ pub fn arrivals_leave_the_slot()
         ≡ needed_call start past }
 {}
 
-/// Accepting a job or collection (`submit`, `collect`) has one answer, and leaves one die. Left open is whether there is
-/// memory for it.
+/// Accepting a job or collection (`submit`, `collect`) has one answer, and leaves one die. Left open is whether there
+/// is memory for it.
 pub fn an_arrival_has_one_answer()
     ensures { (caller release : ℕ) (event : Event) (one other : Result ℕ StepRefusal)
         (before left right : Stepped) → IsArrival event →
@@ -100,8 +100,8 @@ pub fn beginning_a_slot_has_one_answer()
         ⊎ (other ≡ Err (StepRefusal.Die Refusal.NoMemory)))) }
 {}
 
-/// Ending a slot (`end`) has one answer, by what the device answered, and leaves one die; where the slot is carried out,
-/// it has one reply. Left open is what a reply holds after a refusal.
+/// Ending a slot (`end`) has one answer, by what the device answered, and leaves one die; where the slot is carried
+/// out, it has one reply. Left open is what a reply holds after a refusal.
 pub fn ending_a_slot_has_one_answer()
     ensures { (ok : Bool) (bytes : PageData) (one other : Result (Unit {0}) StepRefusal)
         (here there : SlotReply) (before left right : Stepped) →
@@ -162,8 +162,8 @@ pub fn taking_a_checkpoint_has_one_answer()
         ⊎ (other ≡ Err (StepCheckpointRefusal.Die CheckpointRefusal.NoMemory)))) }
 {}
 
-/// Going on from a checkpoint (`resume`) has one answer, and makes one die. Left open is whether there is memory for it,
-/// where nothing else is wrong but that pages may share a cell.
+/// Going on from a checkpoint (`resume`) has one answer, and makes one die. Left open is whether there is memory for
+/// it, where nothing else is wrong but that pages may share a cell.
 pub fn resuming_has_one_answer()
     ensures { (plan : DiePlan) (c : Checkpoint) (names : List PageData)
         (one other : Result Stepped CheckpointFault) →
