@@ -89,9 +89,6 @@ waived_alike a b task h = record {
 -- Choices
 
 module _ (plan : DiePlan) (past later : Log) (works : (number : ℕ) → work number later ≡ work number past) where
-  Chooses : Type 0
-  Chooses = Accounts → List Job → Choice
-
   waivable_alike : (a b : Accounts) (j : Job) → Alike a b → is_waivable plan later a j ≡ is_waivable plan past b j
   waivable_alike a b j h =
       ap (λ (n : ℕ). j.collects && (n == 0) && nat_le plan.alpha a.spare) (works j.number)

@@ -2,7 +2,6 @@
 use Rattle.std.proofs.Common.{◌≡◌, ◌↔◌, ℕ, ◌+◌, ◌<◌, Bool, true, false, Option, Some, None, Ok, Err, refl, sym, ap, subst, ◌∙◌, inl, inr, arith}
 use Rattle.std.specs.Prelude.{Result, IfSome}
 use Rattle.std.proofs.lemmas.Bool.{true≢false, cases_lt}
-use Rattle.slot_types.specs.declared.pages.PageData.{PageData}
 use Rattle.slot_types.specs.Arrivals.{IsArrival}
 use Rattle.slot_types.specs.declared.events.Event.{Event}
 use Rattle.slot_types.specs.declared.events.Event.TheVariants as events
@@ -11,7 +10,6 @@ use Rattle.slot_types.specs.declared.refusals.Refusal.TheVariants.{DieStopped}
 use Rattle.slot_types.specs.declared.replies.SlotReply.{SlotReply}
 use Rattle.slot_types.specs.declared.replies.Reply.TheVariants as replies
 use Rattle.flash_die.specs.declared.nand.NandCall.{NandCall}
-use Rattle.flash_die.specs.declared.nand.NandCall.TheVariants as needs
 use Rattle.flash_die.specs.Faulty.{Faulty, EndsAsReported}
 use Rattle.die_log.specs.Model.Log.{now}
 use Rattle.die_log.specs.Model.Answers.{answer, reply_if_accepted}
@@ -20,18 +18,17 @@ use Rattle.die_log.specs.Results.Promises.{KeepsPromises}
 use Rattle.die_log.proofs.Legality.{accepted_answer}
 use Rattle.slot_core.specs.Calls.{HasEntered, FindsFault, RefusesCall, IsCall, reply_as}
 use Rattle.slot_core.specs.Core.{Core}
-use Rattle.slot_core.specs.Needs.{IsOnlyCall, MadeAndFailed}
+use Rattle.slot_core.specs.Needs.{MadeAndFailed}
 use Rattle.slot_core.proofs.Calling.{has_entered, arrival_stays, stopped_only}
 use Rattle.slot_core.proofs.Slotting.{slot_unrefused}
 use Rattle.stepped_die.specs.declared.calls.Begun.{Begun}
-use Rattle.stepped_die.specs.declared.calls.Call.{Call}
 use Rattle.stepped_die.specs.declared.mirror.MirrorNand.{MirrorNand}
 use Rattle.stepped_die.specs.declared.refusals.StepRefusal.{StepRefusal}
 use Rattle.stepped_die.specs.declared.refusals.StepRefusal.TheVariants as refuses
 use Rattle.stepped_die.specs.Arrivals.{WaitsAfter}
-use Rattle.stepped_die.specs.Steps.{HasEnded, HoldsBack, RefusesArrival}
+use Rattle.stepped_die.specs.Steps.{HoldsBack, RefusesArrival}
 use Rattle.stepped_die.specs.Stepped.{Stepped, IsPresent, IsStepped, mirror_of}
-use Rattle.stepped_die.specs.DeviceCalls.{DoesWell, IsDone, Changes, reported_by}
+use Rattle.stepped_die.specs.DeviceCalls.{DoesWell, reported_by}
 use Rattle.stepped_die.proofs.Arriving.{arrival_leaves}
 
 abbrev pub Mirror : Type 0
@@ -73,29 +70,6 @@ pub not_refused_here : (before after : Core Mirror) (begun : Begun) (r : Refusal
 not_refused_here before after begun r runs passes h call =
     no_fault (needed_call before.start before.log) before.device after.device passes
     (call.device.failed (ap Err (refused_for_fault before after begun r runs h call.ended).refusal_is))
-
--- What was asked was made
-
-changes_by : (needed : Option NandCall) (before after : Mirror) → before.armed ≡ false → IsOnlyCall ends needed true before after
-    → Changes before.inner.memory (reported_by before.inner.memory needed) after.inner.memory
-changes_by None before after passes m = ap (λ (d : Mirror). d.inner.memory) m
-changes_by (Some (needs.Read place)) before after passes m = ((m.free passes).inner.does, refl)
-changes_by (Some (needs.Program place bytes)) before after passes m = (m.free passes).inner.does
-changes_by (Some (needs.EraseSlot block)) before after passes m = ((m.free passes).inner.does, refl)
-
-passes_by : (needed : Option NandCall) (before after : Mirror) → before.armed ≡ false → IsOnlyCall ends needed true before after → after.armed
-    ≡ false
-passes_by None before after passes m = ap (λ (d : Mirror). d.armed) m ∙ passes
-passes_by (Some call) before after passes m = (m.free passes).armed ∙ passes
-
-pub called : (before after : Core Mirror) (begun : Begun) (reply : SlotReply) → before.device.armed ≡ false → IsPresent before begun
-    → IsCall ends failures false begun.caller events.Slot (Ok (replies.Slot reply)) before after
-    → Changes (mirror_of before) begun.call (mirror_of after) × (after.device.armed ≡ false)
-called before after begun reply passes h call = (
-  subst (λ (c : Option Call). Changes (mirror_of before) c (mirror_of after)) (sym h.call_is)
-      (changes_by (needed_call before.start before.log) before.device after.device passes call.device.made),
-  passes_by (needed_call before.start before.log) before.device after.device passes call.device.made,
-)
 
 -- Arrivals
 
@@ -206,17 +180,3 @@ answered_running caller event before after (Err refusal) runs call = (
 
 pub present_of : (core : Core Mirror) (o : Option Begun) (begun : Begun) → o ≡ Some begun → IfSome o (IsPresent core) → IsPresent core begun
 present_of core o begun is h = subst (λ (x : Option Begun). IfSome x (IsPresent core)) is h
-
-pub ended_is : (ok : Bool) (bytes : PageData) (reply : SlotReply) (before : Stepped) (begun : Begun) (after : Core Mirror)
-    → before.begun ≡ Some begun → before.core.device.armed ≡ false → IsPresent before.core begun → IsDone begun.call ok bytes
-    → IsCall ends failures false begun.caller events.Slot (Ok (replies.Slot reply)) before.core after
-    → HasEnded ok bytes reply before (record { core = after; begun = None })
-ended_is ok bytes reply before begun after held passes h done call = record {
-  begun = begun;
-  held = held;
-  done = done;
-  carried = call.ended;
-  called = (called before.core after begun reply passes h call).0;
-  start_stays = call.start_stays;
-  idle = refl;
-}

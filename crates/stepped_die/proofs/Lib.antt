@@ -1,3 +1,5 @@
 pub mod Arriving
 pub mod Ending
 pub mod Naming
+pub mod OneAnswer
+pub mod OneLife

@@ -8,11 +8,11 @@ use Rattle.flash_die.specs.declared.nand.NandCall.TheVariants as needs
 use Rattle.stepped_die.specs.declared.calls.Call.{Call}
 use Rattle.stepped_die.specs.declared.calls.Call.TheVariants as calls
 
--- a call takes the device from these blocks to those
+-- a call takes a device to this one, of which the blocks alone may be others
 abbrev pub Does : Memory → NandCall → Memory → Type 0
 Does before (needs.Read place) after = after ≡ before
-Does before (needs.Program place bytes) after = after.blocks ≡ blocks_after_program before.blocks place.block bytes
-Does before (needs.EraseSlot block) after = after.blocks ≡ blocks_after_erase_slot before.blocks before.shape.erase_slots block
+Does before (needs.Program place bytes) after = after ≡ record before { blocks = blocks_after_program before.blocks place.block bytes }
+Does before (needs.EraseSlot block) after = after ≡ record before { blocks = blocks_after_erase_slot before.blocks before.shape.erase_slots block }
 
 -- a call of the device ends well, and does what it says
 pub record DoesWell (before : Memory) (call : NandCall) (well : Bool) (after : Memory) : Type 0 where
@@ -41,6 +41,7 @@ IsDone (Some (calls.Erase block last)) ok bytes = ok ≡ true
 abbrev pub Changes : Memory → Option Call → Memory → Type 0
 Changes before None after = after ≡ before
 Changes before (Some (calls.Read place bytes)) after = (after ≡ before) × (bytes ≡ cell_at before.blocks place)
-Changes before (Some (calls.Program place bytes)) after = after.blocks ≡ blocks_after_program before.blocks place.block bytes
-Changes before (Some (calls.Erase block last)) after = (after.blocks ≡ blocks_after_erase_slot before.blocks before.shape.erase_slots block)
+Changes before (Some (calls.Program place bytes)) after = after ≡ record before { blocks = blocks_after_program before.blocks place.block bytes }
+Changes before (Some (calls.Erase block last)) after =
+    (after ≡ record before { blocks = blocks_after_erase_slot before.blocks before.shape.erase_slots block })
     × (last ≡ ((block_at before.blocks block).erasing + 1 == before.shape.erase_slots))

@@ -6,6 +6,7 @@ use Rattle.slot_types.specs.declared.pages.Place.{Place}
 use Rattle.slot_types.specs.declared.plans.DiePlan.{DiePlan}
 use Rattle.slot_types.specs.declared.plans.Shape.{Shape}
 use Rattle.slot_types.specs.Places.{place_of, owner_of}
+use Rattle.flash_die.specs.Faulty.{unarmed_device}
 use Rattle.flash_die.specs.Flash.{Block, blank}
 use Rattle.flash_die.specs.Memory.{Memory}
 use Rattle.die_checkpoint.specs.declared.checkpoint.Checkpoint.{Checkpoint}
@@ -60,6 +61,7 @@ memory_left shape c names = record { shape = shape; blocks = map (block_left c n
 -- a die that goes on from a checkpoint, with the pages of these names
 pub record GoesOn (plan : DiePlan) (c : Checkpoint) (names : List PageData) (die : Stepped) : Type 0 where
   pub start : die.core.start ≡ start_with plan c (pages_named c.places names)
+  pub device : die.core.device ≡ unarmed_device (record { memory = memory_left plan.shape c names })
   pub runs : die.core.stopped ≡ false
   pub reserves : die.core.reserved ≡ 0
   pub log : die.core.log ≡ []

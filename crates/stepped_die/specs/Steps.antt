@@ -1,5 +1,5 @@
 -- What beginning and ending a slot does, and why a call is refused.
-use Rattle.std.specs.Prelude.{◌≡◌, ◌≤◌, ℕ, Bool, true, false, Option, Some, None, [], IfSome, IsSome, max, ⊤}
+use Rattle.std.specs.Prelude.{◌≡◌, ◌≤◌, ◌+◌, ℕ, Bool, true, false, Option, Some, None, [], IfSome, IsSome, max, ⊤}
 use Rattle.slot_types.specs.declared.plans.DiePlan.{DiePlan}
 use Rattle.slot_types.specs.declared.pages.PageData.{PageData}
 use Rattle.slot_types.specs.declared.events.Event.{Event}
@@ -11,6 +11,8 @@ use Rattle.plan_rules.specs.Bound.{MeetsBound}
 use Rattle.slot_types.specs.declared.events.Event.TheVariants as events
 use Rattle.slot_types.specs.declared.replies.Reply.TheVariants.{Slot}
 use Rattle.slot_types.specs.declared.replies.SlotReply.{SlotReply}
+use Rattle.flash_die.specs.Faulty.{unarmed_device}
+use Rattle.flash_die.specs.Memory.{fresh_memory}
 use Rattle.die_log.specs.Model.Log.{now}
 use Rattle.die_log.specs.Model.NeededCalls.{needed_call}
 use Rattle.die_log.specs.Model.Start.{fresh}
@@ -28,6 +30,7 @@ use Rattle.stepped_die.specs.DeviceCalls.{IsDone, Changes, reported_by}
 -- a die on which nothing was done
 pub record IsNew (plan : DiePlan) (die : Stepped) : Type 0 where
   pub start : die.core.start ≡ fresh plan
+  pub device : die.core.device ≡ unarmed_device (record { memory = fresh_memory plan.shape })
   pub runs : die.core.stopped ≡ false
   pub reserves : die.core.reserved ≡ 0
   pub log : die.core.log ≡ []
@@ -57,18 +60,19 @@ pub record HasBegun (caller : ℕ) (begun : Begun) (before after : Stepped) : Ty
   }
 
 -- A slot has ended: the device did what it was asked, and the slot is the log's next entry. The mirror has had that
--- call, and no other.
+-- call, and no other; nothing else of the device changes.
 pub record HasEnded (ok : Bool) (bytes : PageData) (reply : SlotReply) (before after : Stepped) : Type 0 where
   pub begun : Begun
   pub held : before.begun ≡ Some begun
   pub done : IsDone begun.call ok bytes
   pub carried : IsAnswered begun.caller events.Slot (Slot reply) before.core after.core
   pub called : Changes (mirror_of before.core) begun.call (mirror_of after.core)
+  pub passed_on : after.core.device ≡ record before.core.device { inner = after.core.device.inner }
   pub start_stays : after.core.start ≡ before.core.start
   pub idle : after.begun ≡ None
 
 -- A slot has failed: the device didn't do what it was asked, or a read gave other bytes than its cell was programmed
--- with. The die is stopped, and its log is that before the slot.
+-- with. The die is stopped, its log is that before the slot, and the mirror has had no call.
 pub record HasFailed (ok : Bool) (bytes : PageData) (before after : Stepped) : Type 0 where
   pub begun : Begun
   pub held : before.begun ≡ Some begun
@@ -77,6 +81,7 @@ pub record HasFailed (ok : Bool) (bytes : PageData) (before after : Stepped) : T
   pub log_stays : after.core.log ≡ before.core.log
   pub start_stays : after.core.start ≡ before.core.start
   pub reserve_stays : after.core.reserved ≡ before.core.reserved
+  pub let_fail : after.core.device ≡ record before.core.device { armed = true; failed = before.core.device.failed + 1 }
   pub idle : after.begun ≡ None
 
 -- a slot has begun that isn't below the release

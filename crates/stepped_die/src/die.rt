@@ -3,7 +3,10 @@
 ghost use Rattle.std.specs.Prelude.{◌≡◌, ◌≢◌, ◌⊎◌, ◌↔◌, ◌≤◌, [], true, false, None, Some, max, IsSome, IfOk, IfErr, OnOk, OnErr};
 ghost use Rattle.slot_types.specs.declared.refusals.Refusal.{Refusal};
 ghost use Rattle.slot_types.specs.declared.events.Event.TheVariants as events;
+ghost use Rattle.slot_types.specs.declared.limits.TheConstants.{MAX_SLOT};
 ghost use Rattle.slot_types.specs.Refusal.{FailsForMemory};
+ghost use Rattle.plan_rules.specs.Bound.{MeetsBound};
+ghost use Rattle.die_log.specs.Model.Log.{now};
 ghost use Rattle.slot_core.specs.Calls.{HasEntered};
 ghost use Rattle.slot_core.specs.WithinSlot.{idle_reply};
 ghost use Rattle.slot_core.specs.Renewals.{MayBeRenewed, renewed_core};
@@ -49,7 +52,9 @@ impl SteppedDie {
     /// else `NoMemory`.
     pub fn new(alloc: Global, plan: DiePlan) -> Result<SteppedDie, Refusal>
         ensures ok { IfOk result (IsNew plan) }
+        ensures bound { OnOk result (MeetsBound plan) }
         ensures cause { IfErr result (RefusesNewDie plan) }
+        ensures memory { result ≡ Err Refusal.NoMemory → MeetsBound plan }
     {
         bound(&plan)?;
         let mirror = MirrorNand::new(alloc, plan.shape)?;
@@ -86,6 +91,8 @@ impl SteppedDie {
     ) -> Result<JobNo, StepRefusal>
         ensures stopped { (result ≡ Err (StepRefusal.Die Refusal.DieStopped))
             ↔ (self.old.core.stopped ≡ true) }
+        ensures held { self.old.core.stopped ≡ false
+            → ((result ≡ Err StepRefusal.Begun) ↔ HoldsBack release self.old.begun) }
         ensures taken { IfOk result (λ number.
             HasEntered caller (events.Submit task release due ops.now) number self.old.core
             self.new.core) }
@@ -125,6 +132,8 @@ impl SteppedDie {
     ) -> Result<JobNo, StepRefusal>
         ensures stopped { (result ≡ Err (StepRefusal.Die Refusal.DieStopped))
             ↔ (self.old.core.stopped ≡ true) }
+        ensures held { self.old.core.stopped ≡ false
+            → ((result ≡ Err StepRefusal.Begun) ↔ HoldsBack release self.old.begun) }
         ensures taken { IfOk result (λ number.
             HasEntered caller (events.Collect task release due) number self.old.core
             self.new.core) }
@@ -156,6 +165,9 @@ impl SteppedDie {
             ↔ (self.old.core.stopped ≡ true) }
         ensures twice { self.old.core.stopped ≡ false
             → ((result ≡ Err StepRefusal.Begun) ↔ IsSome self.old.begun) }
+        ensures end { self.old.core.stopped ≡ false → self.old.begun ≡ None
+            → ((result ≡ Err (StepRefusal.Die Refusal.ClockEnd))
+            ↔ (MAX_SLOT ≤ now self.old.core.log)) }
         ensures begun { IfOk result (λ begun. HasBegun caller begun self.old self.new) }
         ensures refused { OnErr result (self.new ≡ self.old) }
         ensures cause { IfErr result (RefusesBeginning self.old) }
@@ -248,6 +260,8 @@ impl SteppedDie {
     /// Starts the log anew at a quiet moment, as [`DieCore::renew`]. `DieStopped` where a fault has stopped the die;
     /// else `Begun` where a slot has begun. Every refusal changes nothing.
     pub fn renew(&mut self) -> Result<(), StepRenewalRefusal>
+        ensures begun { self.old.core.stopped ≡ false
+            → ((result ≡ Err StepRenewalRefusal.Begun) ↔ IsSome self.old.begun) }
         ensures ok { OnOk result ((self.new ≡ record self.old { core = renewed_core self.old.core })
             × MayBeRenewed self.old.core) }
         ensures cause { IfErr result (RefusesRenewing self.old) }

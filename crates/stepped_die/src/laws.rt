@@ -1,15 +1,42 @@
-//! Why jobs and collections may arrive while a slot has begun: a law, which is a function that does nothing.
+//! Why jobs and collections may arrive while a slot has begun, and that what a die answers leaves no choice.
+//!
+//! Each law is a function that does nothing. The premises of a law of one answer are the clauses of a call that decide,
+//! said of two answers `one` and `other`, which leave the dies `left` and `right`, where there was the die `before`.
 
-ghost use Rattle.std.specs.Prelude.{◌≡◌, ℕ};
+ghost use Rattle.std.specs.Prelude.{◌≡◌, ◌⊎◌, ◌↔◌, ◌≤◌, ℕ, Bool, true, false, List, None, Result, IfOk, IfErr, IsSome, OnErr, OnOk};
+ghost use Rattle.slot_types.specs.Arrivals.{IsArrival};
 ghost use Rattle.slot_types.specs.declared.events.Event.{Event};
+ghost use Rattle.slot_types.specs.declared.limits.TheConstants.{MAX_SLOT};
+ghost use Rattle.slot_types.specs.declared.pages.PageData.{PageData};
+ghost use Rattle.slot_types.specs.declared.plans.DiePlan.{DiePlan};
+ghost use Rattle.slot_types.specs.declared.refusals.Refusal.{Refusal};
 ghost use Rattle.slot_types.specs.declared.replies.Reply.{Reply};
+ghost use Rattle.slot_types.specs.declared.replies.SlotReply.{SlotReply};
+ghost use Rattle.plan_rules.specs.Bound.{MeetsBound};
+ghost use Rattle.die_checkpoint.specs.declared.checkpoint.Checkpoint.{Checkpoint};
+ghost use Rattle.die_checkpoint.specs.declared.fault.CheckpointFault.{CheckpointFault};
+ghost use Rattle.die_checkpoint.specs.Faults.{HasCheckpointFault};
+ghost use Rattle.die_checkpoint.specs.Fits.{Fits, FitsButShared};
+ghost use Rattle.slot_core.specs.Calls.{HasEntered};
 ghost use Rattle.slot_core.specs.Core.{with_entry};
+ghost use Rattle.slot_core.specs.Renewals.{MayBeRenewed, renewed_core};
+ghost use Rattle.slot_core.specs.Resumptions.{checkpoint_of};
+ghost use Rattle.slot_core.specs.declared.resumptions.CheckpointRefusal.{CheckpointRefusal};
 ghost use Rattle.die_log.specs.Model.Log.{Log, now};
 ghost use Rattle.die_log.specs.Model.Answers.{answer, IsExact};
+ghost use Rattle.die_log.specs.Model.Flash.{contents};
 ghost use Rattle.die_log.specs.Model.NeededCalls.{needed_call};
-ghost use Rattle.die_log.specs.Model.Opening.{IsOpening};
+ghost use Rattle.die_log.specs.Model.Opening.{IsOpening, renewed_start};
 ghost use Rattle.die_log.specs.Model.Start.{Start};
+ghost use Rattle.stepped_die.specs.declared.calls.Begun.{Begun};
+ghost use Rattle.stepped_die.specs.declared.refusals.StepCheckpointRefusal.{StepCheckpointRefusal};
+ghost use Rattle.stepped_die.specs.declared.refusals.StepRefusal.{StepRefusal};
+ghost use Rattle.stepped_die.specs.declared.refusals.StepRenewalRefusal.{StepRenewalRefusal};
+ghost use Rattle.stepped_die.specs.declared.resumptions.NamedCheckpoint.{NamedCheckpoint};
 ghost use Rattle.stepped_die.specs.Arrivals.{WaitsAfter};
+ghost use Rattle.stepped_die.specs.Names.{GoesOn, RefusesNames};
+ghost use Rattle.stepped_die.specs.Stepped.{Stepped};
+ghost use Rattle.stepped_die.specs.Steps.{HasBegun, HasEnded, HasFailed, HoldsBack, IsNew, RefusesArrival, RefusesBeginning, RefusesNewDie, RefusesRenewing};
 
 /// A job or collection that is accepted with a release above the present slot leaves what that slot is answered, and
 /// the call of the device that it needs.
@@ -24,4 +51,139 @@ pub fn arrivals_leave_the_slot()
         answer start past event ≡ Reply.Taken number → WaitsAfter (now past) event →
         needed_call start (with_entry caller event (Reply.Taken number) past)
         ≡ needed_call start past }
+{}
+
+/// Accepting a job or collection (`submit`, `collect`) has one answer, and leaves one die. Left open is whether there
+/// is memory for it.
+pub fn an_arrival_has_one_answer()
+    ensures { (caller release : ℕ) (event : Event) (one other : Result ℕ StepRefusal)
+        (before left right : Stepped) → IsArrival event →
+        ((one ≡ Err (StepRefusal.Die Refusal.DieStopped)) ↔ (before.core.stopped ≡ true)) →
+        ((other ≡ Err (StepRefusal.Die Refusal.DieStopped)) ↔ (before.core.stopped ≡ true)) →
+        (before.core.stopped ≡ false
+        → ((one ≡ Err StepRefusal.Begun) ↔ HoldsBack release before.begun)) →
+        (before.core.stopped ≡ false
+        → ((other ≡ Err StepRefusal.Begun) ↔ HoldsBack release before.begun)) →
+        IfOk one (λ number. HasEntered caller event number before.core left.core) →
+        IfOk other (λ number. HasEntered caller event number before.core right.core) →
+        left.begun ≡ before.begun → right.begun ≡ before.begun →
+        IfErr one (RefusesArrival release event before left) →
+        IfErr other (RefusesArrival release event before right) →
+        OnErr one (left ≡ before) → OnErr other (right ≡ before) →
+        ((one ≡ other) × (left ≡ right))
+        ⊎ (one ≡ Err (StepRefusal.Die Refusal.NoMemory))
+        ⊎ (other ≡ Err (StepRefusal.Die Refusal.NoMemory)) }
+{}
+
+/// Beginning a slot (`begin`) has one answer, and leaves one die. Left open is whether there is memory for the slot,
+/// where none is reserved.
+pub fn beginning_a_slot_has_one_answer()
+    ensures { (caller : ℕ) (one other : Result Begun StepRefusal) (before left right : Stepped) →
+        ((one ≡ Err (StepRefusal.Die Refusal.DieStopped)) ↔ (before.core.stopped ≡ true)) →
+        ((other ≡ Err (StepRefusal.Die Refusal.DieStopped)) ↔ (before.core.stopped ≡ true)) →
+        (before.core.stopped ≡ false
+        → ((one ≡ Err StepRefusal.Begun) ↔ IsSome before.begun)) →
+        (before.core.stopped ≡ false
+        → ((other ≡ Err StepRefusal.Begun) ↔ IsSome before.begun)) →
+        (before.core.stopped ≡ false → before.begun ≡ None
+        → ((one ≡ Err (StepRefusal.Die Refusal.ClockEnd)) ↔ (MAX_SLOT ≤ now before.core.log))) →
+        (before.core.stopped ≡ false → before.begun ≡ None
+        → ((other ≡ Err (StepRefusal.Die Refusal.ClockEnd)) ↔ (MAX_SLOT ≤ now before.core.log)))
+        →
+        IfOk one (λ begun. HasBegun caller begun before left) →
+        IfOk other (λ begun. HasBegun caller begun before right) →
+        OnErr one (left ≡ before) → OnErr other (right ≡ before) →
+        IfErr one (RefusesBeginning before) → IfErr other (RefusesBeginning before) →
+        ((one ≡ other) × (left ≡ right))
+        ⊎ ((before.core.reserved ≡ 0)
+        × ((one ≡ Err (StepRefusal.Die Refusal.NoMemory))
+        ⊎ (other ≡ Err (StepRefusal.Die Refusal.NoMemory)))) }
+{}
+
+/// Ending a slot (`end`) has one answer, by what the device answered, and leaves one die; where the slot is carried
+/// out, it has one reply. Left open is what a reply holds after a refusal.
+pub fn ending_a_slot_has_one_answer()
+    ensures { (ok : Bool) (bytes : PageData) (one other : Result (Unit {0}) StepRefusal)
+        (here there : SlotReply) (before left right : Stepped) →
+        ((one ≡ Err (StepRefusal.Die Refusal.DieStopped)) ↔ (before.core.stopped ≡ true)) →
+        ((other ≡ Err (StepRefusal.Die Refusal.DieStopped)) ↔ (before.core.stopped ≡ true)) →
+        (before.core.stopped ≡ false
+        → ((one ≡ Err StepRefusal.NotBegun) ↔ (before.begun ≡ None))) →
+        (before.core.stopped ≡ false
+        → ((other ≡ Err StepRefusal.NotBegun) ↔ (before.begun ≡ None))) →
+        OnOk one (HasEnded ok bytes here before left) →
+        OnOk other (HasEnded ok bytes there before right) →
+        (one ≡ Err (StepRefusal.Die Refusal.DeviceFault) → HasFailed ok bytes before left) →
+        (other ≡ Err (StepRefusal.Die Refusal.DeviceFault) → HasFailed ok bytes before right) →
+        IfErr one (λ refusal. (refusal ≡ StepRefusal.Die Refusal.DeviceFault)
+        ⊎ (((refusal ≡ StepRefusal.Die Refusal.DieStopped) ⊎ (refusal ≡ StepRefusal.NotBegun))
+        × (left ≡ before))) →
+        IfErr other (λ refusal. (refusal ≡ StepRefusal.Die Refusal.DeviceFault)
+        ⊎ (((refusal ≡ StepRefusal.Die Refusal.DieStopped) ⊎ (refusal ≡ StepRefusal.NotBegun))
+        × (right ≡ before))) →
+        (one ≡ other) × (left ≡ right) × OnOk one (here ≡ there) }
+{}
+
+/// Starting the log anew (`renew`) has one answer, and leaves one die.
+pub fn renewing_has_one_answer()
+    ensures { (one other : Result (Unit {0}) StepRenewalRefusal) (before left right : Stepped) →
+        (before.core.stopped ≡ false
+        → ((one ≡ Err StepRenewalRefusal.Begun) ↔ IsSome before.begun)) →
+        (before.core.stopped ≡ false
+        → ((other ≡ Err StepRenewalRefusal.Begun) ↔ IsSome before.begun)) →
+        OnOk one ((left ≡ record before { core = renewed_core before.core })
+        × MayBeRenewed before.core) →
+        OnOk other ((right ≡ record before { core = renewed_core before.core })
+        × MayBeRenewed before.core) →
+        IfErr one (RefusesRenewing before) → IfErr other (RefusesRenewing before) →
+        OnErr one (left ≡ before) → OnErr other (right ≡ before) →
+        (one ≡ other) × (left ≡ right) }
+{}
+
+/// Taking a checkpoint (`checkpoint`) has one answer; the die stays as it is. Left open is whether there is memory for
+/// it, where the die may be renewed.
+pub fn taking_a_checkpoint_has_one_answer()
+    ensures { (one other : Result NamedCheckpoint StepCheckpointRefusal) (before : Stepped) →
+        (before.core.stopped ≡ false
+        → ((one ≡ Err StepCheckpointRefusal.Begun) ↔ IsSome before.begun)) →
+        (before.core.stopped ≡ false
+        → ((other ≡ Err StepCheckpointRefusal.Begun) ↔ IsSome before.begun)) →
+        IfOk one (λ taken. taken.checkpoint
+        ≡ checkpoint_of (renewed_start before.core.start before.core.log)) →
+        IfOk other (λ taken. taken.checkpoint
+        ≡ checkpoint_of (renewed_start before.core.start before.core.log)) →
+        IfOk one (λ taken. taken.names ≡ contents before.core.start before.core.log) →
+        IfOk other (λ taken. taken.names ≡ contents before.core.start before.core.log) →
+        OnOk one (MayBeRenewed before.core) → OnOk other (MayBeRenewed before.core) →
+        IfErr one (RefusesNames before) → IfErr other (RefusesNames before) →
+        (one ≡ other)
+        ⊎ (MayBeRenewed before.core
+        × ((one ≡ Err (StepCheckpointRefusal.Die CheckpointRefusal.NoMemory))
+        ⊎ (other ≡ Err (StepCheckpointRefusal.Die CheckpointRefusal.NoMemory)))) }
+{}
+
+/// Going on from a checkpoint (`resume`) has one answer, and makes one die. Left open is whether there is memory for
+/// it, where nothing else is wrong but that pages may share a cell.
+pub fn resuming_has_one_answer()
+    ensures { (plan : DiePlan) (c : Checkpoint) (names : List PageData)
+        (one other : Result Stepped CheckpointFault) →
+        IfOk one (GoesOn plan c names) → IfOk other (GoesOn plan c names) →
+        OnOk one (Fits plan c) → OnOk other (Fits plan c) →
+        IfErr one (HasCheckpointFault plan c) → IfErr other (HasCheckpointFault plan c) →
+        (one ≡ other)
+        ⊎ (FitsButShared plan c
+        × ((one ≡ Err CheckpointFault.NoMemory) ⊎ (other ≡ Err CheckpointFault.NoMemory))) }
+{}
+
+/// Making a die (`new`) has one answer, and makes one die. Left open is whether there is memory for it, where the plan
+/// meets its bound.
+pub fn making_a_die_has_one_answer()
+    ensures { (plan : DiePlan) (one other : Result Stepped Refusal) →
+        IfOk one (IsNew plan) → IfOk other (IsNew plan) →
+        OnOk one (MeetsBound plan) → OnOk other (MeetsBound plan) →
+        IfErr one (RefusesNewDie plan) → IfErr other (RefusesNewDie plan) →
+        (one ≡ Err Refusal.NoMemory → MeetsBound plan) →
+        (other ≡ Err Refusal.NoMemory → MeetsBound plan) →
+        (one ≡ other)
+        ⊎ (MeetsBound plan × ((one ≡ Err Refusal.NoMemory) ⊎ (other ≡ Err Refusal.NoMemory))) }
 {}

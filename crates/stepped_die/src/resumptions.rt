@@ -1,6 +1,6 @@
 //! A die is written down at a quiet moment with the names of its pages, and goes on from there.
 
-ghost use Rattle.std.specs.Prelude.{◌≡◌, IfOk, IfErr, OnOk};
+ghost use Rattle.std.specs.Prelude.{◌≡◌, ◌↔◌, false, IsSome, IfOk, IfErr, OnOk};
 ghost use Rattle.slot_types.specs.Refusal.{FailsForMemory};
 ghost use Rattle.die_checkpoint.specs.Fits.{Fits};
 ghost use Rattle.die_checkpoint.specs.Faults.{HasCheckpointFault};
@@ -55,6 +55,8 @@ impl SteppedDie {
     /// Refused with `DieStopped` where a fault has stopped the die; else `Begun` where a slot has begun; else as the die refuses
     /// it, or with `NoMemory`.
     pub fn checkpoint(&mut self, alloc: Global) -> Result<NamedCheckpoint, StepCheckpointRefusal>
+        ensures begun { self.old.core.stopped ≡ false
+            → ((result ≡ Err StepCheckpointRefusal.Begun) ↔ IsSome self.old.begun) }
         ensures ok { IfOk result (λ taken.
             taken.checkpoint
             ≡ checkpoint_of (renewed_start self.old.core.start self.old.core.log)) }

@@ -1,6 +1,7 @@
 use Rattle.std.proofs.Common.{List, refl, ap, ◌∙◌}
 use Rattle.slot_types.specs.declared.pages.PageData.{PageData}
-use Rattle.flash_die.specs.Faulty.{Faulty}
+use Rattle.flash_die.specs.Faulty.{Faulty, unarmed_device}
+use Rattle.flash_die.specs.Memory.{Memory}
 use Rattle.slot_core.specs.Core.{Core}
 use Rattle.slot_core.specs.Resumptions.{start_with}
 use Rattle.stepped_die.specs.declared.mirror.MirrorNand.{MirrorNand}
@@ -20,6 +21,8 @@ returns-in-Ok-resume-clause-ok c =
           ∙ ap (λ (pages : List PageData). start_with c.args.plan c.args.checkpoint.now pages)
           (left_named c.args.plan c.args.checkpoint.now c.args.names.now c.new.result c.in-Ok-left.mirror c.in-Ok-resume.ensures.fits
           c.new.ensures c.in-Ok-left.ensures.left);
+      device = ap (λ (core : Core (Faulty MirrorNand)). core.device) ok ∙ c.new.ensures
+          ∙ ap (λ (memory : Memory). unarmed_device (record { memory = memory })) c.in-Ok-left.ensures.left;
       runs = ap (λ (core : Core (Faulty MirrorNand)). core.stopped) ok;
       reserves = ap (λ (core : Core (Faulty MirrorNand)). core.reserved) ok;
       log = ap (λ (core : Core (Faulty MirrorNand)). core.log) ok;
