@@ -75,8 +75,8 @@ pub fn an_arrival_has_one_answer()
         ⊎ (other ≡ Err (StepRefusal.Die Refusal.NoMemory)) }
 {}
 
-/// Beginning a slot (`begin`) has one answer, and leaves one die. Left open is whether there is memory for the slot,
-/// where none is reserved.
+/// Beginning a slot (`begin`) has one answer, and leaves one die. Left open is whether there is memory for it.
+/// Where a slot is reserved, nothing is left open.
 pub fn beginning_a_slot_has_one_answer()
     ensures { (caller : ℕ) (one other : Result Begun StepRefusal) (before left right : Stepped) →
         ((one ≡ Err (StepRefusal.Die Refusal.DieStopped)) ↔ (before.core.stopped ≡ true)) →
@@ -141,7 +141,7 @@ pub fn renewing_has_one_answer()
 {}
 
 /// Taking a checkpoint (`checkpoint`) has one answer; the die stays as it is. Left open is whether there is memory for
-/// it, where the die may be renewed.
+/// it. Where the die may not be renewed, nothing is left open.
 pub fn taking_a_checkpoint_has_one_answer()
     ensures { (one other : Result NamedCheckpoint StepCheckpointRefusal) (before : Stepped) →
         (before.core.stopped ≡ false
@@ -163,7 +163,7 @@ pub fn taking_a_checkpoint_has_one_answer()
 {}
 
 /// Going on from a checkpoint (`resume`) has one answer, and makes one die. Left open is whether there is memory for
-/// it, where nothing else is wrong but that pages may share a cell.
+/// it. Where anything else is wrong, but that pages share a cell, nothing is left open.
 pub fn resuming_has_one_answer()
     ensures { (plan : DiePlan) (c : Checkpoint) (names : List PageData)
         (one other : Result Stepped CheckpointFault) →
@@ -175,8 +175,8 @@ pub fn resuming_has_one_answer()
         × ((one ≡ Err CheckpointFault.NoMemory) ⊎ (other ≡ Err CheckpointFault.NoMemory))) }
 {}
 
-/// Making a die (`new`) has one answer, and makes one die. Left open is whether there is memory for it, where the plan
-/// meets its bound.
+/// Making a die (`new`) has one answer, and makes one die. Left open is whether there is memory for it. Where the
+/// plan doesn't meet its bound, nothing is left open.
 pub fn making_a_die_has_one_answer()
     ensures { (plan : DiePlan) (one other : Result Stepped Refusal) →
         IfOk one (IsNew plan) → IfOk other (IsNew plan) →
