@@ -59,13 +59,13 @@ fn an_erase_is_one_record_but_for_its_last_slot(rt: HostRuntime) -> Result<(), F
 
 /// No log of a die has such an erase: each is of one block.
 #[test]
-fn an_erase_of_two_blocks_counts_as_one_record_and_keeps_two(rt: HostRuntime) -> Result<(), Fail> {
+fn an_erase_of_two_blocks_takes_two_records(rt: HostRuntime) -> Result<(), Fail> {
     let other = Deed::EraseSlot {
         number: JobNo(1),
         block: 6,
     };
     let deeds = [(0, SLOT), (0, other)];
-    assert_eq!(rt; counts_of(rt.alloc(), &deeds)?, (2, 1, 2));
+    assert_eq!(rt; counts_of(rt.alloc(), &deeds)?, (2, 2, 2));
     Ok(())
 }
 

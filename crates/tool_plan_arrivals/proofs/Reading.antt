@@ -7,17 +7,13 @@ use Rattle.slot_types.specs.declared.events.Event.{Event}
 use Rattle.slot_types.specs.declared.events.Event.TheVariants as events
 use Rattle.script_texts.specs.Script.{Script, Yields, script_of}
 use Rattle.script_texts.specs.declared.script_rows.ScriptItem.{ScriptItem}
-use Rattle.task_script.proofs.ReadSoFar.{read_none, read_more, read_all, known_by}
+use Rattle.task_script.proofs.ReadSoFar.{IsReadTo, read_none, read_more, read_all, known_by}
 use Rattle.task_script.specs.DieRuns.{calls_from}
-use Rattle.task_script.specs.Feeds.{IsReadTo, feed_of}
+use Rattle.task_script.specs.Feeds.{feed_of}
 use Rattle.task_script.specs.PlannedRuns.{event_of, events_of_rows}
 use Rattle.tool_plan_arrivals.specs.PlannedScripts.{AreEventsOf}
 use Rattle.tool_plan_arrivals.specs.Steps.{later_events}
 use Rattle.tool_plan_arrivals.proofs.Carrying.{rows_over}
-
--- Rows of a die
-
--- Reading
 
 -- these items were read, and these are the events so far
 pub record HasCome (whole left : Option Script) (slots now die : ℕ) (events : List Event) : Type 0 where
