@@ -147,6 +147,25 @@ rows_after (at ∷ progress) (x ∷ kept) (end ∷ ends) k e =
       rows_after progress kept ends (omega (arith, k)) (omega (arith, e)),
     )
 
+progress_length : (progress : List Progress) (kept : List KeptRows) (ends : List DieEnd) → length kept ≡ length progress
+    → length ends ≡ length progress → length (progress_after progress kept ends) ≡ length progress
+progress_length [] [] [] k e = refl
+progress_length [] [] (end ∷ ends) k e = absurd (omega (arith, e))
+progress_length [] (x ∷ kept) ends k e = absurd (omega (arith, k))
+progress_length (at ∷ progress) [] ends k e = absurd (omega (arith, k))
+progress_length (at ∷ progress) (x ∷ kept) [] k e = absurd (omega (arith, e))
+progress_length (at ∷ progress) (x ∷ kept) (end ∷ ends) k e =
+    ap suc (progress_length progress kept ends (omega (arith, k)) (omega (arith, e)))
+
+-- as many dies have come further
+pub as_many_reached : (until : ℕ) (progress after : List Progress) (rows : List (List ScriptItem)) (ps qs : List DiePass)
+    → length progress ≡ length rows → RanRows until rows ps progress qs after → length after ≡ length progress
+as_many_reached until progress after rows ps qs same ran =
+    let long = batches_length until progress rows same in
+    let ends = ends_length true (batches_of until progress rows) ps ran.ends qs ran.ran in
+    ap length ran.after_is
+    ∙ progress_length progress (kept_of until progress rows) ran.ends (omega (arith, long.1, same)) (omega (arith, long.0, ends, same))
+
 -- at the beginning none is
 pub none_counted : (dies : ℕ) (progress : List Progress) → progress ≡ replicate dies fresh_progress → rows_counted progress ≤ 0
 none_counted dies progress is =
@@ -232,7 +251,7 @@ module _ (dies slots : ℕ) (items : List ScriptItem) (rows : List (List ScriptI
   dealt_pages die below = subst RowsHavePages (d.rows die below)
       (All-get_or RowsHavePages rows die [] (omega (arith, below, d.all)) d.pages)
 
-  dealt_events : All (All (λ item. IsArrival item.event)) rows
+  pub dealt_events : All (All (λ item. IsArrival item.event)) rows
   dealt_events = All-weaker (AllArrive slots) (All (λ item. IsArrival item.event))
       (λ feed h. All-weaker (Arrives slots) (λ item. IsArrival item.event) (λ item here. here.1) feed h) rows d.arrive
 

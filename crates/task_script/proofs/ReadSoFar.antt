@@ -1,10 +1,12 @@
 -- The rows of a script that were read so far.
 use Rattle.std.proofs.Common.{◌≡◌, List, [], ◌∷◌, ◌++◌, refl, ap, sym, ◌∙◌, subst, append_assoc, Option, Some, None, Ok, Err}
-use Rattle.std.specs.Prelude.{◌⊎◌, ⊤, ℕ, ◌<◌, All, IfSome, get_or, length, option_map}
-use Rattle.std.proofs.lemmas.List.{append-nil}
+use Rattle.std.specs.Prelude.{◌⊎◌, ⊤, ℕ, ◌<◌, All, IfSome, get_or, length, option_map, replicate}
+use Rattle.std.proofs.lemmas.List.{append-nil, get_or-replicate, length-replicate}
+use Rattle.std.proofs.lemmas.List.Elements.{All-nil, All-replicate}
 use Rattle.slot_types.specs.declared.refusals.Refusal.{Refusal}
 use Rattle.text_base.specs.Readings.{IsOutside}
-use Rattle.script_texts.specs.AskedPages.{RowsHavePages}
+use Rattle.script_texts.specs.Arrivals.{Arrives}
+use Rattle.script_texts.specs.AskedPages.{RowHasPages, RowsHavePages}
 use Rattle.script_texts.specs.Script.{Script, Yields, with_front}
 use Rattle.script_texts.specs.declared.script_rows.ScriptItem.{ScriptItem}
 use Rattle.task_script.specs.Feeds.{AllArrive, feed_of}
@@ -30,6 +32,15 @@ pub record IsDealt (dies slots : ℕ) (items : List ScriptItem) (feeds : List (L
   pub rows : (die : ℕ) → die < dies → get_or feeds die [] ≡ feed_of items die
   pub arrive : All (AllArrive slots) feeds
   pub pages : All RowsHavePages feeds
+
+-- at the beginning there is none
+pub dealt_none : (dies slots : ℕ) (feeds : List (List ScriptItem)) → feeds ≡ replicate dies [] → IsDealt dies slots [] feeds
+dealt_none dies slots feeds are = subst (IsDealt dies slots []) (sym are) (record {
+  all = length-replicate dies [];
+  rows = λ die below. get_or-replicate dies die [] [] below;
+  arrive = All-replicate (AllArrive slots) dies [] (All-nil (Arrives slots));
+  pages = All-replicate RowsHavePages dies [] (All-nil RowHasPages);
+})
 
 -- Items, one by one
 

@@ -12,11 +12,14 @@ use slot_types::Refusal;
 use std::alloc::Global;
 use std::io::Read;
 
-/// How many rows are read before they are run, at most.
-const BATCH_ROWS: u32 = 16_384;
+/// How many rows are taken off a script before any is run, at most: few, so that its workers have work soon.
+pub const FIRST_ROWS: u32 = 4_096;
 
-/// After how many bytes of operations no further row is read before these are run: the texts of two batches are kept
-/// at a time. No contract depends on it.
+/// How many rows are taken off while others are run, at most.
+pub const MOST_ROWS: u32 = 32_768;
+
+/// After how many bytes of operations no further row is taken before these are run: the texts of two batches are kept at
+/// a time. No contract depends on it.
 const BATCH_BYTES: usize = 4_194_304;
 
 /// Why no further row is read before those that were read are run.
@@ -50,21 +53,23 @@ fn no_rows(alloc: Global, dies: usize) -> Result<Vec<RowTexts>, Refusal>
     Ok(rows)
 }
 
-/// By die the next rows of a script for so many dies: those up to its end or its first fault, or as many as are run at
-/// a time, 16,384 at most, and no further one once they have 4 MiB of operations. Their operations aren't read yet.
+/// By die the next rows of a script for so many dies: those up to its end or its first fault, or so many at most, and no
+/// further one once they have 4 MiB of operations. Their operations aren't read yet.
 /// `end` says what came then: where it is `More`, a row was read, and where it is ReadFault, csv's reader has failed.
 /// The only refusal of this call is NoMemory.
 pub fn read_rows<R: Read>(
     alloc: Global,
     script: &mut ScriptReader<R>,
     dies: usize,
+    most: u32,
 ) -> Result<ReadRows, Refusal>
     requires dies { dies_of script.old ≡ dies }
+    requires some { 1 ≤ most }
     ensures rows { IfOk result (λ rows.
         HasReadTexts (script_rows_left R.remaining script.old)
         (script_rows_left R.remaining script.new) dies (slots_of script.old) rows.dies.items
         rows.end) }
-    ensures few { IfOk result (λ rows. rows_dealt rows.dies.items ≤ 16384) }
+    ensures few { IfOk result (λ rows. rows_dealt rows.dies.items ≤ most) }
     ensures more { IfOk result (λ rows.
         GoesOn (line_of script.old) (line_of script.new) rows.end) }
     ensures failed { IfOk result (λ rows. EndsWithReader (reader_failed script.new) rows.end) }
@@ -74,7 +79,7 @@ pub fn read_rows<R: Read>(
 {
     let mut rows = no_rows(alloc, dies)?;
     let mut left = BATCH_BYTES;
-    for _ in 0..BATCH_ROWS {
+    for _ in 0..most {
         match script.next_row() {
             Ok(Some(head)) => {
                 let ops = script.ops_text();

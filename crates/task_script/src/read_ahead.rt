@@ -1,16 +1,18 @@
-//! Batches of a script's rows, each of which is read while the one before it is run.
+//! Batches of a script's rows: while one is run, the operations of the next are read, and the rows after these taken off
+//! the script.
 
-ghost use Rattle.std.specs.Prelude.{◌≡◌, ◌≤◌, IfErr, IfOk, length};
+ghost use Rattle.std.specs.Prelude.{◌≡◌, ◌<◌, ◌+◌, ◌≤◌, ◌^◌, All, IfErr, IfOk, length};
 ghost use Rattle.script_texts.specs.ScriptLeft.{dies_of, line_of, reader_failed, script_rows_left, slots_of};
 ghost use Rattle.slot_types.specs.Refusal.{FailsForMemory};
-ghost use Rattle.task_script.specs.Batches.{CanRun, RanTexts};
+ghost use Rattle.task_script.specs.Batches.{CanRun, HasRunRows, RanLast, rows_counted};
 ghost use Rattle.task_script.specs.Feeds.{rows_dealt};
-ghost use Rattle.task_script.specs.RowTexts.{EndsWithReader, FailsToRead, GoesOn, HasReadTexts};
+ghost use Rattle.task_script.specs.RowTexts.{AreOfOneDie, AreRead, EndsWithReader, FailsToRead, GoesOn, HasReadTexts};
 
 use crate::batches::{RunDies, run_rows};
 use crate::die_ops::rows_of;
 use crate::feeds::{ReadRows, read_rows};
 use crate::row_texts::RowTexts;
+use crate::rows::DieRows;
 use die_service::Store;
 use flash_die::MemoryNand;
 use script_texts::ScriptReader;
@@ -20,26 +22,35 @@ use std::io::Read;
 use std::sync::Wait;
 use std::thread::{Threads, join};
 
-/// A script, and the rows that were read of it last.
+/// A script, and the rows that were taken off it last.
 #[derive(Drop)]
 pub struct ReadScript<S> {
     pub reader: ScriptReader<S>,
     pub rows: ReadRows,
 }
 
-/// Reads the next rows of a script for so many dies: one at least, unless the script ends or is refused, as ReadFault
-/// only where csv's reader has failed. The only refusal of this call is NoMemory.
+/// The dies of a store, and the rows that they run next, whose operations were read.
+#[derive(Drop)]
+pub struct ReadyDies {
+    pub dies: RunDies,
+    pub rows: Vec<DieRows>,
+}
+
+/// Takes the next rows off a script for so many dies: so many at most, and one at least, unless the script ends or is
+/// refused, as ReadFault only where csv's reader has failed. The only refusal of this call is NoMemory.
 pub fn read_next<S: Read + Drop>(
     alloc: Global,
     reader: ScriptReader<S>,
     dies: usize,
+    most: u32,
 ) -> Result<ReadScript<S>, Refusal>
     requires dies { dies_of reader ≡ dies }
+    requires some { 1 ≤ most }
     ensures rows { IfOk result (λ read.
         HasReadTexts (script_rows_left S.remaining reader)
         (script_rows_left S.remaining read.reader) dies (slots_of reader) read.rows.dies.items
         read.rows.end) }
-    ensures few { IfOk result (λ read. rows_dealt read.rows.dies.items ≤ 16384) }
+    ensures few { IfOk result (λ read. rows_dealt read.rows.dies.items ≤ most) }
     ensures more { IfOk result (λ read.
         GoesOn (line_of reader) (line_of read.reader) read.rows.end) }
     ensures failed { IfOk result (λ read.
@@ -49,60 +60,113 @@ pub fn read_next<S: Read + Drop>(
     ensures slots { IfOk result (λ read. slots_of read.reader ≡ slots_of reader) }
 {
     let mut reader = reader;
-    let rows = read_rows(alloc, &mut reader, dies)?;
+    let rows = read_rows(alloc, &mut reader, dies, most)?;
     Ok(ReadScript { reader, rows })
 }
 
-/// Reads the operations of rows, and runs the rows on their dies, by so many workers, each die up to its last row, but
-/// not less than up to slot `until`. Refused as the first row whose operations are at fault, before any is run, or as
-/// NoMemory.
-pub fn run_texts<R: Threads + Wait + Sync>(
+/// Runs the rows that are ready, each die up to its last one, by so many workers, and reads the operations of these
+/// rows, by as many: one after the other by one worker, else at the same time. A thread that can't be started is done
+/// without.
+///
+/// Refused as the first of these rows whose operations are at fault, or as NoMemory.
+pub fn run_ready<R: Threads + Wait + Sync>(
     rt: &R,
     alloc: Global,
     store: &Store<MemoryNand>,
-    dies: RunDies,
+    ready: ReadyDies,
+    texts: Vec<RowTexts>,
+    workers: u32,
+) -> Result<ReadyDies, Refusal>
+    requires run { CanRun store.now ready.dies.passes.items ready.dies.progress.items
+        ready.rows.items workers }
+    requires one_die { All AreOfOneDie texts.items }
+    ensures ran { IfOk result (λ made.
+        HasRunRows 0 store.now ready.dies.passes.items ready.dies.progress.items ready.rows.items
+        made.dies.passes.items made.dies.progress.items) }
+    ensures read { IfOk result (λ made. AreRead texts.items made.rows.items) }
+    ensures refused { IfErr result (FailsToRead texts.items) }
+{
+    let ReadyDies { dies, rows } = ready;
+    if workers == 1 {
+        let dies = run_rows(rt, alloc, store, dies, rows, 0, workers)?;
+        let rows = rows_of(rt, alloc, texts, workers)?;
+        return Ok(ReadyDies { dies, rows });
+    }
+    let run = move || -> Result<RunDies, Refusal>
+        requires { CanRun store.now dies.passes.items dies.progress.items rows.items workers }
+        ensures { FailsForMemory result × IfOk result (λ ran.
+            HasRunRows 0 store.entry.now dies.passes.items dies.progress.items rows.items
+            ran.passes.items
+            ran.progress.items) }
+    { run_rows(rt, alloc, store, dies, rows, 0, workers) };
+    let read = move || -> Result<Vec<DieRows>, Refusal>
+        requires { All AreOfOneDie texts.items × (1 ≤ workers) }
+        ensures { IfErr result (FailsToRead texts.items) × IfOk result (λ rows. AreRead texts.items rows.items) }
+    { rows_of(rt, alloc, texts, workers) };
+    // The run is done by this thread, so that its workers start first.
+    let (rows, dies) = join(rt, read, run);
+    Ok(ReadyDies {
+        dies: dies?,
+        rows: rows?,
+    })
+}
+
+/// Runs the rows that are ready and then these, which are the last: each die up to its last row, but not less than up to
+/// slot `until`, by so many workers. Refused as [`run_ready`] is.
+pub fn run_last<R: Threads + Wait + Sync>(
+    rt: &R,
+    alloc: Global,
+    store: &Store<MemoryNand>,
+    ready: ReadyDies,
     texts: Vec<RowTexts>,
     until: u32,
     workers: u32,
 ) -> Result<RunDies, Refusal>
-    requires run { CanRun store.now dies.passes.items dies.progress.items texts.items workers }
+    requires run { CanRun store.now ready.dies.passes.items ready.dies.progress.items
+        ready.rows.items workers }
+    requires one_die { All AreOfOneDie texts.items }
+    requires dealt { length texts.items ≡ length store.now }
+    requires few { rows_counted ready.dies.progress.items + rows_dealt ready.rows.items
+        + rows_dealt texts.items < 2 ^ 64 }
     ensures ran { IfOk result (λ ran.
-        RanTexts until store.now dies.passes.items dies.progress.items texts.items ran.passes.items
-        ran.progress.items) }
+        RanLast until store.now ready.dies.passes.items ready.dies.progress.items ready.rows.items
+        texts.items ran.passes.items ran.progress.items) }
     ensures refused { IfErr result (FailsToRead texts.items) }
 {
-    let rows = rows_of(rt, alloc, texts, workers)?;
-    // Each answer has a proof of its own.
-    match run_rows(rt, alloc, store, dies, rows, until, workers) {
-        Ok(ran) => Ok(ran),
-        Err(refusal) => Err(refusal),
-    }
+    let last = run_ready(rt, alloc, store, ready, texts, workers)?;
+    let ran = run_rows(rt, alloc, store, last.dies, last.rows, until, workers)?;
+    Ok(ran)
 }
 
-/// Runs the rows that were read last, and reads the next ones: one after the other by one worker, else at the same time,
-/// the rows run by a thread of their own and its workers. A thread that can't be started is done without.
+/// Runs the rows that are ready, reads the operations of the rows that were taken off the script last, and takes the
+/// next ones off, so many at most: one after the other by one worker, else at the same time, the rows off the script by this thread. A
+/// thread that can't be started is done without.
 ///
-/// Refused as the first of these rows whose operations are at fault, or as NoMemory. Where the run and the reading are
-/// both refused, it is the run's refusal that is reported.
+/// Refused as [`run_ready`] is, or as NoMemory. Where that and the reading are both refused, it is the run's refusal
+/// that is reported.
 pub fn run_and_read<R: Threads + Wait + Sync, S: Read + Drop>(
     rt: &R,
     alloc: Global,
     store: &Store<MemoryNand>,
-    dies: RunDies,
+    ready: ReadyDies,
     read: ReadScript<S>,
+    most: u32,
     workers: u32,
-) -> Result<(RunDies, ReadScript<S>), Refusal>
-    requires run { CanRun store.now dies.passes.items dies.progress.items read.rows.dies.items
-        workers }
+) -> Result<(ReadyDies, ReadScript<S>), Refusal>
+    requires run { CanRun store.now ready.dies.passes.items ready.dies.progress.items
+        ready.rows.items workers }
+    requires one_die { All AreOfOneDie read.rows.dies.items }
     requires dies { dies_of read.reader ≡ length store.now }
+    requires some { 1 ≤ most }
     ensures ran { IfOk result (λ made.
-        RanTexts 0 store.now dies.passes.items dies.progress.items read.rows.dies.items
-        made.0.passes.items made.0.progress.items) }
+        HasRunRows 0 store.now ready.dies.passes.items ready.dies.progress.items ready.rows.items
+        made.0.dies.passes.items made.0.dies.progress.items) }
+    ensures ops { IfOk result (λ made. AreRead read.rows.dies.items made.0.rows.items) }
     ensures read { IfOk result (λ made.
         HasReadTexts (script_rows_left S.remaining read.reader)
         (script_rows_left S.remaining made.1.reader) (length store.now) (slots_of read.reader)
         made.1.rows.dies.items made.1.rows.end) }
-    ensures few { IfOk result (λ made. rows_dealt made.1.rows.dies.items ≤ 16384) }
+    ensures few { IfOk result (λ made. rows_dealt made.1.rows.dies.items ≤ most) }
     ensures more { IfOk result (λ made.
         GoesOn (line_of read.reader) (line_of made.1.reader) made.1.rows.end) }
     ensures failed { IfOk result (λ made.
@@ -111,21 +175,21 @@ pub fn run_and_read<R: Threads + Wait + Sync, S: Read + Drop>(
     ensures slots { IfOk result (λ made. slots_of made.1.reader ≡ slots_of read.reader) }
     ensures refused { IfErr result (FailsToRead read.rows.dies.items) }
 {
-    let count = dies.progress.len();
+    let count = ready.dies.progress.len();
     let ReadScript { reader, rows } = read;
     let texts = rows.dies;
     if workers == 1 {
-        let ran = run_texts(rt, alloc, store, dies, texts, 0, workers)?;
-        let next = read_next(alloc, reader, count)?;
+        let ran = run_ready(rt, alloc, store, ready, texts, workers)?;
+        let next = read_next(alloc, reader, count, most)?;
         return Ok((ran, next));
     }
-    let run = move || -> Result<RunDies, Refusal>
-        requires { CanRun store.now dies.passes.items dies.progress.items texts.items workers }
-        ensures { IfErr result (FailsToRead texts.items) × IfOk result (λ ran.
-            RanTexts 0 store.entry.now dies.passes.items dies.progress.items texts.items
-            ran.passes.items
-            ran.progress.items) }
-    { run_texts(rt, alloc, store, dies, texts, 0, workers) };
-    let (ran, next) = join(rt, run, move || read_next(alloc, reader, count));
+    let run = move || -> Result<ReadyDies, Refusal>
+        requires { All AreOfOneDie texts.items × CanRun store.now ready.dies.passes.items ready.dies.progress.items ready.rows.items workers }
+        ensures { IfErr result (FailsToRead texts.items) × IfOk result (λ made.
+            HasRunRows 0 store.entry.now ready.dies.passes.items ready.dies.progress.items
+            ready.rows.items made.dies.passes.items made.dies.progress.items
+            × AreRead texts.items made.rows.items) }
+    { run_ready(rt, alloc, store, ready, texts, workers) };
+    let (ran, next) = join(rt, run, move || read_next(alloc, reader, count, most));
     Ok((ran?, next?))
 }

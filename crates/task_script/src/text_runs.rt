@@ -15,8 +15,9 @@ ghost use Rattle.text_base.specs.Writing.{RefusesOrCuts};
 use crate::batches::{Progress, RunDies, no_progress};
 use crate::die_ops::rows_of;
 use crate::die_texts::parts_of;
-use crate::feeds::ReadEnd;
-use crate::read_ahead::{read_next, run_and_read, run_texts};
+use crate::feeds::{FIRST_ROWS, MOST_ROWS, ReadEnd};
+use crate::read_ahead::{ReadyDies, read_next, run_and_read, run_last};
+use crate::rows::no_die_rows;
 use crate::run_counts::RunCount;
 use crate::stores::new_store;
 use die_service::{Store, close};
@@ -114,8 +115,8 @@ fn finish<R: Threads + Wait + Sync>(
     }
 }
 
-/// Runs a script on fresh dies in memory. Its rows are read and run batch by batch: while the operations of a batch are
-/// read and it is run, the next one is read, so that no more of the script is kept than two batches of rows.
+/// Runs a script on fresh dies in memory. Its rows are read and run batch by batch: while one is run, the operations of
+/// the next are read, and the one after it is taken off the script, so that no more of it is kept than three batches.
 ///
 /// Refused as the first fault of the script, as NoMemory, or as ReadFault: that comes only together with the script's
 /// reader, whose csv reader has failed.
@@ -141,18 +142,22 @@ fn run_script<R: Threads + Wait + Sync, S: Read + Drop>(
     let (store, passes) = new_store(alloc, plan.as_slice())?;
     let progress = no_progress(alloc, plan.len())?;
     let reader = ScriptReader::new(alloc, script, plan, slots)?;
-    let mut dies = RunDies { passes, progress };
-    let mut read = read_next(alloc, reader, plan.len())?;
+    let dies = RunDies { passes, progress };
+    let rows = no_die_rows(alloc, plan.len())?;
+    let mut ready = ReadyDies { dies, rows };
+    let mut most = FIRST_ROWS;
+    let mut read = read_next(alloc, reader, plan.len(), most)?;
     for _ in 0..u32::MAX {
         match read.rows.end {
             ReadEnd::More => {
-                let (ran, next) = run_and_read(rt, alloc, &store, dies, read, workers)?;
-                dies = ran;
+                most = MOST_ROWS.min(2 * most);
+                let (ran, next) = run_and_read(rt, alloc, &store, ready, read, most, workers)?;
+                ready = ran;
                 read = next;
             }
             ReadEnd::Ended => {
                 let texts = read.rows.dies;
-                let ran = run_texts(rt, alloc, &store, dies, texts, slots, workers)?;
+                let ran = run_last(rt, alloc, &store, ready, texts, slots, workers)?;
                 let whole = finish(rt, alloc, store, ran, workers)?;
                 return Ok(whole);
             }
@@ -175,15 +180,15 @@ fn run_script<R: Threads + Wait + Sync, S: Read + Drop>(
 /// no event, and doesn't stop the run; it is counted.
 ///
 /// What is written is proved to be the report read off the exact logs of the accepted rows and the slots, whatever the
-/// number of workers. By one worker no thread is started; by more, so many read the operations of each batch of rows,
-/// die by die, and run it, while this thread takes the next rows off the script, and so many make the lines of the
-/// report, die by die. A thread that can't be started is done without. May wait for the workers.
+/// number of workers. By one worker no thread is started. By more, so many threads run a batch of rows, and so many
+/// read the operations of the next one, die by die, while this thread takes the rows after it off the script; at the
+/// end so many make the lines of the report. A thread that can't be started is done without. May wait for the workers.
 ///
 /// So is this: on a die whose rows keep its plan, with times that pass their test, no lateness in the report is above
 /// 0, and no row is refused but out of memory, or after one that was.
 ///
-/// Rows are read and run batch by batch, so that the script is never kept whole: what is kept of it are the rows of a
-/// batch, and of the next one. A die is given up once its lines are made.
+/// Rows are read and run batch by batch, so that the script is never kept whole: what is kept of it are the rows of
+/// three batches. A die is given up once its lines are made.
 ///
 /// It ends with the first fault of the script, as [`ScriptReader`](crate::ScriptReader) says it; with `ReadFault`,
 /// where reading the script fails; or with `NoMemory`. Nothing is written before the whole script was read and run,

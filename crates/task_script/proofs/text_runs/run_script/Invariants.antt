@@ -1,4 +1,4 @@
-use Rattle.std.proofs.Common.{◌≡◌, ◌≤◌, ◌*◌, length, map}
+use Rattle.std.proofs.Common.{◌≡◌, ◌≤◌, ◌+◌, ◌*◌, length, map}
 use Rattle.std.specs.Prelude.{option_map}
 use Rattle.script_texts.specs.ScriptLeft.{dies_of, line_of, reader_failed, script_rows_left, slots_of}
 use Rattle.script_texts.specs.Script.{script_of}
@@ -10,14 +10,15 @@ use Rattle.task_script.proofs.text_runs.run_script.Given as goal
 
 abbrev pub invariant-loop : goal.invariant-loop
 invariant-loop g l = record {
-  own : map (λ pass. pass.lock) l.dies.passes.items ≡ l.store;
+  own : map (λ pass. pass.lock) l.ready.dies.passes.items ≡ l.store;
   dies : dies_of l.read.reader ≡ length l.plan;
   slots : slots_of l.read.reader ≡ l.slots;
   ahead : Ahead (option_map (script_of (length l.plan) l.slots) (g.S.Read.remaining l.fn.script))
-      (script_rows_left g.S.Read.remaining l.read.reader) l.plan l.slots l.dies.passes.items l.dies.progress.items l.read.rows.dies.items
-      l.read.rows.end;
-  few : rows_counted l.dies.progress.items ≤ l.counter * 16384;
-  next : rows_dealt l.read.rows.dies.items ≤ 16384;
+      (script_rows_left g.S.Read.remaining l.read.reader) l.plan l.slots l.ready.dies.passes.items l.ready.dies.progress.items
+      l.ready.rows.items l.read.rows.dies.items l.read.rows.end;
+  few : rows_counted l.ready.dies.progress.items + rows_dealt l.ready.rows.items ≤ l.counter * 32768;
+  next : rows_dealt l.read.rows.dies.items ≤ 32768;
+  most : (1 ≤ l.most) × (l.most ≤ 32768);
   failed : EndsWithReader (reader_failed l.read.reader) l.read.rows.end;
   more : GoesOn l.counter (line_of l.read.reader) l.read.rows.end;
   batches : l.counter ≤ 1000002;
