@@ -10,10 +10,6 @@ pub mod laws;
 mod queues;
 mod rows;
 pub mod stages;
-#[cfg(test)]
-mod tests;
-#[cfg(test)]
-mod twin;
 mod worst;
 
 pub use counted_ops::CountedOps;

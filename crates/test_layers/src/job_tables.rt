@@ -2,10 +2,7 @@
 
 ghost use Rattle.std.specs.Prelude.{◌≡◌, slice_get, option_map};
 
-use crate::counted_ops::CountedOps;
-use crate::job_table::JobTable;
-use crate::jobs::Job;
-use crate::stages::Stage;
+use job_table::{CountedOps, Job, JobTable, Stage};
 use slot_types::{
     JobHead, JobNo, LentOps, MAX_JOBS, MAX_OPS, Op, PageData, Refusal, TaskNo, Waived,
 };
