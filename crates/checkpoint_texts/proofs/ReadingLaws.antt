@@ -1,13 +1,11 @@
 -- How a checkpoint is read, record by record.
 use Rattle.std.proofs.Common.{◌≡◌, ℕ, ◌+◌, ◌<◌, ◌≤◌, List, [], ◌∷◌, Bool, true, false, Option, Some, None, Ok, Err, refl, sym, ap, ◌∙◌}
-use Rattle.std.proofs.Common.{◌⊎◌, inl, inr, length, arith}
+use Rattle.std.proofs.Common.{◌⊎◌, inl, inr, arith}
 use Rattle.std.specs.Prelude.{option_map, OnOk, IfSome, nat_lt}
 use Rattle.report_texts.specs.RecordsLeft.{Stays}
-use Rattle.text_base.specs.CsvRecords.{Fields, TakesRow, rows_of}
+use Rattle.text_base.specs.CsvRecords.{Fields, TakesRow}
 use Rattle.text_base.specs.CsvRecordsLeft.{KeepsFit}
-use Rattle.text_base.specs.Marks.{is_within}
-use Rattle.text_base.proofs.MarkLaws.{within-short}
-use Rattle.checkpoint_texts.specs.CheckpointOf.{Reading, checkpoint_from, checkpoint_of, dies_from, header_of, most_records, whole_at}
+use Rattle.checkpoint_texts.specs.CheckpointOf.{Reading, checkpoint_from, dies_from, header_of, most_records, whole_at}
 use Rattle.checkpoint_texts.specs.Gathering.{between, with_record}
 use Rattle.checkpoint_texts.specs.Readings.{Says}
 use Rattle.checkpoint_texts.specs.declared.fault.RecordFault.TheVariants as fault
@@ -119,16 +117,3 @@ pub fits-beyond : (r : Reading) (a b : Option Bool) → KeepsFit a b true → On
 fits-beyond (Err e) a b keeps fits = tt
 fits-beyond (Ok x) None b keeps fits = tt
 fits-beyond (Ok x) (Some fit) b keeps fits = rw keeps at fits
-
--- The text
-
-pub text-says : (text : Option (List ℕ)) (left : Option (List Fields)) (r : Reading) → left ≡ option_map rows_of text
-    → Says (option_map checkpoint_from left) r → Says (option_map checkpoint_of text) r
-text-says None left r is said = tt
-text-says (Some t) left r is said = rw is at said
-
-pub text-fits : (text : Option (List ℕ)) (left : Option Bool) (r : Reading) → left ≡ option_map (is_within 134217728) text
-    → OnOk r (IfSome left (λ fit. fit ≡ true)) → OnOk r (IfSome text (λ bytes. length bytes ≤ 134217728))
-text-fits text left (Err e) is fits = tt
-text-fits None left (Ok x) is fits = tt
-text-fits (Some t) left (Ok x) is fits = within-short 134217728 t (rw is at fits)

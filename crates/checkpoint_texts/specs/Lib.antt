@@ -3,6 +3,7 @@ pub mod Readings
 pub mod Records
 pub mod Gathering
 pub mod CheckpointOf
+pub mod CheckpointLeft
 pub mod CheckpointText
 pub mod WellFormed
 pub mod OutsideFaults

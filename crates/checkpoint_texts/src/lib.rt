@@ -16,6 +16,6 @@ pub use laws::{
     checkpoints_come_back, checkpoints_fit, reading_a_checkpoint_has_one_answer,
     writing_a_checkpoint_has_one_answer,
 };
-pub use reading::read_checkpoint;
+pub use reading::CheckpointReader;
 pub use saved::{SavedDie, SavedPage, SavedStore};
 pub use writing::write_checkpoint;

@@ -1,6 +1,6 @@
 //! Checkpoints read from texts.
 
-ghost use Rattle.std.specs.Prelude.{◌≡◌, ◌≤◌, true, IfErr, IfOk, IfSome, OnOk, [], length, option_map};
+ghost use Rattle.std.specs.Prelude.{◌≡◌, false, true, IfErr, IfOk, IfSome, OnOk, [], option_map};
 ghost use Rattle.csv.specs.Reading.{has_failed};
 ghost use Rattle.csv.specs.Records.{fields_of};
 ghost use Rattle.report_texts.specs.RecordsLeft.{Stays};
@@ -133,18 +133,48 @@ fn take_store<R: Read>(
 /// where its bytes aren't kept; one for each block, `block`, how many of its pages are programmed and how often it was
 /// erased; one for each task, `task` and its balance; and `die`, its number from 0 to 7 and its spare pages. Numbers
 /// have 1 to 10 digits and are at most 4,294,967,295.
-///
-/// Broken has the first record and field at fault. A record above 2,105,481 is one too many; else the kind is judged
-/// first, then how many fields there are, then they from left to right, then the order of records, and at last the
-/// number of a die. ReadFault comes where the reader fails or goes on beyond its bound; the records before it are
-/// judged first. NoMemory comes where memory is refused.
-///
-/// What was read fits no plan as yet: [`check`](die_checkpoint::Checkpoint::check) says whether it does.
-pub fn read_checkpoint<R: Read + Drop>(alloc: Global, reader: R) -> Result<SavedStore, TextFault>
-    ensures store { Says (option_map checkpoint_of (R.remaining reader)) result }
-    ensures bound { OnOk result (IfSome (R.remaining reader) (λ text. length text ≤ 134217728)) }
-{
-    let mut rows = rows_up_to(alloc, reader, MAX_BYTES);
-    let mut row = ByteRecord::new(alloc);
-    take_store(alloc, &mut rows, &mut row)
+#[derive(Drop)]
+pub struct CheckpointReader<R> {
+    alloc: Global,
+    rows: Reader<Bounded<R>>,
+    row: ByteRecord,
+}
+
+impl<R: Read> CheckpointReader<R> {
+    ghost use Rattle.text_base.specs.Marks.{is_within};
+    ghost use Rattle.checkpoint_texts.specs.CheckpointLeft.{IsReady, checkpoint_fits, checkpoint_left, reader_failed};
+
+    /// A reader of the checkpoint that a text has, which is read by [`checkpoint`](CheckpointReader::checkpoint), once.
+    pub fn new(alloc: Global, reader: R) -> CheckpointReader<R>
+        ensures checkpoint { checkpoint_left R.remaining result
+            ≡ option_map checkpoint_of (R.remaining reader) }
+        ensures bound { checkpoint_fits R.remaining result
+            ≡ option_map (is_within 134217728) (R.remaining reader) }
+        ensures ready { IsReady result }
+        ensures fresh { reader_failed result ≡ false }
+    {
+        CheckpointReader {
+            alloc,
+            rows: rows_up_to(alloc, reader, MAX_BYTES),
+            row: ByteRecord::new(alloc),
+        }
+    }
+
+    /// Reads the checkpoint.
+    ///
+    /// Broken has the first record and field at fault. A record above 2,105,481 is one too many; else the kind is judged
+    /// first, then how many fields there are, then they from left to right, then the order of records, and at last the
+    /// number of a die. ReadFault comes where the reader fails or goes on beyond its bound, and only where csv's reader
+    /// has failed; the records before it are judged first. NoMemory comes where memory is refused.
+    ///
+    /// What was read fits no plan as yet: [`check`](die_checkpoint::Checkpoint::check) says whether it does.
+    pub fn checkpoint(&mut self) -> Result<SavedStore, TextFault>
+        requires ready { IsReady self.old }
+        ensures checkpoint { Says (checkpoint_left R.remaining self.old) result }
+        ensures bound { OnOk result (IfSome (checkpoint_fits R.remaining self.old) (λ fits.
+            fits ≡ true)) }
+        ensures failed { FailsAtReadFault (reader_failed self.old) (reader_failed self.new) result }
+    {
+        take_store(self.alloc, &mut self.rows, &mut self.row)
+    }
 }

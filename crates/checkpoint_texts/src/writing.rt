@@ -82,7 +82,7 @@ fn text_of(alloc: Global, store: &SavedStore) -> Result<Vec<u8>, Refusal>
     }
 }
 
-/// Writes the checkpoint of at most eight dies as csv, as [`read_checkpoint`](crate::read_checkpoint) reads it. Numbers
+/// Writes the checkpoint of at most eight dies as csv, as [`CheckpointReader`](crate::CheckpointReader) reads it. Numbers
 /// have no leading zeros, pages are 32 lower-case hexadecimal digits, each record ends with one line feed, no field is
 /// quoted.
 ///

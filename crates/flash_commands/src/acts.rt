@@ -14,7 +14,7 @@ use crate::faults::{Fault, end};
 use crate::figures::figures_text;
 use example_texts::built_in;
 use plan_texts::read_plan_from;
-use report_texts::read_work;
+use report_texts::ReportReader;
 use slot_types::{MAX_SLOT, Refusal};
 use std::alloc::Global;
 use std::io::{Read, Write};
@@ -57,7 +57,7 @@ fn print_audit<T: Threads + Sync, R: Read + Drop, W: Output>(
         (RefusesOrCuts W.contents W.has_failed (RefusesAudit (R.remaining first))
         (AuditsSome (R.remaining first)) out.old out.new) }
 {
-    let work = read_work(alloc, first)?;
+    let work = ReportReader::new(alloc, first).work()?;
     let audit = audit_by_threads(rt, alloc, &work)?;
     write_whole(out, &audit.text)?;
     Ok(audit.refused)
@@ -85,7 +85,8 @@ fn print_run<R: Threads + Wait + Sync, F: Read + Drop, S: Read + Drop, W: Output
         (PrintsRun (F.remaining first) (S.remaining second) slots) out.old out.new) }
 {
     let store = read_plan_from(alloc, &mut FlaggedReader::new(first))?;
-    run_text(rt, alloc, &store, second, out, slots, workers)
+    let count = run_text(rt, alloc, &store, second, out, slots, workers)?;
+    Ok(count)
 }
 
 /// Tells how many rows were refused, and the first of them, if there is one. A writer that fails is passed over.

@@ -22,7 +22,7 @@ use Rattle.report_texts.specs.declared.reports.DieReport.{DieReport}
 use Rattle.report_texts.proofs.NumberLaws.{numbered-dies, numbered-more}
 use Rattle.report_texts.proofs.ProgressLaws.{further, length-last, progress}
 use Rattle.report_texts.proofs.ReadingLaws.{certs-end, certs-fault, certs-more, certs-over, front_dies, rows-broken, rows-end, rows-more}
-use Rattle.report_texts.proofs.ReadingLaws.{says-text, says-then}
+use Rattle.report_texts.proofs.ReadingLaws.{says-then}
 use Rattle.report_texts.proofs.RecordLaws.{reads-on}
 
 -- One more row
@@ -308,13 +308,6 @@ pub kept-first : {K : Type 0} (kept : DieReport → K) (before : List Fields →
     → Stays unread left → SaysKept kept (option_map before left) r → SaysKept kept (option_map before unread) r
 kept-first kept before unread left (Ok all) stays said = (said.0, said.1, said.2, says-first before unread left (Ok said.0) stays said.3)
 kept-first kept before unread left (Err e) stays said = says-first before unread left (Err e) stays said
-
--- what the known records tell, the records of a known text tell
-pub kept-text : {K A : Type 0} (kept : DieReport → K) (rows : A → List Fields) (before : List Fields → Reading) (text : Option A)
-    (left : Option (List Fields)) (r : Result (List K) Refusal)
-    → Stays (option_map rows text) left → SaysKept kept (option_map before left) r → SaysKept kept (option_map (λ t. before (rows t)) text) r
-kept-text kept rows before text left (Ok all) stays said = (said.0, said.1, said.2, says-text rows before text left (Ok said.0) stays said.3)
-kept-text kept rows before text left (Err e) stays said = says-text rows before text left (Err e) stays said
 
 -- what is kept is all of a report
 pub kept-whole : (known : Option Reading) (r : Reading) → SaysKept (λ die. die) known r → Says known r × IfOk r AreNumbered

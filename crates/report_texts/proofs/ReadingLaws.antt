@@ -154,10 +154,3 @@ pub says-then : {A : Type 0} (before : List Fields → Reading) (mid : A → Lis
 says-then before mid None n x r one said = tt
 says-then before mid (Some records) n x (Ok report) one said = one.2 ∙ rw one.1 at said
 says-then before mid (Some records) n x (Err e) one said = late e one.2 (rw one.1 at said)
-
--- what the known records tell, the records of a known text tell
-pub says-text : {A : Type 0} (rows : A → List Fields) (before : List Fields → Reading) (text : Option A) (left : Option (List Fields))
-    (r : Reading)
-    → Stays (option_map rows text) left → Says (option_map before left) r → Says (option_map (λ t. before (rows t)) text) r
-says-text rows before None left r stays said = tt
-says-text rows before (Some t) left r stays said = rw stays at said

@@ -1,13 +1,11 @@
 -- What a step does to the records that are left.
-use Rattle.std.proofs.Common.{◌≡◌, ◌≤◌, ℕ, length, List, ◌∷◌, Bool, true, false, Option, Some, None, Result, Ok, Err, refl, sym, ap}
+use Rattle.std.proofs.Common.{◌≡◌, ℕ, List, ◌∷◌, Bool, true, false, Option, Some, None, Result, Ok, Err, refl, sym, ap}
 use Rattle.std.proofs.Common.{◌∙◌, inl, inr}
 use Rattle.std.specs.Prelude.{option_map, OnOk, IfErr, IfSome, ◌+◌}
 use Rattle.slot_types.specs.declared.refusals.Refusal.{Refusal}
 use Rattle.text_base.specs.Readings.{IsOutside}
 use Rattle.report_texts.specs.RecordsLeft.{Loses, Stays, hand_of, with_fit, with_hand}
-use Rattle.text_base.specs.Marks.{is_within}
 use Rattle.text_base.specs.CsvRecordsLeft.{KeepsFit}
-use Rattle.text_base.proofs.MarkLaws.{within-short}
 use Rattle.report_texts.specs.ReportOf.{Reading, Reads}
 use Rattle.text_base.specs.CsvRecords.{Fields, TakesRow}
 
@@ -109,10 +107,10 @@ fit-on (Err e) a b stays fit = tt
 fit-on (Ok x) None b stays fit = tt
 fit-on (Ok x) (Some own) b stays fit = rw stays at fit
 
--- a text that fits its bound is as short
-pub fit-short : {A : Type 0} (r : Result A Refusal) (text : Option (List ℕ)) (fits : Option Bool)
-    → Stays (option_map (is_within 67108864) text) fits → OnOk r (IfSome fits (λ fit. fit ≡ true))
-    → OnOk r (IfSome text (λ bytes. length bytes ≤ 67108864))
-fit-short (Err e) text fits stays fit = tt
-fit-short (Ok x) None fits stays fit = tt
-fit-short (Ok x) (Some text) fits stays fit = within-short 67108864 text (rw stays at fit)
+-- The text
+
+-- what the records of a known text say, the text says
+pub text-left : {A X Y : Type 0} (rows : A → X) (before : X → Y) (text : Option A) (left : Option X) → left ≡ option_map rows text
+    → option_map before left ≡ option_map (λ t. before (rows t)) text
+text-left rows before None left is = rw is refl
+text-left rows before (Some t) left is = rw is refl

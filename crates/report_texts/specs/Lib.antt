@@ -9,6 +9,7 @@ pub mod RowNumbers
 pub mod Worst
 pub mod RecordsLeft
 pub mod ReportOf
+pub mod ReportLeft
 pub mod Numbering
 pub mod ReportWork
 pub mod KeptDies

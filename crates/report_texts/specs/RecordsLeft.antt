@@ -6,13 +6,13 @@ use Rattle.text_base.specs.Plain.{IsPlain}
 use Rattle.text_base.specs.CsvRecords.{Fields}
 use Rattle.text_base.specs.CsvRecordsLeft.{fits_left, rows_left}
 use Rattle.report_texts.specs.Worst.{is_cert}
-use Rattle.report_texts.specs.declared.report_records.Records.{Records}
+use Rattle.report_texts.specs.declared.report_reader.ReportReader.{ReportReader}
 
 -- the record at hand, if there is one
 abbrev pub hand_of : Bool → Fields → Option Fields
 hand_of found fields = if found then Some fields else None
 
-abbrev pub at_hand : {R : Type 0} → Records R → Option Fields
+abbrev pub at_hand : {R : Type 0} → ReportReader R → Option Fields
 at_hand r = hand_of r.found (fields_of r.fields)
 
 -- the record at hand, if it isn't of a certificate
@@ -20,29 +20,29 @@ abbrev pub unless_cert : Option Fields → Option Fields
 unless_cert None = None
 unless_cert (Some fields) = if is_cert fields then None else Some fields
 
-abbrev pub row_at_hand : {R : Type 0} → Records R → Option Fields
+abbrev pub row_at_hand : {R : Type 0} → ReportReader R → Option Fields
 row_at_hand r = unless_cert (at_hand r)
 
-abbrev pub is_found : {R : Type 0} → Records R → Bool
+abbrev pub is_found : {R : Type 0} → ReportReader R → Bool
 is_found r = r.found
 
 -- the number of the record at hand, or the number that it would have
-abbrev pub record_line : {R : Type 0} → Records R → ℕ
+abbrev pub record_line : {R : Type 0} → ReportReader R → ℕ
 record_line r = r.line
 
-abbrev pub IsReady : {R : Type 0} → Records R → Type 0
+abbrev pub IsReady : {R : Type 0} → ReportReader R → Type 0
 IsReady r = IsPlain r.rows
 
 -- whether csv's reader has failed
-abbrev pub reader_failed : {R : Type 0} → Records R → Bool
+abbrev pub reader_failed : {R : Type 0} → ReportReader R → Bool
 reader_failed r = has_failed r.rows
 
 -- the records that csv's reader has still to read, where they are known
-abbrev pub records_unread : {R : Type 0} → (R → Option (List ℕ)) → Records R → Option (List Fields)
+abbrev pub records_unread : {R : Type 0} → (R → Option (List ℕ)) → ReportReader R → Option (List Fields)
 records_unread rem r = rows_left rem r.rows
 
 -- whether their text fits its bound, where it is known
-abbrev pub unread_fit : {R : Type 0} → (R → Option (List ℕ)) → Records R → Option Bool
+abbrev pub unread_fit : {R : Type 0} → (R → Option (List ℕ)) → ReportReader R → Option Bool
 unread_fit rem r = fits_left rem r.rows
 
 -- the record at hand and those after it, where they are known
@@ -50,14 +50,14 @@ abbrev pub with_hand : Bool → Fields → Option (List Fields) → Option (List
 with_hand found fields rest = if found then option_map (λ more. fields ∷ more) rest else Some []
 
 -- the records that are left, where they are known
-abbrev pub records_left : {R : Type 0} → (R → Option (List ℕ)) → Records R → Option (List Fields)
+abbrev pub records_left : {R : Type 0} → (R → Option (List ℕ)) → ReportReader R → Option (List Fields)
 records_left rem r = with_hand r.found (fields_of r.fields) (rows_left rem r.rows)
 
 -- whether their text fits its bound, where it is known: at its end it does
 abbrev pub with_fit : Bool → Option Bool → Option Bool
 with_fit found fits = if found then fits else Some true
 
-abbrev pub records_fit : {R : Type 0} → (R → Option (List ℕ)) → Records R → Option Bool
+abbrev pub records_fit : {R : Type 0} → (R → Option (List ℕ)) → ReportReader R → Option Bool
 records_fit rem r = with_fit r.found (fits_left rem r.rows)
 
 -- what is known stays

@@ -7,8 +7,8 @@ mod laws;
 mod lines;
 mod report_certs;
 mod report_lines;
+mod report_reader;
 mod report_reading;
-mod report_records;
 mod report_rows;
 mod report_work;
 mod report_writing;
@@ -20,7 +20,7 @@ pub use laws::{
     writing_a_report_has_one_answer,
 };
 pub use report_certs::Finish;
-pub use report_reading::{read_report, read_work};
+pub use report_reader::ReportReader;
 pub use report_work::{DieWork, ReportWork};
 pub use report_writing::{ReportText, write_parts, write_report};
 pub use reports::{DieReport, Report, ReportRow, ReportRows, RowKind};

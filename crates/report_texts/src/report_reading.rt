@@ -6,16 +6,17 @@ ghost use Rattle.text_base.specs.Readings.{FailsAtReadFault};
 ghost use Rattle.report_texts.specs.KeptDies.{ReadsCert, ReadsKept, SaysKept};
 ghost use Rattle.report_texts.specs.Numbering.{AreNumbered};
 ghost use Rattle.report_texts.specs.RecordsLeft.{IsReady, Stays, reader_failed, record_line, records_fit, records_left};
-ghost use Rattle.report_texts.specs.RecordsLeft.{records_unread, unread_fit};
+ghost use Rattle.report_texts.specs.RecordsLeft.{unread_fit};
 ghost use Rattle.report_texts.specs.ReportHeader.{is_report_header};
-ghost use Rattle.report_texts.specs.ReportOf.{Reads, Says, certs_from, no_rows, report_from, report_of, rows_from};
+ghost use Rattle.report_texts.specs.ReportLeft.{report_left};
+ghost use Rattle.report_texts.specs.ReportOf.{Reads, Says, certs_from, no_rows, report_from, rows_from};
 ghost use Rattle.report_texts.specs.ReportWork.{AllRise, SaysWork};
 ghost use Rattle.report_texts.specs.declared.reports.DieReport.{DieReport};
 
 use crate::gathered::{dies_in, gather, no_rows};
 use crate::kept_dies::KeptDie;
 use crate::report_certs::cert;
-use crate::report_records::{Records, records_in};
+use crate::report_reader::ReportReader;
 use crate::report_work::ReportWork;
 use crate::reports::Report;
 use csv::ByteRecord;
@@ -43,7 +44,7 @@ fn heads_report(row: &ByteRecord) -> bool
 }
 
 /// Takes the header.
-fn take_header<R: Read>(records: &mut Records<R>) -> Result<(), Refusal>
+fn take_header<R: Read>(records: &mut ReportReader<R>) -> Result<(), Refusal>
     requires ready { IsReady records.old }
     requires first { record_line records.old ≡ 1 }
     ensures read { Reads report_from (λ _.
@@ -68,7 +69,7 @@ fn take_header<R: Read>(records: &mut Records<R>) -> Result<(), Refusal>
 /// Takes the rows of all dies.
 fn take_rows<R: Read, K: KeptDie>(
     alloc: Global,
-    records: &mut Records<R>,
+    records: &mut ReportReader<R>,
 ) -> Result<Items<K>, Refusal>
     requires ready { IsReady records.old }
     requires second { record_line records.old ≡ 2 }
@@ -102,7 +103,7 @@ fn take_rows<R: Read, K: KeptDie>(
 /// Takes the certificate of a die that has a done row.
 fn take_cert<R: Read, K: KeptDie>(
     alloc: Global,
-    records: &mut Records<R>,
+    records: &mut ReportReader<R>,
     die: &mut K,
 ) -> Result<(), Refusal>
     requires ready { IsReady records.old }
@@ -134,7 +135,7 @@ fn take_cert<R: Read, K: KeptDie>(
 /// Takes the certificates of all dies, after which no record may stand.
 fn take_certs<R: Read, K: KeptDie>(
     alloc: Global,
-    records: &mut Records<R>,
+    records: &mut ReportReader<R>,
     dies: Items<K>,
 ) -> Result<Items<K>, Refusal>
     requires ready { IsReady records.old }
@@ -164,66 +165,51 @@ fn take_certs<R: Read, K: KeptDie>(
 }
 
 /// Takes a report, and keeps of its dies what `K` does.
-fn take_kept<R: Read, K: KeptDie>(
-    alloc: Global,
-    records: &mut Records<R>,
-) -> Result<Items<K>, Refusal>
+fn take_kept<R: Read, K: KeptDie>(records: &mut ReportReader<R>) -> Result<Items<K>, Refusal>
     requires ready { IsReady records.old }
-    requires first { record_line records.old ≡ 1 }
-    ensures kept { SaysKept K.kept_of (option_map report_from
-        (records_unread R.remaining records.old)) result }
+    ensures kept { SaysKept K.kept_of (report_left R.remaining records.old) result }
     ensures fits { OnOk result (IfSome (unread_fit R.remaining records.old) (λ fits.
         fits ≡ true)) }
     ensures failed { FailsAtReadFault (reader_failed records.old) (reader_failed records.new)
         result }
 {
+    let alloc = records.alloc();
     records.begin()?;
     take_header(records)?;
     let dies = take_rows(alloc, records)?;
     take_certs(alloc, records, dies)
 }
 
-/// Reads a report, and keeps of its dies what `K` does.
-fn read_kept<R: Read + Drop, K: KeptDie>(alloc: Global, reader: R) -> Result<Items<K>, Refusal>
-    ensures kept { SaysKept K.kept_of (option_map report_of (R.remaining reader)) result }
-    ensures bound { OnOk result (IfSome (R.remaining reader) (λ text. length text ≤ 67108864)) }
-{
-    let mut records = records_in(alloc, reader);
-    take_kept(alloc, &mut records)
-}
+impl<R: Read> ReportReader<R> {
+    /// Reads the report.
+    ///
+    /// ReportText has the number of the first record that breaks it, or that a missing one would have had. ReadFault
+    /// comes where the reader fails or goes on beyond its bound, and only where csv's reader has failed; the records
+    /// before it are judged first. NoMemory comes where memory is refused.
+    pub fn report(&mut self) -> Result<Report, Refusal>
+        requires ready { IsReady self.old }
+        ensures report { Says (report_left R.remaining self.old) result }
+        ensures bound { OnOk result (IfSome (unread_fit R.remaining self.old) (λ fits.
+            fits ≡ true)) }
+        ensures numbered { IfOk result AreNumbered }
+        ensures failed { FailsAtReadFault (reader_failed self.old) (reader_failed self.new) result }
+    {
+        take_kept(self)
+    }
 
-/// Reads a report, csv as `ScriptReader` reads it, within the same bound.
-///
-/// Record 1 is the header, and each record has 11 fields. The rows of jobs and collections stand in rising order of
-/// die, from 0 to 7, and on each die their numbers are 0, 1, 2, .. up to at most 65,535; tasks are from 0 to 15. A
-/// deadline is above its release and at most 1,048,576. A done row has a completion of at most 1,048,576, a lateness
-/// that is its completion less its deadline, and at least one slot of work; a job's has what its reads gave, at most 64
-/// pages, a collection's what it gave its task. A waiting row has none of these, and a row of a waived collection only
-/// what it gave, and no work. After all rows each die that has a done one has a certificate, by die, with the number,
-/// deadline, completion and lateness of its worst job; its start and the jobs that it lists may be anything of the
-/// right shape.
-///
-/// ReportText has the number of the first record that breaks this, or that a missing one would have had. ReadFault
-/// comes where the reader fails or goes on beyond its bound; the records before it are judged first. NoMemory comes
-/// where memory is refused.
-pub fn read_report<R: Read + Drop>(alloc: Global, reader: R) -> Result<Report, Refusal>
-    ensures report { Says (option_map report_of (R.remaining reader)) result }
-    ensures bound { OnOk result (IfSome (R.remaining reader) (λ text. length text ≤ 67108864)) }
-    ensures numbered { IfOk result AreNumbered }
-{
-    read_kept(alloc, reader)
-}
-
-/// Reads the work of a report: of each of its dies the rows that a certificate is checked against, how the worst of
-/// them ended, and the certificate. These rows rise by number. What else a report says is judged, and not kept.
-///
-/// A text is read within the same bound as by [`read_report`], and refused where that refuses it,
-/// with the same refusal, of the same record. NoMemory comes where memory is refused, of which this takes less, and
-/// ReadFault where the reader fails.
-pub fn read_work<R: Read + Drop>(alloc: Global, reader: R) -> Result<ReportWork, Refusal>
-    ensures work { SaysWork (option_map report_of (R.remaining reader)) result }
-    ensures bound { OnOk result (IfSome (R.remaining reader) (λ text. length text ≤ 67108864)) }
-    ensures rise { IfOk result AllRise }
-{
-    read_kept(alloc, reader)
+    /// Reads the work of the report: of each of its dies the rows that a certificate is checked against, how the worst
+    /// of them ended, and the certificate. These rows rise by number. What else a report says is judged, and not kept.
+    ///
+    /// It is refused where [`report`](ReportReader::report) is, with the same refusal, of the same record. NoMemory
+    /// comes where memory is refused, of which this takes less.
+    pub fn work(&mut self) -> Result<ReportWork, Refusal>
+        requires ready { IsReady self.old }
+        ensures work { SaysWork (report_left R.remaining self.old) result }
+        ensures bound { OnOk result (IfSome (unread_fit R.remaining self.old) (λ fits.
+            fits ≡ true)) }
+        ensures rise { IfOk result AllRise }
+        ensures failed { FailsAtReadFault (reader_failed self.old) (reader_failed self.new) result }
+    {
+        take_kept(self)
+    }
 }

@@ -79,8 +79,9 @@ impl DieReport {
     /// The rows of the jobs, and of the collections that were not waived, in their order: what the die's certificate is
     /// checked against.
     ///
-    /// Where the die's rows have the numbers 0, 1, 2, .., as in each report that [`read_report`](crate::read_report)
-    /// gives, these rise by number, which [`check`](late_cert::check) requires. The only refusal is NoMemory.
+    /// Where the die's rows have the numbers 0, 1, 2, .., as in each report that
+    /// [`ReportReader`](crate::ReportReader) gives, these rise by number, which [`check`](late_cert::check) requires. The
+    /// only refusal is NoMemory.
     pub fn job_rows(&self, alloc: Global) -> Result<JobRows, Refusal>
         ensures rows { IfOk result (λ rows. rows ≡ job_rows_of self.now.rows) }
         ensures rise { IsNumbered self.now.rows → IfOk result RowsRise }

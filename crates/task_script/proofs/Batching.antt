@@ -147,6 +147,7 @@ rows_after (at ∷ progress) (x ∷ kept) (end ∷ ends) k e =
       rows_after progress kept ends (omega (arith, k)) (omega (arith, e)),
     )
 
+-- what is known of how far each die has come is known of as many after a batch
 progress_length : (progress : List Progress) (kept : List KeptRows) (ends : List DieEnd) → length kept ≡ length progress
     → length ends ≡ length progress → length (progress_after progress kept ends) ≡ length progress
 progress_length [] [] [] k e = refl

@@ -23,7 +23,7 @@ use Rattle.task_script.proofs.BatchRuns.{closed_run, die_start}
 use Rattle.task_script.proofs.Batching.{SoFar, all_sole, come_more, in_time_more, items_are}
 use Rattle.task_script.proofs.Counting.{counts_join}
 use Rattle.task_script.proofs.ReadingAhead.{Ahead, ran_ready}
-use Rattle.task_script.proofs.RowReading.{EndsWith, as_script, reads_last}
+use Rattle.task_script.proofs.ScriptReading.{EndsWith, as_script, reads_last}
 use Rattle.task_script.proofs.Parting.{adds_nothing, no_cert, no_rows, parts_text}
 use Rattle.task_script.specs.Batches.{Closes, HasComeTo, HaveComeTo, RanLast, joined_after, latest_slot}
 use Rattle.task_script.specs.DieReports.{die_report_of}

@@ -4,6 +4,8 @@ pub mod KeptRows
 pub mod ReadSoFar
 pub mod Dealing
 pub mod RowReading
+pub mod DieReading
+pub mod ScriptReading
 pub mod OpsReading
 pub mod Parting
 pub mod Gathering

@@ -34,8 +34,8 @@ pub record IsDealt (dies slots : ℕ) (items : List ScriptItem) (feeds : List (L
   pub pages : All RowsHavePages feeds
 
 -- at the beginning there is none
-pub dealt_none : (dies slots : ℕ) (feeds : List (List ScriptItem)) → feeds ≡ replicate dies [] → IsDealt dies slots [] feeds
-dealt_none dies slots feeds are = subst (IsDealt dies slots []) (sym are) (record {
+pub none_dealt : (dies slots : ℕ) (feeds : List (List ScriptItem)) → feeds ≡ replicate dies [] → IsDealt dies slots [] feeds
+none_dealt dies slots feeds are = subst (IsDealt dies slots []) (sym are) (record {
   all = length-replicate dies [];
   rows = λ die below. get_or-replicate dies die [] [] below;
   arrive = All-replicate (AllArrive slots) dies [] (All-nil (Arrives slots));

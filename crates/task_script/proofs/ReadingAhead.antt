@@ -17,8 +17,9 @@ use Rattle.task_script.specs.declared.batches.Progress.{Progress}
 use Rattle.task_script.specs.declared.feeds.ReadEnd.{ReadEnd}
 use Rattle.task_script.specs.declared.feeds.ReadEnd.TheVariants.{More, Ended, Refused}
 use Rattle.task_script.proofs.Batching.{SoFar, as_many, dealt_events, fails_by, so_far_more}
-use Rattle.task_script.proofs.ReadSoFar.{IsReadTo, dealt_none, read_none, read_on}
-use Rattle.task_script.proofs.RowReading.{ReadsItems, as_script, fails_after, fails_within, one_die_each, reads_more}
+use Rattle.task_script.proofs.ReadSoFar.{IsReadTo, none_dealt, read_none, read_on}
+use Rattle.task_script.proofs.DieReading.{one_die_each}
+use Rattle.task_script.proofs.ScriptReading.{ReadsItems, as_script, fails_after, fails_within, reads_more}
 
 -- after the rows that were run these are ready, and after them those of these texts were taken off the script
 pub record Ahead (whole : Option Script) (left : Option (Reading RowText)) (plans : List DiePlan) (slots : ℕ) (ps : List DiePass)
@@ -52,7 +53,7 @@ ahead_first whole first left plans slots ps progress rows texts end so_far none 
   start = as_script first;
   before = first;
   so_far = so_far;
-  ready = record { items = []; read = read_none (as_script first); dealt = dealt_none (length plans) slots rows none };
+  ready = record { items = []; read = read_none (as_script first); dealt = none_dealt (length plans) slots rows none };
   read = read;
 }
 

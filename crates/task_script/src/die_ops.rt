@@ -111,9 +111,9 @@ fn gathered(alloc: Global, dies: Vec<DieOps>) -> Result<Vec<DieRows>, Refusal>
     Ok(rows)
 }
 
-/// The rows of dies, whose operations are read by at most so many threads, those of one die after those of another where
-/// there are more dies than threads. A thread that can't be started is done without. Refused as the first row of all
-/// dies that is at fault, or as NoMemory.
+/// The rows of dies, whose operations are read by at most so many threads, those of one die after those of another
+/// where there are more dies than threads. A thread that can't be started is done without. Refused as the first row of
+/// all dies that is at fault, or as NoMemory.
 pub fn rows_of<R: Threads + Sync>(
     rt: &R,
     alloc: Global,

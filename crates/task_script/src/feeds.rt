@@ -18,8 +18,8 @@ pub const FIRST_ROWS: u32 = 4_096;
 /// How many rows are taken off while others are run, at most.
 pub const MOST_ROWS: u32 = 32_768;
 
-/// After how many bytes of operations no further row is taken before these are run: the texts of two batches are kept at
-/// a time. No contract depends on it.
+/// After how many bytes of operations no further row is taken before these are run: the texts of two batches are kept
+/// at a time. No contract depends on it.
 const BATCH_BYTES: usize = 4_194_304;
 
 /// Why no further row is read before those that were read are run.
@@ -53,8 +53,8 @@ fn no_rows(alloc: Global, dies: usize) -> Result<Vec<RowTexts>, Refusal>
     Ok(rows)
 }
 
-/// By die the next rows of a script for so many dies: those up to its end or its first fault, or so many at most, and no
-/// further one once they have 4 MiB of operations. Their operations aren't read yet.
+/// By die the next rows of a script for so many dies: those up to its end or its first fault, or so many at most, and
+/// no further one once they have 4 MiB of operations. Their operations aren't read yet.
 /// `end` says what came then: where it is `More`, a row was read, and where it is ReadFault, csv's reader has failed.
 /// The only refusal of this call is NoMemory.
 pub fn read_rows<R: Read>(

@@ -22,10 +22,10 @@ pub use laws::{
 };
 pub use plan_texts::read_plan;
 pub use report_texts::{
-    DieReport, DieWork, Finish, Report, ReportRow, ReportRows, ReportWork, RowKind, read_report,
-    read_work, reports_come_back, write_report,
+    DieReport, DieWork, Finish, Report, ReportReader, ReportRow, ReportRows, ReportWork, RowKind,
+    reports_come_back, write_report,
 };
 pub use run_counts::RunCount;
 pub use script_texts::{ScriptItem, ScriptReader};
 pub use text_base::number;
-pub use text_runs::run_text;
+pub use text_runs::{RefusedRun, run_text};

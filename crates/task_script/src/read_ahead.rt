@@ -1,5 +1,5 @@
-//! Batches of a script's rows: while one is run, the operations of the next are read, and the rows after these taken off
-//! the script.
+//! Batches of a script's rows: while one is run, the operations of the next are read, and the rows after these taken
+//! off the script.
 
 ghost use Rattle.std.specs.Prelude.{◌≡◌, ◌<◌, ◌+◌, ◌≤◌, ◌^◌, All, IfErr, IfOk, length};
 ghost use Rattle.script_texts.specs.ScriptLeft.{dies_of, line_of, reader_failed, script_rows_left, slots_of};
@@ -111,8 +111,8 @@ pub fn run_ready<R: Threads + Wait + Sync>(
     })
 }
 
-/// Runs the rows that are ready and then these, which are the last: each die up to its last row, but not less than up to
-/// slot `until`, by so many workers. Refused as [`run_ready`] is.
+/// Runs the rows that are ready and then these, which are the last: each die up to its last row, but not less than up
+/// to slot `until`, by so many workers. Refused as [`run_ready`] is.
 pub fn run_last<R: Threads + Wait + Sync>(
     rt: &R,
     alloc: Global,
@@ -139,8 +139,8 @@ pub fn run_last<R: Threads + Wait + Sync>(
 }
 
 /// Runs the rows that are ready, reads the operations of the rows that were taken off the script last, and takes the
-/// next ones off, so many at most: one after the other by one worker, else at the same time, the rows off the script by this thread. A
-/// thread that can't be started is done without.
+/// next ones off, so many at most: one after the other by one worker, else at the same time, the rows off the script by
+/// this thread. A thread that can't be started is done without.
 ///
 /// Refused as [`run_ready`] is, or as NoMemory. Where that and the reading are both refused, it is the run's refusal
 /// that is reported.

@@ -40,10 +40,10 @@ struct RanStore {
 
 /// A run of a script that was refused.
 #[derive(Drop)]
-struct RefusedRun<S> {
-    refusal: Refusal,
+pub struct RefusedRun<S> {
+    pub refusal: Refusal,
     /// The script's reader, where it is the script that was refused.
-    reader: Option<ScriptReader<S>>,
+    pub reader: Option<ScriptReader<S>>,
 }
 
 /// Memory ran out, or the operations of rows are at fault.
@@ -191,9 +191,9 @@ fn run_script<R: Threads + Wait + Sync, S: Read + Drop>(
 /// three batches. A die is given up once its lines are made.
 ///
 /// It ends with the first fault of the script, as [`ScriptReader`](crate::ScriptReader) says it; with `ReadFault`,
-/// where reading the script fails; or with `NoMemory`. Nothing is written before the whole script was read and run,
-/// and nothing with these. `WriteFault` comes exactly where the writer fails: a front of the report was then written
-/// that isn't the whole.
+/// where reading the script fails, and only together with the script's reader, whose csv reader has failed; or with
+/// `NoMemory`. Nothing is written before the whole script was read and run, and nothing with these. `WriteFault` comes
+/// exactly where the writer fails: a front of the report was then written that isn't the whole.
 pub fn run_text<R: Threads + Wait + Sync, S: Read + Drop, W: Output>(
     rt: &R,
     alloc: Global,
@@ -202,7 +202,7 @@ pub fn run_text<R: Threads + Wait + Sync, S: Read + Drop, W: Output>(
     writer: &mut W,
     slots: u32,
     workers: u32,
-) -> Result<RunCount, Refusal>
+) -> Result<RunCount, RefusedRun<S>>
     requires some { 1 ≤ length plan.now }
     requires dies { length plan.now ≤ 8 }
     requires bound { All MeetsBound plan.now }
@@ -216,14 +216,19 @@ pub fn run_text<R: Threads + Wait + Sync, S: Read + Drop, W: Output>(
         (W.contents writer.new)) }
     ensures works { OnOk result
         (KeepsFlag (W.has_failed writer.old) (W.has_failed writer.new)) }
-    ensures refused { IfErr result
-        (RefusesOrCuts W.contents W.has_failed
+    ensures refused { IfErr result (λ run.
+        RefusesOrCuts W.contents W.has_failed
         (RefusesScript (S.remaining script) (length plan.now) slots)
-        (RunsSo (S.remaining script) plan.now slots) writer.old writer.new) }
+        (RunsSo (S.remaining script) plan.now slots) writer.old writer.new run.refusal) }
+    ensures failed { IfErr result (λ run. run.refusal ≡ ReadFault →
+        IsSomeAnd run.reader (λ reader. reader_failed reader ≡ true)) }
 {
     let ran = run_script(rt, alloc, plan, script, slots, workers)?;
     match write_parts(writer, ran.parts.as_slice()) {
         Ok(()) => Ok(ran.count),
-        Err(refusal) => Err(refusal),
+        Err(refusal) => Err(RefusedRun {
+            refusal,
+            reader: None,
+        }),
     }
 }

@@ -1,6 +1,6 @@
 //! A checkpoint and its text, both by hand.
 
-use checkpoint_texts::{SavedDie, SavedPage, SavedStore, read_checkpoint, write_checkpoint};
+use checkpoint_texts::{CheckpointReader, SavedDie, SavedPage, SavedStore, write_checkpoint};
 use die_checkpoint::{BlockCounts, CheckpointFault};
 use slot_types::{DiePlan, Items, PageData, Place, Shape};
 use std::alloc::Global;
@@ -92,7 +92,7 @@ fn store(alloc: Global) -> Result<SavedStore, Fail> {
 #[test]
 fn a_text_says_what_stands(rt: HostRuntime) -> Result<(), Fail> {
     let alloc = rt.alloc();
-    let read = read_checkpoint(alloc, TEXT.as_bytes());
+    let read = CheckpointReader::new(alloc, TEXT.as_bytes()).checkpoint();
     assert!(rt; read == Ok(store(alloc)?));
     Ok(())
 }
@@ -117,7 +117,7 @@ fn csv_may_be_written_otherwise(rt: HostRuntime) -> Result<(), Fail> {
     let zeros = lines.replace(alloc, "die,0,9", "\"die\",000,0000000009")?;
     let upper = zeros.replace(alloc, "0a0b0c0d0e0f", "0A0B0C0D0E0F")?;
     let marked = format!(in alloc; "\u{feff}{}", upper.as_str())?;
-    assert!(rt; read_checkpoint(alloc, marked.as_bytes()) == Ok(store(alloc)?));
+    assert!(rt; CheckpointReader::new(alloc, marked.as_bytes()).checkpoint() == Ok(store(alloc)?));
     Ok(())
 }
 

@@ -1,7 +1,7 @@
 //! Each fault of a text, with its place: the text by hand with one change.
 
 use crate::by_hand::TEXT;
-use checkpoint_texts::{RecordFault, TextFault, read_checkpoint};
+use checkpoint_texts::{CheckpointReader, RecordFault, TextFault};
 use std::alloc::Global;
 use std::io;
 use std::io::{ErrorKind, Read};
@@ -10,7 +10,11 @@ use std::test::Fail;
 /// The refusal of the text with this in the place of that; none where it is read.
 fn said(alloc: Global, that: &str, this: &str) -> Result<Option<TextFault>, Fail> {
     let text = TEXT.replace(alloc, that, this)?;
-    Ok(read_checkpoint(alloc, text.as_bytes()).err())
+    Ok(
+        CheckpointReader::new(alloc, text.as_bytes())
+            .checkpoint()
+            .err(),
+    )
 }
 
 #[test]
@@ -62,14 +66,14 @@ fn each_fault_has_its_place(rt: HostRuntime) -> Result<(), Fail> {
 #[test]
 fn a_text_has_a_die(rt: HostRuntime) {
     let alloc = rt.alloc();
-    let none = read_checkpoint(alloc, b"".as_slice());
+    let none = CheckpointReader::new(alloc, b"".as_slice()).checkpoint();
     let header = TextFault::Broken {
         line: 1,
         field: 1,
         fault: RecordFault::Header,
     };
     assert!(rt; none == Err(header));
-    let head = read_checkpoint(alloc, b"checkpoint,1\n".as_slice());
+    let head = CheckpointReader::new(alloc, b"checkpoint,1\n".as_slice()).checkpoint();
     let early = TextFault::Broken {
         line: 2,
         field: 1,
@@ -83,7 +87,7 @@ fn a_ninth_die_is_refused(rt: HostRuntime) -> Result<(), Fail> {
     let alloc = rt.alloc();
     let eight =
         "checkpoint,1\ndie,0,0\ndie,1,0\ndie,2,0\ndie,3,0\ndie,4,0\ndie,5,0\ndie,6,0\ndie,7,0\n";
-    let read = read_checkpoint(alloc, eight.as_bytes());
+    let read = CheckpointReader::new(alloc, eight.as_bytes()).checkpoint();
     assert!(rt; read.is_ok());
     let nine = format!(in alloc; "{eight}die,8,0\n")?;
     let fault = TextFault::Broken {
@@ -91,7 +95,7 @@ fn a_ninth_die_is_refused(rt: HostRuntime) -> Result<(), Fail> {
         field: 2,
         fault: RecordFault::Die,
     };
-    assert!(rt; read_checkpoint(alloc, nine.as_bytes()) == Err(fault));
+    assert!(rt; CheckpointReader::new(alloc, nine.as_bytes()).checkpoint() == Err(fault));
     Ok(())
 }
 
@@ -122,6 +126,6 @@ fn a_reader_that_fails_is_reported(rt: HostRuntime) {
             text: TEXT.as_bytes(),
             calls,
         };
-        assert!(rt; read_checkpoint(alloc, reader) == Err(TextFault::ReadFault));
+        assert!(rt; CheckpointReader::new(alloc, reader).checkpoint() == Err(TextFault::ReadFault));
     }
 }

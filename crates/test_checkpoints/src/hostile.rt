@@ -2,7 +2,7 @@
 //! from its text.
 
 use crate::by_hand::{TEXT, plan};
-use checkpoint_texts::{SavedStore, TextFault, read_checkpoint, write_checkpoint};
+use checkpoint_texts::{CheckpointReader, SavedStore, TextFault, write_checkpoint};
 use die_checkpoint::CheckpointFault;
 use rand_core::utils::NextWord;
 use rand_pcg::Pcg32;
@@ -79,7 +79,7 @@ fn comes_back(alloc: Global, store: &SavedStore) -> Result<bool, Fail> {
         return Ok(false);
     }
     write_checkpoint(alloc, &mut text, store)?;
-    match read_checkpoint(alloc, text.as_slice()) {
+    match CheckpointReader::new(alloc, text.as_slice()).checkpoint() {
         Ok(again) => Ok(again == *store),
         Err(_) => Ok(false),
     }
@@ -114,7 +114,7 @@ fn thousands_are_refused_or_answered(rt: HostRuntime) -> Result<(), Fail> {
         .replace(alloc, "4294967295\nblock,3", "5\nblock,3")?;
     let end = sample.find(one).ok_or("no end")?.saturating_add(one.len());
     let sample = &sample.as_bytes()[..end.min(sample.len())];
-    let whole = match read_checkpoint(alloc, sample) {
+    let whole = match CheckpointReader::new(alloc, sample).checkpoint() {
         Ok(store) => checked(alloc, &store, &plan)?,
         Err(_) => (0, 0),
     };
@@ -123,7 +123,7 @@ fn thousands_are_refused_or_answered(rt: HostRuntime) -> Result<(), Fail> {
     let (mut refused, mut unfit, mut fit) = (0u32, 0u32, 0u32);
     for _ in 0..TEXTS {
         let text = changed(alloc, &mut words, sample)?;
-        match read_checkpoint(alloc, text.as_slice()) {
+        match CheckpointReader::new(alloc, text.as_slice()).checkpoint() {
             Ok(store) => {
                 assert!(rt; comes_back(alloc, &store)?);
                 let found = checked(alloc, &store, &plan)?;

@@ -9,7 +9,7 @@ use std::alloc::Global;
 use std::env::Env;
 use std::io;
 use std::io::Write;
-use task_script::{ScriptReader, read_plan, read_report, write_report};
+use task_script::{ReportReader, ScriptReader, read_plan, write_report};
 use text_base::Flagged;
 
 /// Compares what it is given with a report, and takes no memory.
@@ -100,7 +100,7 @@ fn a_script_is_read_again(rt: HostRuntime) {
 /// made again where memory is scarce.
 fn is_copied<R: Env>(rt: &R, alloc: Global) -> Result<bool, Refusal> {
     let mut writer = Flagged::new(uncompared());
-    let report = read_report(alloc, TWO_REPORT.as_bytes())?;
+    let report = ReportReader::new(alloc, TWO_REPORT.as_bytes()).report()?;
     match write_report(alloc, &mut writer, &report) {
         Err(Refusal::NoMemory) if is_scarce(rt) && writer.get_ref().taken == 0 => {
             write_report(alloc, &mut writer, &report)?

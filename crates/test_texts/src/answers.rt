@@ -1,11 +1,11 @@
 //! What reading a text answers.
 
 use example_texts::TWO_DIES;
-use report_texts::read_work;
+use report_texts::ReportReader;
 use slot_types::{Items, Refusal, StorePlan};
 use std::alloc::Global;
 use std::io::Read;
-use task_script::{ScriptItem, ScriptReader, read_plan, read_report};
+use task_script::{ScriptItem, ScriptReader, read_plan};
 
 /// The plan of two dies.
 pub fn two_dies(alloc: Global) -> Result<StorePlan, Refusal> {
@@ -38,10 +38,10 @@ pub fn script_refusal<R: Read + Drop>(alloc: Global, reader: R) -> Option<Refusa
 
 /// What a report answers where it isn't read.
 pub fn report_refusal<R: Read + Drop>(alloc: Global, reader: R) -> Option<Refusal> {
-    read_report(alloc, reader).err()
+    ReportReader::new(alloc, reader).report().err()
 }
 
 /// What the reading of a report's work answers where it isn't read.
 pub fn work_refusal<R: Read + Drop>(alloc: Global, reader: R) -> Option<Refusal> {
-    read_work(alloc, reader).err()
+    ReportReader::new(alloc, reader).work().err()
 }

@@ -7,7 +7,7 @@ use late_cert::{JobRows, Verdict, check};
 use slot_types::{Items, Refusal};
 use std::alloc::Global;
 use std::test::Fail;
-use task_script::{DieReport, read_report};
+use task_script::{DieReport, ReportReader};
 
 /// The rows of a die, and the verdict on its certificate.
 #[derive(Debug, Drop)]
@@ -35,7 +35,7 @@ fn audit(alloc: Global, dies: &[DieReport]) -> Result<Items<DieAudit>, Refusal>
 #[test]
 fn a_stored_report_is_audited_by_its_rows(rt: HostRuntime) -> Result<(), Fail> {
     let alloc = rt.alloc();
-    let report = read_report(alloc, TWO_REPORT.as_bytes())?;
+    let report = ReportReader::new(alloc, TWO_REPORT.as_bytes()).report()?;
     let found = format!(in alloc; "{:?}", audit(alloc, report.as_slice())?)?;
     let want = "[DieAudit { rows: [\
 JobRow { number: JobNo(0), release: 2, due: 5, work: 2, completion: Some(4) }, \

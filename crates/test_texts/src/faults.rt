@@ -6,7 +6,7 @@ use std::alloc::Global;
 use std::io;
 use std::io::{ErrorKind, Read, Write};
 use std::test::Fail;
-use task_script::{read_report, write_report};
+use task_script::{ReportReader, write_report};
 use text_base::{Flagged, FlaggedReader, Input};
 
 /// Gives a text seven bytes a call. The call of this number, from 1, fails, and those after it don't.
@@ -153,7 +153,7 @@ fn records_before_a_failing_read_are_judged_first(rt: HostRuntime) {
 #[test]
 fn a_failing_writer_is_a_write_fault(rt: HostRuntime) -> Result<(), Fail> {
     let alloc = rt.alloc();
-    let report = read_report(alloc, TWO_REPORT.as_bytes())?;
+    let report = ReportReader::new(alloc, TWO_REPORT.as_bytes()).report()?;
     for calls in 1..100 {
         let mut writer = choppy_writer(alloc, calls);
         let answer = write_report(alloc, &mut writer, &report);

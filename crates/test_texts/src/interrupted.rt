@@ -10,7 +10,7 @@ use std::io::{ErrorKind, Read, Write};
 use std::sync::Wait;
 use std::test::Fail;
 use std::thread::Threads;
-use task_script::{RunCount, read_plan, read_report, run_text, write_report};
+use task_script::{ReportReader, RunCount, read_plan, run_text, write_report};
 use text_base::{Flagged, FlaggedReader};
 
 /// Gives a text so many bytes a call, and is interrupted as often ahead of each.
@@ -100,7 +100,7 @@ fn an_interrupted_script_is_read(rt: HostRuntime) -> Result<(), Fail> {
 fn an_interrupted_report_is_read_and_written(rt: HostRuntime) -> Result<(), Fail> {
     let alloc = rt.alloc();
     for (a_call, times) in [(1, 1), (7, 3), (4096, 1)] {
-        let report = read_report(alloc, reader_of(TWO_REPORT, a_call, times))?;
+        let report = ReportReader::new(alloc, reader_of(TWO_REPORT, a_call, times)).report()?;
         let mut writer = halting_writer(alloc);
         write_report(alloc, &mut writer, &report)?;
         assert!(rt; !writer.has_failed());
@@ -115,7 +115,10 @@ fn run<R: Threads + Wait + Sync>(rt: &R, alloc: Global) -> (Result<RunCount, Ref
     let ended = match read_plan(alloc, TWO_DIES.as_bytes()) {
         Ok(plan) => {
             let script = reader_of(TWO_SCRIPT, 7, 2);
-            run_text(rt, alloc, &plan, script, &mut writer, 5, 2)
+            match run_text(rt, alloc, &plan, script, &mut writer, 5, 2) {
+                Ok(count) => Ok(count),
+                Err(run) => Err(run.refusal),
+            }
         }
         Err(refusal) => Err(refusal),
     };

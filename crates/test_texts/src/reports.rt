@@ -1,9 +1,9 @@
 use example_texts::{REPORT, TWO_REPORT};
-use report_texts::{DieWork, read_work};
+use report_texts::{DieWork, ReportReader};
 use std::alloc::Global;
 use std::process::Abort;
 use std::test::Fail;
-use task_script::{DieReport, Report, RowKind, read_report, write_report};
+use task_script::{DieReport, Report, RowKind, write_report};
 
 /// The header of reports.
 const HEADER: &str = "row,die,job,task,release,due,work,completion,lateness,given,items\n";
@@ -47,7 +47,7 @@ fn check_die(rt: &impl Abort, die: &DieReport, work: &DieWork) -> Result<(), Fai
 
 /// The work that is read of a text is that of its report.
 fn check_work(rt: &impl Abort, alloc: Global, text: &str, report: &Report) -> Result<(), Fail> {
-    let work = read_work(alloc, text.as_bytes())?;
+    let work = ReportReader::new(alloc, text.as_bytes()).work()?;
     assert_eq!(rt; work.len(), report.len());
     for i in 0..report.len() {
         let die = report.get(i).ok_or("no die")?;
@@ -58,7 +58,7 @@ fn check_work(rt: &impl Abort, alloc: Global, text: &str, report: &Report) -> Re
 
 /// A report is read and written again as the same text, and its work is that of the report.
 fn check_same(rt: &impl Abort, alloc: Global, text: &str) -> Result<(), Fail> {
-    let report = read_report(alloc, text.as_bytes())?;
+    let report = ReportReader::new(alloc, text.as_bytes()).report()?;
     let mut written = Vec::new(alloc);
     write_report(alloc, &mut written, &report)?;
     assert_eq!(rt; written.as_slice(), text.as_bytes());
@@ -68,7 +68,10 @@ fn check_same(rt: &impl Abort, alloc: Global, text: &str) -> Result<(), Fail> {
 #[test]
 fn reports_are_read_and_written(rt: HostRuntime) -> Result<(), Fail> {
     let alloc = rt.alloc();
-    let report = format!(in alloc; "{:?}", read_report(alloc, REPORT.as_bytes())?)?;
+    let report = format!(in alloc;
+        "{:?}",
+        ReportReader::new(alloc, REPORT.as_bytes()).report()?
+    )?;
     let want = "[DieReport { die: 0, rows: [\
 ReportRow { row: Job, job: JobNo(0), task: TaskNo(0), release: 0, due: 2, work: 1, completion: Some(1), lateness: Some(-1), given: None, reads: [] }, \
 ReportRow { row: Job, job: JobNo(1), task: TaskNo(0), release: 1, due: 3, work: 1, completion: Some(2), lateness: Some(-1), given: None, reads: \
@@ -84,7 +87,7 @@ cert: Some(Certificate { job: JobNo(0), start: 0, due: 2, completion: 1, jobs: [
 #[test]
 fn waived_collections_are_no_work(rt: HostRuntime) -> Result<(), Fail> {
     let alloc = rt.alloc();
-    let work = read_work(alloc, TWO_REPORT.as_bytes())?;
+    let work = ReportReader::new(alloc, TWO_REPORT.as_bytes()).work()?;
     let die = format!(in alloc; "{:?}", work.get(1).ok_or("no die")?)?;
     let want =
         "DieWork { die: 1, rows: [JobRow { number: JobNo(0), release: 0, due: 2, work: 1, completion: Some(1) }, \

@@ -23,7 +23,8 @@ fn run_by<R: Threads + Wait + Sync, S: Read + Drop, W: Output>(
     requires workers { (1 ≤ workers) × (workers ≤ 16) }
 {
     let plan = read_plan(alloc, TWO_DIES.as_bytes())?;
-    run_text(rt, alloc, &plan, script, writer, 5, workers)
+    let count = run_text(rt, alloc, &plan, script, writer, 5, workers)?;
+    Ok(count)
 }
 
 /// The same by one worker.

@@ -11,7 +11,7 @@ use std::io::Write;
 use std::sync::Wait;
 use std::test::Fail;
 use std::thread::Threads;
-use task_script::{read_plan, read_report, run_text};
+use task_script::{ReportReader, read_plan, run_text};
 use tool_plan_arrivals::{Fault, Manner, arrivals, full_from};
 
 /// How many plans are tried.
@@ -126,7 +126,7 @@ fn goes_as_planned<R: Threads + Wait + Sync>(
     let script = arrivals(alloc, &plan, SLOTS, manner)?;
     let mut text = Vec::new(alloc);
     let count = run_text(rt, alloc, &plan, script.as_slice(), &mut text, SLOTS, 2)?;
-    let report = read_report(alloc, text.as_slice())?;
+    let report = ReportReader::new(alloc, text.as_slice()).report()?;
     Ok(Some(count.refused == 0 && count.accepted > 10 && is_on_time(&report)))
 }
 

@@ -1,6 +1,6 @@
 //! Runs that are joined by checkpoints: what the second script gives is worked out by hand.
 
-use checkpoint_texts::{SavedStore, read_checkpoint};
+use checkpoint_texts::{CheckpointReader, SavedStore};
 use plan_texts::read_plan;
 use slot_types::Refusal;
 use std::alloc::Global;
@@ -125,7 +125,7 @@ fn is_run(
 fn a_run_goes_on_where_the_one_before_it_ended(rt: HostRuntime) -> Result<(), Fail> {
     let alloc = rt.alloc();
     assert!(rt; is_run(alloc, None, MORNING, 4, (MORNING_REPORT, 0, 0, NOON))?);
-    let Ok(noon) = read_checkpoint(alloc, NOON.as_bytes()) else {
+    let Ok(noon) = CheckpointReader::new(alloc, NOON.as_bytes()).checkpoint() else {
         assert!(rt; false);
         return Ok(());
     };
@@ -185,7 +185,7 @@ const CHANGED: [Changed; 8] = [
 fn is_refused(alloc: Global, changed: Changed) -> Result<bool, Fail> {
     let (old, new, said) = changed;
     let text = NOON.replace(alloc, old, new)?;
-    let Ok(saved) = read_checkpoint(alloc, text.as_str().as_bytes()) else {
+    let Ok(saved) = CheckpointReader::new(alloc, text.as_str().as_bytes()).checkpoint() else {
         return Ok(false);
     };
     match run(alloc, Some(saved), EVENING, 3)? {
@@ -241,7 +241,7 @@ die,0,1
 
 /// A run that erases block 1 of this checkpoint once: what is reported where it isn't made, or where its die isn't saved.
 fn why_unsaved(alloc: Global, checkpoint: &str) -> Result<Option<String>, Fail> {
-    let Ok(saved) = read_checkpoint(alloc, checkpoint.as_bytes()) else {
+    let Ok(saved) = CheckpointReader::new(alloc, checkpoint.as_bytes()).checkpoint() else {
         return Ok(None);
     };
     let dies = match run(alloc, Some(saved), ERASE, 1)? {
@@ -269,7 +269,7 @@ fn is_worn(alloc: Global, erases: &str, said: &str) -> Result<bool, Fail> {
 #[test]
 fn a_die_with_a_worn_block_is_not_saved(rt: HostRuntime) -> Result<(), Fail> {
     let alloc = rt.alloc();
-    let Ok(old) = read_checkpoint(alloc, OLD.as_bytes()) else {
+    let Ok(old) = CheckpointReader::new(alloc, OLD.as_bytes()).checkpoint() else {
         assert!(rt; false);
         return Ok(());
     };

@@ -5,7 +5,7 @@ ghost use Rattle.text_base.specs.Writing.{IsNotWhole};
 ghost use Rattle.tool_commands.specs.Acts.{Ends, EndsRun, PrintsFailing, PrintsReport, PrintsRun};
 
 use crate::endings::{end_refused, report_failure, report_refused};
-use checkpoint_texts::{SavedStore, TextFault, read_checkpoint};
+use checkpoint_texts::{CheckpointReader, SavedStore, TextFault};
 use plan_texts::read_plan_from;
 use slot_types::{MAX_SLOT, Refusal};
 use std::alloc::Global;
@@ -32,7 +32,7 @@ pub struct Kept<'a, C, K> {
 
 /// What was saved of dies, in a text.
 pub fn saved_in<C: Read + Drop>(alloc: Global, text: C) -> Result<SavedStore, RunFault> {
-    match read_checkpoint(alloc, text) {
+    match CheckpointReader::new(alloc, text).checkpoint() {
         Ok(saved) => Ok(saved),
         Err(TextFault::NoMemory) => Err(RunFault::Refused(Refusal::NoMemory)),
         Err(TextFault::ReadFault) => Err(RunFault::Refused(Refusal::ReadFault)),

@@ -9,7 +9,7 @@ ghost use Rattle.slot_types.specs.Refusal.{FailsForMemory};
 use crate::endings::end_refused;
 use flash_commands::Folder;
 use flash_commands::audits::audit_report;
-use report_texts::read_work;
+use report_texts::ReportReader;
 use slot_types::Refusal;
 use std::alloc::Global;
 use std::io::{Read, Write};
@@ -45,7 +45,7 @@ fn audit_named<R: Read + Drop>(
     ensures audited { IfOk result (IsAuditOf (R.remaining report)) }
     ensures refused { IfErr result (RefusesAudit (R.remaining report)) }
 {
-    let work = read_work(alloc, report)?;
+    let work = ReportReader::new(alloc, report).work()?;
     let audit = audit_report(alloc, &work)?;
     let named = named_lines(alloc, name, &audit.text)?;
     text.extend_from_slice(&named)?;

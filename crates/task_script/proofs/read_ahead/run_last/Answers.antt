@@ -1,6 +1,6 @@
 use Rattle.std.proofs.Common.{arith}
 use Rattle.task_script.proofs.Batching.{as_many_reached}
-use Rattle.task_script.proofs.RowReading.{all_arrive, as_many_read, reads_length}
+use Rattle.task_script.proofs.DieReading.{all_arrive, as_many_read, reads_length}
 use Rattle.task_script.proofs.read_ahead.run_last.Goals as goal
 
 pub run_rows-requires-clause-rows : goal.run_rows-requires-clause-rows

@@ -4,7 +4,8 @@ use Rattle.task_script.proofs.Batching.{none_counted, so_far_none}
 use Rattle.task_script.proofs.Gathering.{ran_sole, script_ran}
 use Rattle.task_script.proofs.ReadingAhead.{ahead_can, ahead_fails, ahead_first, ahead_more, ahead_one_die, ahead_refused, goes_from}
 use Rattle.task_script.proofs.ReadingAhead.{no_rows_dealt, none_ready, texts_as}
-use Rattle.task_script.proofs.RowReading.{as_many_read, not_of_reader}
+use Rattle.task_script.proofs.DieReading.{as_many_read}
+use Rattle.task_script.proofs.ScriptReading.{not_of_reader}
 use Rattle.task_script.proofs.text_runs.run_script.Goals as goal
 
 pub loop-init : goal.loop-init

@@ -1,5 +1,5 @@
 use Rattle.report_texts.proofs.RecordLaws.{fit-taken, hand-taken}
-use Rattle.report_texts.proofs.report_records.Records.begin.Goals as goal
+use Rattle.report_texts.proofs.report_reader.ReportReader.begin.Goals as goal
 
 pub returns-clause-first : goal.returns-clause-first
 returns-clause-first g c = hand-taken _ _ _ _ c.in_ok-self.ensures.takes

@@ -1,5 +1,5 @@
 use Rattle.report_texts.proofs.RecordLaws.{fit-lost, hand-lost}
-use Rattle.report_texts.proofs.report_records.Records.advance.Goals as goal
+use Rattle.report_texts.proofs.report_reader.ReportReader.advance.Goals as goal
 
 pub returns-clause-next : goal.returns-clause-next
 returns-clause-next g c = hand-lost _ _ _ _ _ _ c.requires.found c.in_ok-self.ensures.takes

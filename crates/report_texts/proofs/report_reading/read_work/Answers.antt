@@ -1,8 +1,0 @@
-use Rattle.report_texts.proofs.WorkLaws.{kept-work}
-use Rattle.report_texts.proofs.report_reading.read_work.Goals as goal
-
-pub returns-clause-work : goal.returns-clause-work
-returns-clause-work g c = (kept-work _ _ c.read_kept.ensures.kept).0
-
-pub returns-clause-rise : goal.returns-clause-rise
-returns-clause-rise g c = (kept-work _ _ c.read_kept.ensures.kept).1
