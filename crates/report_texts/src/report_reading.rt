@@ -194,7 +194,8 @@ impl<R: Read> ReportReader<R> {
         ensures numbered { IfOk result AreNumbered }
         ensures failed { FailsAtReadFault (reader_failed self.old) (reader_failed self.new) result }
     {
-        take_kept(self)
+        let report = take_kept(self)?;
+        Ok(report)
     }
 
     /// Reads the work of the report: of each of its dies the rows that a certificate is checked against, how the worst
@@ -210,6 +211,7 @@ impl<R: Read> ReportReader<R> {
         ensures rise { IfOk result AllRise }
         ensures failed { FailsAtReadFault (reader_failed self.old) (reader_failed self.new) result }
     {
-        take_kept(self)
+        let work = take_kept(self)?;
+        Ok(work)
     }
 }
