@@ -26,8 +26,7 @@ pub fn checkpoints_fit()
     ensures { (store : List SavedDie) → IsStore store → length (checkpoint_text store) ≤ 134217728 }
 {}
 
-/// Reading a checkpoint (`CheckpointReader::checkpoint`) has one answer, where its text is known, unless memory or its
-/// reader fails.
+/// Reading a checkpoint (`checkpoint`) has one answer, where its text is known, unless memory or its reader fails.
 pub fn reading_a_checkpoint_has_one_answer()
     ensures { (read one other : Result (List SavedDie) TextFault) → Says (Some read) one
         → Says (Some read) other → (one ≡ other) ⊎ EndsOutside one ⊎ EndsOutside other }

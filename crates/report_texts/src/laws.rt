@@ -20,14 +20,13 @@ pub fn reports_come_back()
         → report_of (report_text report) ≡ Ok report }
 {}
 
-/// Reading a report (`ReportReader::report`) has one answer, where its text is known, unless memory or its reader fails.
+/// Reading a report (`report`) has one answer, where its text is known, unless memory or its reader fails.
 pub fn reading_a_report_has_one_answer()
     ensures { (read one other : Reading) → Says (Some read) one → Says (Some read) other →
         (one ≡ other) ⊎ EndsOutside one ⊎ EndsOutside other }
 {}
 
-/// Reading the work of a report (`ReportReader::work`) has one answer, where its text is known, unless memory or its
-/// reader fails.
+/// Reading the work of a report (`work`) has one answer, where its text is known, unless memory or its reader fails.
 pub fn reading_the_work_has_one_answer()
     ensures { (read : Reading) (one other : Result (List DieWork) Refused) →
         SaysWork (Some read) one → SaysWork (Some read) other →
