@@ -1,6 +1,6 @@
 //! The operations of the rows of dies, each die's read by itself.
 
-ghost use Rattle.std.specs.Prelude.{◌≡◌, ◌≤◌, All, IfErr, IfOk, IfSome, None, Ok, Some, map};
+ghost use Rattle.std.specs.Prelude.{◌≡◌, ◌≤◌, [], All, IfErr, IfOk, None, Ok, length, map, replicate};
 ghost use Rattle.std.specs.List.{AllZip};
 ghost use Rattle.slot_types.specs.Refusal.{FailsForMemory};
 ghost use Rattle.task_script.specs.DieOps.{IsReadIn, with_die, with_dies};
@@ -13,34 +13,40 @@ use std::alloc::Global;
 use std::thread;
 use std::thread::Threads;
 
-/// Rows of a die as they stand, and then as their operations say: the texts are given up once these are read.
+/// Rows of a die as they stand, and then as their operations say.
 #[derive(Drop)]
 pub struct DieOps {
-    texts: Option<RowTexts>,
+    texts: RowTexts,
     rows: Result<DieRows, Refusal>,
 }
 
+/// The rows of dies, and the lists in which they stood, empty and with their memory.
+#[derive(Drop)]
+pub struct ReadOps {
+    pub rows: Vec<DieRows>,
+    pub empty: Vec<RowTexts>,
+}
+
 impl DieOps {
-    /// Reads the operations of the rows.
+    /// Reads the operations of the rows, and takes these out.
     fn read(&mut self, alloc: Global)
-        requires one_die { IfSome self.old.texts AreOfOneDie }
+        requires one_die { AreOfOneDie self.old.texts }
         ensures { IsReadIn self.old self.new }
     {
-        if let Some(texts) = self.texts.take() {
-            self.rows = texts.read(alloc);
-        }
+        self.rows = self.texts.read(alloc);
+        self.texts.clear();
     }
 }
 
 /// Dies whose rows are to be read. The only refusal is NoMemory.
 fn unread(alloc: Global, texts: Vec<RowTexts>) -> Result<Vec<DieOps>, Refusal>
-    ensures ok { IfOk result (λ dies. map (λ die. die.texts) dies.items ≡ map Some texts.items) }
+    ensures ok { IfOk result (λ dies. map (λ die. die.texts) dies.items ≡ texts.items) }
     ensures refused { FailsForMemory result }
 {
     let mut dies = Vec::with_capacity(alloc, texts.len())?;
     for die in texts {
         dies.push_reserved(DieOps {
-            texts: Some(die),
+            texts: die,
             rows: Err(Refusal::NoMemory),
         });
     }
@@ -49,12 +55,12 @@ fn unread(alloc: Global, texts: Vec<RowTexts>) -> Result<Vec<DieOps>, Refusal>
 
 /// Reads the rows of dies, by at most so many threads.
 fn read_all<R: Threads + Sync>(rt: &R, alloc: Global, dies: &mut [DieOps], threads: u32)
-    requires one_die { All (λ die. IfSome die.texts AreOfOneDie) dies.old }
+    requires one_die { All (λ die. AreOfOneDie die.texts) dies.old }
     requires threads { 1 ≤ threads }
     ensures { AllZip IsReadIn dies.old dies.new }
 {
     let read = |_: usize, die: &mut DieOps|
-        requires { IfSome die.now.texts AreOfOneDie }
+        requires { AreOfOneDie die.now.texts }
         ensures { IsReadIn die.entry.now die.exit.now }
     { die.read(alloc) };
     thread::for_each_mut(rt, dies, threads as usize, &read);
@@ -95,20 +101,23 @@ fn first_refusal(dies: &[DieOps]) -> Option<Refusal>
     first
 }
 
-/// The rows of dies, none of which was refused. The only refusal is NoMemory.
-fn gathered(alloc: Global, dies: Vec<DieOps>) -> Result<Vec<DieRows>, Refusal>
-    ensures ok { IfOk result (λ rows. map (λ die. die.rows) dies.items ≡ map Ok rows.items) }
+/// The rows of dies, none of which was refused, and their lists. The only refusal is NoMemory.
+fn gathered(alloc: Global, dies: Vec<DieOps>) -> Result<ReadOps, Refusal>
+    ensures ok { IfOk result (λ read. map (λ die. die.rows) dies.items ≡ map Ok read.rows.items) }
+    ensures empty { IfOk result (λ read. read.empty.items ≡ map (λ die. die.texts) dies.items) }
     ensures refused { FailsForMemory result }
 {
     let mut rows = Vec::new(alloc);
+    let mut empty = Vec::new(alloc);
     for die in dies {
-        let DieOps { rows: read, .. } = die;
+        let DieOps { rows: read, texts } = die;
         let Ok(read) = read else {
             return Err(Refusal::NoMemory);
         };
         rows.push(read)?;
+        empty.push(texts)?;
     }
-    Ok(rows)
+    Ok(ReadOps { rows, empty })
 }
 
 /// The rows of dies, whose operations are read by at most so many threads, those of one die after those of another
@@ -119,10 +128,12 @@ pub fn rows_of<R: Threads + Sync>(
     alloc: Global,
     texts: Vec<RowTexts>,
     threads: u32,
-) -> Result<Vec<DieRows>, Refusal>
+) -> Result<ReadOps, Refusal>
     requires one_die { All AreOfOneDie texts.items }
     requires threads { 1 ≤ threads }
-    ensures ok { IfOk result (λ rows. AreRead texts.items rows.items) }
+    ensures ok { IfOk result (λ read. AreRead texts.items read.rows.items) }
+    ensures empty { IfOk result (λ read.
+        read.empty.items ≡ replicate (length texts.items) []) }
     ensures refused { IfErr result (FailsToRead texts.items) }
 {
     let mut dies = unread(alloc, texts)?;

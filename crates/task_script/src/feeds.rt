@@ -41,8 +41,8 @@ pub struct ReadRows {
     pub end: ReadEnd,
 }
 
-/// By die no row.
-fn no_rows(alloc: Global, dies: usize) -> Result<Vec<RowTexts>, Refusal>
+/// By die no row. It takes no memory but that of the list.
+pub fn no_rows(alloc: Global, dies: usize) -> Result<Vec<RowTexts>, Refusal>
     ensures ok { IfOk result (λ rows. rows.items ≡ replicate dies []) }
     ensures refused { FailsForMemory result }
 {
@@ -53,22 +53,21 @@ fn no_rows(alloc: Global, dies: usize) -> Result<Vec<RowTexts>, Refusal>
     Ok(rows)
 }
 
-/// By die the next rows of a script for so many dies: those up to its end or its first fault, or so many at most, and
-/// no further one once they have 4 MiB of operations. Their operations aren't read yet.
+/// By die the next rows of a script, in these empty lists: those up to its end or its first fault, or so many at most,
+/// and no further one once they have 4 MiB of operations. Their operations aren't read yet.
 /// `end` says what came then: where it is `More`, a row was read, and where it is ReadFault, csv's reader has failed.
 /// The only refusal of this call is NoMemory.
 pub fn read_rows<R: Read>(
-    alloc: Global,
     script: &mut ScriptReader<R>,
-    dies: usize,
+    empty: Vec<RowTexts>,
     most: u32,
 ) -> Result<ReadRows, Refusal>
-    requires dies { dies_of script.old ≡ dies }
+    requires empty { empty.items ≡ replicate (dies_of script.old) [] }
     requires some { 1 ≤ most }
     ensures rows { IfOk result (λ rows.
         HasReadTexts (script_rows_left R.remaining script.old)
-        (script_rows_left R.remaining script.new) dies (slots_of script.old) rows.dies.items
-        rows.end) }
+        (script_rows_left R.remaining script.new) (dies_of script.old) (slots_of script.old)
+        rows.dies.items rows.end) }
     ensures few { IfOk result (λ rows. rows_dealt rows.dies.items ≤ most) }
     ensures more { IfOk result (λ rows.
         GoesOn (line_of script.old) (line_of script.new) rows.end) }
@@ -77,7 +76,7 @@ pub fn read_rows<R: Read>(
     ensures dies { dies_of script.new ≡ dies_of script.old }
     ensures slots { slots_of script.new ≡ slots_of script.old }
 {
-    let mut rows = no_rows(alloc, dies)?;
+    let mut rows = empty;
     let mut left = BATCH_BYTES;
     for _ in 0..most {
         match script.next_row() {

@@ -61,8 +61,7 @@ impl RowTexts {
             }
             Err(_) => {
                 // A part of the text may stand there, before that of the next row.
-                self.heads.clear();
-                self.texts.clear();
+                self.clear();
                 Err(Refusal::NoMemory)
             }
         }
@@ -70,9 +69,9 @@ impl RowTexts {
 
     /// Reads the operations of the rows, which are all of one die. Refused as the first row that is at fault, or as
     /// NoMemory.
-    pub fn read(self, alloc: Global) -> Result<DieRows, Refusal>
-        requires one_die { AreOfOneDie self }
-        ensures { GivesReading result (read_of self) }
+    pub fn read(&self, alloc: Global) -> Result<DieRows, Refusal>
+        requires one_die { AreOfOneDie self.now }
+        ensures { GivesReading result (read_of self.now) }
     {
         let mut rows = DieRows::new(alloc);
         let mut ops = PackedOps::new(alloc);
@@ -85,5 +84,13 @@ impl RowTexts {
             rows.add(&head, &ops.lend())?;
         }
         Ok(rows)
+    }
+
+    /// Takes all rows out. Their memory stays, for the next ones.
+    pub fn clear(&mut self)
+        ensures { self.new ≡ [] }
+    {
+        self.heads.clear();
+        self.texts.clear();
     }
 }

@@ -15,7 +15,7 @@ ghost use Rattle.text_base.specs.Writing.{RefusesOrCuts};
 use crate::batches::{Progress, RunDies, no_progress};
 use crate::die_ops::rows_of;
 use crate::die_texts::parts_of;
-use crate::feeds::{FIRST_ROWS, MOST_ROWS, ReadEnd};
+use crate::feeds::{FIRST_ROWS, MOST_ROWS, ReadEnd, no_rows};
 use crate::read_ahead::{ReadyDies, read_next, run_and_read, run_last};
 use crate::rows::no_die_rows;
 use crate::run_counts::RunCount;
@@ -144,9 +144,10 @@ fn run_script<R: Threads + Wait + Sync, S: Read + Drop>(
     let reader = ScriptReader::new(alloc, script, plan, slots)?;
     let dies = RunDies { passes, progress };
     let rows = no_die_rows(alloc, plan.len())?;
-    let mut ready = ReadyDies { dies, rows };
+    let empty = no_rows(alloc, plan.len())?;
+    let mut ready = ReadyDies { dies, rows, empty };
     let mut most = FIRST_ROWS;
-    let mut read = read_next(alloc, reader, plan.len(), most)?;
+    let mut read = read_next(reader, no_rows(alloc, plan.len())?, most)?;
     for _ in 0..u32::MAX {
         match read.rows.end {
             ReadEnd::More => {
