@@ -7,7 +7,6 @@ use Rattle.slot_types.specs.declared.refusals.Refusal.{Refusal}
 use Rattle.slot_types.specs.declared.refusals.Refusal.TheVariants.{ReadFault}
 use Rattle.script_texts.specs.RowTexts.{RowText}
 use Rattle.script_texts.specs.Script.{Reading, Script, items_in, whole}
-use Rattle.script_texts.specs.ScriptRows.{fault}
 use Rattle.script_texts.proofs.RowItems.{no-read-fault}
 use Rattle.script_texts.specs.declared.script_rows.ScriptItem.{ScriptItem}
 use Rattle.task_script.specs.RowTexts.{AreRead, FailsToRead, HasReadTexts, LeavesOff}
