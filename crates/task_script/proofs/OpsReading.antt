@@ -1,6 +1,6 @@
 -- The rows of dies that were read, each die's by a thread.
 use Rattle.std.proofs.Common.{◌≡◌, ◌⊎◌, inl, inr, ℕ, zero, suc, ◌<◌, ◌≤◌, Bool, true, false, cond, List, [], ◌∷◌, refl, ap, sym, ◌∙◌, subst}
-use Rattle.std.proofs.Common.{length, map, get_or, arith, Option, Some, None, Ok, Err}
+use Rattle.std.proofs.Common.{length, map, replicate, get_or, arith, Option, Some, None, Ok, Err}
 use Rattle.std.specs.Prelude.{All, IfSome, nat_le}
 use Rattle.std.specs.List.{AllByRecursion, AllZip}
 use Rattle.std.proofs.lemmas.Bool.{leb-true, leb-false}
@@ -31,25 +31,25 @@ zip_length R (x ∷ xs) (y ∷ ys) zip = ap suc (zip_length R xs ys zip.1)
 
 -- What each thread read
 
-pub each_of_one : (texts : List (List RowText)) (olds : List DieOps) → map (λ (die : DieOps). die.texts) olds ≡ map Some texts
-    → All AreOfOneDie texts → All (λ (die : DieOps). IfSome die.texts AreOfOneDie) olds
+pub each_of_one : (texts : List (List RowText)) (olds : List DieOps) → map (λ (die : DieOps). die.texts) olds ≡ texts
+    → All AreOfOneDie texts → All (λ (die : DieOps). AreOfOneDie die.texts) olds
 each_of_one texts olds were one_die =
-    All-from_recursion (λ (die : DieOps). IfSome die.texts AreOfOneDie) olds (by texts olds were (recursion_from_All AreOfOneDie texts one_die))
+    All-from_recursion (λ (die : DieOps). AreOfOneDie die.texts) olds (by texts olds were (recursion_from_All AreOfOneDie texts one_die))
   where
-    by : (texts : List (List RowText)) (olds : List DieOps) → map (λ (die : DieOps). die.texts) olds ≡ map Some texts
-        → AllByRecursion AreOfOneDie texts → AllByRecursion (λ (die : DieOps). IfSome die.texts AreOfOneDie) olds
+    by : (texts : List (List RowText)) (olds : List DieOps) → map (λ (die : DieOps). die.texts) olds ≡ texts
+        → AllByRecursion AreOfOneDie texts → AllByRecursion (λ (die : DieOps). AreOfOneDie die.texts) olds
     by texts [] were one_die = tt
     by [] (old ∷ olds) were one_die = absurd cc
     by (t ∷ texts) (old ∷ olds) were one_die =
-        let was : old.texts ≡ Some t = cc in
-        let rest : map (λ (die : DieOps). die.texts) olds ≡ map Some texts = cc in
-        (subst (λ (o : Option (List RowText)). IfSome o AreOfOneDie) (sym was) one_die.0, by texts olds rest one_die.1)
+        let was : old.texts ≡ t = cc in
+        let rest : map (λ (die : DieOps). die.texts) olds ≡ texts = cc in
+        (subst AreOfOneDie (sym was) one_die.0, by texts olds rest one_die.1)
 
-given : (old new : DieOps) (text : List RowText) → old.texts ≡ Some text → IsReadIn old new → GivesReading new.rows (read_of text)
-given old new text is read = subst (λ (o : Option (List RowText)). IfSome o (λ texts. GivesReading new.rows (read_of texts))) is read
+given : (old new : DieOps) (text : List RowText) → old.texts ≡ text → IsReadIn old new → GivesReading new.rows (read_of text)
+given old new text is read = subst (λ (rows : List RowText). GivesReading new.rows (read_of rows)) is read.0
 
 pub ops_read : (texts : List (List RowText)) (olds news : List DieOps) (rows : List (List ScriptItem))
-    → map (λ (die : DieOps). die.texts) olds ≡ map Some texts → AllZip IsReadIn olds news → map (λ (die : DieOps). die.rows) news ≡ map Ok rows
+    → map (λ (die : DieOps). die.texts) olds ≡ texts → AllZip IsReadIn olds news → map (λ (die : DieOps). die.rows) news ≡ map Ok rows
     → AreRead texts rows
 ops_read [] [] [] [] were read are = refl
 ops_read [] [] [] (x ∷ rows) were read are = absurd cc
@@ -59,23 +59,36 @@ ops_read (t ∷ texts) [] news rows were read are = absurd cc
 ops_read (t ∷ texts) (old ∷ olds) [] rows were read are = absurd read
 ops_read (t ∷ texts) (old ∷ olds) (new ∷ news) [] were read are = absurd cc
 ops_read (t ∷ texts) (old ∷ olds) (new ∷ news) (x ∷ rows) were read are =
-    let was : old.texts ≡ Some t = cc in
+    let was : old.texts ≡ t = cc in
     let is : new.rows ≡ Ok x = cc in
-    let rest_were : map (λ (die : DieOps). die.texts) olds ≡ map Some texts = cc in
+    let rest_were : map (λ (die : DieOps). die.texts) olds ≡ texts = cc in
     let rest_are : map (λ (die : DieOps). die.rows) news ≡ map Ok rows = cc in
     let first : read_of t ≡ Ok x = subst (λ (r : Script). GivesReading r (read_of t)) is (given old new t was read.0) in
     let rest = ops_read texts olds news rows rest_were read.1 rest_are in
     λ i. first i ∷ rest i
 
-read_at : (texts : List (List RowText)) (olds news : List DieOps) (k : ℕ) → map (λ (die : DieOps). die.texts) olds ≡ map Some texts
+-- and no row stands there any more
+pub ops_taken : (texts : List (List RowText)) (olds news : List DieOps) → map (λ (die : DieOps). die.texts) olds ≡ texts
+    → AllZip IsReadIn olds news → map (λ (die : DieOps). die.texts) news ≡ replicate (length texts) []
+ops_taken [] [] [] were read = refl
+ops_taken [] [] (new ∷ news) were read = absurd read
+ops_taken [] (old ∷ olds) news were read = absurd cc
+ops_taken (t ∷ texts) [] news were read = absurd cc
+ops_taken (t ∷ texts) (old ∷ olds) [] were read = absurd read
+ops_taken (t ∷ texts) (old ∷ olds) (new ∷ news) were read =
+    let rest_were : map (λ (die : DieOps). die.texts) olds ≡ texts = cc in
+    let rest = ops_taken texts olds news rest_were read.1 in
+    λ i. read.0.1 i ∷ rest i
+
+read_at : (texts : List (List RowText)) (olds news : List DieOps) (k : ℕ) → map (λ (die : DieOps). die.texts) olds ≡ texts
     → AllZip IsReadIn olds news → k < length texts
     → GivesReading (get_or (map (λ (die : DieOps). die.rows) news) k (Ok [])) (read_of (get_or texts k []))
 read_at [] olds news k were read below = absurd (omega (arith, below))
 read_at (t ∷ texts) [] news k were read below = absurd cc
 read_at (t ∷ texts) (old ∷ olds) [] k were read below = absurd read
-read_at (t ∷ texts) (old ∷ olds) (new ∷ news) zero were read below = let was : old.texts ≡ Some t = cc in given old new t was read.0
+read_at (t ∷ texts) (old ∷ olds) (new ∷ news) zero were read below = let was : old.texts ≡ t = cc in given old new t was read.0
 read_at (t ∷ texts) (old ∷ olds) (new ∷ news) (suc k) were read below =
-    let rest : map (λ (die : DieOps). die.texts) olds ≡ map Some texts = cc in read_at texts olds news k rest read.1 (omega (arith, below))
+    let rest : map (λ (die : DieOps). die.texts) olds ≡ texts = cc in read_at texts olds news k rest read.1 (omega (arith, below))
 
 -- The refusal that is reported
 
@@ -185,7 +198,7 @@ reported known (die ∷ dies) e is = by (with_die known die) refl (reported (wit
 
 -- of dies that were read by themselves, it is the first fault, or memory ran out
 pub ops_refused : (texts : List (List RowText)) (olds news : List DieOps) (e : Refusal)
-    → map (λ (die : DieOps). die.texts) olds ≡ map Some texts → AllZip IsReadIn olds news
+    → map (λ (die : DieOps). die.texts) olds ≡ texts → AllZip IsReadIn olds news
     → with_dies None (map (λ (die : DieOps). die.rows) news) ≡ Some e → FailsToRead texts e
 ops_refused texts olds news e were read is = by t.whose
   where
@@ -197,7 +210,7 @@ ops_refused texts olds news e were read is = by t.whose
 
     many : length dies ≡ length texts
     many = length-map news (λ (die : DieOps). die.rows) ∙ (zip_length IsReadIn olds news read
-        ∙ (sym (length-map olds (λ (die : DieOps). die.texts)) ∙ (ap length were ∙ length-map texts Some)))
+        ∙ (sym (length-map olds (λ (die : DieOps). die.texts)) ∙ ap length were))
 
     before : (k : ℕ) (f : Refusal) (r : Script) → k < length dies → get_or dies k (Ok []) ≡ r → read_of (get_or texts k []) ≡ Err f
         → GivesReading r (read_of (get_or texts k [])) → order_of e ≤ order_of f

@@ -37,7 +37,7 @@ texts_as old new dies dies2 slots slots2 texts end a b h =
     subst (λ (x : ℕ × ℕ). HasReadTexts old new x.0 x.1 texts end) (λ i. (a i, b i)) h
 
 -- no rows of so many dies, whose number is called otherwise
-pub none_ready : (dies count : ℕ) (rows : List (List ScriptItem)) → dies ≡ count → rows ≡ replicate dies [] → rows ≡ replicate count []
+pub none_ready : {A : Type 0} (dies count : ℕ) (rows : List (List A)) → dies ≡ count → rows ≡ replicate dies [] → rows ≡ replicate count []
 none_ready dies count rows same none = none ∙ ap (λ (n : ℕ). replicate n []) same
 
 pub no_rows_dealt : (dies : ℕ) (rows : List (List ScriptItem)) → rows ≡ replicate dies [] → rows_dealt rows ≤ 0

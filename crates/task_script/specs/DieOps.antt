@@ -1,14 +1,14 @@
 -- What the threads that read the rows of dies give.
-use Rattle.std.specs.Prelude.{nat_le, List, [], ◌∷◌, Option, Some, None, IfSome, Ok, Err, if◌then◌else◌}
+use Rattle.std.specs.Prelude.{◌≡◌, nat_le, List, [], ◌∷◌, Option, Some, None, Ok, Err, if◌then◌else◌}
 use Rattle.slot_types.specs.declared.refusals.Refusal.{Refusal}
 use Rattle.script_texts.specs.Script.{Script}
 use Rattle.text_base.specs.Readings.{GivesReading}
 use Rattle.task_script.specs.RowTexts.{order_of, read_of}
 use Rattle.task_script.specs.declared.die_ops.DieOps.{DieOps}
 
--- the operations of a die's rows were read, or memory ran out
+-- the operations of a die's rows were read, or memory ran out, and the rows were taken out
 abbrev pub IsReadIn : DieOps → DieOps → Type 0
-IsReadIn old new = IfSome old.texts (λ texts. GivesReading new.rows (read_of texts))
+IsReadIn old new = GivesReading new.rows (read_of old.texts) × (new.texts ≡ [])
 
 -- of a refusal that is known, if any, and that of one die more the one that is reported
 abbrev pub with_die : Option Refusal → Script → Option Refusal

@@ -61,7 +61,8 @@ impl RowTexts {
             }
             Err(_) => {
                 // A part of the text may stand there, before that of the next row.
-                self.clear();
+                self.heads.clear();
+                self.texts.clear();
                 Err(Refusal::NoMemory)
             }
         }

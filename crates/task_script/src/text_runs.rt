@@ -147,7 +147,8 @@ fn run_script<R: Threads + Wait + Sync, S: Read + Drop>(
     let empty = no_rows(alloc, plan.len())?;
     let mut ready = ReadyDies { dies, rows, empty };
     let mut most = FIRST_ROWS;
-    let mut read = read_next(reader, no_rows(alloc, plan.len())?, most)?;
+    let first = no_rows(alloc, plan.len())?;
+    let mut read = read_next(reader, first, most)?;
     for _ in 0..u32::MAX {
         match read.rows.end {
             ReadEnd::More => {

@@ -9,4 +9,5 @@ invariant-loop-die l = record {
   is_finite : (goal.iterator-loop-die).is_finite l.die-iterator;
   all : l.fn.dies.items ≡ l.yielded ++ into_iter_items l.die-iterator;
   rows : map (λ (die : DieOps). die.rows) l.yielded ≡ map Ok l.rows.items;
+  empty : l.empty.items ≡ map (λ (die : DieOps). die.texts) l.yielded;
 }

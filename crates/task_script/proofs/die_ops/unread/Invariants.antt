@@ -1,4 +1,4 @@
-use Rattle.std.proofs.Common.{◌≡◌, ◌++◌, Some, length, map}
+use Rattle.std.proofs.Common.{◌≡◌, ◌++◌, length, map}
 use Rattle.std.specs.Prelude.{vec_len, vec_capacity}
 use Rattle.std.specs.Vec.Iter.{into_iter_items}
 use Rattle.task_script.specs.declared.die_ops.DieOps.{DieOps}
@@ -11,5 +11,5 @@ invariant-loop-die l = record {
   room : vec_capacity l.dies ≡ vec_len l.fn.texts;
   all : l.fn.texts.items ≡ l.yielded ++ into_iter_items l.die-iterator;
   as_many : vec_len l.dies ≡ length l.yielded;
-  texts : map (λ (die : DieOps). die.texts) l.dies.items ≡ map Some l.yielded;
+  texts : map (λ (die : DieOps). die.texts) l.dies.items ≡ l.yielded;
 }

@@ -6,10 +6,10 @@ use Rattle.task_script.proofs.feeds.read_rows.Goals as goal
 
 pub loop-init : goal.loop-init
 loop-init g c = record {
-  dies = c.requires.dies;
+  dies = refl;
   slots = refl;
-  read = reads_none _ _ _ _ _ c.in_ok-rows.ensures.ok;
-  few = few_none _ _ c.in_ok-rows.ensures.ok;
+  read = reads_none _ _ _ _ _ c.requires.empty;
+  few = few_none _ _ c.requires.empty;
   later = omega arith;
   below = λ some. omega (arith, some);
 }

@@ -6,9 +6,9 @@ use Rattle.task_script.proofs.feeds.read_rows.Given as goal
 
 abbrev pub invariant-loop : goal.invariant-loop
 invariant-loop g l = record {
-  dies : dies_of l.script ≡ l.dies;
+  dies : dies_of l.script ≡ dies_of l.fn.script;
   slots : slots_of l.script ≡ slots_of l.fn.script;
-  read : HasReadTo (script_rows_left g.R.Read.remaining l.fn.script) (script_rows_left g.R.Read.remaining l.script) l.dies
+  read : HasReadTo (script_rows_left g.R.Read.remaining l.fn.script) (script_rows_left g.R.Read.remaining l.script) (dies_of l.fn.script)
       (slots_of l.fn.script) l.rows.items (line_of l.script);
   few : rows_dealt l.rows.items ≤ l.counter;
   later : line_of l.fn.script + l.counter ≤ line_of l.script;

@@ -1,4 +1,4 @@
-use Rattle.std.proofs.Common.{rules, ◌∙◌, arith}
+use Rattle.std.proofs.Common.{rules, ◌∙◌, arith, sym}
 use Rattle.slot_types.specs.declared.refusals.Refusal.{Refusal}
 use Rattle.task_script.proofs.Batching.{none_counted, so_far_none}
 use Rattle.task_script.proofs.Gathering.{ran_sole, script_ran}
@@ -11,13 +11,14 @@ use Rattle.task_script.proofs.text_runs.run_script.Goals as goal
 pub loop-init : goal.loop-init
 loop-init g c = record {
   own = c.in_ok-store.ensures.own;
-  dies = c.in_ok-read.ensures.dies ∙ c.len-3.ensures;
+  dies = c.in_ok-read.ensures.dies ∙ c.in_ok-reader.ensures.dies;
   slots = c.in_ok-read.ensures.slots ∙ c.in_ok-reader.ensures.slots;
   ahead = ahead_first _ _ _ c.args.plan.now c.args.slots _ _ _ _ _
       (so_far_none _ _ c.args.plan.now c.args.slots _ _ _ c.in_ok-reader.ensures.script
       (rw c.as_slice.ensures at c.in_ok-store.ensures.first) c.requires.bound c.in_ok-progress.ensures.ok c.len.ensures)
       (none_ready _ _ _ c.len-2.ensures c.in_ok-rows.ensures.ok)
-      (texts_as _ _ _ _ _ _ _ _ c.len-3.ensures c.in_ok-reader.ensures.slots c.in_ok-read.ensures.rows);
+      (texts_as _ _ _ _ _ _ _ _ c.in_ok-reader.ensures.dies c.in_ok-reader.ensures.slots c.in_ok-read.ensures.rows);
+  empty = none_ready _ _ _ c.len-3.ensures c.in_ok-empty.ensures.ok;
   few = let counted = none_counted _ _ c.in_ok-progress.ensures.ok in let ready = no_rows_dealt _ _ c.in_ok-rows.ensures.ok in
       omega (arith, counted, ready);
   next = omega (arith, c.in_ok-read.ensures.few);
@@ -26,6 +27,9 @@ loop-init g c = record {
   more = goes_from _ _ _ _ (omega arith) c.in_ok-read.ensures.more;
   batches = omega arith;
 }
+
+pub read_next-requires-clause-empty : goal.read_next-requires-clause-empty
+read_next-requires-clause-empty g c = none_ready _ _ _ (c.len-4.ensures ∙ sym c.in_ok-reader.ensures.dies) c.in_ok-first.ensures.ok
 
 pub run_and_read-requires-clause-run : goal.run_and_read-requires-clause-run
 run_and_read-requires-clause-run g c κs within =
@@ -40,6 +44,18 @@ run_and_read-requires-clause-dies g c κs within =
     let can = ahead_can _ _ c.args.plan.now c.args.slots _ _ _ _ _ c.loop.invariant.ahead _ _ c.loop.invariant.own c.requires.workers
     (omega (arith, c.loop.invariant.few)) in
     omega (arith, c.loop.invariant.dies, can.0)
+
+pub run_and_read-requires-clause-dealt : goal.run_and_read-requires-clause-dealt
+run_and_read-requires-clause-dealt g c κs within =
+    let can = ahead_can _ _ c.args.plan.now c.args.slots _ _ _ _ _ c.loop.invariant.ahead _ _ c.loop.invariant.own c.requires.workers
+    (omega (arith, c.loop.invariant.few)) in
+    omega (arith, c.loop.invariant.ahead.read.dealt.all, can.0)
+
+pub run_and_read-requires-clause-empty : goal.run_and_read-requires-clause-empty
+run_and_read-requires-clause-empty g c κs within =
+    let can = ahead_can _ _ c.args.plan.now c.args.slots _ _ _ _ _ c.loop.invariant.ahead _ _ c.loop.invariant.own c.requires.workers
+    (omega (arith, c.loop.invariant.few)) in
+    none_ready _ _ _ (sym can.0) c.loop.invariant.empty
 
 pub run_last-requires-clause-run : goal.run_last-requires-clause-run
 run_last-requires-clause-run g c κs within =
@@ -74,6 +90,7 @@ loop-preserved g c =
       slots = c.in_ok-ran-in-More.ensures.slots ∙ c.loop.invariant.slots;
       ahead = ahead_more _ _ _ c.args.plan.now c.args.slots _ _ _ _ _ _ _ _ _ _ (rw c.in-More.is at c.loop.invariant.ahead)
           c.in_ok-ran-in-More.ensures.ran c.in_ok-ran-in-More.ensures.ops read;
+      empty = none_ready _ _ _ can.0 c.in_ok-ran-in-More.ensures.empty;
       few = omega (arith, c.loop.invariant.few, c.loop.invariant.next, c.in_ok-ran-in-More.ensures.ran.counted, many);
       next = omega (arith, c.in_ok-ran-in-More.ensures.few, c.loop.invariant.most.1);
       most = (omega (arith, c.loop.invariant.most.0), omega arith);

@@ -23,7 +23,7 @@ add-requires c =
     let die = c.requires.one_die.0 in
     record {
       one_die = subst (λ (n : ℕ). All (λ (row : ScriptItem). row.die ≡ n) c.loop-place.rows)
-          (sym (head_die die f.heads.items (fields_of f.texts) c.loop-place.place c.index.result.now c.args.self c.self.invariant.0
+          (sym (head_die die f.heads.items (fields_of f.texts) c.loop-place.place c.index.result.now c.args.self.now c.self.invariant.0
           (omega (arith, c.len-place-end.ensures)) c.index.ensures c.self.view_is c.requires.one_die.1))
           (c.loop-place.invariant.own die c.requires.one_die.1);
     }
@@ -35,25 +35,25 @@ loop-place-preserved c =
     let item = row_of head c.read_ops.new.ops in
     let added : c.add.new.self ≡ c.loop-place.rows ++ item ∷ [] = rw c.lend.ensures at c.in_ok-add.ensures.ok in
     record {
-      so_far = subst (λ (rows : List ScriptItem). IsReadBefore (read_of c.args.self) f.heads.items (fields_of f.texts) (c.loop-place.place + 1) rows)
+      so_far = subst (λ (rows : List ScriptItem). IsReadBefore (read_of c.args.self.now) f.heads.items (fields_of f.texts) (c.loop-place.place + 1) rows)
           (sym added)
-          (read_more_of (read_of c.args.self) f.heads.items (fields_of f.texts) c.loop-place.place head c.field_in.result.now c.loop-place.rows
+          (read_more_of (read_of c.args.self.now) f.heads.items (fields_of f.texts) c.loop-place.place head c.field_in.result.now c.loop-place.rows
           item c.self.invariant.0 (omega (arith, c.len-place-end.ensures)) c.index.ensures c.field_in.ensures c.in-Ok.ensures.item
           c.loop-place.invariant.so_far);
       own = λ die h. subst (All (λ (row : ScriptItem). row.die ≡ die)) (sym added)
           (All-push (λ (row : ScriptItem). row.die ≡ die) c.loop-place.rows item (c.loop-place.invariant.own die h) (head_die die f.heads.items (fields_of f.texts) c.loop-place.place head
-          c.args.self c.self.invariant.0 (omega (arith, c.len-place-end.ensures)) c.index.ensures c.self.view_is h));
+          c.args.self.now c.self.invariant.0 (omega (arith, c.len-place-end.ensures)) c.index.ensures c.self.view_is h));
     }
 
 pub returns-in-Err : goal.returns-in-Err
 returns-in-Err c =
     let f = c.self.inside in
-    read_fault_of (read_of c.args.self) f.heads.items (fields_of f.texts) c.loop-place.place c.index.result.now c.field_in.result.now
+    read_fault_of (read_of c.args.self.now) f.heads.items (fields_of f.texts) c.loop-place.place c.index.result.now c.field_in.result.now
     c.loop-place.rows c.in-Err.refusal c.self.invariant.0 (omega (arith, c.len-place-end.ensures)) c.index.ensures c.field_in.ensures
     c.loop-place.invariant.so_far c.in-Err.ensures.item
 
 pub returns : goal.returns
 returns c =
     let f = c.self.inside in
-    read_all_of (read_of c.args.self) f.heads.items (fields_of f.texts) c.loop-place.place c.loop-place.rows
+    read_all_of (read_of c.args.self.now) f.heads.items (fields_of f.texts) c.loop-place.place c.loop-place.rows
     (omega (arith, c.len-place-end.ensures)) c.loop-place.invariant.so_far
