@@ -7,7 +7,6 @@ use Rattle.slot_types.specs.declared.refusals.Refusal.TheVariants.{WriteFault}
 use Rattle.plan_texts.specs.PlanReading.{IsStoreOf}
 use Rattle.task_script.specs.Feeds.{RefusesScript}
 use Rattle.task_script.specs.PlannedRuns.{RunsSo}
-use Rattle.task_script.specs.declared.run_counts.RunCount.{RunCount}
 use Rattle.text_base.specs.Flags.{SetsFlag}
 use Rattle.text_base.specs.Writing.{AppendsPart, IsCut, RefusesOrCuts}
 use Rattle.flash_commands.specs.Acts.{IsFaultOf, IsRefusedFor, PrintsRun, PrintsSome, Refuses, RefusesRun}
@@ -71,11 +70,10 @@ refused-for contents has_failed c first second old new P (Err Certificate) turn 
 
 -- a run is refused as its script is, for the dies of the plan that was read
 pub refuses-run : {W : Type 0} (contents : W → Option (List ℕ)) (has_failed : W → Option Bool) (plan script : Option (List ℕ)) (slots : ℕ)
-    (store : List DiePlan) (old new : W) (done : Result RunCount Refusal) → IsStoreOf plan store
-    → IfErr done (RefusesOrCuts contents has_failed (RefusesScript script (length store) slots) (RunsSo script store slots) old new)
-    → IfErr done (RefusesOrCuts contents has_failed (RefusesRun plan script slots) (PrintsRun plan script slots) old new)
-refuses-run contents has_failed plan script slots store old new (Ok count) read refuses = tt
-refuses-run contents has_failed plan script slots store old new (Err refusal) read refuses =
+    (store : List DiePlan) (old new : W) (refusal : Refusal) → IsStoreOf plan store
+    → RefusesOrCuts contents has_failed (RefusesScript script (length store) slots) (RunsSo script store slots) old new refusal
+    → RefusesOrCuts contents has_failed (RefusesRun plan script slots) (PrintsRun plan script slots) old new refusal
+refuses-run contents has_failed plan script slots store old new refusal read refuses =
     refuses-as contents has_failed (RefusesScript script (length store) slots) (RefusesRun plan script slots) (RunsSo script store slots)
     (PrintsRun plan script slots) old new refusal (λ why. inr (store, read, why))
     (λ a b (count, planned). record { store = store; read = read; count = count; as_planned = planned }) refuses

@@ -1,5 +1,5 @@
 -- The verdicts that threads gave on the dies of a report are those on their work.
-use Rattle.std.proofs.Common.{◌≡◌, ℕ, ◌<◌, List, ◌++◌, length, map, take, drop, get_or, Option, None, refl, sym, ap, ◌∙◌, arith, append-nil}
+use Rattle.std.proofs.Common.{◌≡◌, ℕ, ◌<◌, List, ◌++◌, length, map, take, drop, get_or, Option, None, ap, ◌∙◌, arith, append-nil}
 use Rattle.std.proofs.lemmas.List.{drop_all, ext_get_or, get_or_default, length-map, take_all}
 use Rattle.late_cert.specs.declared.verdicts.Verdict.{Verdict}
 use Rattle.report_texts.specs.declared.report_work.DieWork.{DieWork}

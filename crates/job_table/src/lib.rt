@@ -10,6 +10,10 @@ pub mod laws;
 mod queues;
 mod rows;
 pub mod stages;
+#[cfg(test)]
+mod tests;
+#[cfg(test)]
+mod twin;
 mod worst;
 
 pub use counted_ops::CountedOps;

@@ -9,10 +9,6 @@ mod certificates;
 #[cfg(test)]
 mod devices;
 #[cfg(test)]
-mod job_table_twins;
-#[cfg(test)]
-mod job_tables;
-#[cfg(test)]
 mod ledgers;
 #[cfg(test)]
 mod lists;

@@ -9,7 +9,7 @@ use Rattle.flash_commands.proofs.acts.print_audit.Goals as goal
 
 pub returns-in_err-write_whole-clause-refused : goal.returns-in_err-write_whole-clause-refused
 returns-in_err-write_whole-clause-refused g c =
-    let (report, is, said) = c.in_ok-work.ensures.work in
+    let (report, is, said) = rw c.new.ensures.report at c.in_ok-work.ensures.work in
     if-error c.from_residual-in_err-write_whole.result _ _ c.from_residual-in_err-write_whole.ensures.1
     (inr (record {
       refusal_is = c.in_err-write_whole.ensures.refused;
@@ -26,7 +26,7 @@ returns-in_err-write_whole-clause-refused g c =
 
 pub returns-clause-printed : goal.returns-clause-printed
 returns-clause-printed g c =
-    let (report, is, said) = c.in_ok-work.ensures.work in
+    let (report, is, said) = rw c.new.ensures.report at c.in_ok-work.ensures.work in
     let text : c.in_ok-audit.audit.text.items ≡ audit_text report
     = c.in_ok-audit.ensures.text ∙ ap (flat_map work_line) is ∙ text-works report in (
       report,

@@ -2,7 +2,10 @@
 
 ghost use Rattle.std.specs.Prelude.{◌≡◌, slice_get, option_map};
 
-use job_table::{CountedOps, Job, JobTable, Stage};
+use crate::counted_ops::CountedOps;
+use crate::job_table::JobTable;
+use crate::jobs::Job;
+use crate::stages::Stage;
 use slot_types::{
     JobHead, JobNo, LentOps, MAX_JOBS, MAX_OPS, Op, PageData, Refusal, TaskNo, Waived,
 };
