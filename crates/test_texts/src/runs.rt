@@ -8,8 +8,9 @@ use slot_types::{Cause, Refusal};
 use std::alloc::Global;
 use std::io::Read;
 use std::sync::Wait;
+use std::test::Fail;
 use std::thread::Threads;
-use task_script::{RunCount, read_plan, run_text};
+use task_script::{RefusedRun, RunCount, read_plan, run_text};
 use text_base::Output;
 
 /// What a run answers on two dies for five slots by so many workers, with its writer.
@@ -75,6 +76,27 @@ fn a_failing_reader_writes_nothing(rt: HostRuntime) {
             assert_eq!(rt; text.as_slice(), TWO_REPORT.as_bytes());
         }
     }
+}
+
+/// The reader that a run gives back where its script is refused answers the refusal again.
+#[test]
+fn a_refused_run_gives_its_reader_back(rt: HostRuntime) -> Result<(), Fail> {
+    let alloc = rt.alloc();
+    let plan = read_plan(alloc, TWO_DIES.as_bytes())?;
+    for call in 1..26 {
+        let mut text = Vec::new(alloc);
+        let script = failing_at(TWO_SCRIPT, call);
+        let Err(run) = run_text(&rt, alloc, &plan, script, &mut text, 5, 2) else {
+            return Err(Fail::from("it wasn't refused"));
+        };
+        let RefusedRun { refusal, reader } = run;
+        let Some(mut reader) = reader else {
+            return Err(Fail::from("no reader"));
+        };
+        assert!(rt; refusal == Refusal::ReadFault, "{call}");
+        assert!(rt; reader.next().err() == Some(Refusal::ReadFault), "{call}");
+    }
+    Ok(())
 }
 
 /// A job whose operations are none, and another after it.

@@ -125,7 +125,10 @@ fn goes_as_planned<R: Threads + Wait + Sync>(
     };
     let script = arrivals(alloc, &plan, SLOTS, manner)?;
     let mut text = Vec::new(alloc);
-    let count = run_text(rt, alloc, &plan, script.as_slice(), &mut text, SLOTS, 2)?;
+    let count = match run_text(rt, alloc, &plan, script.as_slice(), &mut text, SLOTS, 2) {
+        Ok(count) => count,
+        Err(run) => return Err(Fail::from(run.refusal)),
+    };
     let report = ReportReader::new(alloc, text.as_slice()).report()?;
     Ok(Some(count.refused == 0 && count.accepted > 10 && is_on_time(&report)))
 }

@@ -7,7 +7,7 @@ use Rattle.tool_commands.proofs.listed_acts.audit_named.Goals as goal
 
 pub returns-clause-audited : goal.returns-clause-audited
 returns-clause-audited g c =
-    let (report, is, said) = c.in_ok-work.ensures.work in (
+    let (report, is, said) = rw c.new.ensures.report at c.in_ok-work.ensures.work in (
       report,
       said-report _ report said,
       ap (λ (b : Bool). if b then 3 else 0) (c.in_ok-audit.ensures.refusal ∙ ap (list_any is_refused_work) is ∙ refused-works report),
