@@ -64,7 +64,7 @@ joined_later number old new items rows are k below =
     let same : number + 1 + k ≡ number + suc k = omega arith in
     ap new same ∙ (are (suc k) (omega (arith, below)) ∙ ap (λ (n : ℕ). old n ++ get_or rows k []) (sym same))
 
-all_go_on : (until : ℕ) (old new : ℕ → List ScriptItem) (number : ℕ) (plans : List DiePlan) (rows : List (List ScriptItem))
+pub all_go_on : (until : ℕ) (old new : ℕ → List ScriptItem) (number : ℕ) (plans : List DiePlan) (rows : List (List ScriptItem))
     (ps : List DiePass) (before : List Progress) (ends : List DieEnd) (qs : List DiePass)
     → length rows ≡ length plans → AreJoined number old new rows → AllByRecursion (All (λ item. IsArrival item.event)) rows
     → HaveComeTo 0 old number plans ps before → HaveRun true (batches_of until before rows) ps ends qs
@@ -147,7 +147,7 @@ rows_after (at ∷ progress) (x ∷ kept) (end ∷ ends) k e =
       rows_after progress kept ends (omega (arith, k)) (omega (arith, e)),
     )
 
--- what is known of how far each die has come is known of as many after a batch
+-- after a batch as many dies have come somewhere as before it
 progress_length : (progress : List Progress) (kept : List KeptRows) (ends : List DieEnd) → length kept ≡ length progress
     → length ends ≡ length progress → length (progress_after progress kept ends) ≡ length progress
 progress_length [] [] [] k e = refl

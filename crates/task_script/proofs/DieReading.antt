@@ -164,7 +164,7 @@ all_arrive texts items are = All-from_get_or (All (λ (item : ScriptItem). IsArr
     All-from_recursion (λ (item : ScriptItem). IsArrival item.event) (get_or items k [])
     (arrive (get_or texts k []) (get_or items k []) (zipped (get_or texts k []) (get_or items k []) read)))
 
-module _ (dies slots behind : ℕ) (rows : List RowText) (texts : List (List RowText)) (d : AreDealt dies slots behind rows texts) where
+module _ (dies slots from behind : ℕ) (rows : List RowText) (texts : List (List RowText)) (d : AreDealt dies slots from behind rows texts) where
   pub one_die_each : All AreOfOneDie texts
   one_die_each = All-from_get_or AreOfOneDie texts [] (λ k below. (
     k,
@@ -239,4 +239,4 @@ module _ (dies slots behind : ℕ) (rows : List RowText) (texts : List (List Row
 
       by : (s : Script) → read_of rows ≡ s → read_of rows ≡ Err e
       by (Ok all) is = let apart : ◌≡◌ {A = Script} (Ok (feed_of all f.die)) (Err e) = sym (read_by_die rows all f.die is) ∙ theirs in absurd cc
-      by (Err g) is = one g is (first_by_die 0 behind rows f.die g e d.ascend is theirs)
+      by (Err g) is = one g is (first_by_die from behind rows f.die g e d.ascend is theirs)

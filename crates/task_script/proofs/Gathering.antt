@@ -2,30 +2,23 @@
 use Rattle.std.proofs.Common.{◌≡◌, ℕ, suc, ◌+◌, ◌<◌, ◌≤◌, max, Bool, true, false, List, [], ◌∷◌, ◌++◌, refl, ap, sym, ◌∙◌}
 use Rattle.std.proofs.Common.{subst, length}
 use Rattle.std.proofs.Common.{append_assoc, arith, ◌==◌, Option}
-use Rattle.std.specs.Prelude.{All, option_map}
 use Rattle.std.specs.Io.KnownBytes.{Appends}
 use Rattle.std.specs.List.{AllByRecursion, AllZip}
 use Rattle.std.proofs.lemmas.List.{append-nil}
-use Rattle.std.proofs.lemmas.List.Elements.{All-from_recursion, recursion_from_All}
-use Rattle.atomic_table.specs.Seated.{TableId}
+use Rattle.std.proofs.lemmas.List.Elements.{recursion_from_All}
 use Rattle.slot_types.specs.declared.plans.DiePlan.{DiePlan}
 use Rattle.slot_core.specs.Core.{Core}
 use Rattle.die_service.specs.Stores.{DiePass, IsClosedWith}
 use Rattle.report_texts.specs.ReportText.{report_text}
 use Rattle.script_texts.specs.Arrivals.{Arrives}
-use Rattle.script_texts.specs.RowTexts.{RowText}
-use Rattle.script_texts.specs.Script.{Reading, Script, script_of}
 use Rattle.script_texts.specs.declared.script_rows.ScriptItem.{ScriptItem}
 use Rattle.report_texts.specs.TextSoFar.{TextSoFar, die_added, joined_text, text_so_far}
 use Rattle.report_texts.proofs.TextParts.{text_more}
 use Rattle.report_texts.specs.declared.reports.DieReport.{DieReport}
 use Rattle.task_script.proofs.BatchRuns.{closed_run, die_start}
-use Rattle.task_script.proofs.Batching.{SoFar, all_sole, come_more, in_time_more, items_are}
 use Rattle.task_script.proofs.Counting.{counts_join}
-use Rattle.task_script.proofs.ReadingAhead.{Ahead, ran_ready}
-use Rattle.task_script.proofs.ScriptReading.{EndsWith, as_script, reads_last}
 use Rattle.task_script.proofs.Parting.{adds_nothing, no_cert, no_rows, parts_text}
-use Rattle.task_script.specs.Batches.{Closes, HasComeTo, HaveComeTo, RanLast, joined_after, latest_slot}
+use Rattle.task_script.specs.Batches.{Closes, HasComeTo, HaveComeTo, joined_after, latest_slot}
 use Rattle.task_script.specs.DieReports.{die_report_of}
 use Rattle.task_script.specs.DieRuns.{DieRun, run_at}
 use Rattle.task_script.specs.Feeds.{AreInTime, AreItemsOf, feed_of}
@@ -33,7 +26,6 @@ use Rattle.task_script.specs.RunCounts.{count_of, sum_of_counts}
 use Rattle.task_script.specs.TextRuns.{AreRuns, RanScript, RunsText, ends_of, reports_from, with_rows}
 use Rattle.task_script.specs.StoreRuns.{reports_of}
 use Rattle.task_script.specs.declared.batches.Progress.{Progress}
-use Rattle.task_script.specs.declared.feeds.ReadEnd.TheVariants.{Ended}
 use Rattle.task_script.specs.declared.run_counts.RowEnd.{RowEnd}
 use Rattle.task_script.specs.declared.run_counts.RunCount.{RunCount}
 use Rattle.die_log.specs.Model.Start.{Start, fresh}
@@ -158,37 +150,3 @@ runs_text text plans slots said count old new r written = record {
   counted = r.ran.counted;
   written = subst (λ (report : List DieReport). Appends old new (report_text report)) r.ran.reported written;
 }
-
--- no row of the script is left after these texts: dies that ran the rows that were ready, and then theirs
-module _ (whole : Option Script) (left : Option (Reading RowText)) (plans : List DiePlan) (slots : ℕ) (store : List TableId)
-    (ps qs : List DiePass) (before after : List Progress) (rows : List (List ScriptItem)) (texts : List (List RowText))
-    (a : Ahead whole left plans slots ps before rows texts Ended) (ran : RanLast slots store ps before rows texts qs after) where
-  first_ran : SoFar 0 whole (as_script a.before) plans slots ran.passes ran.reached
-  first_ran = ran_ready whole left plans slots ps before rows texts Ended a store ran.passes ran.reached ran.first
-
-  last_read : EndsWith (as_script a.before) (length plans) slots ran.items
-  last_read = reads_last a.before left (length plans) slots texts ran.items a.read ran.read
-
-  all_come : HaveComeTo slots (feed_of (first_ran.items ++ last_read.items)) 0 plans qs after
-  all_come = come_more slots (length plans) slots plans ran.passes qs ran.reached after ran.items first_ran.items last_read.items refl
-      first_ran.come last_read.dealt ran.last.ran
-
-  -- each pass of it is the only one of its die
-  pub ran_sole : All (λ (p : DiePass). p.view.sole ≡ true) qs
-  ran_sole = All-from_recursion (λ (p : DiePass). p.view.sole ≡ true) qs
-      (all_sole slots (feed_of (first_ran.items ++ last_read.items)) 0 plans qs after all_come)
-
--- the text of the reports, and the count
-pub script_ran : (text : Option (List ℕ)) (left : Option (Reading RowText)) (plans : List DiePlan) (slots : ℕ) (store : List TableId)
-    (ps qs : List DiePass) (before after : List Progress) (rows : List (List ScriptItem)) (texts : List (List RowText))
-    → Ahead (option_map (script_of (length plans) slots) text) left plans slots ps before rows texts Ended
-    → RanLast slots store ps before rows texts qs after
-    → (said : List TextSoFar) (count : RunCount) → Closes qs after said count → RanScript text plans slots said count
-script_ran text left plans slots store ps qs before after rows texts a ran said count closes =
-    let whole = option_map (script_of (length plans) slots) text in
-    let s = first_ran whole left plans slots store ps qs before after rows texts a ran in
-    let r = last_read whole left plans slots store ps qs before after rows texts a ran in
-    ran_script text plans slots qs after said count (s.items ++ r.items)
-    (items_are text (as_script a.before) (length plans) slots s.items r.items s.read r.all)
-    (in_time_more (length plans) slots s.items r.items ran.items s.in_time r.dealt)
-    (all_come whole left plans slots store ps qs before after rows texts a ran) closes

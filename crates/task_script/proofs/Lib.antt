@@ -6,6 +6,7 @@ pub mod Dealing
 pub mod RowReading
 pub mod DieReading
 pub mod ScriptReading
+pub mod Sent
 pub mod OpsReading
 pub mod Parting
 pub mod Gathering
@@ -15,7 +16,7 @@ pub mod BatchCalls
 pub mod Counting
 pub mod BatchRuns
 pub mod Batching
-pub mod ReadingAhead
+pub mod BatchesRun
 pub mod Results
 pub mod Storing
 pub mod ExactPages
@@ -24,6 +25,9 @@ pub mod ExactWorst
 pub mod ExactReports
 pub mod EachCall
 pub mod RunPages
+pub mod SameDies
+pub mod RanDies
+pub mod ScriptRuns
 pub mod AsPlanned
 pub mod InPart
 pub mod ExactBack

@@ -1,94 +1,21 @@
--- The rows of dies that were read, each die's by a thread.
+-- The refusals of dies that ran what they were sent, and the one that is reported.
 use Rattle.std.proofs.Common.{◌≡◌, ◌⊎◌, inl, inr, ℕ, zero, suc, ◌<◌, ◌≤◌, Bool, true, false, cond, List, [], ◌∷◌, refl, ap, sym, ◌∙◌, subst}
-use Rattle.std.proofs.Common.{length, map, replicate, get_or, arith, Option, Some, None, Ok, Err}
-use Rattle.std.specs.Prelude.{All, IfSome, nat_le}
-use Rattle.std.specs.List.{AllByRecursion, AllZip}
+use Rattle.std.proofs.Common.{length, map, get_or, arith, Option, Some, None, Result, Ok, Err}
+use Rattle.std.specs.Prelude.{IfSome, nat_le}
 use Rattle.std.proofs.lemmas.Bool.{leb-true, leb-false}
 use Rattle.std.proofs.lemmas.List.{length-map}
-use Rattle.std.proofs.lemmas.List.Elements.{All-from_recursion, recursion_from_All}
+use Rattle.slot_types.specs.declared.plans.DiePlan.{DiePlan}
 use Rattle.slot_types.specs.declared.refusals.Refusal.{Refusal}
-use Rattle.script_texts.specs.RowTexts.{RowText}
+use Rattle.slot_types.specs.declared.refusals.Refusal.TheVariants.{NoMemory}
+use Rattle.rtrb.specs.Ring.{received}
 use Rattle.script_texts.specs.Script.{Script}
 use Rattle.script_texts.specs.declared.script_rows.ScriptItem.{ScriptItem}
-use Rattle.text_base.specs.Readings.{GivesReading}
-use Rattle.task_script.specs.DieOps.{IsReadIn, with_die, with_dies}
-use Rattle.task_script.specs.RowTexts.{AreOfOneDie, AreRead, FailsToRead, order_of, read_of}
-use Rattle.task_script.specs.declared.die_ops.DieOps.{DieOps}
-
-pub all_zip_each : {A : Type 0} (R : A → A → Type 0) (xs ys : List A) → length ys ≡ length xs
-    → ((i : ℕ) (d : A) → i < length xs → R (get_or xs i d) (get_or ys i d)) → AllZip R xs ys
-all_zip_each R [] [] same each = tt
-all_zip_each R [] (y ∷ ys) same each = absurd (omega (arith, same))
-all_zip_each R (x ∷ xs) [] same each = absurd (omega (arith, same))
-all_zip_each R (x ∷ xs) (y ∷ ys) same each =
-    (each 0 x (omega arith), all_zip_each R xs ys (omega (arith, same)) (λ i d below. each (suc i) d (omega (arith, below))))
-
-pub zip_length : {A : Type 0} (R : A → A → Type 0) (xs ys : List A) → AllZip R xs ys → length ys ≡ length xs
-zip_length R [] [] zip = refl
-zip_length R [] (y ∷ ys) zip = absurd zip
-zip_length R (x ∷ xs) [] zip = absurd zip
-zip_length R (x ∷ xs) (y ∷ ys) zip = ap suc (zip_length R xs ys zip.1)
-
--- What each thread read
-
-pub each_of_one : (texts : List (List RowText)) (olds : List DieOps) → map (λ (die : DieOps). die.texts) olds ≡ texts
-    → All AreOfOneDie texts → All (λ (die : DieOps). AreOfOneDie die.texts) olds
-each_of_one texts olds were one_die =
-    All-from_recursion (λ (die : DieOps). AreOfOneDie die.texts) olds (by texts olds were (recursion_from_All AreOfOneDie texts one_die))
-  where
-    by : (texts : List (List RowText)) (olds : List DieOps) → map (λ (die : DieOps). die.texts) olds ≡ texts
-        → AllByRecursion AreOfOneDie texts → AllByRecursion (λ (die : DieOps). AreOfOneDie die.texts) olds
-    by texts [] were one_die = tt
-    by [] (old ∷ olds) were one_die = absurd cc
-    by (t ∷ texts) (old ∷ olds) were one_die =
-        let was : old.texts ≡ t = cc in
-        let rest : map (λ (die : DieOps). die.texts) olds ≡ texts = cc in
-        (subst AreOfOneDie (sym was) one_die.0, by texts olds rest one_die.1)
-
-given : (old new : DieOps) (text : List RowText) → old.texts ≡ text → IsReadIn old new → GivesReading new.rows (read_of text)
-given old new text is read = subst (λ (rows : List RowText). GivesReading new.rows (read_of rows)) is read.0
-
-pub ops_read : (texts : List (List RowText)) (olds news : List DieOps) (rows : List (List ScriptItem))
-    → map (λ (die : DieOps). die.texts) olds ≡ texts → AllZip IsReadIn olds news → map (λ (die : DieOps). die.rows) news ≡ map Ok rows
-    → AreRead texts rows
-ops_read [] [] [] [] were read are = refl
-ops_read [] [] [] (x ∷ rows) were read are = absurd cc
-ops_read [] [] (new ∷ news) rows were read are = absurd read
-ops_read [] (old ∷ olds) news rows were read are = absurd cc
-ops_read (t ∷ texts) [] news rows were read are = absurd cc
-ops_read (t ∷ texts) (old ∷ olds) [] rows were read are = absurd read
-ops_read (t ∷ texts) (old ∷ olds) (new ∷ news) [] were read are = absurd cc
-ops_read (t ∷ texts) (old ∷ olds) (new ∷ news) (x ∷ rows) were read are =
-    let was : old.texts ≡ t = cc in
-    let is : new.rows ≡ Ok x = cc in
-    let rest_were : map (λ (die : DieOps). die.texts) olds ≡ texts = cc in
-    let rest_are : map (λ (die : DieOps). die.rows) news ≡ map Ok rows = cc in
-    let first : read_of t ≡ Ok x = subst (λ (r : Script). GivesReading r (read_of t)) is (given old new t was read.0) in
-    let rest = ops_read texts olds news rows rest_were read.1 rest_are in
-    λ i. first i ∷ rest i
-
--- and no row stands there any more
-pub ops_taken : (texts : List (List RowText)) (olds news : List DieOps) → map (λ (die : DieOps). die.texts) olds ≡ texts
-    → AllZip IsReadIn olds news → map (λ (die : DieOps). die.texts) news ≡ replicate (length texts) []
-ops_taken [] [] [] were read = refl
-ops_taken [] [] (new ∷ news) were read = absurd read
-ops_taken [] (old ∷ olds) news were read = absurd cc
-ops_taken (t ∷ texts) [] news were read = absurd cc
-ops_taken (t ∷ texts) (old ∷ olds) [] were read = absurd read
-ops_taken (t ∷ texts) (old ∷ olds) (new ∷ news) were read =
-    let rest_were : map (λ (die : DieOps). die.texts) olds ≡ texts = cc in
-    let rest = ops_taken texts olds news rest_were read.1 in
-    λ i. read.0.1 i ∷ rest i
-
-read_at : (texts : List (List RowText)) (olds news : List DieOps) (k : ℕ) → map (λ (die : DieOps). die.texts) olds ≡ texts
-    → AllZip IsReadIn olds news → k < length texts
-    → GivesReading (get_or (map (λ (die : DieOps). die.rows) news) k (Ok [])) (read_of (get_or texts k []))
-read_at [] olds news k were read below = absurd (omega (arith, below))
-read_at (t ∷ texts) [] news k were read below = absurd cc
-read_at (t ∷ texts) (old ∷ olds) [] k were read below = absurd read
-read_at (t ∷ texts) (old ∷ olds) (new ∷ news) zero were read below = let was : old.texts ≡ t = cc in given old new t was read.0
-read_at (t ∷ texts) (old ∷ olds) (new ∷ news) (suc k) were read below =
-    let rest : map (λ (die : DieOps). die.texts) olds ≡ texts = cc in read_at texts olds news k rest read.1 (omega (arith, below))
+use Rattle.task_script.specs.DieBatches.{RunsBatches}
+use Rattle.task_script.specs.RowBatches.{rows_in}
+use Rattle.task_script.specs.RowTexts.{AreRead, FailsToRead, order_of, read_of}
+use Rattle.task_script.specs.RunningDies.{AllRan, rows_received, with_die, with_dies}
+use Rattle.task_script.specs.declared.die_stores.DieStore.{DieStore}
+use Rattle.task_script.specs.declared.running_dies.RunningDie.{RunningDie}
 
 -- The refusal that is reported
 
@@ -196,25 +123,58 @@ reported known (die ∷ dies) e is = by (with_die known die) refl (reported (wit
     by None at t = reported_none known die dies e at t
     by (Some g) at t = reported_some known die dies e g at t
 
--- of dies that were read by themselves, it is the first fault, or memory ran out
-pub ops_refused : (texts : List (List RowText)) (olds news : List DieOps) (e : Refusal)
-    → map (λ (die : DieOps). die.texts) olds ≡ texts → AllZip IsReadIn olds news
-    → with_dies None (map (λ (die : DieOps). die.rows) news) ≡ Some e → FailsToRead texts e
-ops_refused texts olds news e were read is = by t.whose
+-- Of dies that ran
+
+-- whether a die was refused
+abbrev seen : Result DieStore Refusal → Script
+seen (Ok die) = Ok []
+seen (Err e) = Err e
+
+abbrev all_seen : List RunningDie → List Script
+all_seen dies = map (λ (r : RunningDie). seen r.die) dies
+
+seen_so : (known : Option Refusal) (die : Result DieStore Refusal) → with_die known die ≡ with_die known (seen die)
+seen_so known (Ok die) = refl
+seen_so None (Err e) = refl
+seen_so (Some g) (Err e) = refl
+
+seen_all : (known : Option Refusal) (dies : List RunningDie)
+    → with_dies known (map (λ (r : RunningDie). r.die) dies) ≡ with_dies known (all_seen dies)
+seen_all known [] = refl
+seen_all known (r ∷ dies) = ap (λ (o : Option Refusal). with_dies o (map (λ (x : RunningDie). x.die) dies)) (seen_so known r.die)
+    ∙ seen_all (with_die known (seen r.die)) dies
+
+-- its rows were read, or not
+abbrev Reads : Script → Script → Type 0
+Reads (Ok none) said = (items : List ScriptItem) × (said ≡ Ok items)
+Reads (Err e) said = (e ≡ NoMemory) ⊎ (said ≡ Err e)
+
+reads : (plan : DiePlan) (r : RunningDie) (die : Result DieStore Refusal) → RunsBatches plan (received r.batches) die
+    → Reads (seen die) (read_of (rows_in (received r.batches)))
+reads plan r (Ok die) runs = (runs.0, runs.1)
+reads plan r (Err e) runs = runs
+
+reads_at : (plans : List DiePlan) (dies : List RunningDie) (k : ℕ) → AllRan plans dies → k < length dies
+    → Reads (get_or (all_seen dies) k (Ok [])) (read_of (get_or (rows_received dies) k []))
+reads_at plans [] k ran below = absurd (omega (arith, below))
+reads_at [] (r ∷ dies) k ran below = absurd ran
+reads_at (plan ∷ plans) (r ∷ dies) zero ran below = reads plan r r.die ran.0
+reads_at (plan ∷ plans) (r ∷ dies) (suc k) ran below = reads_at plans dies k ran.1 (omega (arith, below))
+
+-- what is reported is the first fault, or memory ran out
+pub runs_refused : (plans : List DiePlan) (dies : List RunningDie) (e : Refusal) → AllRan plans dies
+    → with_dies None (map (λ (r : RunningDie). r.die) dies) ≡ Some e → FailsToRead (rows_received dies) e
+runs_refused plans dies e ran is = by t.whose
   where
-    dies : List Script
-    dies = map (λ (die : DieOps). die.rows) news
+    t : IsReported None (all_seen dies) e
+    t = reported None (all_seen dies) e (sym (seen_all None dies) ∙ is)
 
-    t : IsReported None dies e
-    t = reported None dies e is
+    many : (length (all_seen dies) ≡ length dies) × (length (rows_received dies) ≡ length dies)
+    many = (length-map dies (λ (r : RunningDie). seen r.die), length-map dies (λ (r : RunningDie). rows_in (received r.batches)))
 
-    many : length dies ≡ length texts
-    many = length-map news (λ (die : DieOps). die.rows) ∙ (zip_length IsReadIn olds news read
-        ∙ (sym (length-map olds (λ (die : DieOps). die.texts)) ∙ ap length were))
-
-    before : (k : ℕ) (f : Refusal) (r : Script) → k < length dies → get_or dies k (Ok []) ≡ r → read_of (get_or texts k []) ≡ Err f
-        → GivesReading r (read_of (get_or texts k [])) → order_of e ≤ order_of f
-    before k f (Ok items) below at fault says =
+    before : (k : ℕ) (f : Refusal) (r : Script) → k < length (all_seen dies) → get_or (all_seen dies) k (Ok []) ≡ r
+        → read_of (get_or (rows_received dies) k []) ≡ Err f → Reads r (read_of (get_or (rows_received dies) k [])) → order_of e ≤ order_of f
+    before k f (Ok none) below at fault (items, says) =
         let apart : ◌≡◌ {A = Script} (Ok items) (Err f) = sym says ∙ fault in absurd cc
     before k f (Err g) below at fault (inl memory) =
         let first = t.least k g below at in omega (arith, first, ap order_of memory)
@@ -223,18 +183,52 @@ ops_refused texts olds news e were read is = by t.whose
         let one : g ≡ f = cc in
         let first = t.least k g below at in omega (arith, first, ap order_of one)
 
-    found : (place : ℕ) → place < length dies → GivesReading (Err e) (read_of (get_or texts place [])) → FailsToRead texts e
+    found : (place : ℕ) → place < length dies → Reads (Err e) (read_of (get_or (rows_received dies) place []))
+        → FailsToRead (rows_received dies) e
     found place below (inl memory) = inl memory
     found place below (inr fault) = inr (record {
       die = place;
-      below = omega (arith, below, many);
+      below = omega (arith, below, many.1);
       fault = fault;
-      first = λ k f within theirs. before k f (get_or dies k (Ok [])) (omega (arith, within, many)) refl theirs
-          (read_at texts olds news k were read within);
+      first = λ k f within theirs. before k f (get_or (all_seen dies) k (Ok [])) (omega (arith, within, many.0, many.1)) refl theirs
+          (reads_at plans dies k ran (omega (arith, within, many.1)));
     })
 
-    by : (None ≡ Some e) ⊎ ((place : ℕ) × (place < length dies) × (get_or dies place (Ok []) ≡ Err e)) → FailsToRead texts e
+    by : (None ≡ Some e) ⊎ ((place : ℕ) × (place < length (all_seen dies)) × (get_or (all_seen dies) place (Ok []) ≡ Err e))
+        → FailsToRead (rows_received dies) e
     by (inl apart) = absurd cc
-    by (inr (place, below, at)) = found place below
-        (subst (λ (r : Script). GivesReading r (read_of (get_or texts place []))) at
-        (read_at texts olds news place were read (omega (arith, below, many))))
+    by (inr (place, below, at)) = found place (omega (arith, below, many.0))
+        (subst (λ (r : Script). Reads r (read_of (get_or (rows_received dies) place []))) at
+        (reads_at plans dies place ran (omega (arith, below, many.0))))
+
+-- where none was refused, all rows were read
+
+stays : (e : Refusal) (dies : List Script) → with_dies (Some e) dies ≡ None → ⊥
+stays e [] is = absurd cc
+stays e (Ok x ∷ dies) is = stays e dies is
+stays e (Err f ∷ dies) is = by (stays e dies) (stays f dies) (nat_le (order_of e) (order_of f)) is
+  where
+    by : (with_dies (Some e) dies ≡ None → ⊥) → (with_dies (Some f) dies ≡ None → ⊥) → (b : Bool)
+        → with_dies (cond b (Some e) (Some f)) dies ≡ None → ⊥
+    by own other true is = own is
+    by own other false is = other is
+
+pub runs_read : (plans : List DiePlan) (dies : List RunningDie) → AllRan plans dies
+    → with_dies None (map (λ (r : RunningDie). r.die) dies) ≡ None
+    → (items : List (List ScriptItem)) × AreRead (rows_received dies) items
+runs_read plans dies ran is = by plans dies ran (sym (seen_all None dies) ∙ is)
+  where
+    first : (s said : Script) (rest : List Script) → Reads s said → with_dies None (s ∷ rest) ≡ None
+        → ((items : List ScriptItem) × (said ≡ Ok items)) × (with_dies None rest ≡ None)
+    first (Ok none) said rest reads is = (reads, is)
+    first (Err e) said rest reads is = absurd (stays e rest is)
+
+    by : (plans : List DiePlan) (dies : List RunningDie) → AllRan plans dies → with_dies None (all_seen dies) ≡ None
+        → (items : List (List ScriptItem)) × AreRead (rows_received dies) items
+    by [] [] ran is = ([], refl)
+    by [] (r ∷ dies) ran is = absurd ran
+    by (plan ∷ plans) [] ran is = absurd ran
+    by (plan ∷ plans) (r ∷ dies) ran is =
+        let here = first (seen r.die) (read_of (rows_in (received r.batches))) (all_seen dies) (reads plan r r.die ran.0) is in
+        let rest = by plans dies ran.1 here.1 in
+        (here.0.0 ∷ rest.0, λ i. here.0.1 i ∷ rest.1 i)

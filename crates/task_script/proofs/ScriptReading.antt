@@ -1,6 +1,6 @@
 -- What is read of a script, batch by batch.
 use Rattle.std.proofs.Common.{◌≡◌, ◌≢◌, inl, inr, ℕ, List, [], ◌∷◌, ap, sym}
-use Rattle.std.proofs.Common.{◌∙◌, subst, get_or, Option, Some, None, Ok, Err}
+use Rattle.std.proofs.Common.{◌∙◌, get_or, Option, Some, None, Ok, Err}
 use Rattle.std.specs.Prelude.{IfSome, option_map}
 use Rattle.std.proofs.lemmas.List.{append-nil}
 use Rattle.slot_types.specs.declared.refusals.Refusal.{Refusal}
@@ -11,9 +11,9 @@ use Rattle.script_texts.proofs.RowItems.{no-read-fault}
 use Rattle.script_texts.specs.declared.script_rows.ScriptItem.{ScriptItem}
 use Rattle.task_script.specs.RowTexts.{AreRead, FailsToRead, HasReadTexts, LeavesOff}
 use Rattle.task_script.specs.RowTexts.{read_of, rows_then}
-use Rattle.task_script.proofs.ReadSoFar.{FailsIn, IsDealt, IsReadTo, with_items}
+use Rattle.task_script.proofs.ReadSoFar.{FailsIn, IsDealt, with_items}
 use Rattle.task_script.specs.declared.feeds.ReadEnd.{ReadEnd}
-use Rattle.task_script.specs.declared.feeds.ReadEnd.TheVariants.{More, Ended, Refused}
+use Rattle.task_script.specs.declared.feeds.ReadEnd.TheVariants.{Ended, Refused}
 use Rattle.task_script.proofs.RowReading.{Fails, fails, fault_then, none_fail, read_then, whole_nil}
 use Rattle.task_script.proofs.DieReading.{dealt_fails, dealt_read}
 
@@ -21,35 +21,16 @@ use Rattle.task_script.proofs.DieReading.{dealt_fails, dealt_read}
 abbrev pub as_script : Option (Reading RowText) → Option Script
 as_script rows = option_map whole (option_map items_in rows)
 
--- these items were read of it, by die
-pub record ReadsItems (old new : Option Script) (dies slots : ℕ) (rows : List (List ScriptItem)) : Type 0 where
-  pub items : List ScriptItem
-  pub read : IsReadTo old new items
-  pub dealt : IsDealt dies slots items rows
-
-pub reads_more : (old new : Option (Reading RowText)) (dies slots : ℕ) (texts : List (List RowText)) (rows : List (List ScriptItem))
-    → HasReadTexts old new dies slots texts More → AreRead texts rows → ReadsItems (as_script old) (as_script new) dies slots rows
-reads_more old new dies slots texts rows h are =
-    let d = dealt_read dies slots h.behind h.rows texts h.dealt rows are in
-    record { items = d.all; read = by old h.read d.all d.read; dealt = d.dealt }
-  where
-    by : (old : Option (Reading RowText)) → IfSome old (λ all. (more : Reading RowText) × (all ≡ rows_then h.rows more) × LeavesOff new more More)
-        → (items : List ScriptItem) → read_of h.rows ≡ Ok items → IsReadTo (as_script old) (as_script new) items
-    by None read items is = tt
-    by (Some all) (more, all_is, left) items is =
-        subst (λ (o : Option (Reading RowText)). IsReadTo (as_script (Some all)) (as_script o) items) (sym left)
-        (ap (λ (r : Reading RowText). whole (items_in r)) all_is ∙ read_then h.rows items is more.items more.fault)
-
 -- these items are all of it, by die
 pub record EndsWith (old : Option Script) (dies slots : ℕ) (rows : List (List ScriptItem)) : Type 0 where
   pub items : List ScriptItem
   pub all : IfSome old (λ left. left ≡ Ok items)
   pub dealt : IsDealt dies slots items rows
 
-pub reads_last : (old new : Option (Reading RowText)) (dies slots : ℕ) (texts : List (List RowText)) (rows : List (List ScriptItem))
-    → HasReadTexts old new dies slots texts Ended → AreRead texts rows → EndsWith (as_script old) dies slots rows
-reads_last old new dies slots texts rows h are =
-    let d = dealt_read dies slots h.behind h.rows texts h.dealt rows are in
+pub reads_last : (old new : Option (Reading RowText)) (dies slots from next : ℕ) (texts : List (List RowText)) (rows : List (List ScriptItem))
+    → HasReadTexts old new dies slots from next texts Ended → AreRead texts rows → EndsWith (as_script old) dies slots rows
+reads_last old new dies slots from next texts rows h are =
+    let d = dealt_read dies slots from h.behind h.rows texts h.dealt rows are in
     record { items = d.all; all = by old h.read d.all d.read; dealt = d.dealt }
   where
     by : (old : Option (Reading RowText)) → IfSome old (λ all. (more : Reading RowText) × (all ≡ rows_then h.rows more) × LeavesOff new more Ended)
@@ -62,9 +43,9 @@ reads_last old new dies slots texts rows h are =
         ∙ (ap (with_items items) (whole_nil None) ∙ ap (λ (xs : List ScriptItem). Ok xs) (append-nil items))))
 
 -- where their operations were read, the fault after them is that of the script
-pub fails_after : (old new : Option (Reading RowText)) (dies slots : ℕ) (texts : List (List RowText)) (rows : List (List ScriptItem))
-    (e : Refusal) → HasReadTexts old new dies slots texts (Refused e) → AreRead texts rows → FailsIn (as_script old) e
-fails_after old new dies slots texts rows e h are = let d = dealt_read dies slots h.behind h.rows texts h.dealt rows are in by old h.read d.all d.read
+pub fails_after : (old new : Option (Reading RowText)) (dies slots from next : ℕ) (texts : List (List RowText)) (rows : List (List ScriptItem))
+    (e : Refusal) → HasReadTexts old new dies slots from next texts (Refused e) → AreRead texts rows → FailsIn (as_script old) e
+fails_after old new dies slots from next texts rows e h are = let d = dealt_read dies slots from h.behind h.rows texts h.dealt rows are in by old h.read d.all d.read
   where
     by : (old : Option (Reading RowText))
         → IfSome old (λ all. (more : Reading RowText) × (all ≡ rows_then h.rows more) × LeavesOff new more (Refused e))
@@ -77,10 +58,10 @@ fails_after old new dies slots texts rows e h are = let d = dealt_read dies slot
         ∙ ap (with_items items) (whole_nil (Some e)))))
 
 -- their own first fault is that of the script, whatever comes after them
-pub fails_within : (old new : Option (Reading RowText)) (dies slots : ℕ) (texts : List (List RowText)) (end : ReadEnd) (e : Refusal)
-    → HasReadTexts old new dies slots texts end → FailsToRead texts e → FailsIn (as_script old) e
-fails_within old new dies slots texts end e h (inl memory) = inl (inl memory)
-fails_within old new dies slots texts end e h (inr f) = inr (by old h.read (dealt_fails dies slots h.behind h.rows texts h.dealt e f))
+pub fails_within : (old new : Option (Reading RowText)) (dies slots from next : ℕ) (texts : List (List RowText)) (end : ReadEnd) (e : Refusal)
+    → HasReadTexts old new dies slots from next texts end → FailsToRead texts e → FailsIn (as_script old) e
+fails_within old new dies slots from next texts end e h (inl memory) = inl (inl memory)
+fails_within old new dies slots from next texts end e h (inr f) = inr (by old h.read (dealt_fails dies slots from h.behind h.rows texts h.dealt e f))
   where
     by : (old : Option (Reading RowText)) → IfSome old (λ all. (more : Reading RowText) × (all ≡ rows_then h.rows more) × LeavesOff new more end)
         → read_of h.rows ≡ Err e → IfSome (as_script old) (λ left. left ≡ Err e)

@@ -2,7 +2,6 @@ pub mod RowEnds
 pub mod DieReports
 pub mod Feeds
 pub mod RowTexts
-pub mod DieOps
 pub mod RunCounts
 pub mod DieRuns
 pub mod LogPages
@@ -11,6 +10,13 @@ pub mod PlannedRuns
 pub mod StoreRuns
 pub mod DieTexts
 pub mod Batches
+pub mod DieStores
+pub mod RowBatches
+pub mod DieBatches
+pub mod RunningDies
+pub mod Shares
+pub mod Sending
+pub mod SentRows
 pub mod ExactRuns
 pub use Rattle.text_base.specs.Number
 pub use Rattle.text_base.specs.Readings

@@ -38,12 +38,12 @@ abbrev pub Ascend : ℕ → List RowText → ℕ → Type 0
 Ascend from [] behind = from ≤ behind
 Ascend from (row ∷ rows) behind = (from ≤ row.head.line) × Ascend (row.head.line + 1) rows behind
 
--- rows for so many dies and slots, whose records are numbered below `behind`, by die
-pub record AreDealt (dies slots behind : ℕ) (rows : List RowText) (texts : List (List RowText)) : Type 0 where
+-- rows for so many dies and slots, whose records are numbered from `from` on and below `behind`, by die
+pub record AreDealt (dies slots from behind : ℕ) (rows : List RowText) (texts : List (List RowText)) : Type 0 where
   pub all : length texts ≡ dies
   pub own : (die : ℕ) → die < dies → get_or texts die [] ≡ texts_of rows die
   pub heads : All (λ (row : RowText). IsHeadFor dies slots row.head) rows
-  pub ascend : Ascend 0 rows behind
+  pub ascend : Ascend from rows behind
 
 -- While a script is read
 
@@ -69,11 +69,19 @@ GoesOn old new More = (old < new) × (new ≤ 1000002)
 GoesOn old new Ended = ⊤
 GoesOn old new (Refused e) = ⊤
 
--- of what was left these rows were read, by die
-pub record HasReadTexts (old new : Option (Reading RowText)) (dies slots : ℕ) (texts : List (List RowText)) (end : ReadEnd) : Type 0 where
+-- where more may be left, a record's number is at most that of the next record
+abbrev pub IsBelowNext : ℕ → ℕ → ReadEnd → Type 0
+IsBelowNext behind next More = behind ≤ next
+IsBelowNext behind next Ended = ⊤
+IsBelowNext behind next (Refused e) = ⊤
+
+-- of what was left, from the record of one number up to that of another, these rows were read, by die
+pub record HasReadTexts (old new : Option (Reading RowText)) (dies slots from next : ℕ) (texts : List (List RowText)) (end : ReadEnd)
+    : Type 0 where
   pub rows : List RowText
   pub behind : ℕ
-  pub dealt : AreDealt dies slots behind rows texts
+  pub below : IsBelowNext behind next end
+  pub dealt : AreDealt dies slots from behind rows texts
   pub read : IfSome old (λ all. (more : Reading RowText) × (all ≡ rows_then rows more) × LeavesOff new more end)
 
 -- When their operations are read

@@ -12,15 +12,11 @@ use slot_types::Refusal;
 use std::alloc::Global;
 use std::io::Read;
 
-/// How many rows are taken off a script before any is run, at most: few, so that its workers have work soon.
-pub const FIRST_ROWS: u32 = 4_096;
+/// How many rows are read of a script before they are sent to their dies, at most.
+pub const BATCH_ROWS: u32 = 8_192;
 
-/// How many rows are taken off while others are run, at most.
-pub const MOST_ROWS: u32 = 32_768;
-
-/// After how many bytes of operations no further row is taken before these are run: the texts of two batches are kept
-/// at a time. No contract depends on it.
-const BATCH_BYTES: usize = 4_194_304;
+/// After how many bytes of operations no further row is read before these are sent. No contract depends on it.
+const BATCH_BYTES: usize = 1_048_576;
 
 /// Why no further row is read before those that were read are run.
 #[derive(Clone, Copy, PartialEq, Eq, Debug, Drop)]
@@ -41,34 +37,20 @@ pub struct ReadRows {
     pub end: ReadEnd,
 }
 
-/// By die no row. It takes no memory but that of the list.
-pub fn no_rows(alloc: Global, dies: usize) -> Result<Vec<RowTexts>, Refusal>
-    ensures ok { IfOk result (λ rows. rows.items ≡ replicate dies []) }
-    ensures refused { FailsForMemory result }
-{
-    let mut rows = Vec::new(alloc);
-    for _ in 0..dies {
-        rows.push(RowTexts::new(alloc))?;
-    }
-    Ok(rows)
-}
-
-/// By die the next rows of a script, in these empty lists: those up to its end or its first fault, or so many at most,
-/// and no further one once they have 4 MiB of operations. Their operations aren't read yet.
+/// By die the next rows of a script, in these empty lists: those up to its end or its first fault, or 8,192 at most,
+/// and no further one once they have 1 MiB of operations. Their operations aren't read yet.
 /// `end` says what came then: where it is `More`, a row was read, and where it is ReadFault, csv's reader has failed.
 /// The only refusal of this call is NoMemory.
 pub fn read_rows<R: Read>(
     script: &mut ScriptReader<R>,
     empty: Vec<RowTexts>,
-    most: u32,
 ) -> Result<ReadRows, Refusal>
     requires empty { empty.items ≡ replicate (dies_of script.old) [] }
-    requires some { 1 ≤ most }
     ensures rows { IfOk result (λ rows.
         HasReadTexts (script_rows_left R.remaining script.old)
         (script_rows_left R.remaining script.new) (dies_of script.old) (slots_of script.old)
-        rows.dies.items rows.end) }
-    ensures few { IfOk result (λ rows. rows_dealt rows.dies.items ≤ most) }
+        (line_of script.old) (line_of script.new) rows.dies.items rows.end) }
+    ensures few { IfOk result (λ rows. rows_dealt rows.dies.items ≤ 8192) }
     ensures more { IfOk result (λ rows.
         GoesOn (line_of script.old) (line_of script.new) rows.end) }
     ensures failed { IfOk result (λ rows. EndsWithReader (reader_failed script.new) rows.end) }
@@ -78,7 +60,7 @@ pub fn read_rows<R: Read>(
 {
     let mut rows = empty;
     let mut left = BATCH_BYTES;
-    for _ in 0..most {
+    for _ in 0..BATCH_ROWS {
         match script.next_row() {
             Ok(Some(head)) => {
                 let ops = script.ops_text();

@@ -3,17 +3,23 @@
 #![tactic(auto)]
 
 mod batches;
-mod die_ops;
 mod die_reports;
+mod die_stores;
 mod die_texts;
 mod feeds;
 mod laws;
-mod read_ahead;
+mod row_batches;
 mod row_texts;
 mod rows;
 mod run_counts;
+mod run_dies;
+mod running_dies;
+mod sending;
+mod sent_rows;
+mod shares;
 mod stores;
 mod text_runs;
+mod workers;
 
 pub use die_reports::add_die;
 pub use laws::{

@@ -6,22 +6,21 @@ ghost use Rattle.slot_types.specs.Refusal.{FailsForMemory};
 ghost use Rattle.slot_types.specs.declared.refusals.Refusal.TheVariants.{ReadFault};
 ghost use Rattle.plan_rules.specs.Bound.{MeetsBound};
 ghost use Rattle.task_script.specs.Batches.{Closes, joined_counts, rows_counted};
+ghost use Rattle.task_script.specs.DieStores.{CanClose, passes_of, progress_of};
 ghost use Rattle.task_script.specs.PlannedRuns.{RunsAsPlanned, RunsSo};
 ghost use Rattle.task_script.specs.TextRuns.{RanScript, RunsText};
 ghost use Rattle.task_script.specs.Feeds.{RefusesScript};
 ghost use Rattle.text_base.specs.Flags.{KeepsFlag};
 ghost use Rattle.text_base.specs.Writing.{RefusesOrCuts};
 
-use crate::batches::{Progress, RunDies, no_progress};
-use crate::die_ops::rows_of;
+use crate::batches::Progress;
+use crate::die_stores::DieStore;
 use crate::die_texts::parts_of;
-use crate::feeds::{FIRST_ROWS, MOST_ROWS, ReadEnd, no_rows};
-use crate::read_ahead::{ReadyDies, read_next, run_and_read, run_last};
-use crate::rows::no_die_rows;
+use crate::feeds::ReadEnd;
 use crate::run_counts::RunCount;
-use crate::stores::new_store;
-use die_service::{Store, close};
-use flash_die::MemoryNand;
+use crate::run_dies::{first_refusal, ran_dies};
+use crate::sending::{SentScript, send_script};
+use die_service::close;
 use report_texts::{ReportText, write_parts};
 use script_texts::ScriptReader;
 use slot_types::{MAX_SLOT, Refusal, StorePlan};
@@ -87,36 +86,39 @@ fn joined(progress: &[Progress]) -> RunCount
     count
 }
 
-/// Closes a store whose dies have carried out their slots, and makes their report by so many threads. The only refusal
-/// is NoMemory.
+/// Closes dies that have carried out their slots, and makes their report by so many threads. The only refusal is
+/// NoMemory.
 fn finish<R: Threads + Wait + Sync>(
     rt: &R,
     alloc: Global,
-    store: Store<MemoryNand>,
-    dies: RunDies,
+    dies: Vec<DieStore>,
     workers: u32,
 ) -> Result<RanStore, Refusal>
-    requires own { map (λ pass. pass.lock) dies.passes.items ≡ store }
-    requires few { length dies.passes.items ≤ 8 }
-    requires counted { rows_counted dies.progress.items < 2 ^ 64 }
-    requires sole { All (λ pass. pass.view.sole ≡ true) dies.passes.items }
+    requires close { All CanClose dies.items }
+    requires few { length dies.items ≤ 8 }
+    requires counted { rows_counted (progress_of dies.items) < 2 ^ 64 }
     requires workers { 1 ≤ workers }
     ensures closed { IfOk result (λ ran.
-        Closes dies.passes.items dies.progress.items ran.parts.items ran.count) }
+        Closes (passes_of dies.items) (progress_of dies.items) ran.parts.items ran.count) }
     ensures refused { FailsForMemory result }
 {
-    let count = joined(dies.progress.as_slice());
-    match close(rt, store, dies.passes) {
-        Ok(cores) => {
-            let parts = parts_of(rt, alloc, cores, workers)?;
-            Ok(RanStore { parts, count })
+    let mut cores = Vec::new(alloc);
+    let mut progress = Vec::new(alloc);
+    for die in dies {
+        let DieStore { store, dies } = die;
+        match close(rt, store, dies.passes) {
+            Ok(mut closed) => cores.append(&mut closed)?,
+            Err(kept) => return Err(kept.refusal),
         }
-        Err(kept) => Err(kept.refusal),
+        let mut far = dies.progress;
+        progress.append(&mut far)?;
     }
+    let count = joined(progress.as_slice());
+    let parts = parts_of(rt, alloc, cores, workers)?;
+    Ok(RanStore { parts, count })
 }
 
-/// Runs a script on fresh dies in memory. Its rows are read and run batch by batch: while one is run, the operations of
-/// the next are read, and the one after it is taken off the script, so that no more of it is kept than three batches.
+/// Runs a script on fresh dies in memory.
 ///
 /// Refused as the first fault of the script, as NoMemory, or as ReadFault: that comes only together with the script's
 /// reader, whose csv reader has failed.
@@ -128,10 +130,9 @@ fn run_script<R: Threads + Wait + Sync, S: Read + Drop>(
     slots: u32,
     workers: u32,
 ) -> Result<RanStore, RefusedRun<S>>
-    requires some { 1 ≤ length plan.now }
     requires dies { length plan.now ≤ 8 }
     requires bound { All MeetsBound plan.now }
-    requires workers { (1 ≤ workers) × (workers ≤ 16) }
+    requires workers { 1 ≤ workers }
     ensures ran { IfOk result (λ ran.
         RanScript (S.remaining script) plan.now slots ran.parts.items ran.count) }
     ensures refused { IfErr result (λ run.
@@ -139,41 +140,26 @@ fn run_script<R: Threads + Wait + Sync, S: Read + Drop>(
     ensures failed { IfErr result (λ run. run.refusal ≡ ReadFault →
         IsSomeAnd run.reader (λ reader. reader_failed reader ≡ true)) }
 {
-    let (store, passes) = new_store(alloc, plan.as_slice())?;
-    let progress = no_progress(alloc, plan.len())?;
     let reader = ScriptReader::new(alloc, script, plan, slots)?;
-    let dies = RunDies { passes, progress };
-    let rows = no_die_rows(alloc, plan.len())?;
-    let empty = no_rows(alloc, plan.len())?;
-    let mut ready = ReadyDies { dies, rows, empty };
-    let mut most = FIRST_ROWS;
-    let first = no_rows(alloc, plan.len())?;
-    let mut read = read_next(reader, first, most)?;
-    for _ in 0..u32::MAX {
-        match read.rows.end {
-            ReadEnd::More => {
-                most = MOST_ROWS.min(2 * most);
-                let (ran, next) = run_and_read(rt, alloc, &store, ready, read, most, workers)?;
-                ready = ran;
-                read = next;
-            }
-            ReadEnd::Ended => {
-                let texts = read.rows.dies;
-                let ran = run_last(rt, alloc, &store, ready, texts, slots, workers)?;
-                let whole = finish(rt, alloc, store, ran, workers)?;
-                return Ok(whole);
-            }
-            ReadEnd::Refused(refusal) => {
-                rows_of(rt, alloc, read.rows.dies, workers)?;
-                return Err(RefusedRun {
-                    refusal,
-                    reader: Some(read.reader),
-                });
-            }
-        }
+    let sent = send_script(rt, alloc, plan.as_slice(), reader, slots, workers)?;
+    let SentScript { reader, dies, end } = sent;
+    match first_refusal(dies.as_slice()) {
+        Some(refusal) => return Err(RefusedRun::from(refusal)),
+        None => {}
     }
-    // No script has so many batches: each but the last has a row, and no row has a number above 1,000,001.
-    unreachable!()
+    match end {
+        ReadEnd::Ended => {
+            let dies = ran_dies(alloc, dies)?;
+            let whole = finish(rt, alloc, dies, workers)?;
+            Ok(whole)
+        }
+        ReadEnd::Refused(refusal) => Err(RefusedRun {
+            refusal,
+            reader: Some(reader),
+        }),
+        // Reading ends early only where the run of a die was refused.
+        ReadEnd::More => Err(RefusedRun::from(Refusal::NoMemory)),
+    }
 }
 
 /// Runs a script on a store of 1 to 8 dies in memory by 1 to 16 workers, and writes the report of what became of it.
@@ -182,15 +168,16 @@ fn run_script<R: Threads + Wait + Sync, S: Read + Drop>(
 /// no event, and doesn't stop the run; it is counted.
 ///
 /// What is written is proved to be the report read off the exact logs of the accepted rows and the slots, whatever the
-/// number of workers. By one worker no thread is started. By more, so many threads run a batch of rows, and so many
-/// read the operations of the next one, die by die, while this thread takes the rows after it off the script; at the
-/// end so many make the lines of the report. A thread that can't be started is done without. May wait for the workers.
+/// number of workers. By one worker no thread is started. By more, each is a thread that has some of the dies for the
+/// whole run: it reads the operations of their rows and runs these, while this thread takes further rows off the script
+/// and sends them; at the end so many make the lines of the report. A thread that can't be started is done without: its
+/// dies are run by this one. May wait for the workers.
 ///
 /// So is this: on a die whose rows keep its plan, with times that pass their test, no lateness in the report is above
 /// 0, and no row is refused but out of memory, or after one that was.
 ///
 /// Rows are read and run batch by batch, so that the script is never kept whole: what is kept of it are the rows of
-/// three batches. A die is given up once its lines are made.
+/// four batches. A die is given up once its lines are made.
 ///
 /// It ends with the first fault of the script, as [`ScriptReader`](crate::ScriptReader) says it; with `ReadFault`,
 /// where reading the script fails, and only together with the script's reader, whose csv reader has failed; or with

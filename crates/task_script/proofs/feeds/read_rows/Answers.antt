@@ -8,7 +8,7 @@ pub loop-init : goal.loop-init
 loop-init g c = record {
   dies = refl;
   slots = refl;
-  read = reads_none _ _ _ _ _ c.requires.empty;
+  read = reads_none _ _ _ _ _ _ c.requires.empty (omega arith);
   few = few_none _ _ c.requires.empty;
   later = omega arith;
   below = λ some. omega (arith, some);
@@ -16,10 +16,10 @@ loop-init g c = record {
 
 pub returns-in-Ok-None-clause-rows : goal.returns-in-Ok-None-clause-rows
 returns-in-Ok-None-clause-rows g c =
-    reads_end _ _ _ _ _ _ _ (rw c.in-Ok-None.field-0-is at c.in-Ok-None.ensures.gives) c.loop.invariant.read
+    reads_end _ _ _ _ _ _ _ _ _ (rw c.in-Ok-None.field-0-is at c.in-Ok-None.ensures.gives) c.loop.invariant.read
 
 pub returns-in-Err-clause-rows : goal.returns-in-Err-clause-rows
-returns-in-Err-clause-rows g c = reads_fault _ _ _ _ _ _ _ c.in-Err.refusal c.in-Err.ensures.gives c.loop.invariant.read
+returns-in-Err-clause-rows g c = reads_fault _ _ _ _ _ _ _ _ _ c.in-Err.refusal c.in-Err.ensures.gives c.loop.invariant.read
 
 pub returns-in-Err-clause-failed : goal.returns-in-Err-clause-failed
 returns-in-Err-clause-failed g c = of_reader _ _ c.in-Err.refusal c.in-Err.ensures.failed
@@ -36,8 +36,8 @@ returns-then-size-left-clause-rows g c =
     let lines = rw c.in-Ok-Some.field-0-is at c.in-Ok-Some.ensures.line in
     let step = rw c.in-Ok-Some.field-0-is at c.in-Ok-Some.ensures.gives in
     let added = rw c.ops_text-ops.ensures at c.in_ok-add-in-Ok-Some.ensures.ok in
-    (reads_row _ _ _ _ _ _ _ _ _ (row_text c.in-Ok-Some.head (ops_text c.next_row.new.self)) _ _
-    (rw (c.loop.invariant.dies, c.loop.invariant.slots) at head) lines c.index_mut.ensures.value added refl step c.loop.invariant.read).0
+    reads_row _ _ _ _ _ _ _ _ _ _ (row_text c.in-Ok-Some.head (ops_text c.next_row.new.self)) _ _
+    (rw (c.loop.invariant.dies, c.loop.invariant.slots) at head) lines c.index_mut.ensures.value added refl step c.loop.invariant.read
 
 pub loop-preserved : goal.loop-preserved
 loop-preserved g c =
@@ -50,9 +50,9 @@ loop-preserved g c =
     record {
       dies = c.next_row.ensures.dies ∙ c.loop.invariant.dies;
       slots = c.next_row.ensures.slots ∙ c.loop.invariant.slots;
-      read = reads_row _ _ _ _ _ _ _ _ _ row _ _ (rw (c.loop.invariant.dies, c.loop.invariant.slots) at head) lines
+      read = reads_row _ _ _ _ _ _ _ _ _ _ row _ _ (rw (c.loop.invariant.dies, c.loop.invariant.slots) at head) lines
           c.index_mut.ensures.value added refl step c.loop.invariant.read;
-      few = few_more _ _ row _ _ _ (omega (arith, head.0, c.loop.invariant.dies, c.loop.invariant.read.0.dealt.all))
+      few = few_more _ _ row _ _ _ (omega (arith, head.0, c.loop.invariant.dies, c.loop.invariant.read.dealt.all))
           c.index_mut.ensures.value added refl c.loop.invariant.few;
       later = omega (arith, lines.0, lines.1, c.loop.invariant.later);
       below = λ some. omega (arith, lines.1, few);

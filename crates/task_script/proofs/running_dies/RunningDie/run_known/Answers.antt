@@ -1,0 +1,19 @@
+use Rattle.std.proofs.Common.{List, subst, sym}
+use Rattle.task_script.specs.DieBatches.{RunsBatches}
+use Rattle.task_script.specs.declared.row_batches.RowBatch.{RowBatch}
+use Rattle.task_script.proofs.BatchesRun.{counted_more, runs_on}
+use Rattle.task_script.proofs.running_dies.RunningDie.run_known.Goals as goal
+
+pub invariant_of-self : goal.invariant_of-self
+invariant_of-self g c = record {
+  counted = counted_more _ _ c.pop_known-batch.result c.args.self.now.die c.run_on.result c.pop_known-batch.ensures.received.0
+      c.pop_known-batch.ensures.allowed.short (rw c.replace-die.ensures.value at c.run_on.ensures) c.args.self.now.counted;
+}
+
+pub returns-clause-same : goal.returns-clause-same
+returns-clause-same g c = (
+  c.pop_known-batch.ensures.ring,
+  λ plan runs. subst (λ (batches : List RowBatch). RunsBatches plan batches c.run_on.result) (sym c.pop_known-batch.ensures.received.0)
+      (runs_on plan _ c.pop_known-batch.result c.args.self.now.die c.run_on.result c.pop_known-batch.ensures.allowed.goes_on
+      (rw c.replace-die.ensures.value at c.run_on.ensures) runs),
+)

@@ -1,0 +1,97 @@
+use Rattle.std.proofs.Common.{◌≡◌, ◌≤◌, ℕ, List, All, arith, refl, sym, ◌∙◌, subst}
+use Rattle.task_script.specs.RowBatches.{sent_by, until_of}
+use Rattle.task_script.specs.declared.row_batches.BatchSender.{BatchSender}
+use Rattle.std.specs.List.{AllZip}
+use Rattle.task_script.specs.declared.shares.Share.{Share}
+use Rattle.task_script.specs.Shares.{StaysShare}
+use Rattle.task_script.specs.RowTexts.{HasReadTexts}
+use Rattle.task_script.specs.declared.feeds.ReadEnd.{ReadEnd}
+use Rattle.task_script.specs.declared.feeds.ReadEnd.TheVariants.{Ended, More}
+use Rattle.task_script.proofs.Dealing.{texts_as}
+use Rattle.task_script.proofs.Sent.{batch_few, batch_last, batch_more, batch_read, batch_same, follows, sent_first, zip_all, zip_on}
+use Rattle.task_script.proofs.sending.send_all.Goals as goal
+use Rattle.task_script.proofs.sending.send_all.Goals.{in-Ended, in_default}
+
+shares_on : (a b d : List Share) → AllZip StaysShare a b → AllZip StaysShare b d → AllZip StaysShare a d
+shares_on a b d first second =
+    zip_on StaysShare StaysShare StaysShare (λ x y z p q dies h. q dies (p dies h)) a b d first second
+
+pub loop-init : goal.loop-init
+loop-init g c = record {
+  dies = refl;
+  slots = refl;
+  sent = sent_first _ _ _ _ c.args.senders.now c.requires.dies c.requires.none;
+  later = omega arith;
+  below = λ some. omega (arith, some);
+  shares = zip_all StaysShare (λ share dies h. h) c.args.shares.now;
+}
+
+pub send_rows-requires : goal.send_rows-requires
+send_rows-requires g c =
+    let read = texts_as _ _ _ _ _ _ _ _ _ _ c.loop.invariant.dies c.loop.invariant.slots c.in_ok-read.ensures.rows in
+    record {
+      follow = follows _ _ _ _ _ _ _ _ c.loop.counter c.match-read.until _ _ _ _ _ c.loop.invariant.sent c.in_ok-empty.ensures.same read
+          c.in_ok-read.ensures.few (omega (arith, c.loop.invariant.later, c.loop.invariant.below));
+    }
+
+pub returns-in_default-end : goal.returns-in_default-end
+returns-in_default-end g c =
+    let read = texts_as _ _ _ _ _ _ _ _ _ _ c.loop.invariant.dies c.loop.invariant.slots c.in_ok-read.ensures.rows in
+    let few : c.loop.counter ≤ 1000002 = omega (arith, c.loop.invariant.later, c.loop.invariant.below) in
+    record {
+      rows = batch_read _ _ _ _ _ _ _ _ c.loop.counter c.match-read.until _ _ _ _ _ c.loop.invariant.sent c.in_ok-empty.ensures.same read
+          _ c.send_rows.ensures;
+      last = λ is.
+          let end : c.in_ok-read.read.end ≡ Ended = cc in
+          let all : c.match-read.until ≡ c.args.slots = elim c.match-read.branch
+          [ in-Ended w ↦ w.until-is | in_default w ↦ absurd (w.in_default.not-Ended end) ] in
+          subst (λ (n : ℕ). All (λ (sender : BatchSender). until_of (sent_by sender) ≡ n) c.send_rows.new.senders) all
+          (batch_last _ _ _ _ _ _ _ _ c.loop.counter c.match-read.until _ _ _ _ _ c.loop.invariant.sent c.in_ok-empty.ensures.same read
+          _ c.send_rows.ensures);
+      few = batch_few _ _ _ _ _ _ _ _ c.loop.counter c.match-read.until _ _ _ _ _ c.loop.invariant.sent c.in_ok-empty.ensures.same read
+          _ c.send_rows.ensures few;
+      failed = c.in_ok-read.ensures.failed;
+      same = batch_same _ _ _ _ _ _ _ _ c.loop.counter c.match-read.until _ _ _ _ _ c.loop.invariant.sent c.in_ok-empty.ensures.same read
+          _ c.send_rows.ensures;
+      shares = shares_on _ _ c.run_here.new.shares c.loop.invariant.shares c.run_here.ensures;
+      refused = tt;
+    }
+
+pub returns-then-load-clause-rows : goal.returns-then-load-clause-rows
+returns-then-load-clause-rows g c =
+    let read = texts_as _ _ _ _ _ _ _ _ _ _ c.loop.invariant.dies c.loop.invariant.slots c.in_ok-read.ensures.rows in
+    subst (HasReadTexts _ _ _ _ _ _ _) c.in-More.is (batch_read _ _ _ _ _ _ _ _ c.loop.counter c.match-read.until _ _ _ _ _
+    c.loop.invariant.sent c.in_ok-empty.ensures.same read _ c.send_rows.ensures)
+
+pub returns-then-load-clause-few : goal.returns-then-load-clause-few
+returns-then-load-clause-few g c =
+    let read = texts_as _ _ _ _ _ _ _ _ _ _ c.loop.invariant.dies c.loop.invariant.slots c.in_ok-read.ensures.rows in
+    batch_few _ _ _ _ _ _ _ _ c.loop.counter c.match-read.until _ _ _ _ _ c.loop.invariant.sent c.in_ok-empty.ensures.same read
+    _ c.send_rows.ensures (omega (arith, c.loop.invariant.later, c.loop.invariant.below))
+
+pub returns-then-load-clause-same : goal.returns-then-load-clause-same
+returns-then-load-clause-same g c =
+    let read = texts_as _ _ _ _ _ _ _ _ _ _ c.loop.invariant.dies c.loop.invariant.slots c.in_ok-read.ensures.rows in
+    batch_same _ _ _ _ _ _ _ _ c.loop.counter c.match-read.until _ _ _ _ _ c.loop.invariant.sent c.in_ok-empty.ensures.same read
+    _ c.send_rows.ensures
+
+pub returns-then-load-clause-shares : goal.returns-then-load-clause-shares
+returns-then-load-clause-shares g c = shares_on _ _ c.run_here.new.shares c.loop.invariant.shares c.run_here.ensures
+
+pub loop-preserved : goal.loop-preserved
+loop-preserved g c =
+    let read = texts_as _ _ _ _ _ _ _ _ _ _ c.loop.invariant.dies c.loop.invariant.slots c.in_ok-read.ensures.rows in
+    let grown = rw c.in-More.is at c.in_ok-read.ensures.more in
+    let none : c.match-read.until ≡ 0 = elim c.match-read.branch [
+      | in-Ended w ↦ let apart : ◌≡◌ {A = ReadEnd} More Ended = sym c.in-More.is ∙ w.in-Ended.is in absurd cc
+      | in_default w ↦ w.until-is
+    ] in
+    record {
+      dies = c.in_ok-read.ensures.dies ∙ c.loop.invariant.dies;
+      slots = c.in_ok-read.ensures.slots ∙ c.loop.invariant.slots;
+      sent = batch_more _ _ _ _ _ _ _ _ c.loop.counter c.match-read.until _ _ _ _ _ c.loop.invariant.sent c.in_ok-empty.ensures.same read
+          _ c.send_rows.ensures c.in-More.is none;
+      later = omega (arith, c.loop.invariant.later, grown.0);
+      below = λ some. omega (arith, grown.1);
+      shares = shares_on _ _ c.run_here.new.shares c.loop.invariant.shares c.run_here.ensures;
+    }
