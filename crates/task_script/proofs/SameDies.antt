@@ -127,7 +127,7 @@ last_of dies (s ∷ shares) share are = let rest = last_of are.1 shares share ar
   last = rest.last;
 }
 
--- the dies of one more worker stand behind those of the others
+-- the dies of one more worker come after those of the others
 pub gathers : (shares : List Share) (share : Share) (all own both : List RunningDie) → both ≡ all ++ own
     → ((dies : List RunningDie) → AreSharesOf dies shares → AllZip IsSameDie dies all)
     → ((dies : List RunningDie) → IsShareOf dies share → AllZip IsSameDie dies own)

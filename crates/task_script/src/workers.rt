@@ -111,7 +111,7 @@ fn work<R: Threads + Wait + Sync>(
 {
     let mut dies = dies;
     for _ in rt.forever() {
-        // All that was sent before the end was told is there at the look that follows.
+        // The end comes after all that was sent, so that the look that follows finds it.
         let ended = signal.ended.load(Ordering::SeqCst);
         if run_arrived(rt, alloc, dies.as_mut_slice(), reader) {
             reader.parker.unpark();
