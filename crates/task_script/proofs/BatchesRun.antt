@@ -1,5 +1,5 @@
 -- A die that runs the batches that it was sent, one after the other.
-use Rattle.std.proofs.Common.{◌≡◌, ◌⊎◌, inl, inr, ℕ, zero, suc, ◌+◌, ◌*◌, ◌<◌, ◌≤◌, List, [], ◌∷◌, ◌++◌, refl, ap, sym, ◌∙◌, subst}
+use Rattle.std.proofs.Common.{◌≡◌, ◌⊎◌, inl, inr, ℕ, zero, suc, ◌*◌, ◌<◌, ◌≤◌, List, [], ◌∷◌, ◌++◌, refl, ap, sym, ◌∙◌, subst}
 use Rattle.std.proofs.Common.{length, length-append, get_or, arith, None, Result, Ok, Err}
 use Rattle.std.specs.Result.{ForOk}
 use Rattle.std.proofs.lemmas.List.Elements.{All-from_recursion, recursion_from_All}
@@ -61,11 +61,6 @@ runs_on plan before batch (Err e) new none same runs = subst (RunsBatches plan (
     by (inr is) = inr (ap read_of (rows_more before batch) ∙ fault_then (rows_in before) e is batch.rows None)
 
 -- How many rows are counted
-
-pub fits_more : (before : List RowBatch) (batch : RowBatch) (die : Result DieStore Refusal) → length before ≤ 1000002
-    → length batch.rows ≤ 8192 → ForOk die (λ d. rows_counted d.dies.progress.items ≤ length before * 8192)
-    → ForOk die (λ d. rows_counted d.dies.progress.items + length batch.rows < 18446744073709551616)
-fits_more before batch die few short counted d is = let so_far = counted d is in omega (arith, few, short, so_far)
 
 pub counted_more : (before after : List RowBatch) (batch : RowBatch) (old new : Result DieStore Refusal) → after ≡ before ++ batch ∷ []
     → length batch.rows ≤ 8192 → RunsOn old batch new → ForOk old (λ d. rows_counted d.dies.progress.items ≤ length before * 8192)

@@ -1,13 +1,12 @@
 -- The dies of a store that run their rows in batches: where they begin, one batch more, and what is known of them at the end.
-use Rattle.std.proofs.Common.{◌≡◌, ℕ, suc, ◌+◌, ◌<◌, ◌≤◌, max, Bool, true, List, [], ◌∷◌, ◌++◌, refl, ap, sym, ◌∙◌}
+use Rattle.std.proofs.Common.{◌≡◌, ℕ, suc, ◌+◌, ◌<◌, max, Bool, true, List, [], ◌∷◌, ◌++◌, refl, ap, sym, ◌∙◌}
 use Rattle.std.proofs.Common.{◌==◌, subst, length, map}
-use Rattle.std.proofs.Common.{get_or, replicate, arith, All, Option, None, Ok, Err, inl, inr}
-use Rattle.std.specs.Prelude.{IfSome, option_map}
+use Rattle.std.proofs.Common.{get_or, replicate, arith, All, Option, None, Err, inl, inr}
+use Rattle.std.specs.Prelude.{option_map}
 use Rattle.std.specs.List.{AllByRecursion}
 use Rattle.std.proofs.lemmas.List.{length-map}
-use Rattle.std.proofs.lemmas.List.Folds.{sum_by-replicate}
 use Rattle.std.proofs.lemmas.List.Sums.{sum_by-cons}
-use Rattle.std.proofs.lemmas.List.Elements.{All-append, All-from_recursion, All-get_or, All-map, All-nil, All-same, All-weaker}
+use Rattle.std.proofs.lemmas.List.Elements.{All-append, All-from_recursion, All-get_or, All-map, All-same}
 use Rattle.std.proofs.lemmas.List.Elements.{filter-append}
 use Rattle.std.proofs.lemmas.List.Elements.{recursion_from_All}
 use Rattle.slot_types.specs.Arrivals.{IsArrival}
@@ -28,10 +27,10 @@ use Rattle.script_texts.specs.Script.{Script, script_of}
 use Rattle.script_texts.specs.declared.script_rows.ScriptItem.{ScriptItem}
 use Rattle.task_script.proofs.BatchRuns.{begins, goes_on}
 use Rattle.task_script.proofs.Counting.{rows_of_batch}
-use Rattle.task_script.proofs.ReadSoFar.{FailsIn, IsDealt, IsReadTo, fault_on, known_by, read_none, read_on, read_to_end}
+use Rattle.task_script.proofs.ReadSoFar.{FailsIn, IsDealt, IsReadTo, fault_on, known_by}
 use Rattle.task_script.specs.Batches.{HasComeTo, HaveComeTo, RanRows, after_batch, batches_of, end_slot, fresh_progress, kept_of}
 use Rattle.task_script.specs.Batches.{progress_after, latest_slot, rows_counted, rows_kept}
-use Rattle.task_script.specs.Feeds.{AllArrive, AreInTime, AreItemsOf, RefusesScript, feed_of, rows_dealt}
+use Rattle.task_script.specs.Feeds.{AllArrive, AreInTime, RefusesScript, feed_of, rows_dealt}
 use Rattle.task_script.specs.RowEnds.{arrival_of, arrivals_of, lines_of}
 use Rattle.task_script.specs.RunCounts.{rows_in}
 use Rattle.task_script.specs.declared.batches.KeptRows.{KeptRows}
@@ -167,11 +166,6 @@ as_many_reached until progress after rows ps qs same ran =
     ap length ran.after_is
     ∙ progress_length progress (kept_of until progress rows) ran.ends (omega (arith, long.1, same)) (omega (arith, long.0, ends, same))
 
--- at the beginning none is
-pub none_counted : (dies : ℕ) (progress : List Progress) → progress ≡ replicate dies fresh_progress → rows_counted progress ≤ 0
-none_counted dies progress is =
-    omega (arith, ap rows_counted is, sum_by-replicate (λ (p : Progress). rows_in p.count) dies fresh_progress)
-
 rows_arrive : (items : List ScriptItem) → All (λ item. IsArrival item.event) items → run.AllArrive (arrivals_of items)
 rows_arrive items h = All-map (λ (arrival : Arrival). IsArrival arrival.event) arrival_of items h
 
@@ -204,41 +198,7 @@ all_sole until feed number [] (p ∷ ps) progress come = absurd come
 all_sole until feed number (plan ∷ plans) [] progress come = absurd come
 all_sole until feed number (plan ∷ plans) (p ∷ ps) [] come = absurd come
 
-pub as_many : (until : ℕ) (feed : ℕ → List ScriptItem) (number : ℕ) (plans : List DiePlan) (ps : List DiePass) (progress : List Progress)
-    → HaveComeTo until feed number plans ps progress → (length ps ≡ length plans) × (length progress ≡ length plans)
-as_many until feed number [] [] [] come = (refl, refl)
-as_many until feed number (plan ∷ plans) (p ∷ ps) (at ∷ progress) come =
-    let rest = as_many until feed (number + 1) plans ps progress come.1 in
-    (omega (arith, rest.0), omega (arith, rest.1))
-as_many until feed number [] [] (at ∷ progress) come = absurd come
-as_many until feed number [] (p ∷ ps) progress come = absurd come
-as_many until feed number (plan ∷ plans) [] progress come = absurd come
-as_many until feed number (plan ∷ plans) (p ∷ ps) [] come = absurd come
-
 -- Row by row of the script
-
--- these rows of a script were read so far, and each die has come to its last one, but not less than to slot `until`
-pub record SoFar (until : ℕ) (whole left : Option Script) (plans : List DiePlan) (slots : ℕ) (ps : List DiePass) (progress : List Progress)
-    : Type 0 where
-  pub items : List ScriptItem
-  pub read : IsReadTo whole left items
-  pub in_time : AreInTime (length plans) slots items
-  pub come : HaveComeTo until (feed_of items) 0 plans ps progress
-
--- nothing was read yet
-pub so_far_none : (whole left : Option Script) (plans : List DiePlan) (slots dies : ℕ) (ps : List DiePass) (progress : List Progress)
-    → left ≡ whole → map (λ (p : DiePass). p.view) ps ≡ map first_view (map fresh plans) → All MeetsBound plans
-    → progress ≡ replicate dies fresh_progress → dies ≡ length plans → SoFar 0 whole left plans slots ps progress
-so_far_none whole left plans slots dies ps progress same first bound none are = record {
-  items = [];
-  read = subst (λ (o : Option Script). IsReadTo whole o []) (sym same) (read_none whole);
-  in_time = record {
-    arrive = λ die below. All-nil (Arrives slots);
-    pages = λ die below. All-nil RowHasPages;
-  };
-  come = subst (HaveComeTo 0 (feed_of []) 0 plans ps) (sym (none ∙ ap (λ (n : ℕ). replicate n fresh_progress) are))
-      (all_begin 0 plans ps first (recursion_from_All MeetsBound plans bound));
-}
 
 feeds_more : (xs ys : List ScriptItem) (die : ℕ) → feed_of (xs ++ ys) die ≡ feed_of xs die ++ feed_of ys die
 feeds_more xs ys die = filter-append (λ item. item.die == die) xs ys
@@ -252,10 +212,6 @@ module _ (dies slots : ℕ) (items : List ScriptItem) (rows : List (List ScriptI
   dealt_pages die below = subst RowsHavePages (d.rows die below)
       (All-get_or RowsHavePages rows die [] (omega (arith, below, d.all)) d.pages)
 
-  pub dealt_events : All (All (λ item. IsArrival item.event)) rows
-  dealt_events = All-weaker (AllArrive slots) (All (λ item. IsArrival item.event))
-      (λ feed h. All-weaker (Arrives slots) (λ item. IsArrival item.event) (λ item here. here.1) feed h) rows d.arrive
-
 -- one batch more
 
 pub in_time_more : (dies slots : ℕ) (items more : List ScriptItem) (rows : List (List ScriptItem)) → AreInTime dies slots items
@@ -266,38 +222,6 @@ in_time_more dies slots items more rows t d = record {
   pages = λ die below. subst RowsHavePages (sym (feeds_more items more die)) (All-append RowHasPages (feed_of items die)
       (feed_of more die) (t.pages die below) (dealt_pages dies slots more rows d die below));
 }
-
-pub come_more : (until dies slots : ℕ) (plans : List DiePlan) (ps qs : List DiePass) (before after : List Progress)
-    (rows : List (List ScriptItem)) (items more : List ScriptItem) → dies ≡ length plans
-    → HaveComeTo 0 (feed_of items) 0 plans ps before → IsDealt dies slots more rows → RanRows until rows ps before qs after
-    → HaveComeTo until (feed_of (items ++ more)) 0 plans qs after
-come_more until dies slots plans ps qs before after rows items more count come d ran =
-    subst (HaveComeTo until (feed_of (items ++ more)) 0 plans qs) (sym ran.after_is)
-    (all_go_on until (feed_of items) (feed_of (items ++ more)) 0 plans rows ps before ran.ends qs (d.all ∙ count) are
-    (recursion_from_All (All (λ item. IsArrival item.event)) rows (dealt_events dies slots more rows d)) come ran.ran
-    (recursion_from_All (λ end. end.stop ≡ None) ran.ends ran.whole))
-  where
-    are : AreJoined 0 (feed_of items) (feed_of (items ++ more)) rows
-    are k below = feeds_more items more (0 + k) ∙ ap (λ (l : List ScriptItem). feed_of items (0 + k) ++ l)
-        (ap (feed_of more) (let plain : 0 + k ≡ k = omega arith in plain) ∙ sym (d.rows k (omega (arith, below, d.all))))
-
-pub so_far_more : (until : ℕ) (whole left new : Option Script) (plans : List DiePlan) (slots : ℕ) (ps qs : List DiePass)
-    (before after : List Progress) (rows : List (List ScriptItem)) (more : List ScriptItem)
-    → SoFar 0 whole left plans slots ps before → IsReadTo left new more → IsDealt (length plans) slots more rows
-    → RanRows until rows ps before qs after → SoFar until whole new plans slots qs after
-so_far_more until whole left new plans slots ps qs before after rows more s read d ran = record {
-  items = s.items ++ more;
-  read = read_on whole left new s.items more s.read read;
-  in_time = in_time_more (length plans) slots s.items more rows s.in_time d;
-  come = come_more until (length plans) slots plans ps qs before after rows s.items more refl s.come d ran;
-}
-
--- the items of the script, where it has no further row
-pub items_are : (text : Option (List ℕ)) (left : Option Script) (dies slots : ℕ) (items more : List ScriptItem)
-    → IsReadTo (option_map (script_of dies slots) text) left items → IfSome left (λ rest. rest ≡ Ok more)
-    → AreItemsOf text dies slots (items ++ more)
-items_are text left dies slots items more read all =
-    known_by (λ (script : Script). script ≡ Ok (items ++ more)) (script_of dies slots) text (read_to_end _ left items more read all)
 
 -- the script has the fault of what is left of it
 pub fails_by : (text : Option (List ℕ)) (left : Option Script) (dies slots : ℕ) (items : List ScriptItem) (e : Refusal)

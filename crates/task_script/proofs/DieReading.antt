@@ -6,19 +6,17 @@ use Rattle.std.specs.List.{AllByRecursion}
 use Rattle.std.proofs.lemmas.Bool.{eqb-true, eq-eqb}
 use Rattle.std.proofs.lemmas.List.Elements.{All-filter, All-from_get_or, All-from_recursion, All-weaker, filter_passes}
 use Rattle.std.proofs.lemmas.List.Elements.{recursion_from_All}
-use Rattle.std.proofs.lemmas.List.Sums.{sum_by-cons}
-use Rattle.slot_types.specs.Arrivals.{IsArrival}
 use Rattle.slot_types.specs.declared.refusals.Refusal.{Refusal}
 use Rattle.script_texts.specs.Arrivals.{Arrives, IsHeadFor}
 use Rattle.script_texts.specs.AskedPages.{RowHasPages}
 use Rattle.script_texts.specs.RowTexts.{RowText, item_in}
 use Rattle.script_texts.specs.Script.{Script, with_front}
 use Rattle.script_texts.specs.declared.script_rows.ScriptItem.{ScriptItem}
-use Rattle.task_script.specs.Feeds.{feed_of, rows_dealt}
+use Rattle.task_script.specs.Feeds.{feed_of}
 use Rattle.task_script.specs.RowTexts.{AreDealt, AreOfOneDie, AreRead, Ascend, IsFirstFault}
 use Rattle.task_script.specs.RowTexts.{order_of, read_of, texts_of}
 use Rattle.task_script.proofs.ReadSoFar.{IsDealt}
-use Rattle.task_script.proofs.RowReading.{Fails, after_err, after_row, arrive, as_many, fails, in_time, item_fault, item_read}
+use Rattle.task_script.proofs.RowReading.{Fails, after_err, after_row, fails, in_time, item_fault, item_read}
 use Rattle.task_script.proofs.RowReading.{none_fail, none_read, parts, whole_cons, whole_nil, zipped}
 
 -- Each die by itself
@@ -140,29 +138,6 @@ read_at [] items k are below = absurd (omega (arith, below))
 read_at (t ∷ texts) [] k are below = absurd cc
 read_at (t ∷ texts) (x ∷ items) zero are below = let first : read_of t ≡ Ok x = cc in first
 read_at (t ∷ texts) (x ∷ items) (suc k) are below = let rest : AreRead texts items = cc in read_at texts items k rest (omega (arith, below))
-
--- what was read is as many rows, and they arrive
-pub as_many_read : (texts : List (List RowText)) (items : List (List ScriptItem)) → AreRead texts items → rows_dealt items ≡ rows_dealt texts
-as_many_read [] [] are = refl
-as_many_read [] (x ∷ items) are = absurd cc
-as_many_read (t ∷ texts) [] are = absurd cc
-as_many_read (t ∷ texts) (x ∷ items) are =
-    let first : read_of t ≡ Ok x = cc in
-    let rest : AreRead texts items = cc in
-    omega (
-      arith,
-      sum_by-cons (λ (rows : List ScriptItem). length rows) x items,
-      sum_by-cons (λ (rows : List RowText). length rows) t texts,
-      as_many t x (zipped t x first),
-      as_many_read texts items rest,
-    )
-
-pub all_arrive : (texts : List (List RowText)) (items : List (List ScriptItem)) → AreRead texts items
-    → All (All (λ (item : ScriptItem). IsArrival item.event)) items
-all_arrive texts items are = All-from_get_or (All (λ (item : ScriptItem). IsArrival item.event)) items [] (λ k below.
-    let read = read_at texts items k are (omega (arith, below, reads_length texts items are)) in
-    All-from_recursion (λ (item : ScriptItem). IsArrival item.event) (get_or items k [])
-    (arrive (get_or texts k []) (get_or items k []) (zipped (get_or texts k []) (get_or items k []) read)))
 
 module _ (dies slots from behind : ℕ) (rows : List RowText) (texts : List (List RowText)) (d : AreDealt dies slots from behind rows texts) where
   pub one_die_each : All AreOfOneDie texts

@@ -10,7 +10,7 @@ use Rattle.flash_die.specs.Memory.{Memory}
 use Rattle.die_service.specs.Stores.{DiePass, IsClosedWith}
 use Rattle.task_script.specs.DieStores.{passes_of, progress_of}
 use Rattle.task_script.specs.RowBatches.{IsSameSender, rows_in, sent_by}
-use Rattle.task_script.specs.RunningDies.{AllBegin, AllRan, AreRun, BeginsAs, IsLinked, IsSameDie, rows_received}
+use Rattle.task_script.specs.RunningDies.{AllBegin, AllRan, AreRun, IsLinked, IsSameDie, rows_received}
 use Rattle.task_script.specs.Sending.{rows_sent}
 use Rattle.task_script.specs.Shares.{AreSharesOf, StaysShare}
 use Rattle.task_script.specs.declared.row_batches.RowBatch.{RowBatch}
@@ -80,18 +80,6 @@ rest_end senders left dies (d ∷ now) ran none linked run = absurd cc
 rest_end senders (s ∷ left) dies [] ran none linked run = absurd linked
 
 -- Where they begin
-
-pub begin_more : (plans left later : List DiePlan) (plan : DiePlan) (sender : BatchSender) (running : RunningDie)
-    (senders senders2 : List BatchSender) (dies dies2 : List RunningDie) → left ≡ plan ∷ later → senders2 ≡ senders ++ sender ∷ []
-    → dies2 ≡ dies ++ running ∷ [] → BeginsAs plan sender running
-    → ((ss : List BatchSender) (ds : List RunningDie) → AllBegin left ss ds → AllBegin plans (senders ++ ss) (dies ++ ds))
-    → (ss : List BatchSender) (ds : List RunningDie) → AllBegin later ss ds → AllBegin plans (senders2 ++ ss) (dies2 ++ ds)
-begin_more plans left later plan sender running senders senders2 dies dies2 left_is senders_are dies_are begins all ss ds are =
-    subst (λ (xs : List BatchSender). AllBegin plans xs (dies2 ++ ds))
-    (sym (ap (λ (xs : List BatchSender). xs ++ ss) senders_are ∙ append_assoc senders (sender ∷ []) ss))
-    (subst (λ (xs : List RunningDie). AllBegin plans (senders ++ sender ∷ ss) xs)
-    (sym (ap (λ (xs : List RunningDie). xs ++ ds) dies_are ∙ append_assoc dies (running ∷ []) ds))
-    (all (sender ∷ ss) (running ∷ ds) (subst (λ (ps : List DiePlan). AllBegin ps (sender ∷ ss) (running ∷ ds)) (sym left_is) (begins, are))))
 
 pub begin_end : (plans left : List DiePlan) (senders : List BatchSender) (dies : List RunningDie) → left ≡ []
     → ((ss : List BatchSender) (ds : List RunningDie) → AllBegin left ss ds → AllBegin plans (senders ++ ss) (dies ++ ds))

@@ -3,8 +3,6 @@ use Rattle.std.proofs.Common.{◌≡◌, ℕ, zero, suc, ◌<◌, List, [], ◌�
 use Rattle.std.proofs.lemmas.List.{take-append-drop}
 use Rattle.std.proofs.lemmas.Slice.Zip.{AllZip-long}
 use Rattle.std.specs.List.{AllZip}
-use Rattle.rtrb.specs.Ring.{SameConsumer}
-use Rattle.rtrb.specs.declared.consumer.Consumer.{Consumer}
 use Rattle.die_service.proofs.LastPasses.{written}
 use Rattle.task_script.specs.RunningDies.{IsSameDie}
 use Rattle.task_script.specs.Shares.{AreSharesOf, IsShareOf, StaysShare}
@@ -17,10 +15,6 @@ same_die_refl die = (((refl, refl, refl, refl), refl), λ plan ran. ran)
 pub same_die_trans : (a b c : RunningDie) → IsSameDie a b → IsSameDie b c → IsSameDie a c
 same_die_trans a b c first second =
     (((cc, cc, cc, cc), cc), λ plan ran. second.1 plan (first.1 plan ran))
-
--- the same end of a ring, twice
-pub consumers_trans : {T A P : Type 0} (a b c : Consumer T A P) → SameConsumer a b → SameConsumer b c → SameConsumer a c
-consumers_trans a b c first second = ((cc, cc, cc, cc), cc)
 
 -- Lists of dies
 

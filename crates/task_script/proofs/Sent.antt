@@ -2,6 +2,7 @@
 use Rattle.std.proofs.Common.{◌≡◌, ℕ, zero, suc, ◌+◌, ◌<◌, ◌≤◌, List, [], ◌∷◌, ◌++◌, refl, ap, sym, ◌∙◌, subst, length, get_or, arith}
 use Rattle.std.proofs.Common.{length-append, replicate, Option}
 use Rattle.std.specs.Prelude.{All}
+use Rattle.std.proofs.lemmas.Slice.Zip.{AllZip-long}
 use Rattle.std.specs.List.{AllByRecursion, AllZip}
 use Rattle.std.proofs.lemmas.Grind.{flat_map-append}
 use Rattle.std.proofs.lemmas.List.{append-nil, length-map}
@@ -43,12 +44,6 @@ zip_set R on (x ∷ xs) (y ∷ ys) zero item new zip is more = (on x item new (s
 zip_set R on (x ∷ xs) (y ∷ ys) (suc i) item new zip is more = (zip.0, zip_set R on xs ys i item new zip.1 is more)
 zip_set R on [] (y ∷ ys) i item new zip is more = absurd zip
 zip_set R on (x ∷ xs) [] i item new zip is more = absurd zip
-
-pub zip_long : {A : Type 0} (R : A → A → Type 0) (xs ys : List A) → AllZip R xs ys → length ys ≡ length xs
-zip_long R [] [] zip = refl
-zip_long R (x ∷ xs) (y ∷ ys) zip = ap suc (zip_long R xs ys zip.1)
-zip_long R [] (y ∷ ys) zip = absurd zip
-zip_long R (x ∷ xs) [] zip = absurd zip
 
 -- Where nothing was sent
 
@@ -283,7 +278,7 @@ module _ (old now new : Option (Reading RowText)) (dies slots from line next cou
   long : length taken ≡ length rows
   long = omega (
     arith,
-    zip_long SameBatches senders taken kept,
+    AllZip-long SameBatches senders taken kept,
     s.read.dealt.all,
     length-map senders (λ (sender : BatchSender). rows_in (sent_by sender)),
     read.dealt.all,

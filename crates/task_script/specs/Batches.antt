@@ -1,8 +1,6 @@
 -- Rows of a script that are run on fresh dies, a batch of each die at a time, and how far each die has come.
-use Rattle.std.specs.Prelude.{◌≡◌, ℕ, ◌+◌, ◌-◌, ◌^◌, ◌<◌, ◌≤◌, max, true, List, [], ◌∷◌, All, None, length, map, sum_by}
+use Rattle.std.specs.Prelude.{◌≡◌, ℕ, ◌+◌, ◌-◌, max, true, List, [], ◌∷◌, All, None, length, sum_by}
 use Rattle.std.specs.List.{AllZip}
-use Rattle.atomic_table.specs.Seated.{TableId}
-use Rattle.slot_types.specs.Arrivals.{IsArrival}
 use Rattle.slot_types.specs.declared.plans.DiePlan.{DiePlan}
 use Rattle.flash_die.specs.Memory.{Memory}
 use Rattle.turn_lock.specs.Log.{AllBy}
@@ -16,12 +14,9 @@ use Rattle.die_service.specs.Logs.{log_of}
 use Rattle.die_service.specs.Runs.{AskedEvent, HaveRun}
 use Rattle.die_service.specs.Stores.{DiePass, IsClosedWith}
 use Rattle.report_texts.specs.TextSoFar.{TextSoFar}
-use Rattle.script_texts.specs.RowTexts.{RowText}
 use Rattle.script_texts.specs.declared.script_rows.ScriptItem.{ScriptItem}
 use Rattle.task_script.specs.DieRuns.{MakesCalls, calls_of, fresh_run, run_at}
-use Rattle.task_script.specs.Feeds.{rows_dealt}
 use Rattle.task_script.specs.RowEnds.{arrivals_of, lines_of, ends_from}
-use Rattle.task_script.specs.RowTexts.{AreRead}
 use Rattle.task_script.specs.RunCounts.{count_of, counted_after, rows_in, sum_of_counts}
 use Rattle.task_script.specs.DieTexts.{report_parts}
 use Rattle.task_script.specs.declared.batches.KeptRows.{KeptRows}
@@ -83,33 +78,6 @@ pub record RanRows (until : ℕ) (rows : List (List ScriptItem)) (ps : List DieP
   pub ran : HaveRun true (batches_of until before rows) ps ends qs
   pub whole : All (λ end. end.stop ≡ None) ends
   pub after_is : after ≡ progress_after before (kept_of until before rows) ends
-
--- these rows may be run next on the dies of a store, by so many threads, and so many rows may be counted
-pub record CanRun (store : List TableId) (ps : List DiePass) (progress : List Progress) (rows : List (List ScriptItem)) (workers : ℕ)
-    : Type 0 where
-  pub own : map (λ (p : DiePass). p.lock) ps ≡ store
-  pub dealt : length rows ≡ length store
-  pub far : length progress ≡ length store
-  pub arrive : All (All (λ (item : ScriptItem). IsArrival item.event)) rows
-  pub few : rows_counted progress + rows_dealt rows < 2 ^ 64
-  pub threads : (1 ≤ workers) × (workers ≤ 16)
-
--- they were run, each die up to its last row, but not less than up to slot `until`, and counted
-pub record HasRunRows (until : ℕ) (store : List TableId) (ps : List DiePass) (progress : List Progress) (rows : List (List ScriptItem))
-    (qs : List DiePass) (after : List Progress) : Type 0 where
-  pub ran : RanRows until rows ps progress qs after
-  pub counted : rows_counted after ≡ rows_counted progress + rows_dealt rows
-  pub own : map (λ (p : DiePass). p.lock) qs ≡ store
-
--- they were run, and then the rows of these texts, each die up to its last row, but not less than up to slot `until`
-pub record RanLast (until : ℕ) (store : List TableId) (ps : List DiePass) (progress : List Progress) (rows : List (List ScriptItem))
-    (texts : List (List RowText)) (qs : List DiePass) (after : List Progress) : Type 0 where
-  pub passes : List DiePass
-  pub reached : List Progress
-  pub first : HasRunRows 0 store ps progress rows passes reached
-  pub items : List (List ScriptItem)
-  pub read : AreRead texts items
-  pub last : HasRunRows until store passes reached items qs after
 
 -- What is known of a die that ran its rows in batches, from the view of its pass: where no other pass called it, these
 -- rows and the slots before this one are its run, and so are the rows counted.

@@ -19,7 +19,7 @@ until_of (batch ∷ batches) = max batch.until (until_of batches)
 abbrev pub batch_with : ℕ → List RowText → RowBatch
 batch_with until rows = record { rows = rows; until = until }
 
--- a batch may be sent after these: it is of one die and short, they are few, and none of them is the last
+-- a batch may be sent after these: it is of one die and short, they are few, and none of them has an `until`
 pub record MayFollow (before : List RowBatch) (batch : RowBatch) : Type 0 where
   pub one_die : AreOfOneDie batch.rows
   pub short : length batch.rows ≤ 8192

@@ -18,10 +18,10 @@ pub const BATCH_ROWS: u32 = 8_192;
 /// After how many bytes of operations no further row is read before these are sent. No contract depends on it.
 const BATCH_BYTES: usize = 1_048_576;
 
-/// Why no further row is read before those that were read are run.
+/// Why no further row is read before those that were read are sent to their dies.
 #[derive(Clone, Copy, PartialEq, Eq, Debug, Drop)]
 pub enum ReadEnd {
-    /// They are as many as are run at a time.
+    /// They are as many as are sent at a time; or the run of a die was refused.
     More,
     /// The script has no further row.
     Ended,

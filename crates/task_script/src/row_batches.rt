@@ -1,8 +1,6 @@
 //! Batches of the rows of a die, which are sent to where it is run, and the lists in which they stood, which come back.
 
-ghost use Rattle.std.specs.Prelude.{◌≡◌, ◌∷◌, ◌++◌, [], IfOk};
-ghost use Rattle.rtrb.specs.Ring.{IsPair, SameProducer, received, sent};
-ghost use Rattle.slot_types.specs.Refusal.{FailsForMemory};
+ghost use Rattle.std.specs.Prelude.{◌≡◌, ◌∷◌, ◌++◌, []};
 ghost use Rattle.task_script.specs.RowBatches.{IsSameSender, MayFollow, sent_by};
 
 use crate::row_texts::RowTexts;
@@ -25,7 +23,7 @@ pub struct RowBatch {
     pub until: u32,
 }
 
-/// Batches of one die, few enough to be counted, none of which comes after the last.
+/// Batches, each of one die, few enough to be counted, none after one that has an `until`.
 #[derive(Clone, Copy)]
 pub struct InOrder;
 
@@ -49,6 +47,7 @@ impl Protocol<RowTexts> for Emptied {
 #[derive(Drop)]
 pub struct BatchSender {
     pub batches: Producer<RowBatch, Global, InOrder>,
+    /// Lists on their way back.
     pub used: Consumer<RowTexts, Global, Emptied>,
 }
 
@@ -64,8 +63,9 @@ impl BatchSender {
         }
     }
 
-    /// Sends a batch. It waits on this parker until there is room.
-    pub fn send<R: Wait>(&mut self, rt: &R, batch: RowBatch, reader: &Parker)
+    /// Sends a batch. It waits on this parker until there is room: where no other thread runs the die, no more batches may
+    /// be sent than fit before it is run.
+    pub fn send<R: Wait>(&mut self, rt: &R, batch: RowBatch, parker: &Parker)
         requires follows { MayFollow (sent_by self.old) batch }
         ensures sent { sent_by self.new ≡ sent_by self.old ++ batch ∷ [] }
         ensures same { IsSameSender self.old self.new }
@@ -76,7 +76,7 @@ impl BatchSender {
                 Ok(()) => return,
                 Err(PushError::Full(again)) => batch = again,
             }
-            reader.park(rt);
+            parker.park(rt);
         }
         unreachable!()
     }

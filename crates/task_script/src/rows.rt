@@ -1,6 +1,6 @@
 //! The rows of a die, as its run needs them.
 
-ghost use Rattle.std.specs.Prelude.{◌≡◌, ◌∷◌, ◌++◌, [], All, IfOk, OnOk, replicate};
+ghost use Rattle.std.specs.Prelude.{◌≡◌, ◌∷◌, ◌++◌, [], All, OnOk};
 ghost use Rattle.slot_types.specs.Refusal.{FailsForMemory};
 ghost use Rattle.task_script.specs.Batches.{latest_slot};
 ghost use Rattle.task_script.specs.RowEnds.{arrivals_of, lines_of};
@@ -81,16 +81,4 @@ impl DieRows {
     {
         (self.feed, Lines::from_vec(self.lines))
     }
-}
-
-/// By die no row. The only refusal is NoMemory.
-pub fn no_die_rows(alloc: Global, dies: usize) -> Result<Vec<DieRows>, Refusal>
-    ensures ok { IfOk result (λ rows. rows.items ≡ replicate dies []) }
-    ensures refused { FailsForMemory result }
-{
-    let mut rows = Vec::new(alloc);
-    for _ in 0..dies {
-        rows.push(DieRows::new(alloc))?;
-    }
-    Ok(rows)
 }

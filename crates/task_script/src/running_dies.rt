@@ -17,12 +17,13 @@ use slot_types::{DiePlan, Refusal};
 use std::alloc::Global;
 use std::mem;
 use std::sync::Wait;
-use std::thread::Threads;
+use std::thread::{Parker, Threads};
 
 /// A die of a script's run, and where its batches arrive.
 #[derive(Drop)]
 pub struct RunningDie {
     pub batches: Consumer<RowBatch, Global, InOrder>,
+    /// Lists on their way back.
     used: Producer<RowTexts, Global, Emptied>,
     /// The die, or why the run of its batches was refused: a row is at fault, or memory ran out.
     pub die: Result<DieStore, Refusal>,
@@ -76,13 +77,15 @@ impl RunningDie {
         Ok((sender, die))
     }
 
-    /// Runs the batch that was sent next, which has arrived. After a refusal batches are taken and not run.
-    fn run_known<R: Threads + Wait + Sync>(&mut self, rt: &R, alloc: Global)
+    /// Runs the batch that was sent next, which has arrived, once its sender knows of the room. After a refusal batches
+    /// are taken and not run.
+    fn run_known<R: Threads + Wait + Sync>(&mut self, rt: &R, alloc: Global, sender: &Parker)
         requires { 0 < length (known_items self.old.batches) }
         ensures same { IsSameDie self.old self.new }
         ensures taken { TakesKnown self.old self.new }
     {
         let batch = self.batches.pop_known();
+        sender.unpark();
         let die = mem::replace(&mut self.die, Err(Refusal::NoMemory));
         self.die = run_on(rt, alloc, die, &batch);
         let mut rows = batch.rows;
@@ -91,18 +94,25 @@ impl RunningDie {
         let _ = self.used.push(rows);
     }
 
-    /// Runs the batch that was sent next, if one has arrived, and answers whether one has.
-    pub fn run_next<R: Threads + Wait + Sync>(&mut self, rt: &R, alloc: Global) -> bool
+    /// Runs the batch that was sent next, if one has arrived, and answers whether one has. Its sender waits for room on
+    /// this parker.
+    pub fn run_next<R: Threads + Wait + Sync>(
+        &mut self,
+        rt: &R,
+        alloc: Global,
+        sender: &Parker,
+    ) -> bool
         ensures { IsSameDie self.old self.new }
     {
         if self.batches.is_empty() {
             return false;
         }
-        self.run_known(rt, alloc);
+        self.run_known(rt, alloc, sender);
         true
     }
 
-    /// Runs all batches that were sent by this sender and haven't been run yet.
+    /// Runs all batches that were sent by this sender and haven't been run yet. Where a worker ran them there are none,
+    /// which no contract says.
     pub fn run_rest<R: Threads + Wait + Sync>(
         &mut self,
         rt: &R,
@@ -114,8 +124,9 @@ impl RunningDie {
         ensures all { received self.new.batches ≡ sent_by sender.old }
     {
         let left = self.batches.slots_beside(&mut sender.batches);
+        let nobody = Parker::new();
         for _ in 0..left {
-            self.run_known(rt, alloc);
+            self.run_known(rt, alloc, &nobody);
         }
     }
 

@@ -1,6 +1,6 @@
 //! The rows of a script, sent to its dies as they are read.
 
-ghost use Rattle.std.specs.Prelude.{◌≡◌, ◌≤◌, [], All, IfOk, Ok, length, map, replicate};
+ghost use Rattle.std.specs.Prelude.{◌≡◌, ◌≤◌, [], All, IfOk, Ok, length, replicate};
 ghost use Rattle.std.specs.List.{AllZip};
 ghost use Rattle.rtrb.specs.Ring.{received};
 ghost use Rattle.slot_types.specs.Refusal.{FailsForMemory};
@@ -21,7 +21,7 @@ use crate::run_dies::{run_rests, running_dies};
 use crate::running_dies::RunningDie;
 use crate::sent_rows::SentRows;
 use crate::shares::Share;
-use crate::workers::{Reader, Signal, end_all, gather, run_here, share_out, signals};
+use crate::workers::{ReaderSignal, Signal, end_all, gather, run_here, share_out, signals};
 use script_texts::ScriptReader;
 use slot_types::{DiePlan, Refusal};
 use std::alloc::Global;
@@ -31,10 +31,10 @@ use std::sync::atomic::Ordering;
 use std::thread;
 use std::thread::{Parker, Scope, Threads};
 
-/// What became of a script that was read: its reader, its dies with all that was sent to them, and how reading ended.
+/// What became of a script that was read: its reader, its dies, which have run all rows, and how reading ended.
 #[derive(Drop)]
-pub struct SentScript<S> {
-    pub reader: ScriptReader<S>,
+pub struct RanRows<S> {
+    pub script: ScriptReader<S>,
     pub dies: Vec<RunningDie>,
     pub end: ReadEnd,
 }
@@ -58,20 +58,21 @@ fn send_rows<R: Wait>(
     senders: &mut [BatchSender],
     rows: Vec<RowTexts>,
     until: u32,
-    reader: &Parker,
+    parker: &Parker,
 )
     requires follow { MayAllFollow until rows.items senders.old }
     ensures { AreSent until rows.items senders.old senders.new }
 {
     let mut place = 0;
     for own in rows {
-        senders[place].send(rt, RowBatch { rows: own, until }, reader);
+        senders[place].send(rt, RowBatch { rows: own, until }, parker);
         place += 1;
     }
 }
 
 /// Reads the rows of a script, and sends them to its dies, until it ends or is refused, or the run of a die is refused.
-/// Dies that are here are run batch by batch. The only refusal of this call is NoMemory.
+/// Dies that are here are run batch by batch. `More` says that the run of a die was refused. The only refusal of this
+/// call is NoMemory.
 fn send_all<R: Threads + Wait + Sync, S: Read>(
     rt: &R,
     alloc: Global,
@@ -79,7 +80,7 @@ fn send_all<R: Threads + Wait + Sync, S: Read>(
     senders: &mut [BatchSender],
     shares: &mut [Share],
     signals: &[Signal],
-    reader: &Reader,
+    reader: &ReaderSignal,
     slots: u32,
 ) -> Result<ReadEnd, Refusal>
     requires dies { length senders.old ≡ dies_of script.old }
@@ -126,7 +127,7 @@ fn send_by<'s, 'e: 's, R: Threads + Wait + Sync, S: Read + Drop>(
     senders: Vec<BatchSender>,
     dies: Vec<RunningDie>,
     signals: &'e [Signal],
-    reader: &'e Reader,
+    reader: &'e ReaderSignal,
     slots: u32,
 ) -> Result<SentRows<S>, Refusal>
     requires dies { length senders.items ≡ dies_of script }
@@ -174,24 +175,24 @@ pub fn send_script<R: Threads + Wait + Sync, S: Read + Drop>(
     script: ScriptReader<S>,
     slots: u32,
     workers: u32,
-) -> Result<SentScript<S>, Refusal>
+) -> Result<RanRows<S>, Refusal>
     requires dies { length plans.now ≡ dies_of script }
     requires bound { All MeetsBound plans.now }
     ensures ran { IfOk result (λ sent. AllRan plans.now sent.dies.items) }
     ensures rows { IfOk result (λ sent.
         HasReadTexts (script_rows_left S.remaining script)
-        (script_rows_left S.remaining sent.reader) (dies_of script) (slots_of script)
-        (line_of script) (line_of sent.reader) (rows_received sent.dies.items) sent.end) }
+        (script_rows_left S.remaining sent.script) (dies_of script) (slots_of script)
+        (line_of script) (line_of sent.script) (rows_received sent.dies.items) sent.end) }
     ensures last { IfOk result (λ sent. sent.end ≡ Ended →
         All (λ running. until_of (received running.batches) ≡ slots) sent.dies.items) }
     ensures few { IfOk result (λ sent.
         All (λ running. length (received running.batches) ≤ 1000003) sent.dies.items) }
-    ensures failed { IfOk result (λ sent. EndsWithReader (reader_failed sent.reader) sent.end) }
+    ensures failed { IfOk result (λ sent. EndsWithReader (reader_failed sent.script) sent.end) }
     ensures refused { FailsForMemory result }
 {
     let (senders, dies) = running_dies(alloc, plans)?;
     let signals = signals(alloc, if workers == 1 { 0 } else { workers })?;
-    let reader = Reader::new();
+    let reader = ReaderSignal::new();
     let (told, reading) = (signals.as_slice(), &reader);
     let sent = thread::scope(
         thread::scope_env(),
@@ -213,9 +214,5 @@ pub fn send_script<R: Threads + Wait + Sync, S: Read + Drop>(
         end,
     } = sent;
     let dies = run_rests(rt, alloc, dies, senders)?;
-    Ok(SentScript {
-        reader: script,
-        dies,
-        end,
-    })
+    Ok(RanRows { script, dies, end })
 }

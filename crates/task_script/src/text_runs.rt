@@ -1,6 +1,6 @@
 //! Scripts that are run on the dies of a store.
 
-ghost use Rattle.std.specs.Prelude.{◌≡◌, ◌<◌, ◌≤◌, ◌^◌, All, length, map, true, IfOk, IfErr, IsSomeAnd, OnOk};
+ghost use Rattle.std.specs.Prelude.{◌≡◌, ◌<◌, ◌≤◌, ◌^◌, All, length, true, IfOk, IfErr, IsSomeAnd, OnOk};
 ghost use Rattle.script_texts.specs.ScriptLeft.{reader_failed};
 ghost use Rattle.slot_types.specs.Refusal.{FailsForMemory};
 ghost use Rattle.slot_types.specs.declared.refusals.Refusal.TheVariants.{ReadFault};
@@ -19,7 +19,7 @@ use crate::die_texts::parts_of;
 use crate::feeds::ReadEnd;
 use crate::run_counts::RunCount;
 use crate::run_dies::{first_refusal, ran_dies};
-use crate::sending::{SentScript, send_script};
+use crate::sending::{RanRows, send_script};
 use die_service::close;
 use report_texts::{ReportText, write_parts};
 use script_texts::ScriptReader;
@@ -142,7 +142,7 @@ fn run_script<R: Threads + Wait + Sync, S: Read + Drop>(
 {
     let reader = ScriptReader::new(alloc, script, plan, slots)?;
     let sent = send_script(rt, alloc, plan.as_slice(), reader, slots, workers)?;
-    let SentScript { reader, dies, end } = sent;
+    let RanRows { script, dies, end } = sent;
     match first_refusal(dies.as_slice()) {
         Some(refusal) => return Err(RefusedRun::from(refusal)),
         None => {}
@@ -155,7 +155,7 @@ fn run_script<R: Threads + Wait + Sync, S: Read + Drop>(
         }
         ReadEnd::Refused(refusal) => Err(RefusedRun {
             refusal,
-            reader: Some(reader),
+            reader: Some(script),
         }),
         // Reading ends early only where the run of a die was refused.
         ReadEnd::More => Err(RefusedRun::from(Refusal::NoMemory)),
@@ -168,16 +168,17 @@ fn run_script<R: Threads + Wait + Sync, S: Read + Drop>(
 /// no event, and doesn't stop the run; it is counted.
 ///
 /// What is written is proved to be the report read off the exact logs of the accepted rows and the slots, whatever the
-/// number of workers. By one worker no thread is started. By more, each is a thread that has some of the dies for the
-/// whole run: it reads the operations of their rows and runs these, while this thread takes further rows off the script
-/// and sends them; at the end so many make the lines of the report. A thread that can't be started is done without: its
+/// number of workers. By one worker no thread is started. By more, each that has dies is a thread for the whole run: it
+/// reads the operations of their rows and runs these, while this thread takes further rows off the script and sends
+/// them; at the end so many make the lines of the report. A thread that can't be started is done without: its
 /// dies are run by this one. May wait for the workers.
 ///
 /// So is this: on a die whose rows keep its plan, with times that pass their test, no lateness in the report is above
 /// 0, and no row is refused but out of memory, or after one that was.
 ///
 /// Rows are read and run batch by batch, so that the script is never kept whole: what is kept of it are the rows of
-/// four batches. A die is given up once its lines are made.
+/// four batches, in four lists of each die, which keep the memory of the die's largest batch. A die is given up once its
+/// lines are made.
 ///
 /// It ends with the first fault of the script, as [`ScriptReader`](crate::ScriptReader) says it; with `ReadFault`,
 /// where reading the script fails, and only together with the script's reader, whose csv reader has failed; or with

@@ -1,6 +1,6 @@
 //! The workers of a script's run: threads, each of which has dies of its own for the whole run.
 
-ghost use Rattle.std.specs.Prelude.{◌≡◌, IfOk};
+ghost use Rattle.std.specs.Prelude.{IfOk};
 ghost use Rattle.std.specs.List.{AllZip};
 ghost use Rattle.slot_types.specs.Refusal.{FailsForMemory};
 ghost use Rattle.task_script.specs.RunningDies.{IsSameDie};
@@ -17,16 +17,16 @@ use std::thread::{Parker, Scope, Threads};
 
 /// What the workers tell the thread that reads the script.
 #[derive(Drop)]
-pub struct Reader {
+pub struct ReaderSignal {
     /// It waits here for room.
     pub parker: Parker,
     /// Whether the run of a die was refused, so that nothing more needs to be read.
     pub refused: AtomicBool,
 }
 
-impl Reader {
-    pub fn new() -> Reader {
-        Reader {
+impl ReaderSignal {
+    pub fn new() -> ReaderSignal {
+        ReaderSignal {
             parker: Parker::new(),
             refused: AtomicBool::new(false),
         }
@@ -48,12 +48,12 @@ impl Signal {
         }
     }
 
-    /// Batches were sent.
+    /// Tells the worker that batches were sent.
     pub fn wake(&self) {
         self.parker.unpark();
     }
 
-    /// All batches were sent.
+    /// Tells the worker that all batches were sent.
     pub fn end(&self) {
         self.ended.store(true, Ordering::SeqCst);
         self.parker.unpark();
@@ -83,13 +83,13 @@ fn run_arrived<R: Threads + Wait + Sync>(
     rt: &R,
     alloc: Global,
     dies: &mut [RunningDie],
-    reader: &Reader,
+    reader: &ReaderSignal,
 ) -> bool
     ensures { AllZip IsSameDie dies.old dies.new }
 {
     let mut any = false;
     for running in dies.iter_mut() {
-        if running.run_next(rt, alloc) {
+        if running.run_next(rt, alloc, &reader.parker) {
             any = true;
         }
         if running.die.is_err() {
@@ -105,7 +105,7 @@ fn work<R: Threads + Wait + Sync>(
     alloc: Global,
     dies: Vec<RunningDie>,
     signal: &Signal,
-    reader: &Reader,
+    reader: &ReaderSignal,
 ) -> Vec<RunningDie>
     ensures { AllZip IsSameDie dies.items result.items }
 {
@@ -114,12 +114,12 @@ fn work<R: Threads + Wait + Sync>(
         // The end comes after all that was sent, so that the look that follows finds it.
         let ended = signal.ended.load(Ordering::SeqCst);
         if run_arrived(rt, alloc, dies.as_mut_slice(), reader) {
-            reader.parker.unpark();
-        } else if ended {
-            return dies;
-        } else {
-            signal.parker.park(rt);
+            continue;
         }
+        if ended {
+            return dies;
+        }
+        signal.parker.park(rt);
     }
     unreachable!()
 }
@@ -131,7 +131,7 @@ fn start<'s, 'e: 's, R: Threads + Wait + Sync>(
     alloc: Global,
     dies: Vec<RunningDie>,
     signal: &'e Signal,
-    reader: &'e Reader,
+    reader: &'e ReaderSignal,
 ) -> Share
     ensures { IsShareOf dies.items result }
 {
@@ -149,14 +149,14 @@ fn start<'s, 'e: 's, R: Threads + Wait + Sync>(
 }
 
 /// Gives dies to workers, as many to each as dies / workers, rounded up, in their order; where there is no worker, they
-/// stay here. The only refusal is NoMemory: workers that were started then still wait for their end.
+/// stay here. The only refusal is NoMemory. Workers that were started, also then, wait until `end_all` is called.
 pub fn share_out<'s, 'e: 's, R: Threads + Wait + Sync>(
     scope: &Scope<'s, &'e ()>,
     rt: &'e R,
     alloc: Global,
     dies: Vec<RunningDie>,
     signals: &'e [Signal],
-    reader: &'e Reader,
+    reader: &'e ReaderSignal,
 ) -> Result<Vec<Share>, Refusal>
     ensures ok { IfOk result (λ shares. AreSharesOf dies.items shares.items) }
     ensures refused { FailsForMemory result }
@@ -181,7 +181,7 @@ pub fn run_here<R: Threads + Wait + Sync>(
     rt: &R,
     alloc: Global,
     shares: &mut [Share],
-    reader: &Reader,
+    reader: &ReaderSignal,
 )
     ensures { AllZip StaysShare shares.old shares.new }
 {

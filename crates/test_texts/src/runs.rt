@@ -99,6 +99,31 @@ fn a_refused_run_gives_its_reader_back(rt: HostRuntime) -> Result<(), Fail> {
     Ok(())
 }
 
+/// More rows than eight batches hold, of one die and of the other in turn.
+fn many_rows(alloc: Global) -> Result<Vec<u8>, Fail> {
+    let mut text = Vec::from_slice(alloc, b"at,die,task,kind,release,due,ops\n".as_slice())?;
+    for _ in 0..35_000u32 {
+        text.extend_from_slice(b"0,0,0,job,0,2,R3\n0,1,0,job,0,2,R2\n".as_slice())?;
+    }
+    Ok(text)
+}
+
+/// A worker has its dies for the whole run: it waits for their batches, and the reading thread for room.
+#[test]
+fn many_batches_are_run_alike_by_any_workers(rt: HostRuntime) -> Result<(), Fail> {
+    let alloc = rt.alloc();
+    let script = many_rows(alloc)?;
+    let mut wanted = Vec::new(alloc);
+    let count = run(&rt, alloc, script.as_slice(), &mut wanted)?;
+    assert!(rt; count.accepted + count.refused == 70_000);
+    for workers in 2..17 {
+        let mut text = Vec::new(alloc);
+        let again = run_by(&rt, alloc, script.as_slice(), &mut text, workers)?;
+        assert!(rt; again == count && text == wanted, "{workers}");
+    }
+    Ok(())
+}
+
 /// A job whose operations are none, and another after it.
 const WRONG_OPS: &str = "at,die,task,kind,release,due,ops
 0,0,0,job,0,2,X

@@ -1,4 +1,5 @@
 use Rattle.std.proofs.Common.{◌≡◌, ◌++◌, ◌≤◌, ◌∙◌, All, List, Ok, ap, drop, length, subst, sym, take}
+use Rattle.std.proofs.lemmas.Slice.Zip.{AllZip-long}
 use Rattle.std.specs.List.{AllZip}
 use Rattle.die_service.proofs.LastPasses.{written}
 use Rattle.script_texts.specs.ScriptLeft.{dies_of, line_of, script_rows_left, slots_of}
@@ -9,18 +10,17 @@ use Rattle.task_script.specs.Shares.{AreSharesOf, StaysShare}
 use Rattle.task_script.specs.declared.feeds.ReadEnd.{ReadEnd}
 use Rattle.task_script.specs.declared.row_batches.BatchSender.{BatchSender}
 use Rattle.task_script.proofs.RanDies.{shares_stay}
-use Rattle.task_script.proofs.Sent.{zip_long}
 use Rattle.task_script.proofs.sending.send_by.Goals as goal
 
 pub returns-clause-sent : goal.returns-clause-sent
 returns-clause-sent g c =
     let news = c.send_all-end.new.senders in
-    let same : length news ≡ length c.args.senders.items = zip_long IsSameSender c.as_mut_slice.result.now news c.in_ok-end.ensures.same
+    let same : length news ≡ length c.args.senders.items = AllZip-long IsSameSender c.as_mut_slice.result.now news c.in_ok-end.ensures.same
     ∙ ap length c.as_mut_slice.ensures.value in
     let all : news ≡ take c.args.senders.len (news ++ drop (length news) c.args.senders.items)
     = sym (written c.args.senders.len c.args.senders.items news same c.args.senders.ok.0) in
     let shares = c.send_all-end.new.shares in
-    let as_many : length shares ≡ length c.in-Ok.shares.items = zip_long StaysShare c.as_mut_slice-2.result.now shares
+    let as_many : length shares ≡ length c.in-Ok.shares.items = AllZip-long StaysShare c.as_mut_slice-2.result.now shares
     c.in_ok-end.ensures.shares ∙ ap length c.as_mut_slice-2.ensures.value in
     record {
       rows = subst (λ (ss : List BatchSender). HasReadTexts (script_rows_left g.S.Read.remaining c.args.script)

@@ -20,11 +20,11 @@ pub returns-in-Some-clause-refused : goal.returns-in-Some-clause-refused
 returns-in-Some-clause-refused g c =
     let text = g.S.Read.remaining c.args.script in
     let first = script_rows_left g.S.Read.remaining c.in_ok-reader.reader in
-    let new = script_rows_left g.S.Read.remaining c.in_ok-sent.sent.reader in
+    let new = script_rows_left g.S.Read.remaining c.in_ok-sent.sent.script in
     let dies = c.in_ok-sent.sent.dies.items in
     subst (RefusesScript text (length c.args.plan.now) c.args.slots) (sym c.from.ensures)
     (refuses_within text first c.args.plan.now c.args.slots c.in_ok-reader.ensures.script new (line_of c.in_ok-reader.reader)
-    (line_of c.in_ok-sent.sent.reader) (rows_received dies) c.in_ok-sent.sent.end c.in-Some.refusal
+    (line_of c.in_ok-sent.sent.script) (rows_received dies) c.in_ok-sent.sent.end c.in-Some.refusal
     (texts_as first new _ _ _ _ _ _ _ _ c.in_ok-reader.ensures.dies c.in_ok-reader.ensures.slots c.in_ok-sent.ensures.rows)
     (runs_refused c.as_slice.result.now dies c.in-Some.refusal c.in_ok-sent.ensures.ran
     (sym (rw c.as_slice-2.ensures.value at c.first_refusal.ensures) ∙ c.in-Some.is)))
@@ -58,7 +58,7 @@ pub returns-in_ok-whole-in-Ended-clause-ran : goal.returns-in_ok-whole-in-Ended-
 returns-in_ok-whole-in-Ended-clause-ran g c =
     let text = g.S.Read.remaining c.args.script in
     let first = script_rows_left g.S.Read.remaining c.in_ok-reader.reader in
-    let new = script_rows_left g.S.Read.remaining c.in_ok-sent.sent.reader in
+    let new = script_rows_left g.S.Read.remaining c.in_ok-sent.sent.script in
     let dies = c.in_ok-sent.sent.dies.items in
     let all = all_come c.args.slots c.args.plan.now dies c.in_ok-dies-in-Ended.dies.items
     (subst (λ (plans : List DiePlan). AllRan plans dies) c.as_slice.ensures c.in_ok-sent.ensures.ran) c.in_ok-dies-in-Ended.ensures.ok
@@ -66,9 +66,9 @@ returns-in_ok-whole-in-Ended-clause-ran g c =
     (recursion_from_All (λ (r : RunningDie). length (received r.batches) ≤ 1000003) dies c.in_ok-sent.ensures.few) in
     let whole = c.in_ok-whole-in-Ended.whole in
     script_ran text first c.args.plan.now c.args.slots c.in_ok-reader.ensures.script new (line_of c.in_ok-reader.reader)
-    (line_of c.in_ok-sent.sent.reader) dies c.in_ok-dies-in-Ended.dies.items whole.parts.items whole.count
+    (line_of c.in_ok-sent.sent.script) dies c.in_ok-dies-in-Ended.dies.items whole.parts.items whole.count
     (subst (λ (end : ReadEnd). HasReadTexts first new (length c.args.plan.now) c.args.slots (line_of c.in_ok-reader.reader)
-    (line_of c.in_ok-sent.sent.reader) (rows_received dies) end) c.in-Ended.is
+    (line_of c.in_ok-sent.sent.script) (rows_received dies) end) c.in-Ended.is
     (texts_as first new _ _ _ _ _ _ _ _ c.in_ok-reader.ensures.dies c.in_ok-reader.ensures.slots c.in_ok-sent.ensures.rows)) all
     c.in_ok-whole-in-Ended.ensures.closed
 
@@ -76,12 +76,12 @@ pub returns-in-Refused-clause-refused : goal.returns-in-Refused-clause-refused
 returns-in-Refused-clause-refused g c =
     let text = g.S.Read.remaining c.args.script in
     let first = script_rows_left g.S.Read.remaining c.in_ok-reader.reader in
-    let new = script_rows_left g.S.Read.remaining c.in_ok-sent.sent.reader in
+    let new = script_rows_left g.S.Read.remaining c.in_ok-sent.sent.script in
     let dies = c.in_ok-sent.sent.dies.items in
     refuses_after text first c.args.plan.now c.args.slots c.in_ok-reader.ensures.script new (line_of c.in_ok-reader.reader)
-    (line_of c.in_ok-sent.sent.reader) (rows_received dies) c.in-Refused.refusal
+    (line_of c.in_ok-sent.sent.script) (rows_received dies) c.in-Refused.refusal
     (subst (λ (end : ReadEnd). HasReadTexts first new (length c.args.plan.now) c.args.slots (line_of c.in_ok-reader.reader)
-    (line_of c.in_ok-sent.sent.reader) (rows_received dies) end) c.in-Refused.is
+    (line_of c.in_ok-sent.sent.script) (rows_received dies) end) c.in-Refused.is
     (texts_as first new _ _ _ _ _ _ _ _ c.in_ok-reader.ensures.dies c.in_ok-reader.ensures.slots c.in_ok-sent.ensures.rows))
     (runs_read c.as_slice.result.now dies c.in_ok-sent.ensures.ran
     (sym (rw c.as_slice-2.ensures.value at c.first_refusal.ensures) ∙ c.in-None.is))
