@@ -115,7 +115,7 @@ fn many_batches_are_run_alike_by_any_workers(rt: HostRuntime) -> Result<(), Fail
     let script = many_rows(alloc)?;
     let mut wanted = Vec::new(alloc);
     let count = run(&rt, alloc, script.as_slice(), &mut wanted)?;
-    assert!(rt; count.accepted + count.refused == 70_000);
+    assert!(rt; count.accepted.checked_add(count.refused) == Some(70_000));
     for workers in 2..17 {
         let mut text = Vec::new(alloc);
         let again = run_by(&rt, alloc, script.as_slice(), &mut text, workers)?;
