@@ -210,14 +210,15 @@ impl EventLog {
         self.waives = !waived.is_empty();
     }
 
-    /// As `push_reserved` of an idle slot, and quicker where that goes on with the newest record.
+    /// As `push_reserved` of an idle slot, and quicker where that goes on with the newest record: then it takes none of
+    /// the room, so that idle slots in a row needn't ask for it.
     pub fn push_idle(&mut self, caller: u32, waived: &[Waived])
         requires room { 0 < self.old.room }
         requires waiver_room { length waived.now ≤ self.old.waiver_room }
         requires few { length self.old.notes + 1 < 2 ^ 32 }
         ensures events { self.new.notes
             ≡ record { caller = caller; deed = Deed.Idle; waived = waived.now } ∷ self.old.notes }
-        ensures room { self.old.room ≡ self.new.room + 1 }
+        ensures room { self.old.room ≤ self.new.room + 1 }
         ensures waiver_room { self.old.waiver_room ≡ self.new.waiver_room + length waived.now }
         ensures marked { self.new.marked ≡ self.old.marked }
     {
@@ -225,7 +226,6 @@ impl EventLog {
             self.deeds.push_reserved(Deed::Idle, true);
             self.callers.push_reserved(caller, true);
             self.len += 1;
-            self.room -= 1;
         } else {
             self.push_reserved(caller, Deed::Idle, waived);
         }

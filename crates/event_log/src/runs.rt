@@ -137,6 +137,7 @@ impl<T: Copy> Runs<T> {
         ensures kept { self.new.kept ≡ new_records is_like_last + self.old.kept }
         ensures marked { self.new.marked ≡ self.old.marked }
         ensures room { self.old.room ≤ self.new.room + 1 }
+        ensures room_stays { is_like_last ≡ true → self.new.room ≡ self.old.room }
     {
         if is_like_last {
             let last = self.runs.len() - 1;

@@ -1,4 +1,4 @@
-use Rattle.std.proofs.Common.{◌+◌, ◌∷◌, [], ap, sym, ◌∙◌, length, arith, length-append}
+use Rattle.std.proofs.Common.{◌+◌, ◌∷◌, [], ap, sym, refl, ◌∙◌, length, arith, length-append}
 use Rattle.event_log.specs.declared.deeds.Deed.TheVariants.{Idle}
 use Rattle.event_log.specs.Notes.{Events}
 use Rattle.event_log.specs.SoundLog.{notes_in}
@@ -111,8 +111,8 @@ invariant_of-self c =
             (c.self.invariant.0.waives_is ∙ newest.quiet);
       },
       record {
-        deeds = omega (arith, c.self.invariant.1.deeds, c.push_reserved.ensures.room);
-        callers = omega (arith, c.self.invariant.1.callers, c.push_reserved-then-goes_on.ensures.room);
+        deeds = omega (arith, c.self.invariant.1.deeds, c.push_reserved.ensures.room_stays refl);
+        callers = omega (arith, c.self.invariant.1.callers, c.push_reserved-then-goes_on.ensures.room_stays refl);
         waivers_fit = c.self.invariant.1.waivers_fit;
       },
       rw (c.push_reserved.ensures.items, c.push_reserved.ensures.marked, c.push_reserved-then-goes_on.ensures.marked)
