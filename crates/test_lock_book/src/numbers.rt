@@ -2,7 +2,7 @@ ghost use Rattle.std.specs.Prelude.{◌≡◌, []};
 
 use std::alloc::Global;
 use std::marker::Model;
-use turn_lock::{Book, Entry};
+use turn_lock::{Book, Entry, NotingBook};
 
 /// The most entries of a book.
 const MOST: usize = 4_294_967_295;
@@ -109,5 +109,20 @@ impl Book for Numbers {
 
     fn len(&self) -> u64 {
         self.entries.len() as u64
+    }
+}
+
+/// A number needs no parts, and a note of a reply is the reply.
+impl NotingBook<()> for Numbers {
+    type Note = NumberReply;
+
+    type Head = u64;
+
+    ghost noted = { λ reply. reply };
+
+    ghost whole = { λ number _. number };
+
+    fn note(&mut self, caller: u32, head: u64, _parts: &()) -> NumberReply {
+        self.apply(caller, head)
     }
 }

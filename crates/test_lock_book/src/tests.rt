@@ -1,4 +1,4 @@
-ghost use Rattle.std.specs.Prelude.{◌≡◌, [], ◌∷◌, ◌++◌, if◌then◌else◌, IfOk};
+ghost use Rattle.std.specs.Prelude.{◌≡◌, ◌<◌, [], ◌∷◌, ◌++◌, if◌then◌else◌, IfOk};
 ghost use Rattle.turn_lock.specs.Log.{entry, calls_by};
 ghost use Rattle.turn_lock.specs.Views.{IsSamePass};
 ghost use Rattle.test_lock_book.specs.Numbers.{is_added};
@@ -10,7 +10,7 @@ use std::env::Env;
 use std::sync::Wait;
 use std::test::Fail;
 use std::thread;
-use turn_lock::{Pass, Turned};
+use turn_lock::{Pass, Turn, Turned};
 
 // Applies 1 to `count`, each with a 0 after it, and says whether each was added and each 0 refused.
 fn count_up<R: Wait>(
@@ -138,6 +138,101 @@ fn passes_are_made_up_to_their_limit(rt: HostRuntime) -> Result<(), Fail> {
         panic!(rt; "closed with passes out")
     };
     assert_eq!(rt; kept.refusal, Refusal::PassesOut { out: 32768 });
+    Ok(())
+}
+
+// Notes 1 to `count`, and after each that `slots` divides gives up the turn, and says whether each was added.
+fn note_up<R: Wait>(
+    rt: &R,
+    lock: &Turned<Numbers>,
+    pass: Pass<Numbers>,
+    count: u64,
+    slots: u64,
+) -> (Pass<Numbers>, bool)
+    requires lock { pass.lock ≡ lock.now }
+    requires slots { 0 < slots }
+    ensures { result.0.lock ≡ lock.now }
+{
+    let mut turn = Turn::new(lock, pass);
+    let mut right = true;
+    for below in 0..count {
+        let number = below + 1;
+        right = right && turn.note(rt, number, &()) == NumberReply::Added;
+        if number % slots == 0 {
+            turn.give_up();
+        }
+    }
+    (turn.into_pass(), right)
+}
+
+#[test]
+fn a_turn_is_kept_until_it_is_given_up(rt: HostRuntime) -> Result<(), Fail> {
+    let (lock, mut first) = Turned::new(rt.alloc(), Numbers::new(rt.alloc()))?;
+    let mut second = lock.split_pass(&rt, &mut first)?;
+    let mut turn = Turn::new(&lock, first);
+    assert_eq!(rt; turn.number(), 0);
+    assert_eq!(rt; turn.look(), 0);
+    assert!(rt; turn.note(&rt, 5, &()) == NumberReply::Added);
+    assert!(rt; turn.note(&rt, 0, &()) == NumberReply::Zero);
+    assert!(rt; turn.note(&rt, 6, &()) == NumberReply::Added);
+    // The turn is kept: this pass has seen its own entries, and another one none.
+    assert_eq!(rt; turn.look(), 2);
+    assert_eq!(rt; lock.look(&mut second), 0);
+    turn.give_up();
+    turn.give_up();
+    assert_eq!(rt; lock.look(&mut second), 2);
+    assert!(rt; lock.apply(&rt, &mut second, 7) == NumberReply::Added);
+    assert_eq!(rt; turn.look(), 3);
+    assert!(rt; turn.note(&rt, 8, &()) == NumberReply::Added);
+    // It is given up with the pass.
+    let mut first = turn.into_pass();
+    assert!(rt; lock.apply(&rt, &mut second, 9) == NumberReply::Added);
+    lock.join_pass(&mut first, second);
+    let Ok(book) = lock.close(&rt, first) else {
+        panic!(rt; "a pass is out")
+    };
+    let mut wanted = 5;
+    for entry in book.entries() {
+        assert_eq!(rt; entry.event, wanted);
+        assert_eq!(rt;
+            entry.caller,
+            if wanted == 7 || wanted == 9 { 1 } else { 0 }
+        );
+        wanted = entry.event.wrapping_add(1);
+    }
+    assert_eq!(rt; wanted, 10);
+    Ok(())
+}
+
+#[test]
+fn two_threads_keep_the_turn_in_turn(rt: HostRuntime) -> Result<(), Fail> {
+    let (lock, mut first) = Turned::new(rt.alloc(), Numbers::new(rt.alloc()))?;
+    let second = lock.split_pass(&rt, &mut first)?;
+    let lock_ref = &lock;
+    let ((mut first, first_right), (second, second_right)) = thread::join(
+        &rt,
+        || -> (Pass<Numbers>, bool)
+            requires { first.lock ≡ lock_ref.now }
+            ensures { result.0.lock ≡ lock_ref.entry.now }
+        { note_up(&rt, lock_ref, first, 1000, 7) },
+        || -> (Pass<Numbers>, bool)
+            requires { second.lock ≡ lock_ref.now }
+            ensures { result.0.lock ≡ lock_ref.entry.now }
+        { note_up(&rt, lock_ref, second, 1000, 300) },
+    );
+    assert!(rt; first_right && second_right);
+    lock.join_pass(&mut first, second);
+    let Ok(book) = lock.close(&rt, first) else {
+        panic!(rt; "a pass is out")
+    };
+    let mut last = [0u64, 0u64];
+    for entry in book.entries() {
+        let caller = entry.caller as usize;
+        assert!(rt; caller < 2);
+        assert_eq!(rt; entry.event, last[caller].wrapping_add(1));
+        last[caller] = entry.event;
+    }
+    assert_eq!(rt; last, [1000, 1000]);
     Ok(())
 }
 

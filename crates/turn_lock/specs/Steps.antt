@@ -1,5 +1,6 @@
 -- What each kind of step tells the pass that makes it.
-use Rattle.std.specs.Prelude.{◌≡◌, ◌≢◌, ℕ, ◌+◌, ◌*◌, ◌<◌, ◌≤◌, true, false, ◌==◌, List, [], ◌∷◌, ◌++◌, length, Option, Some, None}
+use Rattle.std.specs.Prelude.{◌≡◌, ◌≢◌, ℕ, ◌+◌, ◌*◌, ◌<◌, ◌≤◌, true, false, ◌==◌}
+use Rattle.std.specs.Prelude.{List, [], ◌∷◌, ◌++◌, length, Option, Some, None}
 use Rattle.atomic_table.specs.declared.shared.Seat.{Seat}
 use Rattle.atomic_table.specs.Seated.{TableId}
 use Rattle.atomic_table.specs.Table.{Me, Step}
@@ -26,9 +27,9 @@ module _ {E R : Type 0} where
   OnlyBy n es = (p : ℕ) → ¬ (p ≡ n) → calls_by p es ≡ []
 
 module _ {E R A : Type 0} where
-  -- these are the entries that the pass has seen, or these and one more of its own
-  abbrev pub AddsOneAtMost : View E R A → List (Entry E R) → Type 0
-  AddsOneAtMost v es = (more : List (Entry E R)) × (es ≡ v.seen ++ more) × (length more ≤ 1) × OnlyBy v.number more
+  -- these are the entries that the pass has seen, and then none but its own
+  abbrev pub AddsOwn : View E R A → List (Entry E R) → Type 0
+  AddsOwn v es = (more : List (Entry E R)) × (es ≡ v.seen ++ more) × OnlyBy v.number more
 
   -- a look that shows, after a join, that the longer of what both had seen is the shorter and then nothing by the pass
   -- that had seen that, and that no number stands twice; what the pass has seen fits

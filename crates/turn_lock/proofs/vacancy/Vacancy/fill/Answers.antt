@@ -15,7 +15,7 @@ release-free_word-requires-clause-held g c =
 pub release-free_word-requires-clause-more : goal.release-free_word-requires-clause-more
 release-free_word-requires-clause-more g c =
     let made = c.load.ensures.2 c.self.invariant.3.0 c.self.invariant.3.1 in
-    ([], c.requires.empty ∙ ap (λ l. l ++ []) (sym (ap (λ v. v.seen) made.1)), omega arith, λ p _. refl)
+    ([], c.requires.empty ∙ ap (λ l. l ++ []) (sym (ap (λ v. v.seen) made.1)), λ p _. refl)
 
 pub release-free_word-requires-clause-made : goal.release-free_word-requires-clause-made
 release-free_word-requires-clause-made g c =
