@@ -7,7 +7,6 @@ ghost use Rattle.slot_core.specs.Outcomes.{worst_of};
 ghost use Rattle.turn_lock.specs.Log.{calls_by};
 ghost use Rattle.turn_lock.specs.Views.{IsLive, IsSamePass};
 ghost use Rattle.turn_lock.specs.Passes.{Parts, IsFull, IsJoined, IsOut};
-ghost use Rattle.slot_core.specs.Events.{with_ops, reply_of_note};
 ghost use Rattle.die_service.specs.Replies.{HasExactLog};
 ghost use Rattle.die_service.specs.Answers.{SaysOutcome, SaysCertificate};
 ghost use Rattle.die_service.specs.Passes.{HasGrown, AddsEntry, AddsNone, Sees, IsTakenReply, IsSlotReply};
@@ -17,8 +16,8 @@ use crate::queries::{Answer, Query};
 use crate::refused::RefusedAt;
 use flash_die::Nand;
 use late_cert::Certificate;
-use slot_core::{EventHead, Outcome, ReplyNote, SlotNote, Worst};
-use slot_types::{Event, JobNo, LentOps, OpList, Refusal, Reply, SlotReply, TaskNo};
+use slot_core::{Outcome, Worst};
+use slot_types::{Event, JobNo, OpList, Refusal, Reply, SlotReply, TaskNo};
 use std::marker::Model;
 use std::sync::Wait;
 use turn_lock::{Pass, Turned};
@@ -62,17 +61,6 @@ fn slot_reply(reply: Reply) -> SlotReply
     }
 }
 
-/// The note of a slot.
-fn slot_note(note: ReplyNote) -> SlotNote
-    requires { IsSlotReply (reply_of_note note) }
-    ensures { reply_of_note note ≡ Reply.Slot result }
-{
-    match note {
-        ReplyNote::Slot(slot) => slot,
-        _ => unreachable!(),
-    }
-}
-
 impl<N: Nand> Die<N> {
     /// Carries out an event for the pass.
     pub(crate) fn apply<R: Wait>(
@@ -89,25 +77,6 @@ impl<N: Nand> Die<N> {
             AddsNone N.never_fails pass.old.view event refused pass.new.view) }
     {
         self.turned.apply(rt, pass, event)
-    }
-
-    /// Carries out an event, whose operations are lent, for the pass, and hands back no more than a note of the reply.
-    pub(crate) fn note<R: Wait>(
-        &self,
-        rt: &R,
-        pass: &mut DiePass<N>,
-        head: EventHead,
-        ops: &LentOps,
-    ) -> Result<ReplyNote, RefusedAt>
-        requires { pass.old.lock ≡ self.now }
-        ensures same { IsSamePass pass.old pass.new }
-        ensures accepted { IfOk result (λ note. IsAccepted (reply_of_note note)) }
-        ensures added { IfOk result (λ note.
-            AddsEntry pass.old.view (with_ops head ops.now) (reply_of_note note) pass.new.view) }
-        ensures refused { IfErr result (λ refused.
-            AddsNone N.never_fails pass.old.view (with_ops head ops.now) refused pass.new.view) }
-    {
-        self.turned.note(rt, pass, head, ops)
     }
 
     /// Accepts a job of the task, to run from slot `release` on, with the deadline `due`, and answers its number. May
@@ -193,25 +162,6 @@ impl<N: Nand> Die<N> {
     {
         match self.apply(rt, pass, Event::Slot) {
             Ok(reply) => Ok(slot_reply(reply)),
-            Err(refused) => Err(refused),
-        }
-    }
-
-    /// As `slot`, and hands back no more than the slot's number.
-    pub(crate) fn note_slot<R: Wait>(
-        &self,
-        rt: &R,
-        pass: &mut DiePass<N>,
-    ) -> Result<SlotNote, RefusedAt>
-        requires { pass.old.lock ≡ self.now }
-        ensures same { IsSamePass pass.old pass.new }
-        ensures answered { IfOk result (λ reply.
-            AddsEntry pass.old.view Event.Slot (Reply.Slot reply) pass.new.view) }
-        ensures refused { IfErr result (λ refused.
-            AddsNone N.never_fails pass.old.view Event.Slot refused pass.new.view) }
-    {
-        match self.note(rt, pass, EventHead::Slot, &LentOps::none()) {
-            Ok(note) => Ok(slot_note(note)),
             Err(refused) => Err(refused),
         }
     }

@@ -8,17 +8,21 @@ use crate::courses::Course;
 use crate::die::{Die, DiePass};
 use crate::ends::DieEnd;
 use crate::refused::RefusedAt;
+use crate::turns::DieTurn;
 use crate::work::Work;
 use flash_die::Nand;
 use std::alloc::Global;
 use std::marker::Model;
 use std::sync::Wait;
 
+/// For how many slots a worker keeps its die's turn where its hooks are free: a step of the lock then costs little, and
+/// who else waits for the turn waits for some microseconds.
+const SLOTS_A_TURN: u32 = 256;
+
 /// A die, a pass of it, and what it is still to be asked.
 #[derive(Drop)]
 pub(crate) struct Driver<'a, N: Nand> {
-    die: &'a Die<N>,
-    pass: DiePass<N>,
+    turn: DieTurn<'a, N>,
     course: Course,
     // How many slots were carried out.
     slots: u32,
@@ -27,14 +31,11 @@ pub(crate) struct Driver<'a, N: Nand> {
 }
 
 impl<'a, N: Nand> Model for Driver<'a, N> {
-    ghost use Rattle.std.specs.Prelude.{◌≡◌};
     ghost use Rattle.die_service.specs.Drives as drives;
 
     ghost Value = { drives.WorkerState };
 
-    ghost view = { λ d. record { pass = d.pass; course = d.course; slots = d.slots; stop = d.stop } };
-
-    ghost invariant = { λ d. d.pass.lock ≡ d.die.now };
+    ghost view = { λ d. record { pass = d.turn; course = d.course; slots = d.slots; stop = d.stop } };
 }
 
 impl<'a, N: Nand> Driver<'a, N> {
@@ -44,8 +45,7 @@ impl<'a, N: Nand> Driver<'a, N> {
         ensures { result ≡ first_state pass course }
     {
         Driver {
-            die,
-            pass,
+            turn: DieTurn::new(die, pass),
             course,
             slots: 0,
             stop: None,
@@ -58,8 +58,7 @@ impl<'a, N: Nand> Driver<'a, N> {
         ensures pass { result.1 ≡ self.entry.pass }
     {
         let Driver {
-            die: _,
-            pass,
+            turn,
             course,
             slots,
             stop,
@@ -69,7 +68,7 @@ impl<'a, N: Nand> Driver<'a, N> {
             refused: course.into_refused(),
             stop,
         };
-        (end, pass)
+        (end, turn.into_pass())
     }
 
     /// Sees what the die has done.
@@ -80,8 +79,7 @@ impl<'a, N: Nand> Driver<'a, N> {
         ensures slots { self.new.slots ≡ self.old.slots }
         ensures stop { self.new.stop ≡ self.old.stop }
     {
-        let die = self.die;
-        die.look(&mut self.pass);
+        self.turn.look();
     }
 
     /// Asks for the next event, if it comes by this slot, and says whether it did.
@@ -94,8 +92,7 @@ impl<'a, N: Nand> Driver<'a, N> {
         let Some(head) = self.course.next_due(clock) else {
             return false;
         };
-        let die = self.die;
-        match work.event(rt, die, &mut self.pass, head, &self.course.ops()) {
+        match work.event(rt, &mut self.turn, head, &self.course.ops()) {
             Ok(_) => {}
             Err(refused) => self.course.note(refused),
         }
@@ -119,8 +116,7 @@ impl<'a, N: Nand> Driver<'a, N> {
         ensures stopped { IfNone result (
             WorksStop N.never_fails W.does self.old work.old self.new work.new) }
     {
-        let die = self.die;
-        match work.slot(rt, die, &mut self.pass) {
+        match work.slot(rt, &mut self.turn) {
             Ok(note) => {
                 self.slots = self.slots + 1;
                 Some(note.slot())
@@ -132,8 +128,17 @@ impl<'a, N: Nand> Driver<'a, N> {
         }
     }
 
-    /// Asks for the slots of its batch, and before each for the events that come by it. Then the feed is freed, so that
-    /// the dies that run later find its memory.
+    /// Lets other passes have the die's turn: before each hook that isn't free, and else once in so many slots.
+    fn pause<W: Work>(&mut self, work: &W, done: u32)
+        ensures { self.new ≡ self.old }
+    {
+        if !work.keeps_turn() || done % SLOTS_A_TURN == 0 {
+            self.turn.give_up();
+        }
+    }
+
+    /// Asks for the slots of its batch, and before each for the events that come by it. Then the turn is given up, and
+    /// the feed freed, so that the dies that run later find its memory.
     pub(crate) fn run<W: Work, R: Wait>(&mut self, rt: &R, alloc: Global, work: &mut W, number: u32)
         requires { IsFirstState self.old }
         ensures ran { WorksOff N.never_fails W.does number (self.old, work.old)
@@ -141,6 +146,7 @@ impl<'a, N: Nand> Driver<'a, N> {
         ensures gone { self.new.course.rest ≡ [] }
     {
         self.drive(rt, work, number);
+        self.turn.give_up();
         self.course.end(alloc);
     }
 
@@ -151,17 +157,19 @@ impl<'a, N: Nand> Driver<'a, N> {
             (self.new, work.new) }
     {
         // It says that the pass is live.
-        let _ = self.pass.number();
+        let _ = self.turn.number();
         let slots = self.course.slots();
         let from = self.course.from();
         self.look();
         let mut clock = from;
-        for _done in 0..slots {
+        for done in 0..slots {
             self.bring_due(rt, work, clock);
+            self.pause(work, done);
             work.before(number, clock);
             let Some(slot) = self.take_slot(rt, work) else {
                 return;
             };
+            self.pause(work, done);
             work.after(number, slot);
             clock = slot + 1;
         }

@@ -34,6 +34,7 @@ pub mod refused;
 pub mod renewing;
 pub mod runs;
 pub mod store;
+mod turns;
 mod work;
 mod workers;
 

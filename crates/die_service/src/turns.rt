@@ -1,0 +1,123 @@
+//! A die as a worker calls it.
+
+ghost use Rattle.std.specs.Prelude.{◌≡◌, length, IfOk, IfErr};
+ghost use Rattle.die_log.specs.Model.Answers.{IsAccepted};
+ghost use Rattle.turn_lock.specs.Log.{calls_by};
+ghost use Rattle.turn_lock.specs.Views.{IsLive, IsSamePass, SeesFitting};
+ghost use Rattle.slot_core.specs.Events.{with_ops, reply_of_note};
+ghost use Rattle.die_service.specs.Passes.{HasGrown, AddsEntry, AddsNone, IsSlotReply};
+ghost use Rattle.die_service.specs.Replies.{HasExactLog};
+
+use crate::book::DieBook;
+use crate::die::{Die, DiePass};
+use crate::refused::RefusedAt;
+use flash_die::Nand;
+use slot_core::{EventHead, ReplyNote, SlotNote};
+use slot_types::{Event, LentOps, Reply};
+use std::marker::Model;
+use std::sync::Wait;
+use turn_lock::Turn;
+
+/// A pass of a die, which keeps the die's turn from one call to the next, until it gives it up. Contracts see the pass.
+#[derive(Drop)]
+pub(crate) struct DieTurn<'a, N: Nand> {
+    turn: Turn<'a, DieBook<N>>,
+}
+
+impl<'a, N: Nand> Model for DieTurn<'a, N> {
+    ghost use Rattle.die_service.specs.Stores.{DiePass};
+
+    ghost Value = { DiePass };
+
+    ghost view = { λ t. t.turn };
+}
+
+/// The note of a slot.
+fn slot_note(note: ReplyNote) -> SlotNote
+    requires { IsSlotReply (reply_of_note note) }
+    ensures { reply_of_note note ≡ Reply.Slot result }
+{
+    match note {
+        ReplyNote::Slot(slot) => slot,
+        _ => unreachable!(),
+    }
+}
+
+impl<'a, N: Nand> DieTurn<'a, N> {
+    /// A pass of the die, which doesn't have the turn yet.
+    pub(crate) fn new(die: &'a Die<N>, pass: DiePass<N>) -> DieTurn<'a, N>
+        requires { pass.lock ≡ die.now }
+        ensures { result ≡ pass }
+    {
+        DieTurn {
+            turn: Turn::new(&die.turned, pass),
+        }
+    }
+
+    /// The pass, without the turn.
+    pub(crate) fn into_pass(self) -> DiePass<N>
+        ensures { result ≡ self.entry }
+    {
+        self.turn.into_pass()
+    }
+
+    /// The number of the pass, which is live, and has seen an exact log.
+    pub(crate) fn number(&self) -> u32
+        ensures number { result ≡ self.now.view.number }
+        ensures live { IsLive self.now.view }
+        ensures fits { SeesFitting HasExactLog self.now.view }
+    {
+        self.turn.number()
+    }
+
+    /// Lets other passes have the turn, if it is kept.
+    pub(crate) fn give_up(&mut self)
+        ensures { self.new ≡ self.old }
+    {
+        self.turn.give_up();
+    }
+
+    /// How many entries the die's log has: this pass has then seen them all.
+    pub(crate) fn look(&mut self) -> u64
+        ensures same { IsSamePass self.old self.new }
+        ensures grown { HasGrown self.old.view self.new.view }
+        ensures length { result ≡ length self.new.view.seen }
+        ensures own { calls_by self.old.view.number self.new.view.seen
+            ≡ calls_by self.old.view.number self.old.view.seen }
+    {
+        self.turn.look()
+    }
+
+    /// Carries out an event, whose operations are lent, and hands back no more than a note of the reply. May wait for the
+    /// turn, which it keeps.
+    pub(crate) fn note<R: Wait>(
+        &mut self,
+        rt: &R,
+        head: EventHead,
+        ops: &LentOps,
+    ) -> Result<ReplyNote, RefusedAt>
+        ensures same { IsSamePass self.old self.new }
+        ensures accepted { IfOk result (λ note. IsAccepted (reply_of_note note)) }
+        ensures added { IfOk result (λ note.
+            AddsEntry self.old.view (with_ops head ops.now) (reply_of_note note) self.new.view) }
+        ensures refused { IfErr result (λ refused.
+            AddsNone N.never_fails self.old.view (with_ops head ops.now) refused self.new.view) }
+    {
+        self.turn.note(rt, head, ops)
+    }
+
+    /// Carries out the present slot, as `Die::slot`, and hands back no more than its number. May wait for the turn, which
+    /// it keeps.
+    pub(crate) fn note_slot<R: Wait>(&mut self, rt: &R) -> Result<SlotNote, RefusedAt>
+        ensures same { IsSamePass self.old self.new }
+        ensures answered { IfOk result (λ reply.
+            AddsEntry self.old.view Event.Slot (Reply.Slot reply) self.new.view) }
+        ensures refused { IfErr result (λ refused.
+            AddsNone N.never_fails self.old.view Event.Slot refused self.new.view) }
+    {
+        match self.note(rt, EventHead::Slot, &LentOps::none()) {
+            Ok(note) => Ok(slot_note(note)),
+            Err(refused) => Err(refused),
+        }
+    }
+}
