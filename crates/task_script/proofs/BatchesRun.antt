@@ -12,7 +12,7 @@ use Rattle.script_texts.specs.declared.script_rows.ScriptItem.{ScriptItem}
 use Rattle.task_script.specs.Batches.{HaveComeTo, rows_counted}
 use Rattle.task_script.specs.DieBatches.{RunsBatches, RunsOn}
 use Rattle.task_script.specs.DieStores.{HasCome, HasRunOn}
-use Rattle.task_script.specs.RowBatches.{rows_in, until_of}
+use Rattle.task_script.specs.RowBatches.{rows_of_batches, until_of}
 use Rattle.task_script.specs.RowTexts.{read_of}
 use Rattle.task_script.specs.declared.die_stores.DieStore.{DieStore}
 use Rattle.task_script.specs.declared.row_batches.RowBatch.{RowBatch}
@@ -40,9 +40,9 @@ come_on plan until rows old new items more come is r =
     are (suc k) below = absurd (omega (arith, below))
 
 -- what the rows say, with those of one batch more
-read_on : (before : List RowBatch) (batch : RowBatch) (items : List ScriptItem) → read_of (rows_in before) ≡ Ok items
-    → read_of (rows_in (before ++ batch ∷ [])) ≡ with_items items (read_of batch.rows)
-read_on before batch items read = ap read_of (rows_more before batch) ∙ read_then (rows_in before) items read batch.rows None
+read_on : (before : List RowBatch) (batch : RowBatch) (items : List ScriptItem) → read_of (rows_of_batches before) ≡ Ok items
+    → read_of (rows_of_batches (before ++ batch ∷ [])) ≡ with_items items (read_of batch.rows)
+read_on before batch items read = ap read_of (rows_more before batch) ∙ read_then (rows_of_batches before) items read batch.rows None
 
 pub runs_on : (plan : DiePlan) (before : List RowBatch) (batch : RowBatch) (old new : Result DieStore Refusal) → until_of before ≡ 0
     → RunsOn old batch new → RunsBatches plan before old → RunsBatches plan (before ++ batch ∷ []) new
@@ -56,9 +56,9 @@ runs_on plan before batch (Ok old) (Err e) none (inl memory) runs = inl memory
 runs_on plan before batch (Ok old) (Err e) none (inr is) (items, read, come) = inr (read_on before batch items read ∙ ap (with_items items) is)
 runs_on plan before batch (Err e) new none same runs = subst (RunsBatches plan (before ++ batch ∷ [])) (sym same) (by runs)
   where
-    by : (e ≡ NoMemory) ⊎ (read_of (rows_in before) ≡ Err e) → (e ≡ NoMemory) ⊎ (read_of (rows_in (before ++ batch ∷ [])) ≡ Err e)
+    by : (e ≡ NoMemory) ⊎ (read_of (rows_of_batches before) ≡ Err e) → (e ≡ NoMemory) ⊎ (read_of (rows_of_batches (before ++ batch ∷ [])) ≡ Err e)
     by (inl memory) = inl memory
-    by (inr is) = inr (ap read_of (rows_more before batch) ∙ fault_then (rows_in before) e is batch.rows None)
+    by (inr is) = inr (ap read_of (rows_more before batch) ∙ fault_then (rows_of_batches before) e is batch.rows None)
 
 -- How many rows are counted
 

@@ -11,7 +11,7 @@ use Rattle.rtrb.specs.Ring.{received}
 use Rattle.script_texts.specs.Script.{Script}
 use Rattle.script_texts.specs.declared.script_rows.ScriptItem.{ScriptItem}
 use Rattle.task_script.specs.DieBatches.{RunsBatches}
-use Rattle.task_script.specs.RowBatches.{rows_in}
+use Rattle.task_script.specs.RowBatches.{rows_of_batches}
 use Rattle.task_script.specs.RowTexts.{AreRead, FailsToRead, order_of, read_of}
 use Rattle.task_script.specs.RunningDies.{AllRan, rows_received, with_die, with_dies}
 use Rattle.task_script.specs.declared.die_stores.DieStore.{DieStore}
@@ -150,7 +150,7 @@ Reads (Ok none) said = (items : List ScriptItem) × (said ≡ Ok items)
 Reads (Err e) said = (e ≡ NoMemory) ⊎ (said ≡ Err e)
 
 reads : (plan : DiePlan) (r : RunningDie) (die : Result DieStore Refusal) → RunsBatches plan (received r.batches) die
-    → Reads (seen die) (read_of (rows_in (received r.batches)))
+    → Reads (seen die) (read_of (rows_of_batches (received r.batches)))
 reads plan r (Ok die) runs = (runs.0, runs.1)
 reads plan r (Err e) runs = runs
 
@@ -170,7 +170,7 @@ runs_refused plans dies e ran is = by t.whose
     t = reported None (all_seen dies) e (sym (seen_all None dies) ∙ is)
 
     many : (length (all_seen dies) ≡ length dies) × (length (rows_received dies) ≡ length dies)
-    many = (length-map dies (λ (r : RunningDie). seen r.die), length-map dies (λ (r : RunningDie). rows_in (received r.batches)))
+    many = (length-map dies (λ (r : RunningDie). seen r.die), length-map dies (λ (r : RunningDie). rows_of_batches (received r.batches)))
 
     before : (k : ℕ) (f : Refusal) (r : Script) → k < length (all_seen dies) → get_or (all_seen dies) k (Ok []) ≡ r
         → read_of (get_or (rows_received dies) k []) ≡ Err f → Reads r (read_of (get_or (rows_received dies) k [])) → order_of e ≤ order_of f
@@ -229,6 +229,6 @@ runs_read plans dies ran is = by plans dies ran (sym (seen_all None dies) ∙ is
     by [] (r ∷ dies) ran is = absurd ran
     by (plan ∷ plans) [] ran is = absurd ran
     by (plan ∷ plans) (r ∷ dies) ran is =
-        let here = first (seen r.die) (read_of (rows_in (received r.batches))) (all_seen dies) (reads plan r r.die ran.0) is in
+        let here = first (seen r.die) (read_of (rows_of_batches (received r.batches))) (all_seen dies) (reads plan r r.die ran.0) is in
         let rest = by plans dies ran.1 here.1 in
         (here.0.0 ∷ rest.0, λ i. here.0.1 i ∷ rest.1 i)

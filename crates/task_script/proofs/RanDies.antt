@@ -9,7 +9,7 @@ use Rattle.slot_core.specs.Core.{Core}
 use Rattle.flash_die.specs.Memory.{Memory}
 use Rattle.die_service.specs.Stores.{DiePass, IsClosedWith}
 use Rattle.task_script.specs.DieStores.{passes_of, progress_of}
-use Rattle.task_script.specs.RowBatches.{IsSameSender, rows_in, sent_by}
+use Rattle.task_script.specs.RowBatches.{IsSameSender, rows_of_batches, sent_by}
 use Rattle.task_script.specs.RunningDies.{AllBegin, AllRan, AreRun, IsLinked, IsSameDie, rows_received}
 use Rattle.task_script.specs.Sending.{rows_sent}
 use Rattle.task_script.specs.Shares.{AreSharesOf, StaysShare}
@@ -145,7 +145,7 @@ ran_after [] (s ∷ ss) ss2 ds ds2 ds3 begin same run = absurd begin
 pub received_are : (ss : List BatchSender) (ds ds2 : List RunningDie) → AreRun ss ds ds2 → rows_received ds2 ≡ rows_sent ss
 received_are [] [] [] run = refl
 received_are (s ∷ ss) (d ∷ ds) (d2 ∷ ds2) run =
-    let rest = received_are ss ds ds2 run.2 in λ i. rows_in (run.1 i) ∷ rest i
+    let rest = received_are ss ds ds2 run.2 in λ i. rows_of_batches (run.1 i) ∷ rest i
 received_are [] [] (d2 ∷ ds2) run = absurd run
 received_are [] (d ∷ ds) ds2 run = absurd run
 received_are (s ∷ ss) [] ds2 run = absurd run

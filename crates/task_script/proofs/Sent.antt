@@ -12,7 +12,7 @@ use Rattle.std.proofs.Math.ListN.{set}
 use Rattle.script_texts.specs.RowTexts.{RowText}
 use Rattle.script_texts.specs.Script.{Reading}
 use Rattle.task_script.specs.Feeds.{rows_dealt}
-use Rattle.task_script.specs.RowBatches.{IsSameSender, MayFollow, batch_with, rows_in, sent_by, until_of}
+use Rattle.task_script.specs.RowBatches.{IsSameSender, MayFollow, batch_with, rows_of_batches, sent_by, until_of}
 use Rattle.task_script.specs.RowTexts.{AreOfOneDie, HasReadTexts}
 use Rattle.task_script.specs.Sending.{AreSent, MayAllFollow, SameBatches, rows_sent}
 use Rattle.task_script.specs.declared.row_batches.BatchSender.{BatchSender}
@@ -79,16 +79,16 @@ same_sent Q (old ∷ olds) [] same all = absurd same
 pub same_rows : (olds news : List BatchSender) → AllZip SameBatches olds news → rows_sent news ≡ rows_sent olds
 same_rows [] [] same = refl
 same_rows (old ∷ olds) (new ∷ news) same =
-    let first : rows_in (sent_by new) ≡ rows_in (sent_by old) = ap (λ p. rows_in p.end.past) same.0 in
+    let first : rows_of_batches (sent_by new) ≡ rows_of_batches (sent_by old) = ap (λ p. rows_of_batches p.end.past) same.0 in
     let rest = same_rows olds news same.1 in cc
 same_rows [] (new ∷ news) same = absurd same
 same_rows (old ∷ olds) [] same = absurd same
 
 -- A batch more
 
-pub rows_more : (before : List RowBatch) (batch : RowBatch) → rows_in (before ++ batch ∷ []) ≡ rows_in before ++ batch.rows
+pub rows_more : (before : List RowBatch) (batch : RowBatch) → rows_of_batches (before ++ batch ∷ []) ≡ rows_of_batches before ++ batch.rows
 rows_more before batch = flat_map-append (λ (b : RowBatch). b.rows) before (batch ∷ [])
-    ∙ ap (λ (xs : List RowText). rows_in before ++ xs) (append-nil batch.rows)
+    ∙ ap (λ (xs : List RowText). rows_of_batches before ++ xs) (append-nil batch.rows)
 
 pub until_more : (before : List RowBatch) (batch : RowBatch) → until_of before ≡ 0 → until_of (before ++ batch ∷ []) ≡ batch.until
 unfolding until_of
@@ -114,7 +114,7 @@ pub no_rows_sent : (senders : List BatchSender) → AllByRecursion (λ (sender :
     → rows_sent senders ≡ replicate (length senders) []
 no_rows_sent [] none = refl
 no_rows_sent (sender ∷ senders) none =
-    let first : rows_in (sent_by sender) ≡ [] = ap rows_in none.0 in
+    let first : rows_of_batches (sent_by sender) ≡ [] = ap rows_of_batches none.0 in
     let rest = no_rows_sent senders none.1 in λ i. first i ∷ rest i
 
 -- All dies
@@ -229,7 +229,7 @@ module _ (until : ℕ) where
   pub after_rows : (rows : List (List RowText)) (olds news : List BatchSender) (k : ℕ) → AreSent until rows olds news
       → get_or (rows_sent news) k [] ≡ get_or (rows_sent olds) k [] ++ get_or rows k []
   after_rows [] [] [] k sent = refl
-  after_rows (own ∷ rows) (old ∷ olds) (new ∷ news) zero sent = ap rows_in sent.0 ∙ rows_more (sent_by old) (batch_with until own)
+  after_rows (own ∷ rows) (old ∷ olds) (new ∷ news) zero sent = ap rows_of_batches sent.0 ∙ rows_more (sent_by old) (batch_with until own)
   after_rows (own ∷ rows) (old ∷ olds) (new ∷ news) (suc k) sent = after_rows rows olds news k sent.2
   after_rows [] [] (new ∷ news) k sent = absurd sent
   after_rows [] (old ∷ olds) news k sent = absurd sent
@@ -280,7 +280,7 @@ module _ (old now new : Option (Reading RowText)) (dies slots from line next cou
     arith,
     AllZip-long SameBatches senders taken kept,
     s.read.dealt.all,
-    length-map senders (λ (sender : BatchSender). rows_in (sent_by sender)),
+    length-map senders (λ (sender : BatchSender). rows_of_batches (sent_by sender)),
     read.dealt.all,
   )
 
@@ -298,7 +298,7 @@ module _ (old now new : Option (Reading RowText)) (dies slots from line next cou
     batch_read = reads_on old now new dies slots from line next (rows_sent senders) rows (rows_sent news) end s.read read
         (omega (
           arith,
-          length-map news (λ (sender : BatchSender). rows_in (sent_by sender)),
+          length-map news (λ (sender : BatchSender). rows_of_batches (sent_by sender)),
           after_long until rows taken news sent,
           read.dealt.all,
         ))

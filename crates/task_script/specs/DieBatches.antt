@@ -5,7 +5,7 @@ use Rattle.slot_types.specs.declared.refusals.Refusal.{Refusal}
 use Rattle.slot_types.specs.declared.refusals.Refusal.TheVariants.{NoMemory}
 use Rattle.script_texts.specs.declared.script_rows.ScriptItem.{ScriptItem}
 use Rattle.task_script.specs.DieStores.{HasCome, HasRunOn}
-use Rattle.task_script.specs.RowBatches.{rows_in, until_of}
+use Rattle.task_script.specs.RowBatches.{rows_of_batches, until_of}
 use Rattle.task_script.specs.RowTexts.{read_of}
 use Rattle.task_script.specs.declared.die_stores.DieStore.{DieStore}
 use Rattle.task_script.specs.declared.row_batches.RowBatch.{RowBatch}
@@ -23,5 +23,5 @@ RunsOn (Err e) batch new = new ≡ Err e
 -- a die of this plan has read and run these batches; or memory ran out, or one of their rows is the first at fault
 abbrev pub RunsBatches : DiePlan → List RowBatch → Result DieStore Refusal → Type 0
 RunsBatches plan batches (Ok die) =
-    (items : List ScriptItem) × (read_of (rows_in batches) ≡ Ok items) × HasCome plan items (until_of batches) die
-RunsBatches plan batches (Err e) = (e ≡ NoMemory) ⊎ (read_of (rows_in batches) ≡ Err e)
+    (items : List ScriptItem) × (read_of (rows_of_batches batches) ≡ Ok items) × HasCome plan items (until_of batches) die
+RunsBatches plan batches (Err e) = (e ≡ NoMemory) ⊎ (read_of (rows_of_batches batches) ≡ Err e)

@@ -7,8 +7,8 @@ use Rattle.task_script.specs.declared.row_batches.BatchSender.{BatchSender}
 use Rattle.task_script.specs.declared.row_batches.RowBatch.{RowBatch}
 
 -- the rows of batches, one after the other
-abbrev pub rows_in : List RowBatch → List RowText
-rows_in batches = flat_map (λ (batch : RowBatch). batch.rows) batches
+abbrev pub rows_of_batches : List RowBatch → List RowText
+rows_of_batches batches = flat_map (λ (batch : RowBatch). batch.rows) batches
 
 -- the slot up to which they are run, at the least
 unfoldable pub until_of : List RowBatch → ℕ

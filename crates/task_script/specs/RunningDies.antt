@@ -6,7 +6,7 @@ use Rattle.slot_types.specs.declared.refusals.Refusal.{Refusal}
 use Rattle.script_texts.specs.RowTexts.{RowText}
 use Rattle.std.specs.List.{AllZip}
 use Rattle.task_script.specs.DieBatches.{RunsBatches}
-use Rattle.task_script.specs.RowBatches.{rows_in, sent_by}
+use Rattle.task_script.specs.RowBatches.{rows_of_batches, sent_by}
 use Rattle.task_script.specs.RowTexts.{order_of}
 use Rattle.task_script.specs.declared.row_batches.BatchSender.{BatchSender}
 use Rattle.task_script.specs.declared.running_dies.RunningDie.{RunningDie}
@@ -50,7 +50,7 @@ AllRan plans dies = AllZip (λ plan (running : RunningDie). RunsBatches plan (re
 
 -- the rows that each die was sent
 abbrev pub rows_received : List RunningDie → List (List RowText)
-rows_received dies = map (λ (running : RunningDie). rows_in (received running.batches)) dies
+rows_received dies = map (λ (running : RunningDie). rows_of_batches (received running.batches)) dies
 
 -- of a refusal that is known, if any, and that of one die more the one that is reported
 abbrev pub with_die : {A : Type 0} → Option Refusal → Result A Refusal → Option Refusal

@@ -1,7 +1,7 @@
 -- What is sent of a script to its dies.
 use Rattle.std.specs.Prelude.{◌≡◌, ⊤, ℕ, List, [], ◌∷◌, ◌++◌, map}
 use Rattle.script_texts.specs.RowTexts.{RowText}
-use Rattle.task_script.specs.RowBatches.{IsSameSender, MayFollow, batch_with, rows_in, sent_by}
+use Rattle.task_script.specs.RowBatches.{IsSameSender, MayFollow, batch_with, rows_of_batches, sent_by}
 use Rattle.task_script.specs.declared.row_batches.BatchSender.{BatchSender}
 
 -- nothing was sent
@@ -23,4 +23,4 @@ AreSent until _ _ _ = ⊥
 
 -- the rows that each has sent
 abbrev pub rows_sent : List BatchSender → List (List RowText)
-rows_sent senders = map (λ (sender : BatchSender). rows_in (sent_by sender)) senders
+rows_sent senders = map (λ (sender : BatchSender). rows_of_batches (sent_by sender)) senders
