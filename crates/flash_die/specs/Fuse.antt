@@ -19,12 +19,14 @@ pub record FailsHere {N : Type 0} (before : Fuse N) (well : Bool) (after : Fuse 
   pub failed : after.failed ≡ before.failed + 1
 
 -- a call that is passed on, and ends as the device ends it
-pub record PassesOn {N : Type 0} (ends : N → NandCall → Bool → N → Type 0) (before : Fuse N) (call : NandCall) (well : Bool) (after : Fuse N) : Type 0 where
+pub record PassesOn {N : Type 0} (ends : N → NandCall → Bool → N → Type 0)
+    (before : Fuse N) (call : NandCall) (well : Bool) (after : Fuse N) : Type 0 where
   pub inner : ends before.inner call well after.inner
   pub left : after.left + 1 ≡ before.left
   pub failed : after.failed ≡ before.failed
 
 -- a call is passed on exactly while some are left
-pub record EndsAsFused {N : Type 0} (ends : N → NandCall → Bool → N → Type 0) (before : Fuse N) (call : NandCall) (well : Bool) (after : Fuse N) : Type 0 where
+pub record EndsAsFused {N : Type 0} (ends : N → NandCall → Bool → N → Type 0)
+    (before : Fuse N) (call : NandCall) (well : Bool) (after : Fuse N) : Type 0 where
   pub burnt : before.left ≡ 0 → FailsHere before well after
   pub lasting : (before.left ≡ 0 → ⊥) → PassesOn ends before call well after

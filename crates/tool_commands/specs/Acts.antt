@@ -1,5 +1,6 @@
 -- What a command prints, and its status; and what it leaves where it is refused.
-use Rattle.std.specs.Prelude.{◌≡◌, ◌==◌, ◌↔◌, ◌⊎◌, List, [], ◌∷◌, ℕ, Option, Some, None, Result, Ok, Err, IfSome, take, IsTrue, Bool, true, false, ⊤, is_none}
+use Rattle.std.specs.Prelude.{◌≡◌, ◌==◌, ◌↔◌, ◌⊎◌, List, [], ◌∷◌, ℕ, take, ⊤}
+use Rattle.std.specs.Prelude.{Option, Some, None, Result, Ok, Err, IfSome, is_none, IsTrue, Bool, true, false}
 use Rattle.std.specs.Borrow.{Bor}
 use Rattle.std.specs.Prelude.{if◌then◌else◌}
 use Rattle.std.specs.Io.KnownBytes.{Appends}

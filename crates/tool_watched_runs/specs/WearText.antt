@@ -1,5 +1,6 @@
 -- What dies wore, as a text.
-use Rattle.std.specs.Prelude.{◌≡◌, All, map, ℕ, ◌+◌, ◌*◌, ◌/◌, ◌%◌, ◌++◌, ◌==◌, List, [], ◌∷◌, flat_map, codes, decimal, if◌then◌else◌}
+use Rattle.std.specs.Prelude.{◌≡◌, ◌==◌, ℕ, ◌+◌, ◌*◌, ◌/◌, ◌%◌, if◌then◌else◌}
+use Rattle.std.specs.Prelude.{All, map, ◌++◌, List, [], ◌∷◌, flat_map, codes, decimal}
 use Rattle.std.specs.List.{enumerate_from}
 use Rattle.slot_types.specs.declared.plans.DiePlan.{DiePlan}
 use Rattle.die_log.specs.Model.Start.{fresh}
