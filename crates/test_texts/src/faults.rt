@@ -16,11 +16,8 @@ pub struct Faulty<'a> {
     calls: u32,
 }
 
-pub fn failing_at(text: &str, calls: u32) -> Faulty<'_> {
-    Faulty {
-        text: text.as_bytes(),
-        calls,
-    }
+pub fn failing_at(text: &[u8], calls: u32) -> Faulty<'_> {
+    Faulty { text, calls }
 }
 
 impl<'a> Read for Faulty<'a> {
@@ -72,7 +69,7 @@ fn a_failing_reader_is_a_read_fault(rt: HostRuntime) {
     let script_calls = TWO_SCRIPT.len().saturating_sub(1).div_ceil(7) + 2;
     let report_calls = TWO_REPORT.len().saturating_sub(1).div_ceil(7) + 2;
     for call in 1..100 {
-        let script = script_refusal(rt.alloc(), failing_at(TWO_SCRIPT, call));
+        let script = script_refusal(rt.alloc(), failing_at(TWO_SCRIPT.as_bytes(), call));
         let whole = script_calls < call as usize;
         assert!(rt;
             script
@@ -83,7 +80,7 @@ fn a_failing_reader_is_a_read_fault(rt: HostRuntime) {
                 },
             "{call}"
         );
-        let report = report_refusal(rt.alloc(), failing_at(TWO_REPORT, call));
+        let report = report_refusal(rt.alloc(), failing_at(TWO_REPORT.as_bytes(), call));
         let whole = report_calls < call as usize;
         assert!(rt;
             report
@@ -94,7 +91,7 @@ fn a_failing_reader_is_a_read_fault(rt: HostRuntime) {
                 },
             "{call}"
         );
-        let work = work_refusal(rt.alloc(), failing_at(TWO_REPORT, call));
+        let work = work_refusal(rt.alloc(), failing_at(TWO_REPORT.as_bytes(), call));
         assert!(rt; work == report, "{call}");
     }
 }
@@ -103,7 +100,7 @@ fn a_failing_reader_is_a_read_fault(rt: HostRuntime) {
 #[test]
 fn a_failing_call_sets_the_flag_of_its_reader(rt: HostRuntime) {
     for calls in 1..10 {
-        let mut reader = FlaggedReader::new(failing_at(TWO_SCRIPT, calls));
+        let mut reader = FlaggedReader::new(failing_at(TWO_SCRIPT.as_bytes(), calls));
         for call in 1..20 {
             let fails = call == calls;
             let want = if fails {
@@ -124,7 +121,7 @@ fn a_plan_of_a_failing_reader_is_a_read_fault(rt: HostRuntime) {
     // The last call shows the end.
     let plan_calls = TWO_DIES.len().div_ceil(7) + 1;
     for call in 1..100 {
-        let mut reader = FlaggedReader::new(failing_at(TWO_DIES, call));
+        let mut reader = FlaggedReader::new(failing_at(TWO_DIES.as_bytes(), call));
         let text = plan_text(rt.alloc(), &mut reader);
         let whole = plan_calls < call as usize;
         assert!(rt;
@@ -147,7 +144,10 @@ fn records_before_a_failing_read_are_judged_first(rt: HostRuntime) {
         line: 2,
         cause: Cause::Kind,
     };
-    assert_eq!(rt; script_refusal(rt.alloc(), failing_at(text, 9)), Some(kind));
+    assert_eq!(rt;
+        script_refusal(rt.alloc(), failing_at(text.as_bytes(), 9)),
+        Some(kind)
+    );
 }
 
 #[test]

@@ -14,7 +14,7 @@ use task_script::{RefusedRun, RunCount, read_plan, run_text};
 use text_base::Output;
 
 /// What a run answers on two dies for five slots by so many workers, with its writer.
-fn run_by<R: Threads + Wait + Sync, S: Read + Drop, W: Output>(
+pub fn run_by<R: Threads + Wait + Sync, S: Read + Drop, W: Output>(
     rt: &R,
     alloc: Global,
     script: S,
@@ -65,7 +65,12 @@ fn a_failing_reader_writes_nothing(rt: HostRuntime) {
     let alloc = rt.alloc();
     for call in 1..40 {
         let mut text = Vec::new(alloc);
-        let ended = run(&rt, alloc, failing_at(TWO_SCRIPT, call), &mut text);
+        let ended = run(
+            &rt,
+            alloc,
+            failing_at(TWO_SCRIPT.as_bytes(), call),
+            &mut text,
+        );
         if call <= 25 {
             assert!(rt;
                 ended == Err(Refusal::ReadFault) && text.is_empty(),
@@ -85,7 +90,7 @@ fn a_refused_run_gives_its_reader_back(rt: HostRuntime) -> Result<(), Fail> {
     let plan = read_plan(alloc, TWO_DIES.as_bytes())?;
     for call in 1..26 {
         let mut text = Vec::new(alloc);
-        let script = failing_at(TWO_SCRIPT, call);
+        let script = failing_at(TWO_SCRIPT.as_bytes(), call);
         let Err(run) = run_text(&rt, alloc, &plan, script, &mut text, 5, 2) else {
             return Err(Fail::from("it wasn't refused"));
         };
@@ -94,7 +99,10 @@ fn a_refused_run_gives_its_reader_back(rt: HostRuntime) -> Result<(), Fail> {
             return Err(Fail::from("no reader"));
         };
         assert!(rt; refusal == Refusal::ReadFault, "{call}");
-        assert!(rt; reader.next().err() == Some(Refusal::ReadFault), "{call}");
+        assert!(rt;
+            reader.next_row(&rt).err() == Some(Refusal::ReadFault),
+            "{call}"
+        );
     }
     Ok(())
 }
@@ -146,7 +154,13 @@ fn a_fault_of_operations_comes_before_a_failing_reader(rt: HostRuntime) {
         };
         for workers in 1..5 {
             let mut text = Vec::new(alloc);
-            let ended = run_by(&rt, alloc, failing_at(WRONG_OPS, call), &mut text, workers);
+            let ended = run_by(
+                &rt,
+                alloc,
+                failing_at(WRONG_OPS.as_bytes(), call),
+                &mut text,
+                workers,
+            );
             assert!(rt; ended == Err(wanted) && text.is_empty(), "{call} {workers}");
         }
     }
