@@ -1,10 +1,10 @@
 -- What rows of a script say once their operations are read, one after the other.
-use Rattle.std.proofs.Common.{◌≡◌, ◌⊎◌, inl, inr, ℕ, zero, suc, ◌+◌, ◌<◌, ◌≤◌, ◌==◌, Bool, true, false, cond, List, [], ◌∷◌, ◌++◌, refl, ap, sym}
-use Rattle.std.proofs.Common.{◌∙◌, subst, length, get_or, drop, arith, Option, Some, None, Result, Ok, Err}
+use Rattle.std.proofs.Common.{◌≡◌, ◌⊎◌, inl, inr, ℕ, suc, ◌+◌, ◌≤◌, ◌==◌, Bool, true, false, cond, List, [], ◌∷◌, ◌++◌}
+use Rattle.std.proofs.Common.{refl, ap, sym, ◌∙◌, subst, length, drop, arith, Option, Some, None, Result, Ok, Err}
 use Rattle.std.specs.Prelude.{All}
 use Rattle.std.specs.List.{AllByRecursion, AllZip}
 use Rattle.std.proofs.lemmas.List.{append-nil, drop_all}
-use Rattle.csv.specs.Records.{field_at}
+use Rattle.std.proofs.lemmas.List.Elements.{All-drop, All-head}
 use Rattle.slot_types.specs.Arrivals.{IsArrival}
 use Rattle.slot_types.specs.declared.events.Event.{Event}
 use Rattle.slot_types.specs.declared.events.Event.TheVariants.{Submit, Collect}
@@ -12,18 +12,16 @@ use Rattle.slot_types.specs.declared.events.Op.{Op}
 use Rattle.slot_types.specs.declared.refusals.Cause.TheVariants as cause
 use Rattle.slot_types.specs.declared.refusals.Refusal.{Refusal}
 use Rattle.slot_types.specs.declared.refusals.Refusal.TheVariants.{NoMemory, ScriptRow}
-use Rattle.text_base.specs.Fields.{field_or}
 use Rattle.text_base.specs.Ops.{ops_of, ops_or}
 use Rattle.text_base.specs.Readings.{◌>>=◌}
 use Rattle.script_texts.specs.Arrivals.{Arrives, IsHeadFor}
 use Rattle.script_texts.specs.AskedPages.{AsksPages, RowHasPages, WritesPage}
-use Rattle.script_texts.specs.RowTexts.{RowText, item_in, item_with, row_text}
+use Rattle.script_texts.specs.RowTexts.{RowText, item_in, item_with}
 use Rattle.script_texts.specs.Script.{Script, items_from, items_or, then_rest, whole, with_front}
 use Rattle.script_texts.specs.ScriptRows.{event_of, fault}
 use Rattle.script_texts.proofs.ScriptPages.{ops_found, ops_read}
-use Rattle.script_texts.specs.declared.script_rows.RowHead.{RowHead}
 use Rattle.script_texts.specs.declared.script_rows.ScriptItem.{ScriptItem}
-use Rattle.task_script.specs.RowTexts.{order_of, read_of, rows_with}
+use Rattle.task_script.specs.RowTexts.{order_of, read_of}
 use Rattle.task_script.proofs.ReadSoFar.{items_more, with_items}
 
 -- One row
@@ -89,43 +87,6 @@ item_fault row e is = by (event_in row) refl is
         let same : f ≡ e = cc in
         event_fault row.head.line row.head.job.collects row.head.job.task row.head.job.release row.head.job.due row.ops e
         (at ∙ ap (λ (g : Refusal). Err g) same)
-
--- Rows as they are kept
-
-pub rows_push : (heads heads2 : List RowHead) (texts texts2 : List (List ℕ)) (head : RowHead) (text : List ℕ) → length heads ≡ length texts
-    → heads2 ≡ heads ++ head ∷ [] → texts2 ≡ texts ++ text ∷ [] → rows_with heads2 texts2 ≡ rows_with heads texts ++ row_text head text ∷ []
-rows_push heads heads2 texts texts2 head text same heads_are texts_are =
-    ap (λ (hs : List RowHead). rows_with hs texts2) heads_are
-    ∙ (ap (rows_with (heads ++ head ∷ [])) texts_are ∙ by heads texts same)
-  where
-    by : (hs : List RowHead) (ts : List (List ℕ)) → length hs ≡ length ts
-        → rows_with (hs ++ head ∷ []) (ts ++ text ∷ []) ≡ rows_with hs ts ++ row_text head text ∷ []
-    by [] [] same = refl
-    by [] (t ∷ ts) same = absurd (omega (arith, same))
-    by (h ∷ hs) [] same = absurd (omega (arith, same))
-    by (h ∷ hs) (t ∷ ts) same = ap (λ (rows : List RowText). row_text h t ∷ rows) (by hs ts (omega (arith, same)))
-
-rows_at : (heads : List RowHead) (texts : List (List ℕ)) (place : ℕ) (head : RowHead) (text : List ℕ) → length heads ≡ length texts
-    → place < length heads → head ≡ get_or heads place head → text ≡ field_or texts place
-    → rows_with (drop place heads) (drop place texts) ≡ row_text head text ∷ rows_with (drop (place + 1) heads) (drop (place + 1) texts)
-unfolding field_at
-rows_at [] texts place head text same below head_is text_is = absurd (omega (arith, below))
-rows_at (h ∷ heads) [] place head text same below head_is text_is = absurd (omega (arith, same))
-rows_at (h ∷ heads) (t ∷ texts) zero head text same below head_is text_is =
-    λ i. row_text (sym head_is i) (sym text_is i) ∷ rows_with heads texts
-rows_at (h ∷ heads) (t ∷ texts) (suc place) head text same below head_is text_is =
-    let next : suc place + 1 ≡ suc (place + 1) = omega arith in
-    rows_at heads texts place head text (omega (arith, same)) (omega (arith, below)) head_is text_is
-    ∙ ap (λ (n : ℕ). row_text head text ∷ rows_with (drop n (h ∷ heads)) (drop n (t ∷ texts))) (sym next)
-
-pub die_at : (die : ℕ) (heads : List RowHead) (texts : List (List ℕ)) (place : ℕ) (head : RowHead) → length heads ≡ length texts
-    → place < length heads → head ≡ get_or heads place head
-    → AllByRecursion (λ (row : RowText). row.head.die ≡ die) (rows_with heads texts) → head.die ≡ die
-die_at die [] texts place head same below is own = absurd (omega (arith, below))
-die_at die (h ∷ heads) [] place head same below is own = absurd (omega (arith, same))
-die_at die (h ∷ heads) (t ∷ texts) zero head same below is own = ap (λ (x : RowHead). x.die) is ∙ own.0
-die_at die (h ∷ heads) (t ∷ texts) (suc place) head same below is own =
-    die_at die heads texts place head (omega (arith, same)) (omega (arith, below)) is own.1
 
 -- One after the other
 
@@ -252,37 +213,36 @@ fault_then (row ∷ rows) e is more last =
 
 -- Of one die, row by row
 
+-- the next row is of the die of all
+pub die_at : (die place : ℕ) (rows rest : List RowText) (row : RowText) → drop place rows ≡ row ∷ rest
+    → All (λ (row : RowText). row.head.die ≡ die) rows → row.head.die ≡ die
+die_at die place rows rest row left own = All-head (λ (row : RowText). row.head.die ≡ die) row rest
+    (subst (All (λ (row : RowText). row.head.die ≡ die)) left (All-drop (λ (row : RowText). row.head.die ≡ die) place rows own))
+
 module _ (W : Script) where
-  -- so it goes on after these items, with the rows from this place on
-  abbrev pub IsReadBefore : List RowHead → List (List ℕ) → ℕ → List ScriptItem → Type 0
-  IsReadBefore heads texts place items = W ≡ with_items items (read_of (rows_with (drop place heads) (drop place texts)))
+  -- so it goes on after these items, with the rows that are left
+  abbrev pub IsReadBefore : List RowText → List ScriptItem → Type 0
+  IsReadBefore left items = W ≡ with_items items (read_of left)
 
   -- one row more
-  pub read_more_of : (heads : List RowHead) (texts : List (List ℕ)) (place : ℕ) (head : RowHead) (text : List ℕ) (items : List ScriptItem)
-      (item : ScriptItem) → length heads ≡ length texts → place < length heads → head ≡ get_or heads place head
-      → text ≡ field_or texts place
-      → item_in (row_text head text) ≡ Ok item
-      → IsReadBefore heads texts place items → IsReadBefore heads texts (place + 1) (items ++ item ∷ [])
-  read_more_of heads texts place head text items item same below head_is text_is is so_far = so_far
-      ∙ (ap (λ (rows : List RowText). with_items items (read_of rows)) (rows_at heads texts place head text same below head_is text_is)
-      ∙ (ap (with_items items) (whole_cons (row_text head text) (rows_with (drop (place + 1) heads) (drop (place + 1) texts)) None
-      ∙ ap (λ (r : Result ScriptItem Refusal). after_row r (read_of (rows_with (drop (place + 1) heads) (drop (place + 1) texts)))) is)
-      ∙ items_more items item (read_of (rows_with (drop (place + 1) heads) (drop (place + 1) texts)))))
+  pub read_more_of : (left rest : List RowText) (row : RowText) (items : List ScriptItem) (item : ScriptItem) → left ≡ row ∷ rest
+      → item_in row ≡ Ok item → IsReadBefore left items → IsReadBefore rest (items ++ item ∷ [])
+  read_more_of left rest row items item next is so_far = so_far
+      ∙ (ap (λ (rows : List RowText). with_items items (read_of rows)) next
+      ∙ (ap (with_items items) (whole_cons row rest None ∙ ap (λ (r : Result ScriptItem Refusal). after_row r (read_of rest)) is)
+      ∙ items_more items item (read_of rest)))
 
   -- or a fault, or memory ran out
-  pub read_fault_of : (heads : List RowHead) (texts : List (List ℕ)) (place : ℕ) (head : RowHead) (text : List ℕ) (items : List ScriptItem)
-      (e : Refusal) → length heads ≡ length texts → place < length heads → head ≡ get_or heads place head
-      → text ≡ field_or texts place
-      → IsReadBefore heads texts place items → (e ≡ NoMemory) ⊎ (item_in (row_text head text) ≡ Err e) → (e ≡ NoMemory) ⊎ (W ≡ Err e)
-  read_fault_of heads texts place head text items e same below head_is text_is so_far (inl memory) = inl memory
-  read_fault_of heads texts place head text items e same below head_is text_is so_far (inr is) = inr (so_far
-      ∙ (ap (λ (rows : List RowText). with_items items (read_of rows)) (rows_at heads texts place head text same below head_is text_is)
-      ∙ ap (with_items items) (whole_cons (row_text head text) (rows_with (drop (place + 1) heads) (drop (place + 1) texts)) None
-      ∙ ap (λ (r : Result ScriptItem Refusal). after_row r (read_of (rows_with (drop (place + 1) heads) (drop (place + 1) texts)))) is)))
+  pub read_fault_of : (left rest : List RowText) (row : RowText) (items : List ScriptItem) (e : Refusal) → left ≡ row ∷ rest
+      → IsReadBefore left items → (e ≡ NoMemory) ⊎ (item_in row ≡ Err e) → (e ≡ NoMemory) ⊎ (W ≡ Err e)
+  read_fault_of left rest row items e next so_far (inl memory) = inl memory
+  read_fault_of left rest row items e next so_far (inr is) = inr (so_far
+      ∙ (ap (λ (rows : List RowText). with_items items (read_of rows)) next
+      ∙ ap (with_items items) (whole_cons row rest None ∙ ap (λ (r : Result ScriptItem Refusal). after_row r (read_of rest)) is)))
 
   -- or the end
-  pub read_all_of : (heads : List RowHead) (texts : List (List ℕ)) (place : ℕ) (items : List ScriptItem) → length heads ≤ place
-      → IsReadBefore heads texts place items → W ≡ Ok items
-  read_all_of heads texts place items past so_far = so_far
-      ∙ (ap (λ (hs : List RowHead). with_items items (read_of (rows_with hs (drop place texts)))) (drop_all place heads past)
+  pub read_all_of : (place : ℕ) (rows : List RowText) (items : List ScriptItem) → length rows ≤ place
+      → IsReadBefore (drop place rows) items → W ≡ Ok items
+  read_all_of place rows items past so_far = so_far
+      ∙ (ap (λ (left : List RowText). with_items items (read_of left)) (drop_all place rows past)
       ∙ (ap (with_items items) (whole_nil None) ∙ ap (λ (xs : List ScriptItem). Ok xs) (append-nil items)))

@@ -6,11 +6,11 @@ use Rattle.std.proofs.lemmas.List.{append-nil}
 use Rattle.slot_types.specs.declared.refusals.Refusal.{Refusal}
 use Rattle.slot_types.specs.declared.refusals.Refusal.TheVariants.{ReadFault}
 use Rattle.script_texts.specs.RowTexts.{RowText}
-use Rattle.script_texts.specs.Script.{Reading, Script, items_in, whole}
+use Rattle.script_texts.specs.Script.{Reading, Script, items_in, rows_in, script_of, whole}
 use Rattle.script_texts.proofs.RowItems.{no-read-fault}
 use Rattle.script_texts.specs.declared.script_rows.ScriptItem.{ScriptItem}
-use Rattle.task_script.specs.RowTexts.{AreRead, FailsToRead, HasReadTexts, LeavesOff}
-use Rattle.task_script.specs.RowTexts.{read_of, rows_then}
+use Rattle.script_chunks.specs.Rows.{rows_then}
+use Rattle.task_script.specs.RowTexts.{AreRead, FailsToRead, HasReadTexts, LeavesOff, read_of}
 use Rattle.task_script.proofs.ReadSoFar.{FailsIn, IsDealt, with_items}
 use Rattle.task_script.specs.declared.feeds.ReadEnd.{ReadEnd}
 use Rattle.task_script.specs.declared.feeds.ReadEnd.TheVariants.{Ended, Refused}
@@ -20,6 +20,12 @@ use Rattle.task_script.proofs.DieReading.{dealt_fails, dealt_read}
 -- what was left of a script's rows, as a whole
 abbrev pub as_script : Option (Reading RowText) → Option Script
 as_script rows = option_map whole (option_map items_in rows)
+
+-- the rows of a text, as a whole
+pub whole_rows : (text : Option (List ℕ)) (first : Option (Reading RowText)) (dies slots : ℕ) → first ≡ option_map (rows_in dies slots) text
+    → as_script first ≡ option_map (script_of dies slots) text
+whole_rows None first dies slots is = ap as_script is
+whole_rows (Some bytes) first dies slots is = ap as_script is
 
 -- these items are all of it, by die
 pub record EndsWith (old : Option Script) (dies slots : ℕ) (rows : List (List ScriptItem)) : Type 0 where

@@ -45,6 +45,13 @@ zip_set R on (x ∷ xs) (y ∷ ys) (suc i) item new zip is more = (zip.0, zip_se
 zip_set R on [] (y ∷ ys) i item new zip is more = absurd zip
 zip_set R on (x ∷ xs) [] i item new zip is more = absurd zip
 
+-- How many batches there are
+
+-- each but the last has a row, whose number is 1,000,001 at most
+pub few_batches : (first line count : ℕ) → 1 ≤ first → first + count ≤ line → (0 < count → line ≤ 1000002) → count ≤ 1000002
+few_batches first line zero some later below = omega arith
+few_batches first line (suc count) some later below = omega (arith, some, later, below (omega arith))
+
 -- Where nothing was sent
 
 pub same_batches_on : (a b c : BatchSender) → SameBatches a b → SameBatches b c → SameBatches a c

@@ -1,23 +1,18 @@
 -- Rows of a script as they stand, by die, and what reading their operations gives.
-use Rattle.std.specs.Prelude.{◌≡◌, ◌==◌, ◌⊎◌, ⊤, ℕ, ◌<◌, ◌≤◌, ◌+◌, Bool, true, List, [], ◌∷◌, ◌++◌, All, filter, get_or, length, map}
-use Rattle.std.specs.Prelude.{Option, Some, None, IfSome, Ok, Err}
+use Rattle.std.specs.Prelude.{◌≡◌, ◌==◌, ◌⊎◌, ⊤, ℕ, ◌<◌, ◌≤◌, ◌+◌, Bool, true, List, [], ◌∷◌}
+use Rattle.std.specs.Prelude.{All, filter, get_or, length, map, Option, Some, None, IfSome, Ok, Err}
 use Rattle.slot_types.specs.declared.refusals.Refusal.{Refusal}
 use Rattle.slot_types.specs.declared.refusals.Refusal.TheVariants.{NoMemory, ReadFault, ScriptRow}
 use Rattle.script_texts.specs.Arrivals.{IsHeadFor}
-use Rattle.script_texts.specs.RowTexts.{RowText, row_text}
+use Rattle.script_chunks.specs.Rows.{rows_then}
+use Rattle.script_texts.specs.RowTexts.{RowText}
 use Rattle.script_texts.specs.Script.{Reading, Script, at_end, at_fault, items_from, whole}
-use Rattle.script_texts.specs.declared.script_rows.RowHead.{RowHead}
 use Rattle.script_texts.specs.declared.script_rows.ScriptItem.{ScriptItem}
 use Rattle.text_base.specs.Readings.{IsOutside}
 use Rattle.task_script.specs.declared.feeds.ReadEnd.{ReadEnd}
 use Rattle.task_script.specs.declared.feeds.ReadEnd.TheVariants.{More, Ended, Refused}
 
 -- Of one die
-
--- rows of these heads, and these texts of their operations
-abbrev pub rows_with : List RowHead → List (List ℕ) → List RowText
-rows_with (head ∷ heads) (text ∷ texts) = row_text head text ∷ rows_with heads texts
-rows_with _ _ = []
 
 -- they are all of one die
 abbrev pub AreOfOneDie : List RowText → Type 0
@@ -46,10 +41,6 @@ pub record AreDealt (dies slots from behind : ℕ) (rows : List RowText) (texts 
   pub ascend : Ascend from rows behind
 
 -- While a script is read
-
--- these rows, and then what is left
-abbrev pub rows_then : List RowText → Reading RowText → Reading RowText
-rows_then rows more = record { items = rows ++ more.items; fault = more.fault }
 
 -- how the reading goes on: something may be left, or nothing is, or a fault comes next
 abbrev pub LeavesOff : Option (Reading RowText) → Reading RowText → ReadEnd → Type 0

@@ -9,7 +9,6 @@ mod die_texts;
 mod feeds;
 mod laws;
 mod row_batches;
-mod row_texts;
 mod rows;
 mod run_counts;
 mod run_dies;
@@ -32,6 +31,7 @@ pub use report_texts::{
     reports_come_back, write_report,
 };
 pub use run_counts::RunCount;
+pub use script_chunks::ChunkedReader;
 pub use script_texts::{ScriptItem, ScriptReader};
 pub use text_base::number;
 pub use text_runs::{RefusedRun, run_text};

@@ -3,8 +3,8 @@
 ghost use Rattle.std.specs.Prelude.{◌≡◌, ◌∷◌, ◌++◌, []};
 ghost use Rattle.task_script.specs.RowBatches.{IsSameSender, MayFollow, sent_by};
 
-use crate::row_texts::RowTexts;
 use rtrb::{Consumer, Producer, Protocol, PushError};
+use script_chunks::RowTexts;
 use std::alloc::Global;
 use std::sync::Wait;
 use std::thread::Parker;

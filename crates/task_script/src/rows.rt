@@ -4,11 +4,14 @@ ghost use Rattle.std.specs.Prelude.{◌≡◌, ◌∷◌, ◌++◌, [], All, OnO
 ghost use Rattle.slot_types.specs.Refusal.{FailsForMemory};
 ghost use Rattle.task_script.specs.Batches.{latest_slot};
 ghost use Rattle.task_script.specs.RowEnds.{arrivals_of, lines_of};
+ghost use Rattle.task_script.specs.RowTexts.{AreOfOneDie, read_of};
 ghost use Rattle.script_texts.specs.Heads.{row_of};
+ghost use Rattle.text_base.specs.Readings.{GivesReading};
 
 use die_service::Feed;
-use script_texts::RowHead;
-use slot_types::{Items, LentOps, Refusal};
+use script_chunks::RowTexts;
+use script_texts::{RowHead, read_ops};
+use slot_types::{Items, LentOps, PackedOps, Refusal};
 use std::alloc::Global;
 use std::marker::Model;
 
@@ -65,6 +68,25 @@ impl DieRows {
         self.die = head.die;
         self.latest = self.latest.max(head.at);
         Ok(())
+    }
+
+    /// Reads the operations of rows, which are all of one die. Refused as the first row that is at fault, or as
+    /// NoMemory.
+    pub fn read(alloc: Global, texts: &RowTexts) -> Result<DieRows, Refusal>
+        requires one_die { AreOfOneDie texts.now }
+        ensures { GivesReading result (read_of texts.now) }
+    {
+        let mut rows = DieRows::new(alloc);
+        let mut ops = PackedOps::new(alloc);
+        for place in 0..texts.len() {
+            let (head, text) = texts.row(place);
+            match read_ops(&mut ops, &head, text) {
+                Ok(()) => {}
+                Err(refusal) => return Err(refusal),
+            }
+            rows.add(&head, &ops.lend())?;
+        }
+        Ok(rows)
     }
 
     /// The greatest slot by which a row comes, 0 where there is none.

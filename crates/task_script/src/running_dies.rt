@@ -11,8 +11,9 @@ ghost use Rattle.task_script.specs.DieBatches.{RunsOn};
 
 use crate::die_stores::DieStore;
 use crate::row_batches::{BATCHES_AHEAD, BatchSender, Emptied, InOrder, LISTS_BACK, RowBatch};
-use crate::row_texts::RowTexts;
+use crate::rows::DieRows;
 use rtrb::{Consumer, Producer, RingBuffer};
+use script_chunks::RowTexts;
 use slot_types::{DiePlan, Refusal};
 use std::alloc::Global;
 use std::mem;
@@ -44,7 +45,7 @@ fn run_on<R: Threads + Wait + Sync>(
 {
     match die {
         Ok(die) => {
-            let rows = batch.rows.read(alloc)?;
+            let rows = DieRows::read(alloc, &batch.rows)?;
             die.run(rt, alloc, rows, batch.until)
         }
         Err(refusal) => Err(refusal),

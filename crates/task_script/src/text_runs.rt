@@ -1,7 +1,7 @@
 //! Scripts that are run on the dies of a store.
 
 ghost use Rattle.std.specs.Prelude.{◌≡◌, ◌<◌, ◌≤◌, ◌^◌, All, length, true, IfOk, IfErr, IsSomeAnd, OnOk};
-ghost use Rattle.script_texts.specs.ScriptLeft.{reader_failed};
+ghost use Rattle.script_chunks.specs.ChunkedLeft.{chunked_failed};
 ghost use Rattle.slot_types.specs.Refusal.{FailsForMemory};
 ghost use Rattle.slot_types.specs.declared.refusals.Refusal.TheVariants.{ReadFault};
 ghost use Rattle.plan_rules.specs.Bound.{MeetsBound};
@@ -22,7 +22,7 @@ use crate::run_dies::{first_refusal, ran_dies};
 use crate::sending::{RanRows, send_script};
 use die_service::close;
 use report_texts::{ReportText, write_parts};
-use script_texts::ScriptReader;
+use script_chunks::ChunkedReader;
 use slot_types::{MAX_SLOT, Refusal, StorePlan};
 use std::alloc::Global;
 use std::io::Read;
@@ -42,7 +42,7 @@ struct RanStore {
 pub struct RefusedRun<S> {
     pub refusal: Refusal,
     /// The script's reader, where it is the script that was refused.
-    pub reader: Option<ScriptReader<S>>,
+    pub reader: Option<ChunkedReader<S>>,
 }
 
 /// Memory ran out, or the operations of rows are at fault.
@@ -118,6 +118,11 @@ fn finish<R: Threads + Wait + Sync>(
     Ok(RanStore { parts, count })
 }
 
+/// How many chunks of a script are read at a time: as many as there are workers without a die, at most 4.
+fn chunks_of(workers: u32, dies: usize) -> usize {
+    (workers as usize).saturating_sub(dies).min(4)
+}
+
 /// Runs a script on fresh dies in memory.
 ///
 /// Refused as the first fault of the script, as NoMemory, or as ReadFault: that comes only together with the script's
@@ -138,9 +143,10 @@ fn run_script<R: Threads + Wait + Sync, S: Read + Drop>(
     ensures refused { IfErr result (λ run.
         RefusesScript (S.remaining script) (length plan.now) slots run.refusal) }
     ensures failed { IfErr result (λ run. run.refusal ≡ ReadFault →
-        IsSomeAnd run.reader (λ reader. reader_failed reader ≡ true)) }
+        IsSomeAnd run.reader (λ reader. chunked_failed reader ≡ true)) }
 {
-    let reader = ScriptReader::new(alloc, script, plan, slots)?;
+    let chunks = chunks_of(workers, plan.len());
+    let reader = ChunkedReader::new(alloc, script, plan, slots, chunks)?;
     let sent = send_script(rt, alloc, plan.as_slice(), reader, slots, workers)?;
     let RanRows { script, dies, end } = sent;
     match first_refusal(dies.as_slice()) {
@@ -170,15 +176,16 @@ fn run_script<R: Threads + Wait + Sync, S: Read + Drop>(
 /// What is written is proved to be the report read off the exact logs of the accepted rows and the slots, whatever the
 /// number of workers. By one worker no thread is started. By more, each that has dies is a thread for the whole run: it
 /// reads the operations of their rows and runs these, while this thread takes further rows off the script and sends
-/// them; at the end so many make the lines of the report. A thread that can't be started is done without: its
-/// dies are run by this one. May wait for the workers.
+/// them. Workers that are more than the dies, up to four, read chunks of the script beside each other, each a thread for
+/// one chunk. At the end so many make the lines of the report. A thread that can't be started is done without: its work
+/// is done by this one. May wait for the workers.
 ///
 /// So is this: on a die whose rows keep its plan, with times that pass their test, no lateness in the report is above
 /// 0, and no row is refused but out of memory, or after one that was.
 ///
 /// Rows are read and run batch by batch, so that the script is never kept whole: what is kept of it are the rows of
-/// four batches, in four lists of each die, which keep the memory of the die's largest batch. A die is given up once its
-/// lines are made.
+/// four batches, in four lists of each die, which keep the memory of the die's largest batch, and the chunks that are
+/// read. A die is given up once its lines are made.
 ///
 /// It ends with the first fault of the script, as [`ScriptReader`](crate::ScriptReader) says it; with `ReadFault`,
 /// where reading the script fails, and only together with the script's reader, whose csv reader has failed; or with
@@ -211,7 +218,7 @@ pub fn run_text<R: Threads + Wait + Sync, S: Read + Drop, W: Output>(
         (RefusesScript (S.remaining script) (length plan.now) slots)
         (RunsSo (S.remaining script) plan.now slots) writer.old writer.new run.refusal) }
     ensures failed { IfErr result (λ run. run.refusal ≡ ReadFault →
-        IsSomeAnd run.reader (λ reader. reader_failed reader ≡ true)) }
+        IsSomeAnd run.reader (λ reader. chunked_failed reader ≡ true)) }
 {
     let ran = run_script(rt, alloc, plan, script, slots, workers)?;
     match write_parts(writer, ran.parts.as_slice()) {

@@ -12,6 +12,8 @@ mod audits;
 #[cfg(test)]
 mod bounds;
 #[cfg(test)]
+mod chunked;
+#[cfg(test)]
 mod faults;
 #[cfg(test)]
 mod interrupted;

@@ -99,7 +99,10 @@ fn a_refused_run_gives_its_reader_back(rt: HostRuntime) -> Result<(), Fail> {
             return Err(Fail::from("no reader"));
         };
         assert!(rt; refusal == Refusal::ReadFault, "{call}");
-        assert!(rt; reader.next().err() == Some(Refusal::ReadFault), "{call}");
+        assert!(rt;
+            reader.next_row(&rt).err() == Some(Refusal::ReadFault),
+            "{call}"
+        );
     }
     Ok(())
 }

@@ -8,7 +8,7 @@ use Rattle.task_script.specs.RowTexts.{HasReadTexts}
 use Rattle.task_script.specs.declared.feeds.ReadEnd.{ReadEnd}
 use Rattle.task_script.specs.declared.feeds.ReadEnd.TheVariants.{Ended, More}
 use Rattle.task_script.proofs.Dealing.{texts_as}
-use Rattle.task_script.proofs.Sent.{batch_few, batch_last, batch_more, batch_read, batch_same, follows, sent_first, zip_all, zip_on}
+use Rattle.task_script.proofs.Sent.{batch_few, batch_last, batch_more, batch_read, batch_same, few_batches, follows, sent_first, zip_all, zip_on}
 use Rattle.task_script.proofs.sending.send_all.Goals as goal
 use Rattle.task_script.proofs.sending.send_all.Goals.{in-Ended, in_default}
 
@@ -31,13 +31,13 @@ send_rows-requires g c =
     let read = texts_as _ _ _ _ _ _ _ _ _ _ c.loop.invariant.dies c.loop.invariant.slots c.in_ok-read.ensures.rows in
     record {
       follow = follows _ _ _ _ _ _ _ _ c.loop.counter c.match-read.until _ _ _ _ _ c.loop.invariant.sent c.in_ok-empty.ensures.same read
-          c.in_ok-read.ensures.few (omega (arith, c.loop.invariant.later, c.loop.invariant.below));
+          c.in_ok-read.ensures.few (few_batches _ _ c.loop.counter c.requires.first c.loop.invariant.later c.loop.invariant.below);
     }
 
 pub returns-in_default-end : goal.returns-in_default-end
 returns-in_default-end g c =
     let read = texts_as _ _ _ _ _ _ _ _ _ _ c.loop.invariant.dies c.loop.invariant.slots c.in_ok-read.ensures.rows in
-    let few : c.loop.counter ≤ 1000002 = omega (arith, c.loop.invariant.later, c.loop.invariant.below) in
+    let few : c.loop.counter ≤ 1000002 = few_batches _ _ c.loop.counter c.requires.first c.loop.invariant.later c.loop.invariant.below in
     record {
       rows = batch_read _ _ _ _ _ _ _ _ c.loop.counter c.match-read.until _ _ _ _ _ c.loop.invariant.sent c.in_ok-empty.ensures.same read
           _ c.send_rows.ensures;
@@ -67,7 +67,7 @@ pub returns-then-load-clause-few : goal.returns-then-load-clause-few
 returns-then-load-clause-few g c =
     let read = texts_as _ _ _ _ _ _ _ _ _ _ c.loop.invariant.dies c.loop.invariant.slots c.in_ok-read.ensures.rows in
     batch_few _ _ _ _ _ _ _ _ c.loop.counter c.match-read.until _ _ _ _ _ c.loop.invariant.sent c.in_ok-empty.ensures.same read
-    _ c.send_rows.ensures (omega (arith, c.loop.invariant.later, c.loop.invariant.below))
+    _ c.send_rows.ensures (few_batches _ _ c.loop.counter c.requires.first c.loop.invariant.later c.loop.invariant.below)
 
 pub returns-then-load-clause-same : goal.returns-then-load-clause-same
 returns-then-load-clause-same g c =

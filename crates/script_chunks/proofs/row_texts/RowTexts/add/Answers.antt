@@ -2,8 +2,8 @@ use Rattle.std.proofs.Common.{◌∷◌, ◌++◌, [], ℕ, List, ap, ◌∙◌}
 use Rattle.csv.specs.Records.{fields_of}
 use Rattle.script_texts.specs.RowTexts.{RowText, row_text}
 use Rattle.script_texts.specs.declared.script_rows.RowHead.{RowHead}
-use Rattle.task_script.proofs.RowReading.{rows_push}
-use Rattle.task_script.proofs.row_texts.RowTexts.add.Goals as goal
+use Rattle.script_chunks.proofs.RowLists.{rows_push}
+use Rattle.script_chunks.proofs.row_texts.RowTexts.add.Goals as goal
 
 pub returns-in-Ok-clause-ok : goal.returns-in-Ok-clause-ok
 returns-in-Ok-clause-ok c =

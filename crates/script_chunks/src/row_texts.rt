@@ -1,20 +1,17 @@
-//! The rows of a die as they stand, until their operations are read.
+//! Rows of a script as they stand, until their operations are read.
 
-ghost use Rattle.std.specs.Prelude.{◌≡◌, ◌⊎◌, ◌∷◌, ◌++◌, [], OnErr, OnOk};
+ghost use Rattle.std.specs.Prelude.{◌≡◌, ◌⊎◌, ◌∷◌, ◌++◌, ◌+◌, ◌<◌, [], OnErr, OnOk, drop, length};
 ghost use Rattle.slot_types.specs.Refusal.{FailsForMemory};
 ghost use Rattle.script_texts.specs.RowTexts.{row_text};
-ghost use Rattle.text_base.specs.Readings.{GivesReading};
-ghost use Rattle.task_script.specs.RowTexts.{AreOfOneDie, read_of};
 
-use crate::rows::DieRows;
 use csv::ByteRecord;
-use script_texts::{RowHead, read_ops};
-use slot_types::{PackedOps, Refusal};
+use script_texts::RowHead;
+use slot_types::Refusal;
 use std::alloc::Global;
 use std::marker::Model;
 use text_base::field_in;
 
-/// Rows of one die as they stand, in their order: their heads, and the texts of their operations, one after the other.
+/// Rows as they stand, in their order: their heads, and the texts of their operations, one after the other.
 #[derive(Drop)]
 pub struct RowTexts {
     heads: Vec<RowHead>,
@@ -26,7 +23,7 @@ impl Model for RowTexts {
     ghost use Rattle.std.specs.Prelude.{◌≡◌, [], List, length};
     ghost use Rattle.csv.specs.Records.{fields_of, partial_of};
     ghost use Rattle.script_texts.specs.RowTexts.{RowText};
-    ghost use Rattle.task_script.specs.RowTexts.{rows_with};
+    ghost use Rattle.script_chunks.specs.Rows.{rows_with};
 
     ghost Value = { List RowText };
 
@@ -44,6 +41,22 @@ impl RowTexts {
             heads: Vec::new(alloc),
             texts: ByteRecord::new(alloc),
         }
+    }
+
+    /// How many rows these are.
+    pub fn len(&self) -> usize
+        ensures { result ≡ length self.now }
+    {
+        self.heads.len()
+    }
+
+    /// The row at this place: its head, and the text of its operations.
+    pub fn row(&self, place: usize) -> (RowHead, &[u8])
+        requires { place < length self.now }
+        ensures { drop place self.now
+            ≡ row_text result.0 result.1.now ∷ drop (place + 1) self.now }
+    {
+        (self.heads[place], field_in(&self.texts, place))
     }
 
     /// Adds a row, of its head and the text of its operations. The only refusal is NoMemory; then the rows are as they
@@ -66,25 +79,6 @@ impl RowTexts {
                 Err(Refusal::NoMemory)
             }
         }
-    }
-
-    /// Reads the operations of the rows, which are all of one die. Refused as the first row that is at fault, or as
-    /// NoMemory.
-    pub fn read(&self, alloc: Global) -> Result<DieRows, Refusal>
-        requires one_die { AreOfOneDie self.now }
-        ensures { GivesReading result (read_of self.now) }
-    {
-        let mut rows = DieRows::new(alloc);
-        let mut ops = PackedOps::new(alloc);
-        for place in 0..self.heads.len() {
-            let head = self.heads[place];
-            match read_ops(&mut ops, &head, field_in(&self.texts, place)) {
-                Ok(()) => {}
-                Err(refusal) => return Err(refusal),
-            }
-            rows.add(&head, &ops.lend())?;
-        }
-        Ok(rows)
     }
 
     /// Takes all rows out. Their memory stays, for the next ones.

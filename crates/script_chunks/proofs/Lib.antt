@@ -1,0 +1,9 @@
+pub mod Records
+pub mod Numbering
+pub mod RowLists
+pub mod Reading
+pub mod Cutting
+pub mod Joining
+pub mod Taking
+pub mod Judging
+pub mod Giving

@@ -1,0 +1,7 @@
+pub mod Rows
+pub mod ChunkTexts
+pub mod Sources
+pub mod Chunks
+pub mod FusedReaders
+pub mod Queues
+pub mod ChunkedLeft
