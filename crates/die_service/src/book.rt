@@ -116,6 +116,7 @@ impl<'a, N: Nand> NotingBook<LentOps<'a>> for DieBook<N> {
 
     ghost whole = { with_ops };
 
+    #[inline(always)]
     fn note(
         &mut self,
         caller: u32,

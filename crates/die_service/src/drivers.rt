@@ -83,6 +83,7 @@ impl<'a, N: Nand> Driver<'a, N> {
     }
 
     /// Asks for the next event, if it comes by this slot, and says whether it did.
+    #[inline(always)]
     fn bring_one<W: Work, R: Wait>(&mut self, rt: &R, work: &mut W, clock: u32) -> bool
         ensures brought { IsTrue result
             → WorksOne N.never_fails W.does clock self.old work.old self.new work.new }
@@ -100,6 +101,7 @@ impl<'a, N: Nand> Driver<'a, N> {
     }
 
     /// Asks for the events that come by this slot.
+    #[inline(always)]
     fn bring_due<W: Work, R: Wait>(&mut self, rt: &R, work: &mut W, clock: u32)
         requires { IsFit self.old.pass.view }
         ensures { WorksDue N.never_fails W.does clock self.old work.old self.new work.new }

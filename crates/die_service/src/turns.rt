@@ -90,6 +90,7 @@ impl<'a, N: Nand> DieTurn<'a, N> {
 
     /// Carries out an event, whose operations are lent, and hands back no more than a note of the reply. May wait for the
     /// turn, which it keeps.
+    #[inline(always)]
     pub(crate) fn note<R: Wait>(
         &mut self,
         rt: &R,
@@ -108,6 +109,7 @@ impl<'a, N: Nand> DieTurn<'a, N> {
 
     /// Carries out the present slot, as `Die::slot`, and hands back no more than its number. May wait for the turn, which
     /// it keeps.
+    #[inline(always)]
     pub(crate) fn note_slot<R: Wait>(&mut self, rt: &R) -> Result<SlotNote, RefusedAt>
         ensures same { IsSamePass self.old self.new }
         ensures answered { IfOk result (λ reply.

@@ -88,6 +88,7 @@ impl<G: Gate> Work for GatedWork<'_, G> {
         self.gate.before(die, slot);
     }
 
+    #[inline(never)]
     fn event<N: Nand, R: Wait>(
         &mut self,
         rt: &R,

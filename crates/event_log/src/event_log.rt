@@ -40,6 +40,10 @@ const _: () = prove!(size_of::<Run<Deed>>() == 16);
 
 const _: () = prove!(size_of::<Run<u32>>() == 8);
 
+/// For how many callers there is room at least, where there is any: one record of a caller serves many events, so that
+/// they would be asked for again and again.
+const CALLERS_AHEAD: usize = 64;
+
 impl Model for EventLog {
     ghost use Rattle.std.specs.Prelude.{vec_len, vec_capacity};
     ghost use Rattle.event_log.specs.Notes.{Events};
@@ -164,7 +168,7 @@ impl EventLog {
         ensures err { OnErr result (self.new ≡ self.old) }
     {
         self.deeds.reserve(events)?;
-        self.callers.reserve(events)?;
+        self.callers.reserve(events.max(CALLERS_AHEAD))?;
         self.waivers.reserve(waivers)?;
         // All that was had, so that the next events seldom ask.
         self.room = self.deeds.room().min(self.callers.room());

@@ -30,6 +30,7 @@ pub enum ReplyNote {
 
 impl<N: Nand> DieCore<N> {
     /// Accepts a job of these operations, or a collection, which leaves them aside.
+    #[inline(never)]
     fn arrive(
         &mut self,
         alloc: Global,
@@ -96,6 +97,7 @@ impl<N: Nand> DieCore<N> {
     }
 
     /// As `perform`, of an event whose operations are lent, and hands back no more than a note of the reply.
+    #[inline(always)]
     pub fn note(
         &mut self,
         alloc: Global,

@@ -228,6 +228,7 @@ impl<N: Nand> DieCore<N> {
     }
 
     /// As `slot`, and hands back no more than the slot's number.
+    #[inline(always)]
     pub fn note_slot(&mut self, alloc: Global, caller: u32) -> Result<SlotNote, Refusal>
         ensures { IsCall N.ends N.failures N.never_fails caller Event.Slot
             (reply_as Reply.Slot result) self.old self.new }

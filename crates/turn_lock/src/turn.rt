@@ -102,6 +102,7 @@ impl<'a, B: Book> Turn<'a, B> {
     /// turn, for which it may wait, unless it is kept, and keeps it.
     ///
     /// An accepted call is the last entry that the pass has then seen; a refused one leaves no entry.
+    #[inline(always)]
     pub fn note<R: Wait, P>(&mut self, rt: &R, head: B::Head, parts: &P) -> B::Note
     where
         B: NotingBook<P>,
