@@ -7,3 +7,4 @@ pub mod Joining
 pub mod Taking
 pub mod Judging
 pub mod Giving
+pub mod OneRow

@@ -1,4 +1,4 @@
-//! Scripts that are read in chunks, several at a time
+//! Scripts that are read in chunks, several at a time.
 #![tactic(auto)]
 
 mod chunk_queue;
@@ -6,6 +6,7 @@ mod chunk_source;
 mod chunked_reader;
 mod chunks;
 mod fused;
+pub mod laws;
 mod rest_reader;
 mod row_texts;
 

@@ -93,7 +93,7 @@ rows (Ok None) (Ok (Some b)) here there own own' is = absurd (cc)
 rows (Ok (Some a)) (Err e) here there own own' is = absurd (cc)
 rows (Ok (Some a)) (Ok None) here there own own' is = absurd (cc)
 
-texts : (one other : Result (Option RowHead) Refusal) (here there : List ℕ) → row_with_text one here ≡ row_with_text other there
+pub texts : (one other : Result (Option RowHead) Refusal) (here there : List ℕ) → row_with_text one here ≡ row_with_text other there
     → (one ≡ other) × IfOk one (λ o. IfSome o (λ head. here ≡ there))
 texts (Err d) (Err e) here there is = let same : d ≡ e = cc in (ap Err same, tt)
 texts (Ok None) (Ok None) here there is = (refl, tt)
@@ -107,7 +107,7 @@ texts (Ok None) (Ok (Some b)) here there is = absurd (cc)
 texts (Ok (Some a)) (Err e) here there is = absurd (cc)
 texts (Ok (Some a)) (Ok None) here there is = absurd (cc)
 
-outside_text : (one : Result (Option RowHead) Refusal) (here : List ℕ) → IsErrAnd (row_with_text one here) IsOutside → IsErrAnd one IsOutside
+pub outside_text : (one : Result (Option RowHead) Refusal) (here : List ℕ) → IsErrAnd (row_with_text one here) IsOutside → IsErrAnd one IsOutside
 outside_text (Err d) here out = out
 outside_text (Ok None) here out = out
 outside_text (Ok (Some a)) here out = out
