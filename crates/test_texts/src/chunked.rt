@@ -14,25 +14,22 @@ use task_script::RunCount;
 /// How many rows stand before what is odd, and after it: more than a chunk each.
 const ROWS: u32 = 70_000;
 
-/// A header, rows of die 1, these bytes, and further rows.
-fn script_with(alloc: Global, odd: &[u8]) -> Result<Vec<u8>, Fail> {
-    let mut text = Vec::from_slice(alloc, b"at,die,task,kind,release,due,ops\n".as_slice())?;
-    for _ in 0..ROWS {
-        text.extend_from_slice(b"0,1,0,job,0,2,R2\n".as_slice())?;
-    }
-    text.extend_from_slice(odd)?;
-    for _ in 0..ROWS {
-        text.extend_from_slice(b"0,1,0,job,0,2,R2\n".as_slice())?;
-    }
-    Ok(text)
-}
-
 /// So many times the same bytes.
 fn repeated(alloc: Global, bytes: &[u8], times: u32) -> Result<Vec<u8>, Fail> {
     let mut text = Vec::new(alloc);
     for _ in 0..times {
         text.extend_from_slice(bytes)?;
     }
+    Ok(text)
+}
+
+/// A header, rows of die 1, these bytes, and further rows.
+fn script_with(alloc: Global, odd: &[u8]) -> Result<Vec<u8>, Fail> {
+    let rows = repeated(alloc, b"0,1,0,job,0,2,R2\n".as_slice(), ROWS)?;
+    let mut text = Vec::from_slice(alloc, b"at,die,task,kind,release,due,ops\n".as_slice())?;
+    text.extend_from_slice(rows.as_slice())?;
+    text.extend_from_slice(odd)?;
+    text.extend_from_slice(rows.as_slice())?;
     Ok(text)
 }
 

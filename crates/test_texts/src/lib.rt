@@ -20,8 +20,6 @@ mod interrupted;
 #[cfg(test)]
 mod memory;
 #[cfg(test)]
-mod odd_lines;
-#[cfg(test)]
 mod plan_bounds;
 #[cfg(test)]
 mod reports;
