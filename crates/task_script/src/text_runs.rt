@@ -30,6 +30,9 @@ use std::sync::Wait;
 use std::thread::Threads;
 use text_base::Output;
 
+/// How many chunks of a script are read at a time, where any are.
+const CHUNKS: usize = 4;
+
 /// Dies that carried out their slots: the parts of their report, and how many of their rows were accepted and refused.
 #[derive(Drop)]
 struct RanStore {
@@ -118,9 +121,15 @@ fn finish<R: Threads + Wait + Sync>(
     Ok(RanStore { parts, count })
 }
 
-/// How many chunks of a script are read at a time: as many as there are workers without a die, at most 4.
+/// How many chunks of a script are read at a time: four, where four dies and four workers without one are there at least.
+/// With fewer dies reading isn't what takes longest, and with fewer workers chunks cost more than they save.
 fn chunks_of(workers: u32, dies: usize) -> usize {
-    (workers as usize).saturating_sub(dies).min(4)
+    let spare = (workers as usize).saturating_sub(dies);
+    if dies < CHUNKS || spare < CHUNKS {
+        0
+    } else {
+        CHUNKS
+    }
 }
 
 /// Runs a script on fresh dies in memory.
@@ -176,9 +185,9 @@ fn run_script<R: Threads + Wait + Sync, S: Read + Drop>(
 /// What is written is proved to be the report read off the exact logs of the accepted rows and the slots, whatever the
 /// number of workers. By one worker no thread is started. By more, each that has dies is a thread for the whole run: it
 /// reads the operations of their rows and runs these, while this thread takes further rows off the script and sends
-/// them. Workers that are more than the dies, up to four, read chunks of the script beside each other, each a thread for
-/// one chunk. At the end so many make the lines of the report. A thread that can't be started is done without: its work
-/// is done by this one. May wait for the workers.
+/// them. Where there are four dies at least, and four workers more than dies, four threads at a time read chunks of the
+/// script. At the end so many make the lines of the report. A thread that can't be started is done without: its work is
+/// done by this one. May wait for the workers.
 ///
 /// So is this: on a die whose rows keep its plan, with times that pass their test, no lateness in the report is above
 /// 0, and no row is refused but out of memory, or after one that was.
