@@ -1,8 +1,8 @@
-//! Scripts of several chunks that have something odd in one of them: what is read is the same by any workers. By more
-//! than two, those without a die read chunks.
+//! Scripts of several chunks that have something odd in one of them: what is read is the same by any workers. By eight
+//! or more on four dies, chunks are read beside each other.
 
 use crate::faults::failing_at;
-use crate::runs::run_by;
+use crate::runs::run_on;
 use slot_types::{Cause, Refusal};
 use std::alloc::Global;
 use std::process::Abort;
@@ -10,6 +10,31 @@ use std::sync::Wait;
 use std::test::Fail;
 use std::thread::Threads;
 use task_script::RunCount;
+
+const FOUR_DIES: &str = "version = 1
+dies = 4
+blocks = 8
+pages = 4
+erase_slots = 3
+logical = 12
+alpha = 2
+
+[[task]]
+die = 0
+cap = 4
+
+[[task]]
+die = 1
+cap = 4
+
+[[task]]
+die = 2
+cap = 4
+
+[[task]]
+die = 3
+cap = 4
+";
 
 /// How many rows stand before what is odd, and after it: more than a chunk each.
 const ROWS: u32 = 70_000;
@@ -40,10 +65,10 @@ fn alike<R: Threads + Wait + Sync + Abort>(
     text: &[u8],
 ) -> Result<Result<RunCount, Refusal>, Fail> {
     let mut wanted = Vec::new(alloc);
-    let ended = run_by(rt, alloc, text, &mut wanted, 1);
-    for workers in 2..6 {
+    let ended = run_on(rt, alloc, FOUR_DIES, text, &mut wanted, 1);
+    for workers in [2, 7, 8, 16] {
         let mut report = Vec::new(alloc);
-        let again = run_by(rt, alloc, text, &mut report, workers);
+        let again = run_on(rt, alloc, FOUR_DIES, text, &mut report, workers);
         assert!(rt; again == ended && report == wanted, "{workers}");
     }
     Ok(ended)
@@ -178,11 +203,12 @@ fn a_reader_may_fail_in_a_chunk(rt: HostRuntime) -> Result<(), Fail> {
     let fine = script_with(alloc, b"".as_slice())?;
     let odd = script_with(alloc, b"0,9,0,job,0,2,R3\n".as_slice())?;
     for call in [1, 5, 100_000, 200_000, 340_000] {
-        for workers in [1, 2, 4] {
+        for workers in [1, 4, 8] {
             let mut text = Vec::new(alloc);
-            let ended = run_by(
+            let ended = run_on(
                 &rt,
                 alloc,
+                FOUR_DIES,
                 failing_at(fine.as_slice(), call),
                 &mut text,
                 workers,
@@ -199,9 +225,10 @@ fn a_reader_may_fail_in_a_chunk(rt: HostRuntime) -> Result<(), Fail> {
                     cause: Cause::Die,
                 }
             };
-            let ended = run_by(
+            let ended = run_on(
                 &rt,
                 alloc,
+                FOUR_DIES,
                 failing_at(odd.as_slice(), call),
                 &mut text,
                 workers,

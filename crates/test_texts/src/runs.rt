@@ -13,8 +13,24 @@ use std::thread::Threads;
 use task_script::{RefusedRun, RunCount, read_plan, run_text};
 use text_base::Output;
 
-/// What a run answers on two dies for five slots by so many workers, with its writer.
-pub fn run_by<R: Threads + Wait + Sync, S: Read + Drop, W: Output>(
+/// What a run answers on the dies of a plan for five slots by so many workers, with its writer.
+pub fn run_on<R: Threads + Wait + Sync, S: Read + Drop, W: Output>(
+    rt: &R,
+    alloc: Global,
+    plan: &str,
+    script: S,
+    writer: &mut W,
+    workers: u32,
+) -> Result<RunCount, Refusal>
+    requires workers { (1 ≤ workers) × (workers ≤ 16) }
+{
+    let plan = read_plan(alloc, plan.as_bytes())?;
+    let count = run_text(rt, alloc, &plan, script, writer, 5, workers)?;
+    Ok(count)
+}
+
+/// The same on two dies.
+fn run_by<R: Threads + Wait + Sync, S: Read + Drop, W: Output>(
     rt: &R,
     alloc: Global,
     script: S,
@@ -23,9 +39,7 @@ pub fn run_by<R: Threads + Wait + Sync, S: Read + Drop, W: Output>(
 ) -> Result<RunCount, Refusal>
     requires workers { (1 ≤ workers) × (workers ≤ 16) }
 {
-    let plan = read_plan(alloc, TWO_DIES.as_bytes())?;
-    let count = run_text(rt, alloc, &plan, script, writer, 5, workers)?;
-    Ok(count)
+    run_on(rt, alloc, TWO_DIES, script, writer, workers)
 }
 
 /// The same by one worker.
