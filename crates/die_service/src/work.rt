@@ -88,6 +88,7 @@ impl<G: Gate> Work for GatedWork<'_, G> {
         self.gate.before(die, slot);
     }
 
+    // Apart from the worker's loop, which mostly asks for slots.
     #[inline(never)]
     fn event<N: Nand, R: Wait>(
         &mut self,

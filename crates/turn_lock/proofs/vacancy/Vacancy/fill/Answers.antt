@@ -1,5 +1,5 @@
-use Rattle.std.proofs.Common.{◌≡◌, [], ◌∷◌, ◌++◌, length, Some, None, refl, sym, ap, ◌∙◌, subst, rules, arith}
-use Rattle.turn_lock.specs.Views.{first_view, IsLive, SeesFitting, CountsOwn}
+use Rattle.std.proofs.Common.{◌≡◌, [], ◌∷◌, ◌++◌, length, Some, None, refl, sym, ap, ◌∙◌, subst, rules}
+use Rattle.turn_lock.specs.Views.{IsLive, SeesFitting, CountsOwn}
 use Rattle.turn_lock.proofs.Keeps.{makes}
 use Rattle.turn_lock.proofs.Turns.{first_is, first_counts}
 use Rattle.turn_lock.proofs.vacancy.Vacancy.fill.Goals as goal
