@@ -238,3 +238,23 @@ fn a_reader_may_fail_in_a_chunk(rt: HostRuntime) -> Result<(), Fail> {
     }
     Ok(())
 }
+
+/// A script of 67,108,864 bytes, 325,771 rows of 64 reads each, is read, and one of a byte more isn't.
+#[test]
+fn a_script_has_a_bound_by_any_workers(rt: HostRuntime) -> Result<(), Fail> {
+    let alloc = rt.alloc();
+    let mut row = Vec::from_slice(alloc, b"0,1,0,job,0,2,R2".as_slice())?;
+    row.extend_from_slice(repeated(alloc, b" R2".as_slice(), 63)?.as_slice())?;
+    row.push(b'\n')?;
+    let mut text = Vec::from_slice(alloc, b"at,die,task,kind,release,due,ops\n".as_slice())?;
+    for _ in 0..325_771u32 {
+        text.extend_from_slice(row.as_slice())?;
+    }
+    text.resize(67_108_864, b'\n')?;
+    let count = alike(&rt, alloc, text.as_slice())??;
+    assert!(rt; count.accepted.checked_add(count.refused) == Some(325_771));
+    text.push(b'\n')?;
+    let ended = alike(&rt, alloc, text.as_slice())?;
+    assert!(rt; ended == Err(Refusal::ReadFault));
+    Ok(())
+}
