@@ -1,0 +1,171 @@
+-- The inequality that covers a task's next job, and what each kind of event does to it: over plain numbers.
+--
+-- Let `since` be the slot in which a collection last filled the task up to its cap, but for what was held, or else 0.
+-- What was held then was for jobs that are due after it. Each collection that closed since then gave alpha pages, and of
+-- those that came by then there are at most since / q + 1. So with `owed` the writes of all jobs that are due after it,
+-- and at first what the start lacked,
+--
+--     q * cap + alpha * q * count ≤ q * balance + q * owed + alpha * (since + q) + alpha * q * pending
+use Rattle.std.proofs.Common.{◌≡◌, ℕ, ◌+◌, ◌-◌, ◌*◌, ◌<◌, ◌≤◌, ap, inl, inr, arith}
+use Rattle.std.proofs.lemmas.Bool.{cases_lt}
+use Rattle.std.proofs.Math.Nat.{mul-le-mul_left, le_of_mul-le-mul_left}
+
+times_sum : (k a b : ℕ) → k * (a + b) ≡ k * a + k * b
+times_sum k a b = grind arith
+
+times_one : (k : ℕ) → k * 1 ≡ k
+times_one k = grind arith
+
+-- a slot passes, and nothing is closed
+pub kept : (q alpha ago cap bal bal' owed count since pend pend' : ℕ)
+    → q * cap + alpha * q * count + alpha * ago ≤ q * bal + q * owed + alpha * (since + q) + alpha * q * pend → bal ≤ bal' → pend ≤ pend'
+    → q * cap + alpha * q * count + alpha * ago ≤ q * bal' + q * owed + alpha * (since + q) + alpha * q * pend'
+kept q alpha ago cap bal bal' owed count since pend pend' h le more = omega
+    (arith, h, mul-le-mul_left q le, mul-le-mul_left (alpha * q) more)
+
+-- a collection is closed and gives alpha pages
+pub given : (q alpha ago cap bal bal' owed count since pend pend' : ℕ)
+    → q * cap + alpha * q * count + alpha * ago ≤ q * bal + q * owed + alpha * (since + q) + alpha * q * pend → bal + alpha ≤ bal' → pend ≤ 1
+    → q * cap + alpha * q * count + alpha * ago ≤ q * bal' + q * owed + alpha * (since + q) + alpha * q * pend'
+given q alpha ago cap bal bal' owed count since pend pend' h le one =
+    let turned : q * alpha ≡ alpha * q = grind arith in
+    omega (arith, h, mul-le-mul_left q le, times_sum q bal alpha, turned, mul-le-mul_left (alpha * q) one, times_one (alpha * q))
+
+-- a collection is closed and fills up to the cap, but for what is held
+pub filled : (q alpha cap bal' held owed count since pend' : ℕ) → cap ≤ bal' + held → held ≤ owed → q * count ≤ since + q
+    → q * cap + alpha * q * count + alpha * 0 ≤ q * bal' + q * owed + alpha * (since + q) + alpha * q * pend'
+filled q alpha cap bal' held owed count since pend' full few some =
+    let all : cap ≤ bal' + owed = omega (arith, full, few) in
+    let by_three : alpha * (q * count) ≡ alpha * q * count = grind arith in
+    let none : alpha * 0 ≡ 0 = grind arith in
+    omega (arith, none, mul-le-mul_left q all, times_sum q bal' owed, mul-le-mul_left alpha some, by_three)
+
+-- a job is taken
+pub taken : (q alpha ago cap bal bal' wants owed owed' count since pend : ℕ)
+    → q * cap + alpha * q * count + alpha * ago ≤ q * bal + q * owed + alpha * (since + q) + alpha * q * pend → bal' + wants ≡ bal
+    → owed + wants ≤ owed'
+    → q * cap + alpha * q * count + alpha * ago ≤ q * bal' + q * owed' + alpha * (since + q) + alpha * q * pend
+taken q alpha ago cap bal bal' wants owed owed' count since pend h is more =
+    let before : bal ≤ bal' + wants = omega (arith, is) in
+    omega (arith, h, mul-le-mul_left q before, times_sum q bal' wants, mul-le-mul_left q more, times_sum q owed wants)
+
+-- a collection is taken
+pub opened : (q alpha ago cap bal owed count since pend pend' : ℕ)
+    → q * cap + alpha * q * count + alpha * ago ≤ q * bal + q * owed + alpha * (since + q) + alpha * q * pend → pend + 1 ≤ pend'
+    → q * cap + alpha * q * (count + 1) + alpha * ago ≤ q * bal + q * owed + alpha * (since + q) + alpha * q * pend'
+opened q alpha ago cap bal owed count since pend pend' h one =
+    omega (arith, h, times_sum (alpha * q) count 1, times_one (alpha * q), mul-le-mul_left (alpha * q) one, times_sum (alpha * q) pend 1)
+
+-- at the start
+pub started : (q alpha ago owed cap bal : ℕ) → q * cap + alpha * ago ≤ q * (bal + owed) + alpha * q
+    → q * cap + alpha * q * 0 + alpha * ago ≤ q * bal + q * (0 + owed) + alpha * (0 + q) + alpha * q * 0
+started q alpha ago owed cap bal h =
+    let none : alpha * q * 0 ≡ 0 = grind arith in
+    let own : alpha * (0 + q) ≡ alpha * q = grind arith in
+    let all : q * (0 + owed) ≡ q * owed = grind arith in
+    omega (arith, h, times_sum q bal owed, none, own, all)
+
+-- what is lacked beyond alpha pages
+pub lacks_few : (p w held alpha cap bal : ℕ) → p * cap ≤ p * bal + w * held + alpha * p → p * (cap - (bal + alpha)) ≤ w * held
+lacks_few p w held alpha cap bal h = elim (cases_lt cap (bal + alpha)) [
+  | inl less ↦
+      let none : p * (cap - (bal + alpha)) ≡ p * 0 = ap (λ (n : ℕ). p * n) (omega (arith, less)) in
+      let nothing : p * 0 ≡ 0 = grind arith in
+      omega (arith, none, nothing)
+  | inr more ↦
+      let all : p * cap ≡ p * ((bal + alpha) + (cap - (bal + alpha))) = ap (λ (n : ℕ). p * n) (omega (arith, more)) in
+      let turned : p * alpha ≡ alpha * p = grind arith in
+      omega (arith, h, all, times_sum p (bal + alpha) (cap - (bal + alpha)), times_sum p bal alpha, turned)
+]
+
+pub start_lacks : (q alpha cap bal : ℕ) → q * cap + alpha * 0 ≤ q * (bal + (cap - (bal + alpha))) + alpha * q
+start_lacks q alpha cap bal =
+    let all : cap ≤ bal + (cap - (bal + alpha)) + alpha = omega arith in
+    let none : alpha * 0 ≡ 0 = grind arith in
+    let turned : q * alpha ≡ alpha * q = grind arith in
+    omega (arith, mul-le-mul_left q all, times_sum q (bal + (cap - (bal + alpha))) alpha, none, turned)
+
+-- `gap` slots after `since` all collections but the last are closed, and what is owed with a job's own writes is at most
+-- what may come in these slots, in `ago` slots before, in those for which a job may be held, and in a period: so the
+-- balance covers the job
+pub enough : (p q w alpha held ago cap bal owed wants count since gap pend : ℕ)
+    → q * cap + alpha * q * count + alpha * ago ≤ q * bal + q * owed + alpha * (since + q) + alpha * q * pend
+    → (since + gap) + q * pend ≤ q * count + q → p * (owed + wants) ≤ w * (gap + ago + held + p)
+    → w * q ≤ alpha * p → w * (p + held) + 2 * alpha * p ≤ cap * p → 0 < p → 0 < q → wants ≤ bal
+enough p q w alpha held ago cap bal owed wants count since gap pend h closed few regained stocked has_p has_q =
+    let one : q * cap + alpha * (gap + ago) ≤ q * bal + q * owed + 2 * (alpha * q) = omega (
+      arith,
+      h,
+      mul-le-mul_left alpha closed,
+      spread_four alpha since gap q pend,
+      spread_closed alpha q count,
+      times_sum alpha since q,
+      times_sum alpha gap ago,
+    ) in
+    let first : p * (q * cap + alpha * (gap + ago)) ≤ p * (q * bal + q * owed + 2 * (alpha * q)) = mul-le-mul_left p one in
+    let second : q * (p * (owed + wants)) ≤ q * (w * (gap + ago + held + p)) = mul-le-mul_left q few in
+    let third : (gap + ago) * (w * q) ≤ (gap + ago) * (alpha * p) = mul-le-mul_left (gap + ago) regained in
+    let fourth : q * (w * (p + held) + 2 * alpha * p) ≤ q * (cap * p) = mul-le-mul_left q stocked in
+    let all : (p * q) * wants ≤ (p * q) * bal = omega (
+      arith,
+      first,
+      second,
+      third,
+      fourth,
+      by_first p q cap alpha (gap + ago),
+      by_right p q bal owed alpha,
+      by_second q p owed wants,
+      by_third q w (gap + ago) held p,
+      by_gap (gap + ago) w q,
+      by_gap (gap + ago) alpha p,
+      by_fourth q w p held alpha,
+      by_cap q cap p,
+    ) in
+    le_of_mul-le-mul_left all (positive p q has_p has_q)
+  where
+    spread_four : (alpha since gap q pend : ℕ) → alpha * ((since + gap) + q * pend) ≡ alpha * since + alpha * gap + alpha * q * pend
+    spread_four alpha since gap q pend = grind arith
+
+    spread_closed : (alpha q count : ℕ) → alpha * (q * count + q) ≡ alpha * q * count + alpha * q
+    spread_closed alpha q count = grind arith
+
+    by_first : (p q cap alpha g : ℕ) → p * (q * cap + alpha * g) ≡ p * q * cap + alpha * p * g
+    by_first p q cap alpha g = grind arith
+
+    by_right : (p q bal owed alpha : ℕ) → p * (q * bal + q * owed + 2 * (alpha * q)) ≡ (p * q) * bal + (p * q) * owed + 2 * (p * q * alpha)
+    by_right p q bal owed alpha = grind arith
+
+    by_second : (q p owed wants : ℕ) → q * (p * (owed + wants)) ≡ (p * q) * owed + (p * q) * wants
+    by_second q p owed wants = grind arith
+
+    by_third : (q w g held p : ℕ) → q * (w * (g + held + p)) ≡ w * q * g + q * w * (p + held)
+    by_third q w g held p = grind arith
+
+    by_gap : (g a b : ℕ) → g * (a * b) ≡ a * b * g
+    by_gap g a b = grind arith
+
+    by_fourth : (q w p held alpha : ℕ) → q * (w * (p + held) + 2 * alpha * p) ≡ q * w * (p + held) + 2 * (p * q * alpha)
+    by_fourth q w p held alpha = grind arith
+
+    by_cap : (q cap p : ℕ) → q * (cap * p) ≡ p * q * cap
+    by_cap q cap p = grind arith
+
+    positive : (a b : ℕ) → 0 < a → 0 < b → 0 < a * b
+    positive a b h k = omega (arith, mul-le-mul_left a k, times_one a, h)
+
+-- where all collections are closed, and they reach the slot, so little is lacked
+pub again : (q alpha ago cap bal owed count since gap : ℕ)
+    → q * cap + alpha * q * count + alpha * ago ≤ q * bal + q * owed + alpha * (since + q) → since + gap ≤ q * count
+    → q * cap + alpha * (gap + ago) ≤ q * (bal + owed) + alpha * q
+again q alpha ago cap bal owed count since gap h all =
+    let grouped : alpha * q * count ≡ alpha * (q * count) = grind arith in
+    omega (
+      arith,
+      h,
+      grouped,
+      mul-le-mul_left alpha all,
+      times_sum alpha since gap,
+      times_sum alpha since q,
+      times_sum alpha gap ago,
+      times_sum q bal owed,
+    )

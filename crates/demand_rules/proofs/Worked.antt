@@ -1,0 +1,2 @@
+-- A small plan with bursts and events that keep it, computed.
+pub mod Bursting
