@@ -12,7 +12,7 @@ pub(crate) enum Memory {
 }
 
 impl Memory {
-    /// `OneRefused` where `.ci/refused-growths` plays, which it says by the variable `REFUSE`.
+    /// `OneRefused` where `.ci/memory/refused-growths` plays, which it says by the variable `REFUSE`.
     pub(crate) fn of<R: Env>(rt: &R) -> Memory {
         let mut number = [0u8; 20];
         match rt.var("REFUSE", &mut number) {

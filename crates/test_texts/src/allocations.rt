@@ -1,6 +1,6 @@
 //! What reading and writing answer where an allocation is refused: NoMemory, and nothing is written; the same call made
-//! again is answered as without the refusal. Without a refusal none of this comes. `.ci/refused-growths` refuses each
-//! allocation in turn; of whole runs it does so in the program.
+//! again is answered as without the refusal. Without a refusal none of this comes. `.ci/memory/refused-growths` refuses
+//! each allocation in turn; of whole runs it does so in the program.
 
 use crate::memory::is_scarce;
 use example_texts::{TWO_DIES, TWO_REPORT, TWO_SCRIPT};

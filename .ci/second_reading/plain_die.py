@@ -3,16 +3,16 @@
 writes those that are made by seeds. It reads nothing of the program, and is in no hurry: what can be counted is counted
 anew.
 
-    .ci/plain_die.py check [FILE..]    plays these files, or all; names each line that the rules answer otherwise
-    .ci/plain_die.py write             writes the files that are made
-    .ci/plain_die.py written           names each of them that isn't what it would write
+    .ci/second_reading/plain_die.py check [FILE..]    plays these files, or all; names each line that the rules answer otherwise
+    .ci/second_reading/plain_die.py write             writes the files that are made
+    .ci/second_reading/plain_die.py written           names each of them that isn't what it would write
 
 Ends with 1 where it names one. crates/test_die_plays/README.md has the words of a text."""
 import copy
 import sys
 from pathlib import Path
 
-DATA = Path(__file__).resolve().parent.parent / "crates/test_die_plays/data"
+DATA = Path(__file__).resolve().parents[2] / "crates/test_die_plays/data"
 LAST_SLOT = 1_048_576
 MOST_JOBS = 65_536
 MOST_OPS = 64
@@ -730,7 +730,7 @@ class Writer:
         return "\n".join(self.text) + "\n"
 
 
-MADE = "Written by .ci/plain_die.py, by the rules alone."
+MADE = "Written by .ci/second_reading/plain_die.py, by the rules alone."
 
 TIGHT = Plan((4, 4, 3, 5, 2), [4])
 
