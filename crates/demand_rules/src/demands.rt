@@ -3,11 +3,13 @@
 ghost use Rattle.std.specs.Prelude.{◌≡◌, ◌<◌, ◌≤◌, ◌↔◌, ℕ, length, sum_by, All, IsTrue, IsOk, IfOk, IfErr, IfSome, IsNone};
 ghost use Rattle.slot_types.specs.declared.limits.TheConstants.{MAX_SLOT};
 ghost use Rattle.plan_rules.specs.Bound.{MeetsBound};
-ghost use Rattle.demand_rules.specs.Demand.{IsTaskTerms, HasTerms, PassesDemand, periods_within, task_demand_in, demand_in};
+ghost use Rattle.demand_rules.specs.Demand.{IsTaskTerms, HasTerms, FitsAllSlots, PassesDemand, periods_within, task_demand_in, demand_in, task_load, load};
 
 use crate::terms::{TaskTerms, Terms};
 use plan_rules::Load;
 use slot_types::{DiePlan, MAX_SLOT, Refusal};
+
+const MILLION: u64 = 1_000_000;
 
 /// Whether a die can do all that its tasks may ask for with deadlines and bursts, and what they may ask of as many slots
 /// as a life has. It takes no memory.
@@ -24,6 +26,9 @@ pub fn demand_test(plan: &DiePlan, terms: &Terms) -> Result<Load, Refusal>
     ensures refused { IfErr result (λ refusal. refusal ≡ Refusal.BadPlan) }
 {
     if !has_terms(plan, terms) {
+        return Err(Refusal::BadPlan);
+    }
+    if total_load(plan, terms.tasks.as_slice()) > MILLION {
         return Err(Refusal::BadPlan);
     }
     match overfull(plan, terms) {
@@ -48,7 +53,7 @@ pub fn has_terms(plan: &DiePlan, terms: &Terms) -> bool
 pub fn overfull(plan: &DiePlan, terms: &Terms) -> Option<u32>
     requires bound { MeetsBound plan.now }
     requires has { HasTerms plan.now terms.now }
-    ensures all { IsNone result ↔ PassesDemand plan.now terms.now }
+    ensures all { IsNone result ↔ FitsAllSlots plan.now terms.now }
     ensures one { IfSome result (λ slots. slots < demand_in plan.now terms.now slots) }
     ensures within { IfSome result (λ slots. slots ≤ MAX_SLOT) }
     ensures greatest { IfSome result (λ slots. (other : ℕ) → slots < other → other ≤ MAX_SLOT
@@ -99,6 +104,31 @@ fn is_task_terms(task: &TaskTerms) -> bool
         && task.collect_period <= MAX_SLOT
         && 1 <= task.collect_deadline
         && task.collect_deadline <= task.collect_period
+}
+
+// Of a million slots, how many all tasks take in the long run: at most 16 times 1,049,152 millions.
+fn total_load(plan: &DiePlan, tasks: &[TaskTerms]) -> u64
+    requires bound { MeetsBound plan.now }
+    requires few { length tasks.now ≤ 16 }
+    requires limits { All IsTaskTerms tasks.now }
+    ensures { result ≡ sum_by (task_load plan.now) tasks.now }
+{
+    let mut total: u64 = 0;
+    for task in tasks {
+        total += one_load(plan, task);
+    }
+    total
+}
+
+fn one_load(plan: &DiePlan, task: &TaskTerms) -> u64
+    requires bound { MeetsBound plan.now }
+    requires limits { IsTaskTerms task.now }
+    ensures load { result ≡ task_load plan.now task.now }
+    ensures within { result ≤ 1049152000000 }
+{
+    let collection = 2 * (plan.shape.pages - plan.alpha) + plan.shape.erase_slots;
+    u64::from(task.work) * MILLION / u64::from(task.period)
+        + u64::from(collection) * MILLION / u64::from(task.collect_period)
 }
 
 // What all tasks may ask of so many slots: at most 16 times 1,049,152 times 1,048,577.

@@ -36,16 +36,13 @@ loop-left-preserved c =
 
 pub returns-clause-all : goal.returns-clause-all
 returns-clause-all c = (
-  λ none. record {
-    has = c.requires.has;
-    fits = λ slots within. elim (cases_lt 0 slots) [
-      | inl some ↦ c.loop-left.invariant.fit slots (omega (arith, some, c.loop-left-test.false)) within
-      | inr few ↦ omega (
-        arith,
-        more_demand c.args.plan.now c.args.terms.now slots 0 (omega (arith, few)),
-        no_demand c.args.plan.now c.args.terms.now c.requires.has,
-      )
-    ];
-  },
+  λ none slots within. elim (cases_lt 0 slots) [
+    | inl some ↦ c.loop-left.invariant.fit slots (omega (arith, some, c.loop-left-test.false)) within
+    | inr few ↦ omega (
+      arith,
+      more_demand c.args.plan.now c.args.terms.now slots 0 (omega (arith, few)),
+      no_demand c.args.plan.now c.args.terms.now c.requires.has,
+    )
+  ],
   λ passes. refl,
 )
