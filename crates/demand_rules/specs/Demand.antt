@@ -7,16 +7,11 @@ use Rattle.demand_rules.specs.declared.terms.TaskTerms.{TaskTerms}
 use Rattle.demand_rules.specs.declared.terms.Terms.{Terms}
 
 -- the terms of a task; a task that the plan doesn't have asks for nothing
+abbrev pub no_terms : TaskTerms
+no_terms = record { period = 0; deadline = 0; held = 0; work = 0; writes = 0; collect_period = 0; collect_deadline = 0 }
+
 abbrev pub terms_of : Terms → ℕ → TaskTerms
-terms_of terms task = slice_index_or terms.tasks task (record {
-  period = 0;
-  deadline = 0;
-  held = 0;
-  work = 0;
-  writes = 0;
-  collect_period = 0;
-  collect_deadline = 0;
-})
+terms_of terms task = slice_index_or terms.tasks task no_terms
 
 -- the work of how many periods may be released in an interval of so many slots and be due by its end, where each job has
 -- `deadline` slots
