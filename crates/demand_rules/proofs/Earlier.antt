@@ -3,7 +3,7 @@ use Rattle.std.proofs.Common.{◌≡◌, ℕ, zero, suc, ◌+◌, ◌-◌, ◌*�
 use Rattle.std.proofs.Common.{List, [], ◌∷◌, length, map, take, get_or, sum_by, refl, sym, ap, subst, ◌∙◌, inl, inr, arith}
 use Rattle.std.specs.Prelude.{MatchBool}
 use Rattle.std.specs.List.{AllByRecursion, AllZip}
-use Rattle.std.proofs.Math.Nat.{mul-le-mul_right}
+use Rattle.std.proofs.Math.Nat.{mul-le-mul_left, mul-le-mul_right, le_of_mul-le-mul_right, div-mul-le_self}
 use Rattle.std.proofs.lemmas.Nat.{div-add-mod'}
 use Rattle.std.proofs.lemmas.Bool.{cases_Bool, and_parts, leb-true, ltb-true, eqb-true, not-true}
 use Rattle.std.proofs.lemmas.List.{length-map, take_all}
@@ -22,7 +22,7 @@ use Rattle.plan_rules.proofs.Arriving.{is_job_of, release_of, due_of, jobs_apart
 use Rattle.plan_rules.proofs.Windows as windows
 use Rattle.plan_rules.proofs.Demands.{taken_by, load_fits}
 use Rattle.demand_rules.specs.declared.terms.TaskTerms.{TaskTerms}
-use Rattle.demand_rules.specs.Demand.{terms_of, periods_within, task_demand_in, demand_in, IsTaskTerms, HasTerms, PassesDemand}
+use Rattle.demand_rules.specs.Demand.{terms_of, periods_within, task_demand_in, demand_in, task_load, load, IsTaskTerms, HasTerms, PassesDemand}
 use Rattle.demand_rules.specs.Supply.{IsSustained, PassesSupply}
 use Rattle.demand_rules.specs.Keeping.{IsDemanded, IsDemandedJob, IsDemandedCollection, KeepsDemandPlan}
 use Rattle.demand_rules.specs.Earlier.{as_task_terms, as_terms}
@@ -118,9 +118,63 @@ module _ (plan : DiePlan) (times : Times) (window : ℕ) where
             (λ task lt. whole_periods (times_of times task).collect_period window),
       )
 
+-- The long run: of a hyperperiod's slots, times a million, each share takes no more than its task does in these
+
+share : (work period common million : ℕ) → common % period ≡ 0
+    → (work * million) / period * common ≤ million * (work * (common / period))
+share work period common million divides =
+    let n : ℕ = common / period in
+    let f : ℕ = (work * million) / period in
+    let fill : common ≡ n * period = omega (arith, divides, div-add-mod' common period) in
+    let fit : n * (f * period) ≤ n * (work * million) = mul-le-mul_left n (div-mul-le_self (work * million) period) in
+    omega (arith, fit, ap (λ (c : ℕ). f * c) fill, regroup f n period, turned n work million)
+  where
+    regroup : (a b c : ℕ) → a * (b * c) ≡ b * (a * c)
+    regroup a b c = grind arith
+
+    turned : (a b c : ℕ) → a * (b * c) ≡ c * (b * a)
+    turned a b c = grind arith
+
+module _ (plan : DiePlan) (common : ℕ) where
+  abbrev load_of : TaskTimes → ℕ
+  load_of t = task_load plan (as_task_terms t)
+
+  one_share : (cap : ℕ) (t : TaskTimes) → earlier.IsSustained plan common cap t → load_of t * common ≤ 1000000 * earlier.task_demand plan common t
+  one_share cap t h = omega (
+    arith,
+    share t.work t.period common 1000000 h.period_divides,
+    share (collection_work plan) t.collect_period common 1000000 h.collect_period_divides,
+    spread ((t.work * 1000000) / t.period) ((collection_work plan * 1000000) / t.collect_period) common,
+  )
+    where
+      spread : (a b c : ℕ) → (a + b) * c ≡ a * c + b * c
+      spread a b c = grind arith
+
+  all_shares : (caps : List ℕ) (ts : List TaskTimes) → AllZip (earlier.IsSustained plan common) caps ts
+      → sum_by (task_load plan) (map as_task_terms ts) * common ≤ 1000000 * sum_by (earlier.task_demand plan common) ts
+  all_shares caps [] h = omega arith
+  all_shares [] (t ∷ ts) h = absurd h
+  all_shares (cap ∷ caps) (t ∷ ts) h = omega (
+    arith,
+    ap (λ (n : ℕ). n * common) (sum_by-cons (task_load plan) (as_task_terms t) (map as_task_terms ts)),
+    spread (load_of t) (sum_by (task_load plan) (map as_task_terms ts)) common,
+    sum_by-cons (earlier.task_demand plan common) t ts,
+    one_share cap t h.0,
+    all_shares caps ts h.1,
+  )
+    where
+      spread : (a b c : ℕ) → (a + b) * c ≡ a * c + b * c
+      spread a b c = grind arith
+
+lasts : (plan : DiePlan) (times : Times) → Passes plan times → load plan (as_terms times) ≤ 1000000
+lasts plan times passes = le_of_mul-le-mul_right {k = times.common}
+    (omega (arith, all_shares plan times.common plan.caps times.tasks passes.sustained, passes.fits))
+    (omega (arith, passes.timed.some_common))
+
 pub passes_demand : (plan : DiePlan) (times : Times) → Passes plan times → PassesDemand plan (as_terms times)
 passes_demand plan times passes = record {
   has = has_terms plan times passes.timed;
+  lasts = lasts plan times passes;
   fits = λ slots within. fits plan times slots passes;
 }
 

@@ -15,7 +15,7 @@ use Rattle.demand_rules.specs.declared.terms.Terms.{Terms}
 use Rattle.demand_rules.specs.Demand.{periods_within, task_demand_in, demand_in, IsTaskTerms, HasTerms}
 
 -- a quotient grows with what is divided
-div_more : (a b k : ℕ) → a ≤ b → a / k ≤ b / k
+pub div_more : (a b k : ℕ) → a ≤ b → a / k ≤ b / k
 div_more a b zero le = omega arith
 div_more a b (suc k) le = elim (cases_lt (b / suc k) (a / suc k)) [
   | inl less ↦

@@ -2,6 +2,7 @@ pub mod Bursts
 pub mod Asking
 pub mod Fitting
 pub mod Growing
+pub mod Steadying
 pub mod Pacing
 pub mod Moments
 pub mod Earlier

@@ -7,16 +7,11 @@ use Rattle.demand_rules.specs.declared.terms.TaskTerms.{TaskTerms}
 use Rattle.demand_rules.specs.declared.terms.Terms.{Terms}
 
 -- the terms of a task; a task that the plan doesn't have asks for nothing
+abbrev pub no_terms : TaskTerms
+no_terms = record { period = 0; deadline = 0; held = 0; work = 0; writes = 0; collect_period = 0; collect_deadline = 0 }
+
 abbrev pub terms_of : Terms → ℕ → TaskTerms
-terms_of terms task = slice_index_or terms.tasks task (record {
-  period = 0;
-  deadline = 0;
-  held = 0;
-  work = 0;
-  writes = 0;
-  collect_period = 0;
-  collect_deadline = 0;
-})
+terms_of terms task = slice_index_or terms.tasks task no_terms
 
 -- the work of how many periods may be released in an interval of so many slots and be due by its end, where each job has
 -- `deadline` slots
@@ -52,8 +47,21 @@ pub record HasTerms (plan : DiePlan) (terms : Terms) : Type 0 where
   pub one_each : length terms.tasks ≡ length plan.caps
   pub each : All IsTaskTerms terms.tasks
 
+-- of a million slots, how many the jobs of a task take at most in the long run, and its collections; each rounded down
+abbrev pub task_load : DiePlan → TaskTerms → ℕ
+task_load plan t = (t.work * 1000000) / t.period + (collection_work plan * 1000000) / t.collect_period
+
+-- and those of all tasks
+abbrev pub load : DiePlan → Terms → ℕ
+load plan terms = sum_by (task_load plan) terms.tasks
+
 -- whatever is asked of so many slots fits into them; no interval of a life is longer than the last slot that there may
 -- be, so the periods need no common multiple
+abbrev pub FitsAllSlots : DiePlan → Terms → Type 0
+FitsAllSlots plan terms = (slots : ℕ) → slots ≤ MAX_SLOT → demand_in plan terms slots ≤ slots
+
+-- and in the long run no more is asked than there are slots, which no life is long enough to show
 pub record PassesDemand (plan : DiePlan) (terms : Terms) : Type 0 where
   pub has : HasTerms plan terms
-  pub fits : (slots : ℕ) → slots ≤ MAX_SLOT → demand_in plan terms slots ≤ slots
+  pub lasts : load plan terms ≤ 1000000
+  pub fits : FitsAllSlots plan terms

@@ -1,143 +1,72 @@
-//! The test of a plan with deadlines and bursts.
+//! The test that what may be asked of any interval fits into it.
 
-ghost use Rattle.std.specs.Prelude.{◌≡◌, ◌<◌, ◌≤◌, ◌↔◌, ℕ, length, sum_by, All, IsTrue, IsOk, IfOk, IfErr, IfSome, IsNone};
-ghost use Rattle.slot_types.specs.declared.limits.TheConstants.{MAX_SLOT};
+ghost use Rattle.std.specs.Prelude.{◌↔◌, IsOk, IfOk, IfErr};
 ghost use Rattle.plan_rules.specs.Bound.{MeetsBound};
-ghost use Rattle.demand_rules.specs.Demand.{IsTaskTerms, HasTerms, PassesDemand, periods_within, task_demand_in, demand_in};
+ghost use Rattle.demand_rules.specs.Demand.{PassesDemand};
+ghost use Rattle.demand_rules.specs.Faults.{IsDemandLoad, IsDemandFault};
 
-use crate::terms::{TaskTerms, Terms};
-use plan_rules::Load;
-use slot_types::{DiePlan, MAX_SLOT, Refusal};
+use crate::amounts::{MILLION, total_demand, total_load};
+use crate::intervals::{first_overfull, short_of, tightest};
+use crate::limits::{LimitFault, limits_test};
+use crate::terms::Terms;
+use slot_types::{DiePlan, MAX_SLOT};
 
-/// Whether a die can do all that its tasks may ask for with deadlines and bursts, and what they may ask of as many slots
-/// as a life has. It takes no memory.
+/// What a plan that passes the test asks of its die.
+#[derive(Clone, Copy, PartialEq, Eq, Debug, Drop)]
+pub struct DemandLoad {
+    /// Of a million slots, so many are asked for in the long run, 0 to 1,000,000: the sum over all tasks of what their jobs
+    /// ask for, and their collections, each rounded down.
+    pub load: u32,
+    /// Of all intervals of which anything may be asked, one that then has the fewest slots left, by its length in slots.
+    pub tightest: u32,
+    /// How many slots of it are left at least, whatever is asked.
+    pub slack: u32,
+}
+
+/// Why a plan doesn't pass the test: what is wrong first.
+#[derive(Clone, Copy, PartialEq, Eq, Debug, Drop)]
+pub enum DemandFault {
+    Limits(LimitFault),
+    /// In the long run more is asked than there are slots: of a million slots, so many.
+    Load(u64),
+    /// The shortest interval of which more may be asked than it has slots, by its length, and how many slots more.
+    Overfull { slots: u32, excess: u64 },
+}
+
+/// Whether a die can do all that its tasks may ask for, with deadlines and bursts: the processor demand criterion
+/// (Baruah, Rosier and Howell 1990), for each interval that a life has; and in the long run. It takes no memory.
 ///
-/// `BadPlan` where not each task has its terms, or a number of these is out of its limits; and where more may be asked
-/// of some number of slots than these, which [`overfull`] names.
+/// It is exact for the most that tasks may ask for: where it finds an interval overfull, jobs that are all released at its
+/// start, and then as often as they may, and collections that all take their most slots, can't all be done by its end. But
+/// a collection rarely takes its most slots, and some are waived, so that a plan that fails may still never be late.
 ///
-/// The plan meets its bound, as [`bound`](plan_rules::bound) says.
-pub fn demand_test(plan: &DiePlan, terms: &Terms) -> Result<Load, Refusal>
+/// The faults, in the order in which they are looked for: terms that aren't the plan's, a load above 1, an interval that is
+/// overfull. The plan meets its bound, as [`bound`](plan_rules::bound) says.
+pub fn demand_test(plan: &DiePlan, terms: &Terms) -> Result<DemandLoad, DemandFault>
     requires { MeetsBound plan.now }
     ensures passes { IsOk result ↔ PassesDemand plan.now terms.now }
-    ensures demand { IfOk result (λ load. load.demand ≡ demand_in plan.now terms.now MAX_SLOT) }
-    ensures common { IfOk result (λ load. load.common ≡ MAX_SLOT) }
-    ensures refused { IfErr result (λ refusal. refusal ≡ Refusal.BadPlan) }
+    ensures load { IfOk result (IsDemandLoad plan.now terms.now) }
+    ensures fault { IfErr result (IsDemandFault plan.now terms.now) }
 {
-    if !has_terms(plan, terms) {
-        return Err(Refusal::BadPlan);
+    if let Err(fault) = limits_test(plan, terms) {
+        return Err(DemandFault::Limits(fault));
     }
-    match overfull(plan, terms) {
-        Some(_) => Err(Refusal::BadPlan),
-        None => Ok(Load {
-            demand: total_demand(plan, terms.tasks.as_slice(), MAX_SLOT),
-            common: MAX_SLOT,
-        }),
+    let load = total_load(plan, terms.tasks.as_slice());
+    if load > MILLION {
+        return Err(DemandFault::Load(load));
     }
-}
-
-/// Whether each task has its terms, all within their limits.
-pub fn has_terms(plan: &DiePlan, terms: &Terms) -> bool
-    ensures { IsTrue result ↔ HasTerms plan.now terms.now }
-{
-    terms.tasks.len() == plan.caps.len() && are_task_terms(terms.tasks.as_slice())
-}
-
-/// The greatest number of slots of which more may be asked than these, up to those of a life; none where all fit. It
-/// looks at few numbers: where less is asked of so many slots than these, no fewer slots down to what is asked can be
-/// overfull, since of fewer slots no more is asked.
-pub fn overfull(plan: &DiePlan, terms: &Terms) -> Option<u32>
-    requires bound { MeetsBound plan.now }
-    requires has { HasTerms plan.now terms.now }
-    ensures all { IsNone result ↔ PassesDemand plan.now terms.now }
-    ensures one { IfSome result (λ slots. slots < demand_in plan.now terms.now slots) }
-    ensures within { IfSome result (λ slots. slots ≤ MAX_SLOT) }
-    ensures greatest { IfSome result (λ slots. (other : ℕ) → slots < other → other ≤ MAX_SLOT
-        → demand_in plan.now terms.now other ≤ other) }
-{
-    let mut left = MAX_SLOT;
-    while left > 0 {
-        let demand = total_demand(plan, terms.tasks.as_slice(), left);
-        if demand > u64::from(left) {
-            return Some(left);
-        }
-        left = next_length(demand, left);
+    if let Some(known) = short_of(plan, terms, MAX_SLOT, 0) {
+        let slots = first_overfull(plan, terms, known);
+        let demand = total_demand(plan, terms.tasks.as_slice(), slots);
+        return Err(DemandFault::Overfull {
+            slots,
+            excess: demand - u64::from(slots),
+        });
     }
-    None
-}
-
-// What is looked at after so many slots, of which so much is asked.
-fn next_length(demand: u64, left: u32) -> u32
-    requires some { 0 < left }
-    requires fits { demand ≤ left }
-    ensures less { result < left }
-    ensures between { (other : ℕ) → result < other → other < left → demand ≤ other }
-{
-    if demand < u64::from(left) {
-        demand as u32
-    } else {
-        left - 1
-    }
-}
-
-fn are_task_terms(tasks: &[TaskTerms]) -> bool
-    ensures { IsTrue result ↔ All IsTaskTerms tasks.now }
-{
-    tasks.iter().all(|task| is_task_terms(task))
-}
-
-fn is_task_terms(task: &TaskTerms) -> bool
-    ensures { IsTrue result ↔ IsTaskTerms task.now }
-{
-    1 <= task.period
-        && 1 <= task.deadline
-        && task.deadline <= task.held
-        && task.held <= MAX_SLOT
-        && 1 <= task.work
-        && task.work <= MAX_SLOT
-        && task.writes <= task.work
-        && 1 <= task.collect_period
-        && task.collect_period <= MAX_SLOT
-        && 1 <= task.collect_deadline
-        && task.collect_deadline <= task.collect_period
-}
-
-// What all tasks may ask of so many slots: at most 16 times 1,049,152 times 1,048,577.
-fn total_demand(plan: &DiePlan, tasks: &[TaskTerms], slots: u32) -> u64
-    requires bound { MeetsBound plan.now }
-    requires few { length tasks.now ≤ 16 }
-    requires slots { slots ≤ 1048576 }
-    requires limits { All IsTaskTerms tasks.now }
-    ensures { result ≡ sum_by (task_demand_in plan.now slots) tasks.now }
-{
-    let mut total: u64 = 0;
-    for task in tasks {
-        total += one_demand(plan, task, slots);
-    }
-    total
-}
-
-fn one_demand(plan: &DiePlan, task: &TaskTerms, slots: u32) -> u64
-    requires bound { MeetsBound plan.now }
-    requires slots { slots ≤ 1048576 }
-    requires limits { IsTaskTerms task.now }
-    ensures demand { result ≡ task_demand_in plan.now slots task.now }
-    ensures within { result ≤ 1100116656704 }
-{
-    let collection = 2 * (plan.shape.pages - plan.alpha) + plan.shape.erase_slots;
-    let jobs = u64::from(task.work) * u64::from(periods(task.period, task.deadline, slots));
-    jobs + u64::from(collection)
-        * u64::from(periods(task.collect_period, task.collect_deadline, slots))
-}
-
-fn periods(period: u32, deadline: u32, slots: u32) -> u32
-    requires some { 1 ≤ period }
-    requires slots { slots ≤ 1048576 }
-    ensures periods { result ≡ periods_within period deadline slots }
-    ensures within { result ≤ 1048577 }
-{
-    if deadline <= slots {
-        (slots - deadline) / period + 1
-    } else {
-        0
-    }
+    let tight = tightest(plan, terms);
+    Ok(DemandLoad {
+        load: load as u32,
+        tightest: tight.slots,
+        slack: tight.slack,
+    })
 }

@@ -2,12 +2,18 @@
 //! be asked of them fits; and what a task may write comes back to it.
 #![tactic(auto)]
 
+mod amounts;
 pub mod demands;
+mod intervals;
 pub mod laws;
+pub mod limits;
+pub mod plans;
 pub mod supplies;
 pub mod terms;
 
-pub use demands::{demand_test, has_terms, overfull};
+pub use demands::{DemandFault, DemandLoad, demand_test};
 pub use laws::{demand_fits_windows, passing_plans_pass};
-pub use supplies::{is_supplied, terms_test};
+pub use limits::{LimitFault, TermsNumber, has_terms, limits_test};
+pub use plans::{TermsFault, terms_test};
+pub use supplies::{Lack, SupplyFault, supply_test};
 pub use terms::{TaskTerms, Terms, TermsList};

@@ -3,30 +3,36 @@
 use slot_types::Items;
 
 /// What a task asks for. All times are in slots.
+///
+/// A job comes in the slot in which it is asked for, and its release lies then or later. Operations are counted by a
+/// job's release, since it is carried out from then on; writes are counted by its coming, since its tokens go when it is
+/// accepted, however far ahead its release lies.
 #[derive(Clone, Copy, PartialEq, Eq, Debug, Drop)]
 pub struct TaskTerms {
-    /// In any so many slots, 1 or more, jobs of the task are released that have `work` operations in all at most. It may be
-    /// longer than a life.
+    /// In any so many slots, 1 to 4,294,967,295, jobs of the task are released that have `work` operations in all at most,
+    /// and jobs come that have `writes` writes in all at most. It may be longer than a life.
     pub period: u32,
-    /// A job has at least so many slots from its release on, 1 to 1,048,576.
+    /// A job is due so many slots after its release, or later: 1 to `held`.
     pub deadline: u32,
-    /// A job is due at most so many slots after it comes: `deadline` to 1,048,576. So long it may hold the pages that it
-    /// writes.
+    /// A job is due so many slots after it comes, or sooner: `deadline` to 1,048,576. So long it may hold the tokens for
+    /// what it writes. With `held` equal to `deadline` each job comes at its release.
     pub held: u32,
-    /// 1 to 1,048,576.
+    /// The most operations that jobs released in a period have in all, 1 to 1,048,576, in any number of jobs of at most 64
+    /// each.
     pub work: u32,
-    /// The most writes among these.
+    /// The most writes that jobs which come in a period have in all, 0 to `work`.
     pub writes: u32,
     /// A collection comes at each multiple of this, 1 to 1,048,576.
     pub collect_period: u32,
-    /// A collection has so many slots: 1 to `collect_period`.
+    /// A collection is due so many slots after it comes: 1 to `collect_period`. Where it is less than `collect_period`, a
+    /// life may end in each slot by which all that came is due.
     pub collect_deadline: u32,
 }
 
 /// By task what it asks for.
 pub type TermsList = Items<TaskTerms>;
 
-/// What the tasks of a die ask for. Their periods need have no common multiple.
+/// What the tasks of a die ask for. Within a life their periods need have no common multiple.
 #[derive(Clone, PartialEq, Eq, Debug, Drop)]
 pub struct Terms {
     pub tasks: TermsList,

@@ -1,8 +1,11 @@
 //! A recorder: eight sensors, a crash that is rare and urgent, and a read-out; and what the tests say of it.
 
-use demand_rules::{TaskTerms, Terms, TermsList, has_terms, overfull, terms_test};
-use plan_rules::{Load, bound};
-use slot_types::{Caps, DiePlan, MAX_SLOT, Refusal, Shape};
+use demand_rules::{
+    DemandFault, DemandLoad, Lack, LimitFault, SupplyFault, TaskTerms, Terms, TermsFault,
+    TermsList, TermsNumber, demand_test, has_terms, limits_test, terms_test,
+};
+use plan_rules::bound;
+use slot_types::{Caps, DiePlan, Refusal, Shape};
 use std::alloc::Global;
 use std::test::Fail;
 
@@ -49,30 +52,14 @@ fn with_crash(alloc: Global, crash: TaskTerms) -> Result<Terms, Refusal> {
     })
 }
 
-/// What the tests say of a recorder, and the greatest number of slots that is overfull.
-fn says(alloc: Global, crash: &Crash) -> Result<(Result<Load, Refusal>, Option<u32>), Refusal> {
-    let plan = recorder(alloc, crash.2)?;
-    bound(&plan)?;
-    let terms = terms(alloc, crash.0, crash.1)?;
-    let load = terms_test(&plan, &terms);
-    if !has_terms(&plan, &terms) {
-        return Err(Refusal::BadPlan);
-    }
-    Ok((load, overfull(&plan, &terms)))
-}
-
-/// A crash, and the demand of a life, where the plan passes; and which slots are overfull.
-type Case = (Crash, Option<u64>, Option<u32>);
+/// A crash, and what the tests say of a plan with it.
+type Case = (Crash, Result<DemandLoad, TermsFault>);
 
 fn is_so(alloc: Global, case: &Case) -> Result<bool, Refusal> {
-    let want = match case.1 {
-        Some(demand) => Ok(Load {
-            demand,
-            common: MAX_SLOT,
-        }),
-        None => Err(Refusal::BadPlan),
-    };
-    Ok(says(alloc, &case.0)? == (want, case.2))
+    let crash = case.0;
+    let plan = recorder(alloc, crash.2)?;
+    bound(&plan)?;
+    Ok(terms_test(&plan, &terms(alloc, crash.0, crash.1)?) == case.1)
 }
 
 /// The place, from 0, of the first recorder that is judged otherwise.
@@ -85,18 +72,34 @@ fn first_wrong(alloc: Global, cases: &[Case]) -> Result<Option<usize>, Refusal> 
     Ok(None)
 }
 
+/// So much is asked for in the long run, and the tightest interval is this one.
+const fn passes(load: u32, tightest: u32, slack: u32) -> Result<DemandLoad, TermsFault> {
+    Ok(DemandLoad {
+        load,
+        tightest,
+        slack,
+    })
+}
+
 #[test]
 fn a_crash_is_admitted_down_to_its_last_slot(rt: HostRuntime) -> Result<(), Fail> {
-    #[rattlefmt::skip]
-    const CASES: &[Case] = &[
-        ((1_024, 8_000, 1_083), Some(201_575), None),
+    let short = Err(TermsFault::Supply(SupplyFault {
+        task: 1,
+        lack: Lack::Cap { least: 1_083 },
+    }));
+    let overfull = Err(TermsFault::Demand(DemandFault::Overfull {
+        slots: 1_093,
+        excess: 1,
+    }));
+    let cases: &[Case] = &[
+        ((1_024, 8_000, 1_083), passes(191_786, 160, 159)),
         // a page less than the cap that it needs
-        ((1_024, 8_000, 1_082), None, None),
+        ((1_024, 8_000, 1_082), short),
         // due in 1,094 slots, and in one slot less
-        ((1_024, 1_094, 1_083), Some(201_575), None),
-        ((1_024, 1_093, 1_083), None, Some(1_093)),
+        ((1_024, 1_094, 1_083), passes(191_786, 1_094, 0)),
+        ((1_024, 1_093, 1_083), overfull),
     ];
-    assert_eq!(rt; first_wrong(rt.alloc(), CASES)?, None);
+    assert_eq!(rt; first_wrong(rt.alloc(), cases)?, None);
     Ok(())
 }
 
@@ -107,21 +110,41 @@ fn a_period_may_be_longer_than_a_life(rt: HostRuntime) -> Result<(), Fail> {
     let crash = task((14_400_000, 8_000), (1_024, 1_024), 168_750);
     let terms = with_crash(rt.alloc(), crash)?;
     bound(&plan)?;
-    let want = Load {
-        demand: 155_389,
-        common: MAX_SLOT,
-    };
-    assert_eq!(rt; terms_test(&plan, &terms), Ok(want));
+    assert_eq!(rt; terms_test(&plan, &terms), passes(147_376, 160, 159));
     Ok(())
 }
 
-/// A crash of no operations is none.
+/// A crash of no operations is none, nor is one that is due at once, or has more operations than a life has slots.
 #[test]
 fn terms_have_limits(rt: HostRuntime) -> Result<(), Fail> {
     let plan = recorder(rt.alloc(), 1_083)?;
-    assert!(rt; !has_terms(&plan, &terms(rt.alloc(), 0, 8_000)?));
-    assert!(rt; !has_terms(&plan, &terms(rt.alloc(), 1, 0)?));
-    assert!(rt; !has_terms(&plan, &terms(rt.alloc(), 1_048_577, 8_000)?));
+    let out = |number| Err(LimitFault::Number { task: 1, number });
+    assert_eq!(rt;
+        limits_test(&plan, &terms(rt.alloc(), 0, 8_000)?),
+        out(TermsNumber::Work)
+    );
+    assert_eq!(rt;
+        limits_test(&plan, &terms(rt.alloc(), 1, 0)?),
+        out(TermsNumber::Deadline)
+    );
+    assert_eq!(rt;
+        limits_test(&plan, &terms(rt.alloc(), 1_048_577, 8_000)?),
+        out(TermsNumber::Work)
+    );
     assert!(rt; has_terms(&plan, &terms(rt.alloc(), 1_048_576, 1_048_576)?));
+    Ok(())
+}
+
+/// A task that reads as many pages in each slot as a life has, due at its end: no interval of a life is overfull.
+#[test]
+fn a_load_above_one_is_refused(rt: HostRuntime) -> Result<(), Fail> {
+    let plan = recorder(rt.alloc(), 1_083)?;
+    bound(&plan)?;
+    let mut crash = task((1, 1_048_576), (1_000_000, 0), 1_048_576);
+    crash.collect_deadline = 200;
+    let terms = with_crash(rt.alloc(), crash)?;
+    // of a million slots, by task: 6,250 and 59,895; a million times a million and 109; 80,000 and 479
+    let load = DemandFault::Load(1_000_000_146_733);
+    assert_eq!(rt; demand_test(&plan, &terms), Err(load));
     Ok(())
 }

@@ -16,7 +16,7 @@ use Rattle.plan_rules.specs.Times.{collection_work}
 use Rattle.plan_rules.specs.Keeping.{TaskArrival, arrivals, is_collection_at}
 use Rattle.demand_rules.specs.declared.terms.TaskTerms.{TaskTerms}
 use Rattle.demand_rules.specs.declared.terms.Terms.{Terms}
-use Rattle.demand_rules.specs.Demand.{terms_of, demand_in, IsTaskTerms, HasTerms, PassesDemand}
+use Rattle.demand_rules.specs.Demand.{terms_of, demand_in, FitsAllSlots, IsTaskTerms, HasTerms, PassesDemand}
 use Rattle.demand_rules.specs.Supply.{PassesSupply}
 use Rattle.demand_rules.specs.Keeping.{IsDemanded, IsCollectSlot, is_released_in, comes_in, KeepsDemandPlan}
 
@@ -73,7 +73,7 @@ fits n = by_tests (nat_le 6 n) refl (nat_le 20 n) refl
     by_tests false six false twenty = omega arith
 
 pub passes : PassesDemand (small 7) (terms 4)
-passes = record { has = has_terms; fits = λ n within. fits n }
+passes = record { has = has_terms; lasts = omega arith; fits = λ n within. fits n }
 
 pub supplied : PassesSupply (small 7) (terms 4)
 supplied = record { has = has_terms; sustained = (record { regained = omega arith; stocked = omega arith }, tt) }
@@ -81,6 +81,36 @@ supplied = record { has = has_terms; sustained = (record { regained = omega arit
 -- seven operations don't fit into six slots
 overloaded : PassesDemand (small 7) (terms 7) → ⊥
 overloaded h = omega (arith, h.fits 6 (omega arith))
+
+-- in each slot as many operations as nearly a life has slots, due at its end: any number of slots of a life has room for
+-- what is asked of it, and still no die can do it
+abbrev pub for_ever : TaskTerms
+for_ever = record {
+  period = 1;
+  deadline = 1048576;
+  held = 1048576;
+  work = 1048569;
+  writes = 0;
+  collect_period = 1048576;
+  collect_deadline = 7;
+}
+
+abbrev pub endless : Terms
+endless = record { tasks = for_ever ∷ [] }
+
+a_life_fits : FitsAllSlots (small 7) endless
+a_life_fits n within = by_tests (nat_le 1048576 n) refl (nat_le 7 n) refl
+  where
+    by_tests : (b : Bool) → nat_le 1048576 n ≡ b → (c : Bool) → nat_le 7 n ≡ c
+        → 0 + (1048569 * cond b ((n - 1048576) / 1 + 1) 0 + 7 * cond c ((n - 7) / 1048576 + 1) 0) ≤ n
+    by_tests true last true seven = omega
+        (arith, leb-true 1048576 n last, within, div-mul-le_self (n - 1048576) 1, div-mul-le_self (n - 7) 1048576)
+    by_tests true last false seven = omega (arith, leb-true 1048576 n last, within, div-mul-le_self (n - 1048576) 1)
+    by_tests false last true seven = omega (arith, leb-true 7 n seven, within, div-mul-le_self (n - 7) 1048576)
+    by_tests false last false seven = omega arith
+
+no_die_lasts : PassesDemand (small 7) endless → ⊥
+no_die_lasts h = omega (arith, h.lasts)
 
 -- with a cap of six pages the task runs short
 understocked : PassesSupply (small 6) (terms 4) → ⊥

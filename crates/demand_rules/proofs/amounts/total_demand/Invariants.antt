@@ -1,6 +1,6 @@
 use Rattle.std.proofs.Common.{◌≡◌, ◌*◌, ◌≤◌, sum_by, take}
 use Rattle.demand_rules.specs.Demand.{task_demand_in}
-use Rattle.demand_rules.proofs.demands.total_demand.Given as goal
+use Rattle.demand_rules.proofs.amounts.total_demand.Given as goal
 
 abbrev pub invariant-loop-task : goal.invariant-loop-task
 invariant-loop-task l = record {
