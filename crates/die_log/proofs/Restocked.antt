@@ -4,9 +4,8 @@ use Rattle.std.proofs.Common.{◌≡◌, ℕ, ◌+◌, ◌-◌, ◌*◌, ◌/◌
 use Rattle.std.proofs.Common.{◌∙◌, ◌⊎◌, true, suc, inl, inr, arith}
 use Rattle.std.specs.Prelude.{Contains}
 use Rattle.std.specs.List.{AllByRecursion}
-use Rattle.std.proofs.Math.Nat.{mul-le-mul_left, div-add-mod, mod-lt}
+use Rattle.std.proofs.Math.Nat.{mul-le-mul_left, mod-lt}
 use Rattle.std.proofs.lemmas.Nat.{div-add-mod'}
-use Rattle.std.proofs.lemmas.Bool.{cases_lt}
 use Rattle.slot_types.specs.declared.limits.TheConstants.{MAX_SLOT}
 use Rattle.slot_types.specs.declared.plans.DiePlan.{DiePlan}
 use Rattle.slot_types.specs.declared.plans.Times.{Times}
@@ -37,38 +36,22 @@ use Rattle.die_log.proofs.Supply.Amounts.{again}
 use Rattle.die_log.proofs.Supply.Following.{AreOf, Follows, follows}
 use Rattle.die_log.proofs.Supply.Owing.{is_owed, Came, owed_came, owed_within, periods_for, reach_beyond, by_a_period}
 use Rattle.die_log.proofs.Supply.Covering.{never_late, covered}
-use Rattle.die_log.proofs.Restocking.{collections_fill}
+use Rattle.die_log.proofs.Restocking.{collections_fill, multiples_leave_none}
 
 -- Where the periods end
 
--- two multiples lie a period apart
-a_period_apart : (q a b : ℕ) → a % q ≡ 0 → b % q ≡ 0 → a < b → a + q ≤ b
-a_period_apart q a b first second less =
-    let of_first : a ≡ q * (a / q) = omega (arith, div-add-mod a q, first) in
-    let of_second : b ≡ q * (b / q) = omega (arith, div-add-mod b q, second) in
-    elim (cases_lt (a / q) (b / q)) [
-      | inl fewer ↦ omega (arith, of_first, of_second, times_suc q (a / q), mul-le-mul_left q (next (a / q) (b / q) fewer))
-      | inr more ↦ absurd (omega (arith, of_first, of_second, less, mul-le-mul_left q more))
-    ]
-  where
-    times_suc : (k n : ℕ) → k * (n + 1) ≡ k * n + k
-    times_suc k n = grind arith
-
-    next : (n m : ℕ) → n < m → n + 1 ≤ m
-    next n m h = omega (arith, h)
-
--- so a multiple of each collect period leaves out no collection
-pub none_left_out : (plan : DiePlan) (times : Times) (end : ℕ) → end ≤ MAX_SLOT
+-- a multiple of each collect period leaves out no collection
+pub none_left_out : (plan : DiePlan) (times : Times) (end : ℕ) → Passes plan times → end ≤ MAX_SLOT
     → ((task : ℕ) → task < length plan.caps → end % (times_of times task).collect_period ≡ 0) → LeavesOutNone plan (as_terms times) end
-none_left_out plan times end within multiple task slot lt =
-    subst (λ (u : TaskTerms). slot < end → slot % u.collect_period ≡ 0 → slot + u.collect_deadline ≤ MAX_SLOT) (sym (terms_are times task))
-    (λ before own. omega (arith, within, a_period_apart (times_of times task).collect_period slot end own (multiple task lt) before))
+none_left_out plan times end passes within multiple =
+    multiples_leave_none plan (as_terms times) end (passes_demand plan times passes).has within
+    (λ task lt. ap (λ (u : TaskTerms). end % u.collect_period) (terms_are times task) ∙ multiple task lt)
 
-period_ends : (start : Start) (times : Times) (log : Log) → IsExact start log → earlier.IsAtPeriodEnd start.plan times log
+period_ends : (start : Start) (times : Times) (log : Log) → Passes start.plan times → IsExact start log → earlier.IsAtPeriodEnd start.plan times log
     → IsAtPeriodEnd start.plan (as_terms times) log
-period_ends start times log exact ends = record {
+period_ends start times log passes exact ends = record {
   due_by_now = ends.due_by_now;
-  none_left_out = none_left_out start.plan times (now log) (keeps_limits start log exact).slots ends.multiple;
+  none_left_out = none_left_out start.plan times (now log) passes (keeps_limits start log exact).slots ends.multiple;
 }
 
 -- What is owed there
@@ -238,4 +221,4 @@ pub goes_on : (start : Start) (times : Times) → IsOpening start → Passes sta
     → (log : Log) (rest : List Event) → IsExact start log → KeepsPlan start.plan times (events_of_log log ++ rest)
     → earlier.IsAtPeriodEnd start.plan times log → IsQuiet start log × AreStocked (renewed_start start log) times
 goes_on start times bound passes stocked log rest exact keeps ends =
-    goes_on_where start times bound passes stocked log rest exact keeps (period_ends start times log exact ends)
+    goes_on_where start times bound passes stocked log rest exact keeps (period_ends start times log passes exact ends)

@@ -1,9 +1,9 @@
 -- Work with bursts goes on: where the periods end, the moment is quiet, and what a task lacks there was written by jobs
 -- that came not long before.
-use Rattle.std.proofs.Common.{◌≡◌, ℕ, ◌+◌, ◌-◌, ◌*◌, ◌<◌, ◌≤◌, ◌==◌, ◌&&◌, not, nat_le, nat_lt, Bool, true, false, cond, List}
+use Rattle.std.proofs.Common.{◌≡◌, ℕ, ◌+◌, ◌-◌, ◌*◌, ◌/◌, ◌%◌, ◌<◌, ◌≤◌, ◌==◌, ◌&&◌, not, nat_le, nat_lt, Bool, true, false, cond, List}
 use Rattle.std.proofs.Common.{[], ◌∷◌, ◌++◌, length, map, sum_by, slice_index, refl, ap, sym, ◌⊎◌, inl, inr, arith}
 use Rattle.std.specs.List.{AllByRecursion}
-use Rattle.std.proofs.Math.Nat.{mul-le-mul_left, mul-mod_right}
+use Rattle.std.proofs.Math.Nat.{mul-le-mul_left, mul-mod_right, div-add-mod}
 use Rattle.std.proofs.lemmas.Bool.{true≢false, cases_lt, and_parts, and_from, le-leb, lt-ltb, ltb-true}
 use Rattle.std.proofs.lemmas.List.Sums.{sum_by-cons, sum_by-append}
 use Rattle.slot_types.specs.declared.plans.DiePlan.{DiePlan}
@@ -15,7 +15,7 @@ use Rattle.plan_rules.proofs.Arriving.{is_job_of, due_of}
 use Rattle.plan_rules.proofs.Pacing.{collections_in}
 use Rattle.demand_rules.specs.declared.terms.TaskTerms.{TaskTerms}
 use Rattle.demand_rules.specs.declared.terms.Terms.{Terms}
-use Rattle.demand_rules.specs.Demand.{terms_of, PassesDemand}
+use Rattle.demand_rules.specs.Demand.{terms_of, HasTerms, PassesDemand}
 use Rattle.demand_rules.specs.Keeping.{comes_in, KeepsDemandPlan}
 use Rattle.demand_rules.proofs.Bursts as bursts
 use Rattle.demand_rules.proofs.Fitting.{task_terms}
@@ -27,11 +27,47 @@ use Rattle.die_log.specs.Results.InTime.{IsInTime, events_of_log}
 use Rattle.die_log.specs.Results.Supply.{balance_of, collections_of, pending_at}
 use Rattle.die_log.proofs.Supply.Held.{pending_none}
 use Rattle.die_log.specs.Results.Covered.{owed_after, written_before, IsCovered, AreStockedFor}
-use Rattle.die_log.specs.Results.DemandedLives.{IsAtPeriodEnd, at_later, AreStockedAfter}
+use Rattle.die_log.specs.Results.DemandedLives.{LeavesOutNone, IsAtPeriodEnd, at_later, AreStockedAfter}
 use Rattle.die_log.proofs.Supply.Amounts.{again}
 use Rattle.die_log.proofs.Supply.Following.{Follows, follows, collections_are, sum_of}
 use Rattle.die_log.proofs.Supply.Owing.{is_owed, same_owed, Came, owed_came, at_of, writes_of, periods_for, reach_beyond, by_a_period}
 use Rattle.die_log.proofs.Supply.Covering.{never_late, own_share, covered}
+
+-- Where no collection is left out
+
+-- two multiples lie a period apart
+a_period_apart : (q a b : ℕ) → a % q ≡ 0 → b % q ≡ 0 → a < b → a + q ≤ b
+a_period_apart q a b first second less =
+    let of_first : a ≡ q * (a / q) = omega (arith, div-add-mod a q, first) in
+    let of_second : b ≡ q * (b / q) = omega (arith, div-add-mod b q, second) in
+    elim (cases_lt (a / q) (b / q)) [
+      | inl fewer ↦ omega (arith, of_first, of_second, times_suc q (a / q), mul-le-mul_left q (next (a / q) (b / q) fewer))
+      | inr more ↦ absurd (omega (arith, of_first, of_second, less, mul-le-mul_left q more))
+    ]
+  where
+    times_suc : (k n : ℕ) → k * (n + 1) ≡ k * n + k
+    times_suc k n = grind arith
+
+    next : (n m : ℕ) → n < m → n + 1 ≤ m
+    next n m h = omega (arith, h)
+
+-- in a life that leaves the last collection its slots
+pub short_lives_leave_none : (plan : DiePlan) (terms : Terms) (end : ℕ)
+    → ((task : ℕ) → task < length plan.caps → end + (terms_of terms task).collect_deadline ≤ MAX_SLOT + 1) → LeavesOutNone plan terms end
+short_lives_leave_none plan terms end room task slot lt before multiple = omega (arith, room task lt, before)
+
+-- and before a multiple of each collect period
+pub multiples_leave_none : (plan : DiePlan) (terms : Terms) (end : ℕ) → HasTerms plan terms → end ≤ MAX_SLOT
+    → ((task : ℕ) → task < length plan.caps → end % (terms_of terms task).collect_period ≡ 0) → LeavesOutNone plan terms end
+multiples_leave_none plan terms end has within multiple task slot lt before own =
+    omega (
+      arith,
+      within,
+      (task_terms plan terms task has lt).few_collect_deadline,
+      a_period_apart (terms_of terms task).collect_period slot end own (multiple task lt) before,
+    )
+
+-- What is lacked at a period's end
 
 -- the collections of a task reach the slot: the next one would have come at a multiple before it
 pub collections_fill : (plan : DiePlan) (terms : Terms) (log : Log) (task : ℕ) → Follows plan terms log → IsAtPeriodEnd plan terms log

@@ -1,7 +1,7 @@
 //! What holds of logs whose events keep a plan with deadlines and bursts. The laws of plans with times follow from these,
 //! since such a plan is one with terms. Each law is a function that does nothing.
 
-ghost use Rattle.std.specs.Prelude.{◌≡◌, ℕ, ◌++◌, ◌∷◌, ◌+◌, ◌≤◌, List, [], map, None};
+ghost use Rattle.std.specs.Prelude.{◌≡◌, ℕ, ◌++◌, ◌∷◌, ◌+◌, ◌<◌, ◌≤◌, ◌%◌, List, [], map, length, None};
 ghost use Rattle.slot_types.specs.declared.plans.DiePlan.{DiePlan};
 ghost use Rattle.slot_types.specs.declared.events.Event.{Event};
 ghost use Rattle.slot_types.specs.declared.plans.Times.{Times};
@@ -9,7 +9,7 @@ ghost use Rattle.plan_rules.specs.Times.{Passes};
 ghost use Rattle.demand_rules.specs.Earlier.{as_terms};
 ghost use Rattle.die_log.specs.Results.Supply as earlier;
 ghost use Rattle.demand_rules.specs.declared.terms.Terms.{Terms};
-ghost use Rattle.demand_rules.specs.Demand.{PassesDemand};
+ghost use Rattle.demand_rules.specs.Demand.{terms_of, HasTerms, PassesDemand};
 ghost use Rattle.demand_rules.specs.Supply.{PassesSupply};
 ghost use Rattle.demand_rules.specs.Keeping.{KeepsDemandPlan};
 ghost use Rattle.demand_rules.specs.Fitting.{FitsWindows};
@@ -25,7 +25,7 @@ ghost use Rattle.die_log.specs.Results.Laws.{ForEveryExactLog};
 ghost use Rattle.die_log.specs.Results.Windows.{HasRoom};
 ghost use Rattle.die_log.specs.Results.PlannedLives.{Calls, events_of_calls, lives_of, IsServedInTime, AreServedInTime};
 ghost use Rattle.die_log.specs.Results.Covered.{AreStocked};
-ghost use Rattle.die_log.specs.Results.DemandedLives.{IsAtPeriodEnd, ForDemandedLives, WritesAreFew, AreFull};
+ghost use Rattle.die_log.specs.Results.DemandedLives.{LeavesOutNone, IsAtPeriodEnd, ForDemandedLives, WritesAreFew, AreFull};
 ghost use Rattle.die_log.specs.Results.DemandedLives.{AreStockedAfter, at_later, all_arrivals, slots_of_all};
 
 /// A log each window of which has the slots that are asked of it is in time, whatever plan its events keep.
@@ -100,6 +100,18 @@ pub fn demanded_work_goes_on()
         IsAtPeriodEnd start.plan terms log
         → IsQuiet start log × AreStockedAfter (renewed_start start log) terms
         (before ++ map (at_later first) (arrivals 0 (events_of_log log))) (first + now log) }
+{}
+
+/// No collection is left out in a life that has ended by the last slot from which each collection has its slots, nor in
+/// one that ends at a multiple of each collect period.
+pub fn short_lives_leave_out_none()
+    ensures short { (plan : DiePlan) (terms : Terms) (end : ℕ) →
+        ((task : ℕ) → task < length plan.caps
+        → end + (terms_of terms task).collect_deadline ≤ MAX_SLOT + 1)
+        → LeavesOutNone plan terms end }
+    ensures multiple { (plan : DiePlan) (terms : Terms) (end : ℕ) → HasTerms plan terms → end ≤ MAX_SLOT →
+        ((task : ℕ) → task < length plan.caps → end % (terms_of terms task).collect_period ≡ 0)
+        → LeavesOutNone plan terms end }
 {}
 
 /// So it is life after life, where the calls of each keep the plan and end where a life may, and in no period of all

@@ -41,7 +41,8 @@ mod lives;
 pub use demands::{
     demanded_lives_go_on, demanded_work_goes_on, demanded_work_is_accepted,
     demanded_work_is_in_time, fitting_work_is_in_time, fresh_dies_are_stocked,
-    full_starts_are_stocked, roomy_logs_are_in_time, stocked_starts_stay_stocked,
+    full_starts_are_stocked, roomy_logs_are_in_time, short_lives_leave_out_none,
+    stocked_starts_stay_stocked,
 };
 pub use laws::{
     collections_are_bounded, collections_find_victims, equal_calls_have_one_answer,

@@ -26,8 +26,9 @@ use Rattle.die_log.proofs.Life.Demanding.{run_reported, period_end}
 
 -- One log
 
-terms_end : (plan : DiePlan) (times : Times) (all : List Event) → slots all ≤ MAX_SLOT → EndPeriods plan times all → demanded.EndPeriods plan (as_terms times) all
-terms_end plan times all few ends = record { due = ends.due; none_left_out = none_left_out plan times (slots all) few ends.multiple }
+terms_end : (plan : DiePlan) (times : Times) (all : List Event) → Passes plan times → slots all ≤ MAX_SLOT → EndPeriods plan times all
+    → demanded.EndPeriods plan (as_terms times) all
+terms_end plan times all passes few ends = record { due = ends.due; none_left_out = none_left_out plan times (slots all) passes few ends.multiple }
 
 module _ (start : Start) (times : Times) (bound : IsOpening start) (passes : Passes start.plan times) (stocked : AreStocked start times)
     (calls : Calls) (keeps : KeepsPlan start.plan times (events_of_calls calls)) where
@@ -49,7 +50,7 @@ module _ (start : Start) (times : Times) (bound : IsOpening start) (passes : Pas
       let demands = keeps_demand start.plan times (events_of_log (run start [] calls) ++ []) kept in
       goes_on_where start times bound passes stocked (run start [] calls) [] exact_run kept
       (period_end start.plan (as_terms times) (run start [] calls) (follows start (as_terms times) (run start [] calls) exact_run [] demands)
-      (subst (demanded.EndPeriods start.plan (as_terms times)) (sym same) (terms_end start.plan times (events_of_calls calls) keeps.few_slots ends)))
+      (subst (demanded.EndPeriods start.plan (as_terms times)) (sym same) (terms_end start.plan times (events_of_calls calls) passes keeps.few_slots ends)))
 
 -- All lives
 

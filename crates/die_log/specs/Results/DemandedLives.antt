@@ -58,7 +58,7 @@ abbrev pub WritesAreFew : DiePlan → Terms → List Calls → Type 0
 WritesAreFew plan terms all = (task slot : ℕ) → task < length plan.caps → let t = terms_of terms task in
     sum_by (λ a. if comes_in task slot (slot + t.period) a then writes a.ops else 0) (all_arrivals all) ≤ t.writes
 
--- the calls of each life keep the plan, and end where its periods do
+-- the calls of each life keep the plan, and end where a life may
 abbrev pub KeepDemandPlans : DiePlan → Terms → List Calls → Type 0
 KeepDemandPlans plan terms [] = Unit {0}
 KeepDemandPlans plan terms (calls ∷ earlier) =
@@ -85,7 +85,7 @@ AreFull start = (task : ℕ) → task < length start.plan.caps
     → slice_index start.plan.caps task ≤ slice_index start.accounts.balances task + start.plan.alpha
 
 -- it holds wherever a die starts full, at an opening whose plan passes both tests, and the calls of each life keep the
--- plan and end where its periods do
+-- plan and end where a life may
 abbrev pub ForDemandedLives : (Start → Terms → List Calls → Type 0) → Type 0
 ForDemandedLives Holds =
     (first : Start) (terms : Terms) → IsOpening first → PassesDemand first.plan terms → PassesSupply first.plan terms → AreFull first
