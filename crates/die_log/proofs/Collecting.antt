@@ -4,8 +4,6 @@ use Rattle.std.proofs.Common.{length}
 use Rattle.std.specs.List.{AllByRecursion, filter_map, list_any}
 use Rattle.std.proofs.lemmas.Bool.Decides.{nat_tests}
 use Rattle.slot_types.specs.declared.replies.Waived.{Waived}
-use Rattle.slot_types.specs.declared.events.Event.TheVariants as events
-use Rattle.slot_types.specs.declared.replies.Reply.TheVariants as replies
 use Rattle.die_log.specs.Model.Log.{Log, Job, Carried, jobs, carried_slots, waived_collections, is_waived, act_of, acts}
 use Rattle.die_log.specs.Model.Answers.{IsExact}
 use Rattle.die_log.proofs.Known.{CarriedBelow, WaivedBelow, known}

@@ -20,6 +20,7 @@ pub mod Planned
 pub mod Supply
 pub mod Renewal
 pub mod Restocking
+pub mod Restocked
 pub mod Victims
 pub mod Life
 mod Worked

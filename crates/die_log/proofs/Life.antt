@@ -3,5 +3,6 @@ pub mod Starting
 pub mod Reading
 pub mod Timing
 pub mod Wearing
+pub mod Demanding
 pub mod Planning
 pub mod FewErases

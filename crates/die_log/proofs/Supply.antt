@@ -3,11 +3,12 @@ pub mod Gains
 pub mod Closing
 pub mod Amounts
 pub mod Slots
-pub mod Taking
 pub mod Waived
 pub mod Held
-pub mod Following
-pub mod Multiples
 pub mod RunningOn
-pub mod Along
+pub mod Following
+pub mod Owing
+pub mod Covering
+pub mod Accepted
+pub mod Earlier
 pub mod Unrefused

@@ -19,4 +19,5 @@ mod LegalCollection
 pub mod PlannedWork
 pub mod TwoLives
 mod PlannedLives
+mod DemandedWork
 mod NeededCalls

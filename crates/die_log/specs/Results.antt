@@ -5,6 +5,9 @@ pub mod Certificates
 pub mod InTime
 pub mod Supply
 pub mod PlannedLives
+pub mod Windows
+pub mod Covered
+pub mod DemandedLives
 pub mod Victims
 pub mod Limits
 pub mod Laws

@@ -18,11 +18,13 @@
 //! - `Promises`: all that is promised of a log, in one record;
 //! - `InTime`: the logs that events leave, and what a plan with times promises of them;
 //! - `Opening`: from which starts a log may begin; when all is done, and what stands then, as a start;
-//! - `Supply`: what the balance of a task lacks at most, where the events keep such a plan;
+//! - `Supply`: what a task may write, what is held for it, and its collections;
 //! - `Victims`: when a collection begins, and what it finds;
 //! - `Lives`: all logs of a die, each of which starts at what the one before it left: what was last written, the rows
 //!   and slots of them all, the erases;
 //! - `PlannedLives`: planned work over all of them;
+//! - `Windows`, `Covered`, `DemandedLives`: the same of plans with deadlines and bursts: windows that have the slots that
+//!   are asked of them, what a task's balance lacks at most, and all lives on one clock;
 //! - `Laws`: what a law speaks of: every exact log, each life, all lives.
 //!
 //! `Limits`, `SoundCells`, `RunningCollections`, `TrueAccounts` and `TrueAndLegal` say what else holds of every exact
@@ -32,9 +34,16 @@
 //! Each law is a function that does nothing, whose contract is the law.
 #![tactic(auto)]
 
+mod demands;
 mod laws;
 mod lives;
 
+pub use demands::{
+    demanded_lives_go_on, demanded_work_goes_on, demanded_work_is_accepted,
+    demanded_work_is_in_time, fitting_work_is_in_time, fresh_dies_are_stocked,
+    full_starts_are_stocked, roomy_logs_are_in_time, short_lives_leave_out_none,
+    stocked_starts_stay_stocked,
+};
 pub use laws::{
     collections_are_bounded, collections_find_victims, equal_calls_have_one_answer,
     exact_carries_least_keys, exact_is_certified, exact_is_least_late, exact_is_legal,

@@ -1,56 +1,34 @@
 -- Planned work is never refused and never late, life after life, where each ends where the periods do.
-use Rattle.std.proofs.Common.{◌≡◌, ℕ, ◌≤◌, ◌%◌, List, [], ◌∷◌, ◌++◌, refl, ap, sym, subst, ◌∙◌, arith, append_assoc, append-nil}
-use Rattle.std.proofs.lemmas.List.Elements.{recursion_from_All}
+use Rattle.std.proofs.Common.{◌≡◌, ◌≤◌, List, [], ◌∷◌, ◌++◌, sym, subst, ◌∙◌, append-nil}
 use Rattle.slot_types.specs.declared.plans.DiePlan.{DiePlan}
 use Rattle.slot_types.specs.declared.plans.Times.{Times}
 use Rattle.slot_types.specs.declared.events.Event.{Event}
-use Rattle.slot_types.specs.declared.replies.Reply.{Reply}
-use Rattle.slot_types.specs.declared.replies.Reply.TheVariants as replies
-use Rattle.plan_rules.specs.Times.{times_of, Passes}
-use Rattle.plan_rules.specs.Keeping.{arrivals, slots, KeepsPlan}
-use Rattle.die_log.specs.Model.Log.{Log}
+use Rattle.slot_types.specs.declared.limits.TheConstants.{MAX_SLOT}
+use Rattle.plan_rules.specs.Times.{Passes}
+use Rattle.plan_rules.specs.Keeping.{slots, KeepsPlan}
+use Rattle.demand_rules.specs.Earlier.{as_terms}
+use Rattle.demand_rules.proofs.Earlier.{keeps_demand}
 use Rattle.die_log.specs.Model.Start.{Start}
-use Rattle.die_log.specs.Model.Answers.{IsExact, IsAccepted, answer, with_answer, after_call, run}
+use Rattle.die_log.specs.Model.Answers.{IsExact, run}
 use Rattle.die_log.specs.Model.Opening.{IsOpening, IsQuiet, renewed_start}
-use Rattle.die_log.specs.Results.InTime.{events_of_log, AreAccepted, IsAtPeriodEnd}
+use Rattle.die_log.specs.Results.InTime.{events_of_log}
 use Rattle.die_log.specs.Results.Supply.{AreStocked}
+use Rattle.die_log.specs.Results.DemandedLives as demanded
 use Rattle.die_log.specs.Model.Lives.{Lives, start_after, HaveEnded}
 use Rattle.die_log.specs.Results.PlannedLives.{Calls, events_of_calls, lives_of, EndPeriods, KeepPlans, IsServedInTime, AreServedInTime}
-use Rattle.die_log.proofs.Planned.Running.{run_in_time}
-use Rattle.die_log.proofs.Restocking.{goes_on}
+use Rattle.die_log.proofs.Planned.InTime.{run_in_time}
+use Rattle.die_log.proofs.Restocked.{none_left_out, goes_on_where}
 use Rattle.die_log.proofs.Runs.{run_exact}
-use Rattle.die_log.proofs.Supply.Following.{Follows, follows, of_job}
+use Rattle.die_log.proofs.Supply.Following.{follows}
 use Rattle.die_log.proofs.Supply.Unrefused.{run_accepted}
 use Rattle.die_log.proofs.Life.Starting.{plan_same, ended_opens}
-
--- A run's log has its events
-
-reported_with : (past : Log) (caller : ℕ) (event : Event) (r : Reply) → IsAccepted r → events_of_log (with_answer caller event r past) ≡ events_of_log past ++ event ∷ []
-reported_with past caller event (replies.Taken number) h = refl
-reported_with past caller event (replies.Slot s) h = refl
-reported_with past caller event (replies.Refused refusal) h = absurd h
-
-run_reported : (start : Start) (past : Log) (calls : Calls) → AreAccepted start past calls
-    → events_of_log (run start past calls) ≡ events_of_log past ++ events_of_calls calls
-run_reported start past [] h = sym (append-nil (events_of_log past))
-run_reported start past (call ∷ calls) h =
-    run_reported start (after_call start past call) calls h.1
-    ∙ (ap (λ l. l ++ events_of_calls calls) (reported_with past call.0 call.1 (answer start past call.1) h.0)
-    ∙ append_assoc (events_of_log past) (call.1 ∷ []) (events_of_calls calls))
+use Rattle.die_log.proofs.Life.Demanding.{run_reported, period_end}
 
 -- One log
 
-period_end : (plan : DiePlan) (times : Times) (log : Log) → Follows plan times log → EndPeriods plan times (events_of_log log)
-    → IsAtPeriodEnd plan times log
-period_end plan times log f ends = record {
-  due_by_now = λ j stands. omega (
-    arith,
-    of_job plan times log (λ a. a.due ≤ slots (events_of_log log)) f
-        (recursion_from_All (λ a. a.due ≤ slots (events_of_log log)) (arrivals 0 (events_of_log log)) ends.due) j stands,
-    f.clock,
-  );
-  multiple = λ task lt. sym (ap (λ n. n % (times_of times task).collect_period) f.clock) ∙ ends.multiple task lt;
-}
+terms_end : (plan : DiePlan) (times : Times) (all : List Event) → Passes plan times → slots all ≤ MAX_SLOT → EndPeriods plan times all
+    → demanded.EndPeriods plan (as_terms times) all
+terms_end plan times all passes few ends = record { due = ends.due; none_left_out = none_left_out plan times (slots all) passes few ends.multiple }
 
 module _ (start : Start) (times : Times) (bound : IsOpening start) (passes : Passes start.plan times) (stocked : AreStocked start times)
     (calls : Calls) (keeps : KeepsPlan start.plan times (events_of_calls calls)) where
@@ -69,9 +47,10 @@ module _ (start : Start) (times : Times) (bound : IsOpening start) (passes : Pas
       let same : events_of_log (run start [] calls) ≡ events_of_calls calls = run_reported start [] calls served.accepted in
       let kept : KeepsPlan start.plan times (events_of_log (run start [] calls) ++ []) =
       subst (KeepsPlan start.plan times) (sym (append-nil (events_of_log (run start [] calls)) ∙ same)) keeps in
-      goes_on start times bound passes stocked (run start [] calls) [] exact_run kept
-      (period_end start.plan times (run start [] calls) (follows start times (run start [] calls) exact_run [] kept)
-      (subst (EndPeriods start.plan times) (sym same) ends))
+      let demands = keeps_demand start.plan times (events_of_log (run start [] calls) ++ []) kept in
+      goes_on_where start times bound passes stocked (run start [] calls) [] exact_run kept
+      (period_end start.plan (as_terms times) (run start [] calls) (follows start (as_terms times) (run start [] calls) exact_run [] demands)
+      (subst (demanded.EndPeriods start.plan (as_terms times)) (sym same) (terms_end start.plan times (events_of_calls calls) passes keeps.few_slots ends)))
 
 -- All lives
 

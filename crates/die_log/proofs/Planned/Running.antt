@@ -11,16 +11,11 @@ use Rattle.slot_types.specs.declared.events.Event.{Event}
 use Rattle.slot_types.specs.declared.events.Event.TheVariants as events
 use Rattle.slot_types.specs.declared.refusals.Refusal.{Refusal}
 use Rattle.slot_types.specs.declared.refusals.Refusal.TheVariants as because
-use Rattle.slot_types.specs.declared.plans.Times.{Times}
-use Rattle.plan_rules.specs.Times.{Passes}
-use Rattle.plan_rules.specs.Keeping.{is_slot, slots, KeepsPlan}
+use Rattle.plan_rules.specs.Keeping.{is_slot, slots}
 use Rattle.die_log.specs.Model.Log.{Log, carried_slots, now}
 use Rattle.die_log.specs.Model.Answers.{refusal_of, first_that_holds, answer, answer_by, choice, slot_reply, with_answer, after_call, run}
-use Rattle.die_log.specs.Results.InTime.{Adds, AreEntered, IsInTime}
-use Rattle.die_log.proofs.Runs.{run_exact}
-use Rattle.die_log.proofs.Planned.InTime.{planned_in_time}
+use Rattle.die_log.specs.Results.InTime.{Adds, AreEntered}
 use Rattle.die_log.specs.Model.Start.{Start}
-use Rattle.die_log.specs.Model.Opening.{IsOpening}
 
 abbrev one_if : Bool → ℕ
 one_if b = cond b 1 0
@@ -71,10 +66,3 @@ run_enters start (call ∷ calls) past few =
     (λ e. cond (is_slot e) 1 0) call.1 (events_of calls) in
     let e = call_enters start call past (λ is. omega (arith, few, counted, ap one_if is)) in
     (after_call start past call, e.adds, run_enters start calls (after_call start past call) (omega (arith, few, counted, e.slot)))
-
--- so nothing is late in a run of events that keep to a passing plan
-pub run_in_time : (start : Start) (times : Times) → IsOpening start → Passes start.plan times → (calls : List (ℕ × Event))
-    → KeepsPlan start.plan times (events_of calls) → IsInTime start.plan (run start [] calls)
-run_in_time start times bound passes calls keeps =
-    planned_in_time start times bound passes (events_of calls) keeps [] (run start [] calls) (run_exact start [] calls tt)
-    (run_enters start calls [] (omega (arith, keeps.few_slots)))

@@ -1,15 +1,14 @@
 -- The inequality that covers a task's next job, and what each kind of event does to it: over plain numbers.
 --
--- A task's jobs come at least p slots apart and write at most w pages each; its collections come every q slots, and
--- each that is settled or waived gives alpha pages or fills up to the cap; w * q ≤ alpha * p. Of the collections taken
--- so far `pending` are neither settled nor waived, and the next job comes in slot `next` or later. Then
+-- Let `since` be the slot in which a collection last filled the task up to its cap, but for what was held, or else 0.
+-- What was held then was for jobs that are due after it. Each collection that closed since then gave alpha pages, and of
+-- those that came by then there are at most since / q + 1. So with `owed` the writes of all jobs that are due after it,
+-- and at first what the start lacked, and with any share of `rate` pages in `span` slots that the collections give at
+-- least (rate * q ≤ span * alpha),
 --
---     p * cap + w * q * count ≤ p * balance + p * w + w * q + w * next + w * q * pending
---
--- says that the balance lacks at most w pages, and w / p pages for each of q slots and of those up to `next` that the
--- closed collections, of which each stands for q slots, have not made up for. It needs no count of what was written: a
--- write takes its page from the hold, and so leaves the balance as it is.
-use Rattle.std.proofs.Common.{◌≡◌, ℕ, ◌+◌, ◌*◌, ◌<◌, ◌≤◌, arith}
+--     span * cap + rate * q * count ≤ span * balance + span * owed + rate * (since + q) + rate * q * pending
+use Rattle.std.proofs.Common.{◌≡◌, ℕ, ◌+◌, ◌-◌, ◌*◌, ◌<◌, ◌≤◌, ap, inl, inr, arith}
+use Rattle.std.proofs.lemmas.Bool.{cases_lt}
 use Rattle.std.proofs.Math.Nat.{mul-le-mul_left, le_of_mul-le-mul_left}
 
 times_sum : (k a b : ℕ) → k * (a + b) ≡ k * a + k * b
@@ -18,71 +17,156 @@ times_sum k a b = grind arith
 times_one : (k : ℕ) → k * 1 ≡ k
 times_one k = grind arith
 
-by_three : (w q n : ℕ) → w * (q * n) ≡ w * q * n
-by_three w q n = grind arith
-
 -- a slot passes, and nothing is closed
-pub kept : (p w gift cap bal bal' count next pend pend' : ℕ) → p * cap + gift * count ≤ p * bal + p * w + gift + w * next + gift * pend
-    → bal ≤ bal' → pend ≤ pend'
-    → p * cap + gift * count ≤ p * bal' + p * w + gift + w * next + gift * pend'
-kept p w gift cap bal bal' count next pend pend' h le more = omega (arith, h, mul-le-mul_left p le, mul-le-mul_left gift more)
+pub kept : (span rate q ago cap bal bal' owed count since pend pend' : ℕ)
+    → span * cap + rate * q * count + rate * ago ≤ span * bal + span * owed + rate * (since + q) + rate * q * pend → bal ≤ bal' → pend ≤ pend'
+    → span * cap + rate * q * count + rate * ago ≤ span * bal' + span * owed + rate * (since + q) + rate * q * pend'
+kept span rate q ago cap bal bal' owed count since pend pend' h le more = omega
+    (arith, h, mul-le-mul_left span le, mul-le-mul_left (rate * q) more)
 
 -- a collection is closed and gives alpha pages
-pub given : (p w gift alpha cap bal bal' count next pend pend' : ℕ) → p * cap + gift * count
-    ≤ p * bal + p * w + gift + w * next + gift * pend → bal + alpha ≤ bal' → pend ≤ 1 → gift ≤ alpha * p
-    → p * cap + gift * count ≤ p * bal' + p * w + gift + w * next + gift * pend'
-given p w gift alpha cap bal bal' count next pend pend' h le one regained =
-    let turned : alpha * p ≡ p * alpha = grind arith in
-    omega (arith, h, mul-le-mul_left p le, times_sum p bal alpha, mul-le-mul_left gift one, times_one gift, regained, turned)
+pub given : (span rate q alpha ago cap bal bal' owed count since pend pend' : ℕ)
+    → span * cap + rate * q * count + rate * ago ≤ span * bal + span * owed + rate * (since + q) + rate * q * pend → bal + alpha ≤ bal' → pend ≤ 1
+    → rate * q ≤ span * alpha
+    → span * cap + rate * q * count + rate * ago ≤ span * bal' + span * owed + rate * (since + q) + rate * q * pend'
+given span rate q alpha ago cap bal bal' owed count since pend pend' h le one share =
+    omega (arith, h, mul-le-mul_left span le, times_sum span bal alpha, share, mul-le-mul_left (rate * q) one, times_one (rate * q))
 
 -- a collection is closed and fills up to the cap, but for what is held
-pub filled : (p q w cap bal' held count next pend' : ℕ) → cap ≤ bal' + held → held ≤ w → q * count ≤ next + q
-    → p * cap + w * q * count ≤ p * bal' + p * w + w * q + w * next + w * q * pend'
-filled p q w cap bal' held count next pend' full few some =
-    let all : cap ≤ bal' + w = omega (arith, full, few) in
-    omega (arith, mul-le-mul_left p all, times_sum p bal' w, mul-le-mul_left w some, times_sum w next q, by_three w q count)
+pub filled : (span rate q cap bal' held owed count since pend' : ℕ) → cap ≤ bal' + held → held ≤ owed → q * count ≤ since + q
+    → span * cap + rate * q * count + rate * 0 ≤ span * bal' + span * owed + rate * (since + q) + rate * q * pend'
+filled span rate q cap bal' held owed count since pend' full few some =
+    let all : cap ≤ bal' + owed = omega (arith, full, few) in
+    let by_three : rate * (q * count) ≡ rate * q * count = grind arith in
+    let none : rate * 0 ≡ 0 = grind arith in
+    omega (arith, none, mul-le-mul_left span all, times_sum span bal' owed, mul-le-mul_left rate some, by_three)
 
--- a job is taken in slot n
-pub taken : (p w gift cap bal bal' wants count n next pend : ℕ) → p * cap + gift * count ≤ p * bal + p * w + gift + w * n + gift * pend
-    → bal' + wants ≡ bal → wants ≤ w → n + p ≤ next
-    → p * cap + gift * count ≤ p * bal' + p * w + gift + w * next + gift * pend
-taken p w gift cap bal bal' wants count n next pend h is few later =
-    let before : bal ≤ bal' + w = omega (arith, is, few) in
-    let turned : p * w ≡ w * p = grind arith in
-    omega (arith, h, mul-le-mul_left p before, times_sum p bal' w, mul-le-mul_left w later, times_sum w n p, turned)
+-- a job is taken
+pub taken : (span rate q ago cap bal bal' wants owed owed' count since pend : ℕ)
+    → span * cap + rate * q * count + rate * ago ≤ span * bal + span * owed + rate * (since + q) + rate * q * pend → bal' + wants ≡ bal
+    → owed + wants ≤ owed'
+    → span * cap + rate * q * count + rate * ago ≤ span * bal' + span * owed' + rate * (since + q) + rate * q * pend
+taken span rate q ago cap bal bal' wants owed owed' count since pend h is more =
+    let before : bal ≤ bal' + wants = omega (arith, is) in
+    omega (arith, h, mul-le-mul_left span before, times_sum span bal' wants, mul-le-mul_left span more, times_sum span owed wants)
 
 -- a collection is taken
-pub opened : (p w gift cap bal count next pend pend' : ℕ) → p * cap + gift * count ≤ p * bal + p * w + gift + w * next + gift * pend
-    → pend + 1 ≤ pend'
-    → p * cap + gift * (count + 1) ≤ p * bal + p * w + gift + w * next + gift * pend'
-opened p w gift cap bal count next pend pend' h one = omega
-    (arith, h, times_sum gift count 1, times_one gift, mul-le-mul_left gift one, times_sum gift pend 1)
+pub opened : (span rate q ago cap bal owed count since pend pend' : ℕ)
+    → span * cap + rate * q * count + rate * ago ≤ span * bal + span * owed + rate * (since + q) + rate * q * pend → pend + 1 ≤ pend'
+    → span * cap + rate * q * (count + 1) + rate * ago ≤ span * bal + span * owed + rate * (since + q) + rate * q * pend'
+opened span rate q ago cap bal owed count since pend pend' h one =
+    omega (arith, h, times_sum (rate * q) count 1, times_one (rate * q), mul-le-mul_left (rate * q) one, times_sum (rate * q) pend 1)
 
 -- at the start
-pub started : (p w gift cap bal next pend : ℕ) → p * cap ≤ p * bal + p * w + gift
-    → p * cap + gift * 0 ≤ p * bal + p * w + gift + w * next + gift * pend
-started p w gift cap bal next pend stocked =
-    let none : gift * 0 ≡ 0 = grind arith in
-    omega (arith, none, stocked)
+pub started : (span rate q ago owed cap bal : ℕ) → span * cap + rate * ago ≤ span * (bal + owed) + rate * q
+    → span * cap + rate * q * 0 + rate * ago ≤ span * bal + span * (0 + owed) + rate * (0 + q) + rate * q * 0
+started span rate q ago owed cap bal h =
+    let none : rate * q * 0 ≡ 0 = grind arith in
+    let own : rate * (0 + q) ≡ rate * q = grind arith in
+    let all : span * (0 + owed) ≡ span * owed = grind arith in
+    omega (arith, h, times_sum span bal owed, none, own, all)
 
--- in slot n, by which all collections but the last are closed, the balance covers a job
-pub enough : (p q w alpha cap bal count n pend : ℕ) → p * cap + w * q * count ≤ p * bal + p * w + w * q + w * n + w * q * pend
-    → n + q * pend ≤ q * count + q → w * q ≤ alpha * p → 0 < p → 2 * w + 2 * alpha ≤ cap
-    → w ≤ bal
-enough p q w alpha cap bal count n pend h closed regained some stocked =
-    let turned : alpha * p ≡ p * alpha = grind arith in
-    let all : p * cap ≤ p * (bal + w + (alpha + alpha)) = omega (
+-- what is lacked beyond alpha pages
+pub lacks_few : (p w held alpha cap bal : ℕ) → p * cap ≤ p * bal + w * held + alpha * p → p * (cap - (bal + alpha)) ≤ w * held
+lacks_few p w held alpha cap bal h = elim (cases_lt cap (bal + alpha)) [
+  | inl less ↦
+      let none : p * (cap - (bal + alpha)) ≡ p * 0 = ap (λ (n : ℕ). p * n) (omega (arith, less)) in
+      let nothing : p * 0 ≡ 0 = grind arith in
+      omega (arith, none, nothing)
+  | inr more ↦
+      let all : p * cap ≡ p * ((bal + alpha) + (cap - (bal + alpha))) = ap (λ (n : ℕ). p * n) (omega (arith, more)) in
+      let turned : p * alpha ≡ alpha * p = grind arith in
+      omega (arith, h, all, times_sum p (bal + alpha) (cap - (bal + alpha)), times_sum p bal alpha, turned)
+]
+
+pub start_lacks : (q alpha cap bal : ℕ) → q * cap + alpha * 0 ≤ q * (bal + (cap - (bal + alpha))) + alpha * q
+start_lacks q alpha cap bal =
+    let all : cap ≤ bal + (cap - (bal + alpha)) + alpha = omega arith in
+    let none : alpha * 0 ≡ 0 = grind arith in
+    let turned : q * alpha ≡ alpha * q = grind arith in
+    omega (arith, mul-le-mul_left q all, times_sum q (bal + (cap - (bal + alpha))) alpha, none, turned)
+
+-- `gap` slots after `since` all collections but the last are closed, and what is owed with a job's own writes is at most
+-- what may come in these slots, in `ago` slots before, in those for which a job may be held, and in a period: so the
+-- balance covers the job
+pub enough : (p q w alpha held ago cap bal owed wants count since gap pend : ℕ)
+    → q * cap + alpha * q * count + alpha * ago ≤ q * bal + q * owed + alpha * (since + q) + alpha * q * pend
+    → (since + gap) + q * pend ≤ q * count + q → p * (owed + wants) ≤ w * (gap + ago + held + p)
+    → w * q ≤ alpha * p → w * (p + held) + 2 * alpha * p ≤ cap * p → 0 < p → 0 < q → wants ≤ bal
+enough p q w alpha held ago cap bal owed wants count since gap pend h closed few regained stocked has_p has_q =
+    let one : q * cap + alpha * (gap + ago) ≤ q * bal + q * owed + 2 * (alpha * q) = omega (
       arith,
       h,
-      mul-le-mul_left w closed,
-      times_sum w n (q * pend),
-      times_sum w (q * count) q,
-      by_three w q pend,
-      by_three w q count,
-      regained,
-      turned,
-      times_sum p (bal + w) (alpha + alpha),
-      times_sum p bal w,
-      times_sum p alpha alpha,
+      mul-le-mul_left alpha closed,
+      spread_four alpha since gap q pend,
+      spread_closed alpha q count,
+      times_sum alpha since q,
+      times_sum alpha gap ago,
     ) in
-    omega (arith, le_of_mul-le-mul_left all some, stocked)
+    let first : p * (q * cap + alpha * (gap + ago)) ≤ p * (q * bal + q * owed + 2 * (alpha * q)) = mul-le-mul_left p one in
+    let second : q * (p * (owed + wants)) ≤ q * (w * (gap + ago + held + p)) = mul-le-mul_left q few in
+    let third : (gap + ago) * (w * q) ≤ (gap + ago) * (alpha * p) = mul-le-mul_left (gap + ago) regained in
+    let fourth : q * (w * (p + held) + 2 * alpha * p) ≤ q * (cap * p) = mul-le-mul_left q stocked in
+    let all : (p * q) * wants ≤ (p * q) * bal = omega (
+      arith,
+      first,
+      second,
+      third,
+      fourth,
+      by_first p q cap alpha (gap + ago),
+      by_right p q bal owed alpha,
+      by_second q p owed wants,
+      by_third q w (gap + ago) held p,
+      by_gap (gap + ago) w q,
+      by_gap (gap + ago) alpha p,
+      by_fourth q w p held alpha,
+      by_cap q cap p,
+    ) in
+    le_of_mul-le-mul_left all (positive p q has_p has_q)
+  where
+    spread_four : (alpha since gap q pend : ℕ) → alpha * ((since + gap) + q * pend) ≡ alpha * since + alpha * gap + alpha * q * pend
+    spread_four alpha since gap q pend = grind arith
+
+    spread_closed : (alpha q count : ℕ) → alpha * (q * count + q) ≡ alpha * q * count + alpha * q
+    spread_closed alpha q count = grind arith
+
+    by_first : (p q cap alpha g : ℕ) → p * (q * cap + alpha * g) ≡ p * q * cap + alpha * p * g
+    by_first p q cap alpha g = grind arith
+
+    by_right : (p q bal owed alpha : ℕ) → p * (q * bal + q * owed + 2 * (alpha * q)) ≡ (p * q) * bal + (p * q) * owed + 2 * (p * q * alpha)
+    by_right p q bal owed alpha = grind arith
+
+    by_second : (q p owed wants : ℕ) → q * (p * (owed + wants)) ≡ (p * q) * owed + (p * q) * wants
+    by_second q p owed wants = grind arith
+
+    by_third : (q w g held p : ℕ) → q * (w * (g + held + p)) ≡ w * q * g + q * w * (p + held)
+    by_third q w g held p = grind arith
+
+    by_gap : (g a b : ℕ) → g * (a * b) ≡ a * b * g
+    by_gap g a b = grind arith
+
+    by_fourth : (q w p held alpha : ℕ) → q * (w * (p + held) + 2 * alpha * p) ≡ q * w * (p + held) + 2 * (p * q * alpha)
+    by_fourth q w p held alpha = grind arith
+
+    by_cap : (q cap p : ℕ) → q * (cap * p) ≡ p * q * cap
+    by_cap q cap p = grind arith
+
+    positive : (a b : ℕ) → 0 < a → 0 < b → 0 < a * b
+    positive a b h k = omega (arith, mul-le-mul_left a k, times_one a, h)
+
+-- where all collections are closed, and they reach the slot, so little is lacked
+pub again : (span rate q ago cap bal owed count since gap : ℕ)
+    → span * cap + rate * q * count + rate * ago ≤ span * bal + span * owed + rate * (since + q) → since + gap ≤ q * count
+    → span * cap + rate * (gap + ago) ≤ span * (bal + owed) + rate * q
+again span rate q ago cap bal owed count since gap h all =
+    let grouped : rate * q * count ≡ rate * (q * count) = grind arith in
+    omega (
+      arith,
+      h,
+      grouped,
+      mul-le-mul_left rate all,
+      times_sum rate since gap,
+      times_sum rate since q,
+      times_sum rate gap ago,
+      times_sum span bal owed,
+    )

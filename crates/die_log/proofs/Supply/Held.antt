@@ -1,25 +1,21 @@
--- A task whose jobs are all done holds nothing, and one whose collections are all closed has none pending.
-use Rattle.std.proofs.Common.{◌≡◌, ℕ, zero, suc, ◌≤◌, ◌<◌, ◌==◌, ◌&&◌, not, Bool, true, false, cond, List, [], ◌∷◌, length, drop, sum_by}
+-- A job that is done has no writes left, and a task whose collections are all closed has none pending.
+use Rattle.std.proofs.Common.{◌≡◌, ℕ, zero, suc, ◌≤◌, ◌==◌, ◌&&◌, not, Bool, true, false, cond, List, [], ◌∷◌, length, drop, sum_by}
 use Rattle.std.proofs.Common.{count_by, Some, refl, ap, sym, ◌∙◌, inl, inr, arith, slice_get}
 use Rattle.std.specs.Prelude.{Contains}
-use Rattle.std.proofs.lemmas.Bool.{true≢false, cases_eq, eqb-true, and_parts, not-true}
+use Rattle.std.proofs.lemmas.Bool.{true≢false, eqb-true, and_parts, not-true}
 use Rattle.std.proofs.lemmas.List.{drop_all}
 use Rattle.std.proofs.lemmas.List.Sums.{sum_by-cons}
-use Rattle.std.proofs.lemmas.Option.{same_Some}
 use Rattle.slot_types.specs.declared.plans.DiePlan.{DiePlan}
 use Rattle.slot_types.specs.declared.acts.Act.{Act}
 use Rattle.slot_types.specs.declared.events.Op.{Op}
-use Rattle.die_log.specs.Model.Log.{Log, Job, jobs, job_at, now, acts, is_waived}
+use Rattle.die_log.specs.Model.Log.{Log, Job, jobs, now, acts, is_waived}
 use Rattle.slot_types.specs.Operations.{writes}
 use Rattle.die_log.specs.Model.Work.{are_all, is_done, is_erase}
-use Rattle.die_log.specs.Invariants.TrueAccounts.{at_task, left_of, is_pending, HasTaskAndOps, AreTrueAccounts}
+use Rattle.die_log.specs.Invariants.TrueAccounts.{is_pending}
 use Rattle.die_log.specs.Results.InTime.{IsInTime}
-use Rattle.die_log.specs.Results.Supply.{hold_of, pending_at, AreDueBy}
-use Rattle.die_log.proofs.Tokens.Sums.{one_if, all_at}
-use Rattle.die_log.proofs.Tokens.Amounts.{at_other}
-use Rattle.die_log.proofs.Tokens.Taking.{at_none}
+use Rattle.die_log.specs.Results.Supply.{pending_at}
+use Rattle.die_log.proofs.Tokens.Sums.{one_if}
 use Rattle.die_log.proofs.Standing.Longer.{contained}
-use Rattle.die_log.specs.Model.Start.{Start}
 
 pub sum_zero : {X : Type 0} (f : X → ℕ) (xs : List X) → ((k : ℕ) (x : X) → slice_get xs k ≡ Some x → f x ≡ 0) → sum_by f xs ≡ 0
 sum_zero f [] h = refl
@@ -37,35 +33,6 @@ all_done plan j own kind is = by_kind j.collects kind is
         → length own ≡ length j.ops
     by_kind true k h = absurd (true≢false k)
     by_kind false k h = eqb-true (length own) (length j.ops) h
-
--- all jobs of a task that are due are done, so it holds nothing for them
-pub hold_none : (start : Start) (log : Log) (t : ℕ) → AreTrueAccounts start log → t < length start.plan.caps
-    → ((k : ℕ) (j : Job) → job_at log k ≡ Some j → j.number ≡ k)
-    → ((number : ℕ) → is_waived log number ≡ true → (j : Job) × (job_at log number ≡ Some j) × (j.collects ≡ true))
-    → IsInTime start.plan log → AreDueBy (jobs log) t (now log) → hold_of start log t ≡ 0
-hold_none start log t h lt numbered collections in_time due_by =
-    h.agree.holds_are t lt ∙ sum_zero (λ j. at_task j.task (left_of (λ n. acts n log) j) t) (jobs log) each
-  where
-    job_left : (k : ℕ) (j : Job) → slice_get (jobs log) k ≡ Some j → j.task ≡ t → j.collects ≡ false → left_of (λ n. acts n log) j ≡ 0
-    job_left k j e task kind = elim (in_time.due_by_now j (contained (jobs log) k j e) (due_by j (contained (jobs log) k j e) kind task)) [
-      | inl done ↦ none_left (length (acts j.number log)) j.ops (omega (arith, all_done start.plan j (acts j.number log) kind done))
-      | inr gone ↦
-          let c = collections j.number gone in
-          let at : job_at log j.number ≡ Some j = ap (job_at log) (numbered k j e) ∙ e in
-          absurd (true≢false (sym c.2 ∙ (ap (λ (i : Job). i.collects) (same_Some c.0 j (sym c.1 ∙ at)) ∙ kind)))
-    ]
-
-    left : (k : ℕ) (j : Job) → slice_get (jobs log) k ≡ Some j → j.task ≡ t → (b : Bool) → j.collects ≡ b → left_of (λ n. acts n log) j ≡ 0
-    left k j e task true kind =
-        let ops : j.ops ≡ [] = (all_at (HasTaskAndOps start.plan) (jobs log) k j h.taken e).none kind in
-        ap (λ (l : List Op). writes (drop (length (acts j.number log)) l)) ops ∙ none_left (length (acts j.number log)) [] (omega arith)
-    left k j e task false kind = job_left k j e task kind
-
-    each : (k : ℕ) (j : Job) → slice_get (jobs log) k ≡ Some j → at_task j.task (left_of (λ n. acts n log) j) t ≡ 0
-    each k j e = elim (cases_eq t j.task) [
-      | inl same ↦ ap (λ n. at_task j.task n t) (left k j e (sym same) j.collects refl) ∙ at_none j.task t
-      | inr apart ↦ at_other j.task (left_of (λ n. acts n log) j) t apart
-    ]
 
 -- Collections
 

@@ -1,6 +1,6 @@
 -- A moment of events that keep a plan lies after a whole log of such events: those that are left are made after it,
 -- refused or not. So what holds at each moment of such logs holds at it.
-use Rattle.std.proofs.Common.{◌≡◌, ◌+◌, ◌≤◌, List, [], ◌∷◌, ◌++◌, Option, Some, None, refl, sym, subst, ◌∙◌, inl, inr, arith, append_assoc}
+use Rattle.std.proofs.Common.{◌≡◌, ◌+◌, ◌≤◌, List, [], ◌∷◌, ◌++◌, Option, Some, None, refl, sym, ◌∙◌, inl, inr, arith, append_assoc}
 use Rattle.std.proofs.lemmas.List.{length_push}
 use Rattle.slot_types.specs.declared.limits.TheConstants.{MAX_SLOT}
 use Rattle.slot_types.specs.declared.events.Event.{Event}
@@ -8,19 +8,14 @@ use Rattle.slot_types.specs.declared.events.Event.TheVariants as events
 use Rattle.slot_types.specs.declared.replies.Reply.{Reply}
 use Rattle.slot_types.specs.declared.refusals.Refusal.{Refusal}
 use Rattle.slot_types.specs.Arrivals.{IsArrival}
-use Rattle.slot_types.specs.declared.plans.Times.{Times}
-use Rattle.plan_rules.specs.Times.{Passes}
-use Rattle.plan_rules.specs.Keeping.{slots, KeepsPlan}
+use Rattle.plan_rules.specs.Keeping.{slots}
 use Rattle.plan_rules.proofs.Moments.{slots_append}
 use Rattle.die_log.specs.Model.Log.{Log, carried_slots, now}
 use Rattle.die_log.specs.Model.Answers.{reply_if_accepted, refusal_of, choice, slot_reply, IsAccepted, IsExact}
-use Rattle.die_log.specs.Results.InTime.{AreEntered, IsInTime, events_of_log}
+use Rattle.die_log.specs.Results.InTime.{AreEntered}
 use Rattle.die_log.proofs.Legality.{entry, accepted_answer}
-use Rattle.die_log.proofs.Planned.InTime.{planned_in_time}
 use Rattle.die_log.proofs.Planned.Running.{slot_open}
-use Rattle.die_log.proofs.Supply.Following.{follows}
 use Rattle.die_log.specs.Model.Start.{Start}
-use Rattle.die_log.specs.Model.Opening.{IsOpening}
 
 -- a log that these events leave after `past`
 pub record RunsOn (start : Start) (past : Log) (rest : List Event) : Type 0 where
@@ -87,28 +82,3 @@ runs_on start past (events.Slot ∷ rest) exact le =
     let later = length_push (carried_slots past) (slot_reply start past (choice start past).waived (choice start past).head).ran in
     accepted_on start past events.Slot rest (slot_open start past (omega (arith, le, one))) tt exact
     (λ next. runs_on start (entry 0 events.Slot (reply_if_accepted start past events.Slot) ∷ past) rest next (omega (arith, le, one, later)))
-
--- What was entered
-
-entered_append : (xs ys : List Event) (a b c : Log) → AreEntered xs a b → AreEntered ys b c → AreEntered (xs ++ ys) a c
-entered_append [] ys a b c h k = subst (λ l. AreEntered ys l c) h k
-entered_append (x ∷ xs) ys a b c h k = (h.0, h.1, entered_append xs ys h.0 b c h.2 k)
-
--- a log's own events leave it
-entered_reported : (log : Log) → AreEntered (events_of_log log) [] log
-entered_reported [] = refl
-entered_reported (e ∷ past) = entered_append (events_of_log past) (e.event ∷ []) [] past (e ∷ past) (entered_reported past) (
-  e
-      ∷ past,
-  inl (e.caller, e.reply, refl),
-  refl,
-)
-
--- so nothing is late at a moment that events reach unrefused which keep a passing plan
-pub never_late : (start : Start) (times : Times) → IsOpening start → Passes start.plan times → (moment : Log) → IsExact start moment
-    → (rest : List Event) → KeepsPlan start.plan times (events_of_log moment ++ rest) → IsInTime start.plan moment
-never_late start times bound passes moment exact rest keeps =
-    let f = follows start times moment exact rest keeps in
-    let r = runs_on start moment rest exact (omega (arith, keeps.few_slots, slots_append (events_of_log moment) rest, f.clock)) in
-    planned_in_time start times bound passes (events_of_log moment ++ rest) keeps r.later moment (subst (IsExact start) r.is r.exact)
-    (subst (AreEntered (events_of_log moment ++ rest) []) r.is (entered_append (events_of_log moment) rest [] moment r.log (entered_reported moment) r.entered))

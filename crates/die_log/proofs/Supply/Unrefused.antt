@@ -1,189 +1,47 @@
--- No event of those that keep a passing plan is refused.
-use Rattle.std.proofs.Common.{◌≡◌, ℕ, ◌*◌, ◌<◌, ◌≤◌, ◌==◌, ◌||◌, ◌&&◌, not, nat_lt, nat_le, Bool, true, false, cond, List, [], ◌∷◌, ◌++◌}
-use Rattle.std.proofs.Common.{length, map, Some, None, is_some, find, option_map, refl, ap, sym, subst, ◌∙◌, inl, inr, arith, append_assoc}
-use Rattle.std.specs.Prelude.{Contains}
-use Rattle.std.specs.List.{AllByRecursion, list_any}
-use Rattle.std.proofs.lemmas.Bool.{true≢false, lt-leb, and_parts, eqb-true, not-true}
-use Rattle.std.proofs.lemmas.Bool.Decides.{nat_tests}
-use Rattle.std.proofs.lemmas.List.Elements.{recursion_from_All, Contains-get_or}
-use Rattle.std.proofs.lemmas.List.Folds.{list_any_none}
-use Rattle.slot_types.specs.declared.plans.DiePlan.{DiePlan}
-use Rattle.slot_types.specs.declared.limits.TheConstants.{MAX_SLOT, MAX_JOBS, MAX_OPS}
-use Rattle.slot_types.specs.declared.events.Op.{Op}
-use Rattle.slot_types.specs.declared.events.Event.{Event}
-use Rattle.slot_types.specs.declared.events.Event.TheVariants as events
-use Rattle.slot_types.specs.declared.refusals.Refusal.{Refusal}
+-- No event of those that keep a passing plan with times is refused, since they keep its terms.
+use Rattle.std.proofs.Common.{◌≡◌, ℕ, List, ◌∷◌, ◌++◌, map, None}
 use Rattle.slot_types.specs.declared.plans.Times.{Times}
-use Rattle.plan_rules.specs.Times.{times_of, Passes}
-use Rattle.plan_rules.specs.Keeping.{arrivals, KeepsPlan}
-use Rattle.plan_rules.proofs.Moments.{next_job, next_collection, next_slot, next_fits, at_multiple, task_times}
-use Rattle.slot_types.specs.Operations.{writes, page_of}
-use Rattle.die_log.specs.Model.Log.{Log, Job, jobs, now, is_waived}
-use Rattle.die_log.specs.Model.Work.{is_done, is_collecting}
-use Rattle.die_log.specs.Model.Answers.{bad_page, first_that_holds, refusals, refusal_of, reply_if_accepted, answer, IsAccepted, IsExact, with_answer}
-use Rattle.die_log.specs.Model.Answers.{after_call}
-use Rattle.die_log.specs.Results.InTime.{IsInTime, events_of_log, AreAccepted}
-use Rattle.die_log.specs.Results.Supply.{collections_of, AreStocked}
-use Rattle.die_log.proofs.Legality.{entry, accepted_answer}
-use Rattle.die_log.proofs.Runs.{call_exact}
-use Rattle.die_log.proofs.Supply.Following.{Follows, arrival_of, follows, collections_are, collections_due}
-use Rattle.die_log.proofs.Supply.RunningOn.{never_late}
-use Rattle.die_log.proofs.Supply.Along.{covers_next}
+use Rattle.slot_types.specs.declared.events.Event.{Event}
+use Rattle.plan_rules.specs.Times.{Passes}
+use Rattle.plan_rules.specs.Keeping.{KeepsPlan}
+use Rattle.demand_rules.specs.Earlier.{as_terms}
+use Rattle.demand_rules.specs.Keeping.{KeepsDemandPlan}
+use Rattle.demand_rules.proofs.Earlier.{passes_demand, passes_supply, keeps_demand}
 use Rattle.die_log.specs.Model.Start.{Start}
 use Rattle.die_log.specs.Model.Opening.{IsOpening}
-
--- where each condition is false, none stands
-none_stand : (cs : List (Bool × Refusal)) → AllByRecursion (λ c. c.0 ≡ false) cs → first_that_holds cs ≡ None
-none_stand [] h = refl
-none_stand ((true, r) ∷ cs) h = absurd (true≢false h.0)
-none_stand ((false, r) ∷ cs) h = none_stand cs h.1
-
--- Single conditions
-
-some_operations : (ops : List Op) → 1 ≤ length ops → (length ops == 0) ≡ false
-some_operations ops h = grind (arith, nat_tests)
-
-not_above : (m n : ℕ) → n ≤ m → nat_lt m n ≡ false
-not_above m n h = grind (arith, nat_tests)
-
-dates_fit : (release due : ℕ) → release < due → due ≤ MAX_SLOT → (nat_le due release || nat_lt MAX_SLOT due) ≡ false
-dates_fit release due h k = grind (arith, nat_tests)
-
-no_bad_page : (plan : DiePlan) (ops : List Op) → AllByRecursion (λ op. page_of op < plan.logical) ops → is_some (bad_page plan ops) ≡ false
-no_bad_page plan [] h = refl
-no_bad_page plan (op ∷ ops) h = by_test (nat_le plan.logical (page_of op)) (lt-leb plan.logical (page_of op) h.0) (no_bad_page plan ops h.1)
-  where
-    by_test : (b : Bool) → b ≡ false → is_some (bad_page plan ops) ≡ false
-        → is_some (option_map page_of (cond b (Some op) (find (λ o. nat_le plan.logical (page_of o)) ops))) ≡ false
-    by_test true e rest = absurd (true≢false e)
-    by_test false e rest = rest
-
-length_mapped : {X Y : Type 0} (f : X → Y) (xs : List X) → length (map f xs) ≡ length xs
-length_mapped f [] = refl
-length_mapped f (x ∷ xs) = omega (arith, length_mapped f xs)
-
-few_jobs : (plan : DiePlan) (times : Times) (past : Log) → Follows plan times past → length (arrivals 0 (events_of_log past)) < MAX_JOBS
-    → nat_le MAX_JOBS (length (jobs past)) ≡ false
-few_jobs plan times past f h = lt-leb MAX_JOBS (length (jobs past))
-    (omega (arith, h, ap length f.came, length_mapped arrival_of (jobs past)))
-
-none_found : {X : Type 0} (p : X → Bool) (xs : List X) → ((x : X) → Contains xs x → p x ≡ false) → list_any p xs ≡ false
-none_found p xs h = list_any_none p xs (λ k d lt. h _ (Contains-get_or xs k d lt))
-
--- all collections of the task that came are due, so each is done or was waived
-not_busy : (plan : DiePlan) (times : Times) (past : Log) (task : ℕ) → Follows plan times past → task < length plan.caps → IsInTime plan past
-    → now past ≡ (times_of times task).collect_period * collections_of (jobs past) task
-    → is_collecting plan past task ≡ false
-not_busy plan times past task f lt in_time multiple = none_found (λ j. j.collects && (j.task == task) && not (is_done plan past j)
-    && not (is_waived past j.number)) (jobs past) (λ j k. each j k _ refl)
-  where
-    each : (j : Job) → Contains (jobs past) j → (b : Bool)
-        → (j.collects && (j.task == task) && not (is_done plan past j) && not (is_waived past j.number)) ≡ b
-        → (j.collects && (j.task == task) && not (is_done plan past j) && not (is_waived past j.number)) ≡ false
-    each j k false is = is
-    each j k true is =
-        let gone = and_parts (j.collects && (j.task == task) && not (is_done plan past j)) (not (is_waived past j.number)) is in
-        let done = and_parts (j.collects && (j.task == task)) (not (is_done plan past j)) gone.0 in
-        let kind = and_parts j.collects (j.task == task) done.0 in
-        elim (in_time.due_by_now j k (omega (
-          arith,
-          multiple,
-          collections_due plan times past task f lt j k kind.0
-              (eqb-true j.task task kind.1),
-        ))) [
-          | inl over ↦ absurd (true≢false (sym over ∙ not-true (is_done plan past j) done.1))
-          | inr waived ↦ absurd (true≢false (sym waived ∙ not-true (is_waived past j.number) gone.1))
-        ]
-
--- Events
-
-pub unrefused : (start : Start) (times : Times) → IsOpening start → Passes start.plan times → AreStocked start times → (past : Log) (event : Event) (rest : List Event)
-    → IsExact start past → KeepsPlan start.plan times (events_of_log past ++ event ∷ rest)
-    → refusal_of start past event ≡ None
-unrefused start times bound passes stocked past (events.Submit task release due ops) rest exact keeps =
-    let n = (next_job start.plan times (events_of_log past) rest task release due ops keeps).planned in
-    let f = follows start times past exact (events.Submit task release due ops ∷ rest) keeps in
-    let t = task_times start.plan times task passes.timed n.task in
-    none_stand (refusals start past (events.Submit task release due ops)) (
-      lt-leb (length start.plan.caps) task n.task,
-      (
-        some_operations ops n.some,
-        (
-          not_above MAX_OPS (length ops) (omega (arith, n.few, t.few_work)),
-          (
-            no_bad_page start.plan ops (recursion_from_All (λ op. page_of op < start.plan.logical) ops n.pages),
-            (
-              not_above release (now past) (omega (arith, n.comes, f.clock)),
-              (
-                dates_fit release due (omega (arith, n.due, t.some_period)) n.due_limit,
-                (
-                  few_jobs start.plan times past f (next_fits start.plan times (events_of_log past) rest _ _ (events.Submit task release due ops) keeps refl),
-                  (
-                    not_above _ (writes ops) (covers_next start times bound passes stocked past rest task release due ops exact keeps),
-                    tt,
-                  ),
-                ),
-              ),
-            ),
-          ),
-        ),
-      ),
-    )
-unrefused start times bound passes stocked past (events.Collect task release due) rest exact keeps =
-    let n = next_collection start.plan times (events_of_log past) rest task release due keeps in
-    let f = follows start times past exact (events.Collect task release due ∷ rest) keeps in
-    let t = task_times start.plan times task passes.timed n.task in
-    let q : ℕ = (times_of times task).collect_period in
-    let multiple : now past ≡ q * collections_of (jobs past) task = sym f.clock
-    ∙ ((at_multiple start.plan times (events_of_log past) rest task release due keeps (f.paced task n.task)).0
-    ∙ ap (λ m. q * m) (collections_are start.plan times past task f)) in
-    none_stand (refusals start past (events.Collect task release due)) (
-      lt-leb (length start.plan.caps) task n.task,
-      (
-        not_above release (now past) (omega (arith, n.comes, f.clock)),
-        (
-          dates_fit release due (omega (arith, n.due, t.some_collect_period)) (omega (arith, n.due, n.slot.due_limit)),
-          (
-            not_busy start.plan times past task f n.task (never_late start times bound passes past exact (events.Collect task release due ∷ rest)
-                keeps) multiple,
-            (
-              few_jobs start.plan times past f (next_fits start.plan times (events_of_log past) rest _ _ (events.Collect task release due) keeps refl),
-              tt,
-            ),
-          ),
-        ),
-      ),
-    )
-unrefused start times bound passes stocked past events.Slot rest exact keeps =
-    let f = follows start times past exact (events.Slot ∷ rest) keeps in
-    none_stand (refusals start past events.Slot) (
-      lt-leb MAX_SLOT (now past)
-          (omega (arith, next_slot start.plan times (events_of_log past) rest keeps, f.clock)),
-      tt,
-    )
-
--- Runs
+use Rattle.die_log.specs.Model.Log.{Log}
+use Rattle.die_log.specs.Model.Answers.{IsExact, IsAccepted, reply_if_accepted, refusal_of, with_answer}
+use Rattle.die_log.specs.Results.InTime.{events_of_log, AreAccepted}
+use Rattle.die_log.specs.Results.Supply.{AreStocked}
+use Rattle.die_log.specs.Results.Covered.{AreStockedFor}
+use Rattle.die_log.proofs.Legality.{entry}
+use Rattle.die_log.proofs.Supply.Covering.{stocked_for}
+use Rattle.die_log.proofs.Supply.Earlier.{stocked_before}
+use Rattle.die_log.proofs.Supply.Accepted as accepted
 
 -- an accepted event is answered by no refusal, and is an entry of the log
 pub entered : (start : Start) (past : Log) (caller : ℕ) (event : Event) → IsAccepted (reply_if_accepted start past event)
     × (with_answer caller event (reply_if_accepted start past event) past ≡ entry caller event (reply_if_accepted start past event) ∷ past)
-entered start past caller (events.Submit task release due ops) = (tt, refl)
-entered start past caller (events.Collect task release due) = (tt, refl)
-entered start past caller events.Slot = (tt, refl)
+entered = accepted.entered
 
--- none of the events that keep the plan is refused, from any moment on
-pub run_accepted : (start : Start) (times : Times) → IsOpening start → Passes start.plan times → AreStocked start times → (past : Log) (calls : List (ℕ × Event))
-    → IsExact start past → KeepsPlan start.plan times (events_of_log past ++ map (λ call. call.1) calls)
-    → AreAccepted start past calls
-run_accepted start times bound passes stocked past [] exact keeps = tt
-run_accepted start times bound passes stocked past (call ∷ calls) exact keeps =
-    let is : answer start past call.1 ≡ reply_if_accepted start past call.1 = accepted_answer start past call.1
-    (unrefused start times bound passes stocked past call.1 (map (λ c. c.1) calls) exact keeps) in
-    let more = entered start past call.0 call.1 in
-    let next : after_call start past call ≡ entry call.0 call.1 (reply_if_accepted start past call.1)
-    ∷ past = ap (λ r. with_answer call.0 call.1 r past) is ∙ more.1 in (
-      subst IsAccepted (sym is) more.0,
-      run_accepted start times bound passes stocked (after_call start past call) calls (call_exact start past call exact)
-          (subst (λ l. KeepsPlan start.plan times (events_of_log l ++ map (λ c. c.1) calls)) (sym next)
-          (subst (KeepsPlan start.plan times) (sym (append_assoc (events_of_log past) (call.1 ∷ []) (map (λ c. c.1) calls))) keeps)),
-    )
+module _ (start : Start) (times : Times) (bound : IsOpening start) (passes : Passes start.plan times) (stocked : AreStocked start times) where
+  abbrev kept : (all : List Event) → KeepsPlan start.plan times all → KeepsDemandPlan start.plan (as_terms times) all
+  kept all keeps = keeps_demand start.plan times all keeps
+
+  stocked_still : (all : List Event) → KeepsPlan start.plan times all → AreStockedFor start (as_terms times) all
+  stocked_still all keeps = stocked_for start (as_terms times) all (kept all keeps) (stocked_before start times passes stocked)
+
+  pub unrefused : (past : Log) (event : Event) (rest : List Event) → IsExact start past
+      → KeepsPlan start.plan times (events_of_log past ++ event ∷ rest) → refusal_of start past event ≡ None
+  unrefused past event rest exact keeps =
+      let all : List Event = events_of_log past ++ event ∷ rest in
+      accepted.unrefused start (as_terms times) bound (passes_demand start.plan times passes) (passes_supply start.plan times passes)
+      past event rest exact (kept all keeps) (stocked_still all keeps)
+
+  -- none of the events that keep the plan is refused, from any moment on
+  pub run_accepted : (past : Log) (calls : List (ℕ × Event)) → IsExact start past
+      → KeepsPlan start.plan times (events_of_log past ++ map (λ call. call.1) calls) → AreAccepted start past calls
+  run_accepted past calls exact keeps =
+      let all : List Event = events_of_log past ++ map (λ call. call.1) calls in
+      accepted.run_accepted start (as_terms times) bound (passes_demand start.plan times passes) (passes_supply start.plan times passes)
+      past calls exact (kept all keeps) (stocked_still all keeps)

@@ -1,14 +1,12 @@
 -- Which calls of the device slots need.
-use Rattle.std.proofs.Common.{◌≡◌, ℕ, List, [], ◌∷◌, Option, Some, None, map, drop, refl}
+use Rattle.std.proofs.Common.{◌≡◌, ℕ, [], ◌∷◌, Some, None, map, drop, refl}
 use Rattle.slot_types.specs.declared.pages.Place.{Place}
 use Rattle.slot_types.specs.declared.events.Op.TheVariants.{Read, Write, Trim}
-use Rattle.flash_die.specs.declared.nand.NandCall.{NandCall}
 use Rattle.flash_die.specs.declared.nand.NandCall.TheVariants as calls
 use Rattle.die_log.specs.Model.Log.{Log}
 use Rattle.die_log.specs.Model.Answers.{run, answer}
 use Rattle.die_log.specs.Model.NeededCalls.{needed_call}
 use Rattle.die_log.proofs.Worked.Plans.{roomy, tight, submit, collect, slot, put, bytes}
-use Rattle.die_log.proofs.Worked.FillingHistory.{full}
 use Rattle.die_log.proofs.Worked.CollectionCopies.{collected}
 use Rattle.die_log.proofs.Worked.RewrittenPage.{rewritten}
 

@@ -15,7 +15,7 @@ use Rattle.die_log.specs.Model.Accounts.{accounts}
 use Rattle.die_log.specs.Model.Answers.{run, answer}
 use Rattle.die_log.specs.Results.InTime.{IsInTime, AreAccepted}
 use Rattle.die_log.proofs.Worked.Plans.{amounts}
-use Rattle.die_log.proofs.Planned.Running.{run_in_time}
+use Rattle.die_log.proofs.Planned.InTime.{run_in_time}
 use Rattle.die_log.proofs.Supply.Unrefused.{run_accepted}
 
 abbrev pub calls : List (ℕ × Event)

@@ -1,4 +1,4 @@
-use Rattle.die_log.proofs.Restocking.{goes_on}
+use Rattle.die_log.proofs.Restocked.{goes_on}
 use Rattle.die_log.proofs.laws.planned_work_goes_on.Goals as goal
 
 pub returns : goal.returns

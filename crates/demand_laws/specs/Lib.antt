@@ -1,3 +1,0 @@
-pub mod Windows
-pub mod Covered
-pub mod Renewing
