@@ -4,3 +4,4 @@ pub mod Renumbering
 pub mod Parts
 pub mod Untrimmed
 pub mod ComingBack
+pub mod Erases

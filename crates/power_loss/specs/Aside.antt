@@ -8,7 +8,7 @@ use Rattle.slot_types.specs.declared.pages.Place.{Place}
 use Rattle.slot_types.specs.declared.acts.Act.{Act}
 use Rattle.slot_types.specs.declared.acts.Act.TheVariants as does
 use Rattle.die_log.specs.Model.Log.{Log, Carried}
-use Rattle.die_log.specs.Model.Flash.{Cells, free_block, free_in, ran_by}
+use Rattle.die_log.specs.Model.Flash.{Cells, block_at, free_block, free_in, ran_by}
 use Rattle.die_log.specs.Model.Answers.{IsExact}
 use Rattle.die_log.specs.Model.Opening.{IsOpening}
 use Rattle.die_log.specs.Model.Start.{Start}
@@ -123,6 +123,19 @@ pub record CanStartBeside (plan : DiePlan) (c : Cells) (pages : List PageData) (
   pub start : Start
   pub first : Labels
   pub starts : StartsBeside plan c pages l acts aside start first
+
+-- Counts of erases
+
+-- cells that agree in all but how many erases their blocks have had, which no label tells
+pub record AgreeButErases (c d : Cells) : Type 0 where
+  pub blocks : length d.blocks ≡ length c.blocks
+  pub filled : (b : ℕ) → (block_at d b).filled ≡ (block_at c b).filled
+  pub erasing : (b : ℕ) → (block_at d b).erasing ≡ (block_at c b).erasing
+  pub places : d.places ≡ c.places
+
+-- the start with these cells
+abbrev pub with_cells : Cells → Start → Start
+with_cells cells start = record start { cells = cells }
 
 -- Logs
 

@@ -23,6 +23,6 @@ pub use laws::{
     labels_show_pages, logs_can_be_recovered, starts_are_labelled, what_can_be_recovered_is_seen,
 };
 pub use losses::{
-    a_mount_may_be_cut, a_mount_starts_a_log, a_part_shows_its_die, losses_of_power_lose_nothing,
-    untrimmed_logs_leave_no_old_labels,
+    a_mount_may_be_cut, a_mount_starts_a_log, a_part_shows_its_die, counts_of_erases_may_be_any,
+    losses_of_power_lose_nothing, untrimmed_logs_leave_no_old_labels,
 };

@@ -10,10 +10,11 @@ ghost use Rattle.slot_types.specs.declared.replies.SlotReply.{SlotReply};
 ghost use Rattle.plan_rules.specs.Bound.{MeetsBound};
 ghost use Rattle.die_log.specs.Model.Flash.{Cells, cells, contents, ran_by};
 ghost use Rattle.die_log.specs.Model.Log.{Log};
+ghost use Rattle.die_log.specs.Model.Opening.{IsOpening};
 ghost use Rattle.die_log.specs.Model.Start.{Start, fresh, blank_page};
 ghost use Rattle.die_log.specs.Results.Promises.{HasSlot};
-ghost use Rattle.power_loss.specs.Aside.{part_of, AreUntrimmed, MaySeeOnPart, StandsOnPart, CanStartBeside, ForEveryUntrimmedLog};
-ghost use Rattle.power_loss.specs.Labels.{Label, Labels, labels, fresh_labels};
+ghost use Rattle.power_loss.specs.Aside.{part_of, with_cells, AgreeButErases, AreUntrimmed, MaySeeOnPart, StandsOnPart, CanStartBeside, ForEveryUntrimmedLog};
+ghost use Rattle.power_loss.specs.Labels.{Label, Labels, labels, fresh_labels, IsLabelled};
 ghost use Rattle.power_loss.specs.Laws.{MountsAll};
 ghost use Rattle.power_loss.specs.Losses.{Life, AreLives, BeginsNext, ForUntrimmedLives, MaySeeAtEnd, MaySeeInCall, up_to, contents_left, first_contents, logs};
 ghost use Rattle.power_loss.specs.Recovery.{IsRecoverable, cells_of, labels_of, AreMountActs, IsSafe, IsAbove, remounted_cells, remounted_labels};
@@ -68,6 +69,14 @@ pub fn a_mount_may_be_cut()
         → MaySeeDuring (part_of plan) (cells_of (part_of plan) acts c) pages (labels_of (part_of plan) pages acts c l)
         (Some (0, act)) seen
         → StandsOnPart plan pages seen }
+{}
+
+/// No label tells how many erases a block has had, and no law rests on it: whatever a mount takes these counts for, a log
+/// may start.
+pub fn counts_of_erases_may_be_any()
+    ensures { (start : Start) (first : Labels) → IsOpening start → IsLabelled start first
+        → AreUntrimmed start.cells first.blocks → (d : Cells) → AgreeButErases start.cells d
+        → IsOpening (with_cells d start) × IsLabelled (with_cells d start) first × AreUntrimmed d first.blocks }
 {}
 
 /// A die that trims nothing loses no finished write, however often the power goes: over all its lives a read tells what

@@ -23,7 +23,8 @@ pub record IsNobodys (s : Block) (labels : List Label) : Type 0 where
 
 -- a block of the one is one of the other, and back again
 pub record IsThe (s t : Block) (own other : List Label) (back number : ℕ) : Type 0 where
-  pub same : s ≡ t
+  pub filled : s.filled ≡ t.filled
+  pub erasing : s.erasing ≡ t.erasing
   pub labels : own ≡ other
   pub back_again : back ≡ number
 
@@ -39,7 +40,8 @@ pub nobodys : (s : Block) (labels : List Label) → s.filled ≡ 0 → s.erasing
 nobodys s labels a b e = record { unfilled = a; idle = b; none = e }
 
 pub the : (s t : Block) (own other : List Label) (back number : ℕ) → s ≡ t → own ≡ other → back ≡ number → IsThe s t own other back number
-the s t own other back number a b e = record { same = a; labels = b; back_again = e }
+the s t own other back number a b e =
+    record { filled = ap (λ (x : Block). x.filled) a; erasing = ap (λ (x : Block). x.erasing) a; labels = b; back_again = e }
 
 -- Places
 
@@ -104,7 +106,7 @@ renumbered_sound plan other to from c d l m like r blocks places s = record {
 
     within_by : (b : ℕ) → Here b → (block_at d b).filled ≤ other.shape.pages
     within_by b (inl none) = omega (arith, none.unfilled)
-    within_by b (inr is) = omega (arith, ap (λ (t : Block). t.filled) is.same, s.within (from b), like.0)
+    within_by b (inr is) = omega (arith, is.filled, s.within (from b), like.0)
 
     placed_by : (page : ℕ) (q : Place) → LiesThere to c page q → q.page < (block_at d q.block).filled
     placed_by page q k =
@@ -113,7 +115,7 @@ renumbered_sound plan other to from c d l m like r blocks places s = record {
           arith,
           k.page_is,
           s.placed page k.place k.stands,
-          ap (λ (t : Block). t.filled) (ap (block_at d) k.block ∙ is.same),
+          ap (λ b. (block_at d b).filled) k.block ∙ is.filled,
         )
 
     apart_by : (page o : ℕ) (q p : Place) → q.block ≡ p.block → q.page ≡ p.page → LiesThere to c page q → LiesThere to c o p → page ≡ o
@@ -126,7 +128,7 @@ renumbered_sound plan other to from c d l m like r blocks places s = record {
     open_there : (b : ℕ) → IsOpen other d b → (is : IsThe (block_at d b) (block_at c (from b)) (labels_in m b) (labels_in l (from b)) (to (from b)) b)
         → IsOpen plan c (from b)
     open_there b h is =
-        let e = ap (λ (t : Block). t.filled) is.same in
+        let e = is.filled in
         (omega (arith, h.0, e), omega (arith, h.1, e, like.0))
 
     one_by : (a b : ℕ) → IsOpen other d a → IsOpen other d b → Here a → Here b → a ≡ b
@@ -145,8 +147,8 @@ renumbered_sound plan other to from c d l m like r blocks places s = record {
     erasing_by : (b : ℕ) → 0 < (block_at d b).erasing → Here b → ((block_at d b).erasing < other.shape.erase_slots) × IsClosed other d b × IsUnplaced d b
     erasing_by b h (inl none) = absurd (omega (arith, h, none.idle))
     erasing_by b h (inr is) =
-        let f = ap (λ (t : Block). t.filled) is.same in
-        let g = ap (λ (t : Block). t.erasing) is.same in
+        let f = is.filled in
+        let g = is.erasing in
         let k = s.erasing (from b) (omega (arith, h, g)) in
         (omega (arith, g, k.0, like.1), omega (arith, f, k.1, like.0), none_in b k.2)
 
@@ -190,7 +192,7 @@ renumbered_labelled plan other to from c d l m like r next blocks s h = record {
         → length (labels_in m.blocks b) ≡ (block_at d b).filled
     filled_by b less (inl none) = omega (arith, ap (λ (xs : List Label). length xs) none.none, none.unfilled)
     filled_by b less (inr is) =
-        let f = ap (λ (t : Block). t.filled) is.same in
+        let f = is.filled in
         omega (arith, ap (λ (xs : List Label). length xs) is.labels, f, h.filled (from b) (omega (arith, less, f, like.0)))
 
     newest_by : (page : ℕ) (q : Place) → LiesThere to c page q → IsNewest m.blocks page q
