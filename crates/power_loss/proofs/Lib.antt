@@ -1,0 +1,21 @@
+pub mod Carrying
+pub mod Steps
+pub mod Counting
+pub mod Having
+pub mod Exact
+pub mod Seeing
+pub mod Mounting
+pub mod Recovering
+pub mod Opening
+pub mod Programming
+pub mod FreeBlocks
+pub mod Remounting
+pub mod MountActs
+pub mod MountedStarts
+mod Worked
+pub mod Compacting
+pub mod Starting
+pub mod Aside
+pub mod Losing
+pub mod GoingBack
+pub mod Again

@@ -1,0 +1,31 @@
+-- After a loss of power a mount can go on until another log may start.
+use Rattle.std.proofs.Common.{ℕ, List, refl}
+use Rattle.std.specs.Prelude.{sum_by}
+use Rattle.slot_types.specs.declared.plans.DiePlan.{DiePlan}
+use Rattle.slot_types.specs.declared.pages.PageData.{PageData}
+use Rattle.plan_rules.specs.Bound.{MeetsBound}
+use Rattle.die_log.specs.Model.Flash.{Cells, free_in}
+use Rattle.power_loss.specs.Labels.{Label, Labels}
+use Rattle.power_loss.specs.Recovery.{HasUnplaced, IsFreeBlock, IsRecoverable, remounted_cells, remounted_labels, cells_of, labels_of, AreIdle, CanEnd, CanStart, CanRecover}
+use Rattle.power_loss.specs.Seen.{MaySeePlaced}
+use Rattle.power_loss.proofs.Compacting.{can_end}
+use Rattle.power_loss.proofs.MountActs.{all_go_on}
+use Rattle.power_loss.proofs.MountedStarts.{all_open, full_agree}
+use Rattle.power_loss.proofs.Remounting.{remounts, remounted_idle, free_remounted}
+
+can_start : (plan : DiePlan) (c : Cells) (pages : List PageData) (l : Labels) (from : ℕ → ℕ) → MeetsBound plan → IsRecoverable plan c pages l from
+    → AreIdle c → (b : ℕ) → IsFreeBlock c b → CanStart plan c pages l
+can_start plan c pages l from bound h idle b free =
+    let e : CanEnd plan c = can_end plan c b bound h.sound idle free in
+    let d : Cells = cells_of plan e.acts c in
+    let s = all_open plan bound d pages (labels_of plan pages e.acts c l) from (all_go_on plan c pages l from bound h e.acts e.may) e.idle _
+    (full_agree plan (sum_by (free_in plan) d.blocks) e.enough) in
+    record { acts = e.acts; may = e.may; safe = e.safe; start = _; starts = record { is = refl; opens = s.0; labelled = s.1 } }
+
+-- a die on which a block has no placed page
+pub recovers_with : (plan : DiePlan) (c : Cells) (pages : List PageData) (l : Labels) (from : ℕ → ℕ) → MeetsBound plan → IsRecoverable plan c pages l from
+    → HasUnplaced c → (seen : List (List Label)) → MaySeePlaced c l.blocks seen → CanRecover plan c pages from seen
+recovers_with plan c pages l from bound h u seen w next above =
+    let f = free_remounted plan c u in
+    can_start plan (remounted_cells plan c) pages (remounted_labels c seen next) from bound (remounts plan c pages l from h seen next w above)
+    (remounted_idle plan c) f.0 f.1
