@@ -22,5 +22,6 @@ pub mod Renewal
 pub mod Restocking
 pub mod Victims
 pub mod Life
+pub mod Overload
 mod Worked
 mod Wrong

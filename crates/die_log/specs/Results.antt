@@ -7,4 +7,5 @@ pub mod Supply
 pub mod PlannedLives
 pub mod Victims
 pub mod Limits
+pub mod Overdue
 pub mod Laws

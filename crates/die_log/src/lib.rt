@@ -23,6 +23,7 @@
 //! - `Lives`: all logs of a die, each of which starts at what the one before it left: what was last written, the rows
 //!   and slots of them all, the erases;
 //! - `PlannedLives`: planned work over all of them;
+//! - `Overdue`: what is overdue, and the work that it waits for;
 //! - `Laws`: what a law speaks of: every exact log, each life, all lives.
 //!
 //! `Limits`, `SoundCells`, `RunningCollections`, `TrueAccounts` and `TrueAndLegal` say what else holds of every exact
@@ -34,6 +35,7 @@
 
 mod laws;
 mod lives;
+mod overdue;
 
 pub use laws::{
     collections_are_bounded, collections_find_victims, equal_calls_have_one_answer,
@@ -46,3 +48,4 @@ pub use lives::{
     few_erases, lives_are_least_late, lives_keep_promises, lives_report_the_last_write,
     planned_lives_go_on, wear_adds_up,
 };
+pub use overdue::waiting_work_had_too_much;
