@@ -23,5 +23,6 @@ pub mod Restocking
 pub mod Restocked
 pub mod Victims
 pub mod Life
+pub mod Overload
 mod Worked
 mod Wrong

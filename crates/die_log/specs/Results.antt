@@ -10,4 +10,5 @@ pub mod Covered
 pub mod DemandedLives
 pub mod Victims
 pub mod Limits
+pub mod Overdue
 pub mod Laws

@@ -25,6 +25,7 @@
 //! - `PlannedLives`: planned work over all of them;
 //! - `Windows`, `Covered`, `DemandedLives`: the same of plans with deadlines and bursts: windows that have the slots that
 //!   are asked of them, what a task's balance lacks at most, and all lives on one clock;
+//! - `Overdue`: what is overdue, and the work that it waits for;
 //! - `Laws`: what a law speaks of: every exact log, each life, all lives.
 //!
 //! `Limits`, `SoundCells`, `RunningCollections`, `TrueAccounts` and `TrueAndLegal` say what else holds of every exact
@@ -37,6 +38,7 @@
 mod demands;
 mod laws;
 mod lives;
+mod overdue;
 
 pub use demands::{
     demanded_lives_go_on, demanded_work_goes_on, demanded_work_is_accepted,
@@ -55,3 +57,4 @@ pub use lives::{
     few_erases, lives_are_least_late, lives_keep_promises, lives_report_the_last_write,
     planned_lives_go_on, wear_adds_up,
 };
+pub use overdue::waiting_work_had_too_much;

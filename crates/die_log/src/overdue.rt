@@ -1,0 +1,16 @@
+//! What waits waits for work that was due no later. Each law is a function that does nothing.
+
+ghost use Rattle.std.specs.Prelude.{◌≡◌, ◌≤◌, Some, Contains, IsTrue, ℕ, IfSome, IfNone};
+ghost use Rattle.slot_types.specs.declared.plans.DiePlan.{DiePlan};
+ghost use Rattle.die_log.specs.Model.Log.{Log, Job, jobs, now};
+ghost use Rattle.die_log.specs.Model.Work.{is_ready};
+ghost use Rattle.die_log.specs.Results.Laws.{ForEveryExactLog};
+ghost use Rattle.die_log.specs.Results.Overdue.{overdue, WaitsForTooMuch};
+
+/// At each moment of an exact log that starts at an opening, whatever is released and neither done nor waived waits
+/// since there was too much work: jobs that were all released from some slot on, and were due no later, filled each slot
+/// from there to the present one. So no schedule gives each of these the slots that they had, and that one a slot more,
+/// and has all of them done by now. What waits beyond its deadline is late in every one of them, or another is.
+pub fn waiting_work_had_too_much()
+    ensures { ForEveryExactLog (λ start log. WaitsForTooMuch start.plan log) }
+{}
