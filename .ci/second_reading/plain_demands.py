@@ -5,7 +5,7 @@ It makes plans at random, judges each by plain loops over all lengths, and on th
 bad as the terms allow: nothing may be late, and nothing refused for tokens. On those that fail by demand it plays the
 interval that is overfull: something must be late. It needs no prover and no program of the repository.
 
-    .ci/second_reading_demand.py [--plans N] [--seed S]
+    .ci/second_reading/plain_demands.py [--plans N] [--seed S]
 """
 import argparse
 import heapq
