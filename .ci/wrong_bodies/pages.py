@@ -86,4 +86,5 @@ def main():
                 apply(page.parent.parent, lines)
 
 
-main()
+if __name__ == "__main__":
+    main()
