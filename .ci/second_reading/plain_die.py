@@ -445,8 +445,10 @@ class Die:
     def rows(self):
         rows = []
         for item in self.items:
+            if item.end is WAIVED:
+                continue
             work = sum(other is item for other in self.carried)
-            end = "-" if item.end in (None, WAIVED) else item.end
+            end = "-" if item.end is None else item.end
             rows.append(f"row {item.number} {item.release} {item.due} {work} {end}")
         return " ".join(rows)
 
@@ -859,6 +861,17 @@ def planned():
         if now % 20 == 19:
             answer = out.ask("run")
             assert answer.count("taken") == 3 and answer.count(":") == 20
+    assert out.ask("keeps") == "yes"
+    assert " late -" in out.ask("worst")
+    out.ask("verdict")
+    out.paragraph("The same 60 events and 400 slots, given to one run.")
+    out.ask(plan.timed_line())
+    for lines in planned_events(plan, 400, lambda task, now: [("R", 0, None), ("W", 1, "11" * 16)]):
+        for line in lines:
+            out.ask(f"put,{line}")
+        out.ask("put,slot")
+    answer = out.ask("run")
+    assert answer.count("taken") == 60 and answer.count(":") == 400
     assert out.ask("keeps") == "yes"
     assert " late -" in out.ask("worst")
     out.ask("verdict")

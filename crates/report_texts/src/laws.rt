@@ -20,7 +20,7 @@ pub fn reports_come_back()
         → report_of (report_text report) ≡ Ok report }
 {}
 
-/// Reading a report (`report`) has one answer, where its text is known, unless memory or its reader fails.
+/// Reading a report (`report`, `read_report`) has one answer, where its text is known, unless memory or its reader fails.
 pub fn reading_a_report_has_one_answer()
     ensures { (read one other : Reading) → Says (Some read) one → Says (Some read) other →
         (one ≡ other) ⊎ EndsOutside one ⊎ EndsOutside other }

@@ -21,6 +21,7 @@ pub use laws::{
 };
 pub use report_certs::Finish;
 pub use report_reader::ReportReader;
+pub use report_reading::read_report;
 pub use report_work::{DieWork, ReportWork};
 pub use report_writing::{ReportText, write_parts, write_report};
 pub use reports::{DieReport, Report, ReportRow, ReportRows, RowKind};

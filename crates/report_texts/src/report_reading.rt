@@ -2,6 +2,7 @@
 
 ghost use Rattle.std.specs.Prelude.{◌≡◌, ◌≤◌, ◌<◌, ◌+◌, List, map, true, IfOk, IfSome, OnOk, length, option_map};
 ghost use Rattle.csv.specs.Records.{fields_of};
+ghost use Rattle.text_base.specs.Marks.{is_within};
 ghost use Rattle.text_base.specs.Readings.{FailsAtReadFault};
 ghost use Rattle.report_texts.specs.KeptDies.{ReadsCert, ReadsKept, SaysKept};
 ghost use Rattle.report_texts.specs.Numbering.{AreNumbered};
@@ -9,7 +10,7 @@ ghost use Rattle.report_texts.specs.RecordsLeft.{IsReady, Stays, reader_failed, 
 ghost use Rattle.report_texts.specs.RecordsLeft.{unread_fit};
 ghost use Rattle.report_texts.specs.ReportHeader.{is_report_header};
 ghost use Rattle.report_texts.specs.ReportLeft.{report_left};
-ghost use Rattle.report_texts.specs.ReportOf.{Reads, Says, certs_from, no_rows, report_from, rows_from};
+ghost use Rattle.report_texts.specs.ReportOf.{Reads, Says, certs_from, no_rows, report_from, report_of, rows_from};
 ghost use Rattle.report_texts.specs.ReportWork.{AllRise, SaysWork};
 ghost use Rattle.report_texts.specs.declared.reports.DieReport.{DieReport};
 
@@ -214,4 +215,17 @@ impl<R: Read> ReportReader<R> {
         let work = take_kept(self)?;
         Ok(work)
     }
+}
+
+/// Reads the report of a reader whole, as [`ReportReader::report`] does, of a reader of records that is made for it and
+/// then dropped: ReportText has the number of the first record that breaks it, ReadFault comes where the reader fails or
+/// goes on beyond 67,108,864 bytes, NoMemory where memory is refused.
+pub fn read_report<R: Read + Drop>(alloc: Global, reader: R) -> Result<Report, Refusal>
+    ensures report { Says (option_map report_of (R.remaining reader)) result }
+    ensures bound { OnOk result (IfSome
+        (option_map (is_within 67108864) (R.remaining reader)) (λ fits. fits ≡ true)) }
+    ensures numbered { IfOk result AreNumbered }
+{
+    let mut records = ReportReader::new(alloc, reader);
+    records.report()
 }

@@ -28,7 +28,7 @@ pub use laws::{
 pub use plan_texts::read_plan;
 pub use report_texts::{
     DieReport, DieWork, Finish, Report, ReportReader, ReportRow, ReportRows, ReportWork, RowKind,
-    reports_come_back, write_report,
+    read_report, reports_come_back, write_report,
 };
 pub use run_counts::RunCount;
 pub use script_chunks::ChunkedReader;
