@@ -21,7 +21,7 @@ impl Plan {
     pub fn bound(&self) -> Result<(), Refusal> {
         let (plan, tasks) = self.raw();
         // SAFETY: each pointer comes from a reference, and the count is the slice's.
-        plain(unsafe { raw::flash_plan_bound(&plan, tasks.as_ptr(), tasks.len()) })
+        plain(unsafe { raw::mg_plan_bound(&plan, tasks.as_ptr(), tasks.len()) })
     }
 
     /// Tests a plan with times: where it passes, nothing that it lets its tasks ask is refused or late.
@@ -32,7 +32,7 @@ impl Plan {
         let (plan, tasks) = self.raw();
         let mut load = raw::Load::default();
         // SAFETY: as in `bound`.
-        plain(unsafe { raw::flash_plan_test(&plan, tasks.as_ptr(), tasks.len(), &mut load) })?;
+        plain(unsafe { raw::mg_plan_test(&plan, tasks.as_ptr(), tasks.len(), &mut load) })?;
         Ok(Load { demand: load.demand, common: load.common })
     }
 }
@@ -44,7 +44,7 @@ pub fn check(rows: &[Row], certificate: &Certificate) -> Result<(), Refusal> {
     let Certificate { job, start, due, completion, ref jobs } = *certificate;
     let given = raw::Certificate { job, start, due, completion, jobs: 0 };
     // SAFETY: each pointer comes from a reference, and each count is its slice's.
-    plain(unsafe { raw::flash_check(rows.as_ptr(), rows.len(), &given, jobs.as_ptr(), jobs.len()) })
+    plain(unsafe { raw::mg_check(rows.as_ptr(), rows.len(), &given, jobs.as_ptr(), jobs.len()) })
 }
 
 /// One die. It belongs to one thread.
@@ -63,12 +63,12 @@ impl Die {
     /// A die at slot 0, of a chip that is erased. `BadShape`, `BadPlan` or `NoMemory` where it is refused.
     pub fn new(plan: &Plan) -> Result<Die, Refusal> {
         // SAFETY: it takes nothing.
-        assert_eq!(unsafe { raw::flash_version() }, 1, "another version of libflash_c");
+        assert_eq!(unsafe { raw::mg_version() }, 1, "another version of libflash_c");
         let counts = [plan.logical as usize, plan.blocks as usize, plan.caps.len()];
         let (plan, tasks) = plan.raw();
         let mut handle = raw::Handle::EMPTY;
         // SAFETY: the handle is empty, and stays so where this is refused.
-        plain(unsafe { raw::flash_new(&mut handle, &plan, tasks.as_ptr(), tasks.len()) })?;
+        plain(unsafe { raw::mg_new(&mut handle, &plan, tasks.as_ptr(), tasks.len()) })?;
         Ok(Die { handle: UnsafeCell::new(handle), counts, stays: PhantomData })
     }
 
@@ -80,7 +80,7 @@ impl Die {
     /// it, `BadPlan` coming behind [`Misfit::OtherShape`], and `WornOut` behind [`Misfit::SecondOpen`].
     pub fn resume(plan: &Plan, checkpoint: &Checkpoint) -> Result<Die, Refusal> {
         // SAFETY: it takes nothing.
-        assert_eq!(unsafe { raw::flash_version() }, 1, "another version of libflash_c");
+        assert_eq!(unsafe { raw::mg_version() }, 1, "another version of libflash_c");
         let counts = [plan.logical as usize, plan.blocks as usize, plan.caps.len()];
         let (plan, tasks) = plan.raw();
         let Checkpoint { ref pages, ref blocks, ref balances, spare } = *checkpoint;
@@ -93,7 +93,7 @@ impl Die {
         let (mut handle, mut why) = (raw::Handle::EMPTY, NO_NUMBERS);
         // SAFETY: the handle is empty, and stays so where this is refused; each count is its slice's.
         let code = unsafe {
-            raw::flash_resume(
+            raw::mg_resume(
                 &mut handle, &plan, tasks.as_ptr(), tasks.len(), places.as_ptr(), places.len(), names.as_ptr(), names.len(),
                 blocks.as_ptr(), blocks.len(), balances.as_ptr(), balances.len(), spare, &mut why,
             )
@@ -112,7 +112,7 @@ impl Die {
         let mut balances = vec![0; tasks];
         let (mut spare, mut why) = (0, NO_NUMBERS);
         let code = unsafe {
-            raw::flash_checkpoint(
+            raw::mg_checkpoint(
                 self.at(), places.as_mut_ptr(), places.len(), names.as_mut_ptr(), names.len(), counts.as_mut_ptr(), counts.len(),
                 balances.as_mut_ptr(), balances.len(), &mut spare, &mut why,
             )
@@ -140,7 +140,7 @@ impl Die {
         let (mut number, mut why) = (0, NO_NUMBERS);
         // SAFETY: the handle is full, as in each call below, and the pointers come from references.
         let code = unsafe {
-            raw::flash_submit(
+            raw::mg_submit(
                 self.at(), caller, task, release, due, ops.as_ptr(), ops.len(), &mut number, &mut why,
             )
         };
@@ -151,7 +151,7 @@ impl Die {
     /// stands: `DieStopped`, `UnknownTask`, `ReleasePast`, `BadDue`, `CollectorBusy`, `JobsFull`, `NoMemory`.
     pub fn collect(&mut self, caller: u32, task: u32, release: u32, due: u32) -> Result<u32, Refusal> {
         let (mut number, mut why) = (0, NO_NUMBERS);
-        let code = unsafe { raw::flash_collect(self.at(), caller, task, release, due, &mut number, &mut why) };
+        let code = unsafe { raw::mg_collect(self.at(), caller, task, release, due, &mut number, &mut why) };
         answer(code, &why).map(|()| number)
     }
 
@@ -159,42 +159,42 @@ impl Die {
     /// `NoMemory`, which never comes while slots are reserved.
     pub fn begin(&mut self, caller: u32) -> Result<Slot<'_>, Refusal> {
         let mut call = raw::Call::default();
-        plain(unsafe { raw::flash_begin(self.at(), caller, &mut call) })?;
+        plain(unsafe { raw::mg_begin(self.at(), caller, &mut call) })?;
         Ok(Slot { die: self, call, ended: false })
     }
 
     /// Takes the memory for so many later slots, which then take none. `NoMemory` where it isn't there.
     pub fn reserve(&mut self, slots: u32) -> Result<(), Refusal> {
-        plain(unsafe { raw::flash_reserve(self.at(), slots) })
+        plain(unsafe { raw::mg_reserve(self.at(), slots) })
     }
 
     /// Starts the log anew: the present slot is 0 again, and jobs are numbered from 0. Pages, tokens, erases and reserved
     /// slots stay. Refused with the first that stands: `DieStopped`, `NotQuiet`, `WornOut`.
     pub fn renew(&mut self) -> Result<(), Refusal> {
         let mut why = NO_NUMBERS;
-        let code = unsafe { raw::flash_renew(self.at(), &mut why) };
+        let code = unsafe { raw::mg_renew(self.at(), &mut why) };
         answer(code, &why)
     }
 
     /// The present slot: how many were carried out.
     pub fn now(&self) -> u32 {
-        unsafe { raw::flash_now(self.at()) }
+        unsafe { raw::mg_now(self.at()) }
     }
 
     /// How many entries the log has: jobs and collections accepted, and slots.
     pub fn entries(&self) -> u64 {
-        unsafe { raw::flash_len(self.at()) }
+        unsafe { raw::mg_len(self.at()) }
     }
 
     /// How many records these take in memory: runs of alike entries.
     pub fn records(&self) -> u64 {
-        unsafe { raw::flash_records(self.at()) }
+        unsafe { raw::mg_records(self.at()) }
     }
 
     /// What a job or a collection was accepted with. `UnknownJob` where there is none of that number.
     pub fn job(&self, number: u32) -> Result<Job, Refusal> {
         let mut said = raw::Job::default();
-        plain(unsafe { raw::flash_job(self.at(), number, &mut said) })?;
+        plain(unsafe { raw::mg_job(self.at(), number, &mut said) })?;
         let raw::Job { collects, task, release, due } = said;
         Ok(Job { collects: collects == 1, task, release, due })
     }
@@ -203,7 +203,7 @@ impl Die {
     pub fn outcome(&self, job: u32) -> Result<Outcome, Refusal> {
         let mut said = raw::Outcome::default();
         let mut reads = [Name::BLANK; 64]; // a job has 64 operations at most
-        plain(unsafe { raw::flash_outcome(self.at(), job, &mut said, reads.as_mut_ptr(), reads.len()) })?;
+        plain(unsafe { raw::mg_outcome(self.at(), job, &mut said, reads.as_mut_ptr(), reads.len()) })?;
         let raw::Outcome { lateness, state, completion, given, reads: count } = said;
         Ok(match state {
             0 => Outcome::Waiting,
@@ -215,7 +215,7 @@ impl Die {
     /// The done job or collection with the greatest lateness. `NothingDone`.
     pub fn worst(&self) -> Result<Worst, Refusal> {
         let mut said = raw::Worst::default();
-        plain(unsafe { raw::flash_worst(self.at(), &mut said) })?;
+        plain(unsafe { raw::mg_worst(self.at(), &mut said) })?;
         Ok(Worst { job: said.job, lateness: said.lateness })
     }
 
@@ -224,7 +224,7 @@ impl Die {
         let mut jobs = vec![0; 64];
         loop {
             let mut said = raw::Certificate::default();
-            plain(unsafe { raw::flash_certificate(self.at(), &mut said, jobs.as_mut_ptr(), jobs.len()) })?;
+            plain(unsafe { raw::mg_certificate(self.at(), &mut said, jobs.as_mut_ptr(), jobs.len()) })?;
             let raw::Certificate { job, start, due, completion, jobs: count } = said;
             if count as usize <= jobs.len() {
                 jobs.truncate(count as usize);
@@ -239,7 +239,7 @@ impl Die {
         let mut rows = vec![raw::Row::default(); 64];
         loop {
             let mut total = 0;
-            plain(unsafe { raw::flash_rows(self.at(), rows.as_mut_ptr(), rows.len(), &mut total) })?;
+            plain(unsafe { raw::mg_rows(self.at(), rows.as_mut_ptr(), rows.len(), &mut total) })?;
             if total as usize <= rows.len() {
                 return Ok(rows[..total as usize].iter().map(Row::of).collect());
             }
@@ -251,7 +251,7 @@ impl Die {
 impl Drop for Die {
     fn drop(&mut self) {
         // SAFETY: the handle is full, and isn't used again.
-        unsafe { raw::flash_free(self.at()) }
+        unsafe { raw::mg_free(self.at()) }
     }
 }
 
@@ -299,7 +299,7 @@ impl Slot<'_> {
         let mut said = raw::Reply::default();
         let mut waived = [raw::Waived::default(); 16]; // one a task at most
         plain(unsafe {
-            raw::flash_end(self.die.at(), u32::from(ok), &name, &mut said, waived.as_mut_ptr(), waived.len())
+            raw::mg_end(self.die.at(), u32::from(ok), &name, &mut said, waived.as_mut_ptr(), waived.len())
         })?;
         Ok(Reply::of(&said, &waived))
     }

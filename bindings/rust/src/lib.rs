@@ -5,9 +5,9 @@
 //! name than the cell was programmed with, stops the die for good.
 //!
 //! ```
-//! use flash::{Call, Die, Name, Op, Plan};
+//! use maulgreen::{Call, Die, Name, Op, Plan};
 //!
-//! # fn main() -> Result<(), flash::Refusal> {
+//! # fn main() -> Result<(), maulgreen::Refusal> {
 //! let plan = Plan { blocks: 8, pages: 4, erase_slots: 3, logical: 16, alpha: 2, caps: vec![4], times: None };
 //! let mut die = Die::new(&plan)?;
 //! let mut chip = [[Name::BLANK; 4]; 8];
@@ -23,7 +23,7 @@
 //!     slot.end(true, gave)?;
 //! }
 //! assert_eq!(die.worst()?.lateness, 0);
-//! assert!(matches!(die.outcome(job)?, flash::Outcome::Done { reads, .. } if reads == [Name([7; 16])]));
+//! assert!(matches!(die.outcome(job)?, maulgreen::Outcome::Done { reads, .. } if reads == [Name([7; 16])]));
 //! # Ok(())
 //! # }
 //! ```
@@ -31,19 +31,19 @@
 //! A die can be neither copied nor used by two threads; the compiler sees to it:
 //!
 //! ```compile_fail
-//! # let plan = flash::Plan { blocks: 8, pages: 4, erase_slots: 3, logical: 16, alpha: 2, caps: vec![4], times: None };
-//! let die = flash::Die::new(&plan).unwrap();
+//! # let plan = maulgreen::Plan { blocks: 8, pages: 4, erase_slots: 3, logical: 16, alpha: 2, caps: vec![4], times: None };
+//! let die = maulgreen::Die::new(&plan).unwrap();
 //! std::thread::spawn(move || die.now());
 //! ```
 //!
 //! While a slot has begun, the die is lent to it: what may arrive then goes through the [`Slot`].
 //!
 //! ```compile_fail
-//! # let plan = flash::Plan { blocks: 8, pages: 4, erase_slots: 3, logical: 16, alpha: 2, caps: vec![4], times: None };
-//! let mut die = flash::Die::new(&plan).unwrap();
+//! # let plan = maulgreen::Plan { blocks: 8, pages: 4, erase_slots: 3, logical: 16, alpha: 2, caps: vec![4], times: None };
+//! let mut die = maulgreen::Die::new(&plan).unwrap();
 //! let slot = die.begin(9).unwrap();
 //! die.begin(9).unwrap();
-//! slot.end(true, flash::Name::BLANK).unwrap();
+//! slot.end(true, maulgreen::Name::BLANK).unwrap();
 //! ```
 
 mod data;

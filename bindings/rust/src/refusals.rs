@@ -52,7 +52,7 @@ pub enum Refusal {
     Certificate(Flaw),
     /// A checkpoint doesn't fit the plan.
     Checkpoint(Misfit),
-    /// A number that flash.h doesn't have.
+    /// A number that maulgreen.h doesn't have.
     Other(u32),
 }
 

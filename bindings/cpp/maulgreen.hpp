@@ -1,11 +1,11 @@
-// A die of a proved flash translation layer with deadlines, for C++17: flash.h with types that see to its rules.
+// A die of a proved flash translation layer with deadlines, for C++17: maulgreen.h with types that see to its rules.
 //
-// A `flash::die` moves and isn't copied, and frees its die. A `flash::slot` is a slot that has begun: it is ended by `end`,
+// A `maulgreen::die` moves and isn't copied, and frees its die. A `maulgreen::slot` is a slot that has begun: it is ended by `end`,
 // or, where it is destroyed first, as a fault, which stops the die if the device was to do something. What is refused is thrown as a
-// `flash::refusal`. flash.h says what each call does.
-#ifndef FLASH_HPP
-#define FLASH_HPP
-#include "flash.h"
+// `maulgreen::refusal`. maulgreen.h says what each call does.
+#ifndef MAULGREEN_HPP
+#define MAULGREEN_HPP
+#include "maulgreen.h"
 
 #include <algorithm>
 #include <array>
@@ -15,65 +15,65 @@
 #include <utility>
 #include <vector>
 
-inline bool operator==(const flash_name &a, const flash_name &b) { return std::equal(a.bytes, a.bytes + 16, b.bytes); }
+inline bool operator==(const mg_name &a, const mg_name &b) { return std::equal(a.bytes, a.bytes + 16, b.bytes); }
 
-namespace flash {
+namespace maulgreen {
 
-using name = ::flash_name;
-using plan = ::flash_plan;
-using task = ::flash_task;
-using op = ::flash_op;
-using call = ::flash_call;
-using row = ::flash_row;
-using job_head = struct ::flash_job;
-using worst_job = struct ::flash_worst;
+using name = ::mg_name;
+using plan = ::mg_plan;
+using task = ::mg_task;
+using op = ::mg_op;
+using call = ::mg_call;
+using row = ::mg_row;
+using job_head = struct ::mg_job_head;
+using worst_job = struct ::mg_worst_job;
 
-// Why a call is refused: its number of flash.h, and the numbers that it has.
+// Why a call is refused: its number of maulgreen.h, and the numbers that it has.
 class refusal : public std::exception {
 public:
-    explicit refusal(std::uint32_t code, ::flash_why why = {0, 0}) : code(code), why(why) {
+    explicit refusal(std::uint32_t code, ::mg_why why = {0, 0}) : code(code), why(why) {
         std::array<std::uint8_t, 16> text{};
-        ::flash_refusal_name(code, text.data(), text.size());
+        ::mg_refusal_name(code, text.data(), text.size());
         text_ = reinterpret_cast<const char *>(text.data());
     }
     const char *what() const noexcept override { return text_.c_str(); }
 
     const std::uint32_t code;
-    const ::flash_why why;
+    const ::mg_why why;
 
 private:
     std::string text_;
 };
 
-inline void must(std::uint32_t code, const ::flash_why &why = {0, 0}) {
-    if (code != FLASH_OK) throw refusal(code, why);
+inline void must(std::uint32_t code, const ::mg_why &why = {0, 0}) {
+    if (code != MG_OK) throw refusal(code, why);
 }
 
-inline op read(std::uint32_t page) { return {FLASH_READ, page, {}}; }
-inline op write(std::uint32_t page, const name &what) { return {FLASH_WRITE, page, what}; }
-inline op trim(std::uint32_t page) { return {FLASH_TRIM, page, {}}; }
+inline op read(std::uint32_t page) { return {MG_READ, page, {}}; }
+inline op write(std::uint32_t page, const name &what) { return {MG_WRITE, page, what}; }
+inline op trim(std::uint32_t page) { return {MG_TRIM, page, {}}; }
 
 // A slot's reply, with the collections that it waived.
-struct reply : ::flash_reply {
-    std::vector<::flash_waived> waived_ones;
+struct reply : ::mg_reply {
+    std::vector<::mg_waived> waived_ones;
 };
 
 // What became of a job or a collection, with what its reads gave.
-struct outcome : ::flash_outcome {
+struct outcome : ::mg_job_outcome {
     std::vector<name> read_names;
 };
 
 // A certificate, with the numbers of its jobs.
-struct certificate : ::flash_certificate {
+struct certificate : ::mg_cert {
     std::vector<std::uint32_t> listed;
 };
 
 // What stands on a die at a moment at which all is done or was waived: by logical page its cell and its name, by block its
 // counts, by task how many tokens it has, and the pages that are spare.
 struct checkpoint {
-    std::vector<::flash_place> places;
+    std::vector<::mg_cell> places;
     std::vector<name> names;
-    std::vector<::flash_block> blocks;
+    std::vector<::mg_block> blocks;
     std::vector<std::uint32_t> balances;
     std::uint32_t spare = 0;
 };
@@ -84,17 +84,17 @@ template <class T> const T *items_of(const std::vector<T> &items) {
     return items.empty() ? &none : items.data();
 }
 
-// Whether flash::die takes the plan, and, of a plan with times, what it asks for.
-inline void bound(const plan &p, const std::vector<task> &tasks) { must(::flash_plan_bound(&p, items_of(tasks), tasks.size())); }
-inline ::flash_load plan_test(const plan &p, const std::vector<task> &tasks) {
-    ::flash_load load{};
-    must(::flash_plan_test(&p, items_of(tasks), tasks.size(), &load));
+// Whether maulgreen::die takes the plan, and, of a plan with times, what it asks for.
+inline void bound(const plan &p, const std::vector<task> &tasks) { must(::mg_plan_bound(&p, items_of(tasks), tasks.size())); }
+inline ::mg_load plan_test(const plan &p, const std::vector<task> &tasks) {
+    ::mg_load load{};
+    must(::mg_plan_test(&p, items_of(tasks), tasks.size(), &load));
     return load;
 }
 
-// FLASH_OK where the certificate holds for the rows, else its first flaw.
+// MG_OK where the certificate holds for the rows, else its first flaw.
 inline std::uint32_t check(const std::vector<row> &rows, const certificate &c) {
-    return ::flash_check(items_of(rows), rows.size(), &c, items_of(c.listed), c.listed.size());
+    return ::mg_check(items_of(rows), rows.size(), &c, items_of(c.listed), c.listed.size());
 }
 
 class die;
@@ -108,31 +108,31 @@ public:
     slot &operator=(slot &&) = delete;
     ~slot() {
         if (handle_) {
-            ::flash_reply said;
-            ::flash_waived waived;
+            ::mg_reply said;
+            ::mg_waived waived;
             name blank{};
-            ::flash_end(handle_, 0, &blank, &said, &waived, 1);
+            ::mg_end(handle_, 0, &blank, &said, &waived, 1);
         }
     }
 
     // What the device is to do.
-    const flash::call &call() const { return call_; }
+    const maulgreen::call &call() const { return call_; }
 
     // Ends it: whether the device did that, and the name of what a read gave. NOT_BEGUN where it was ended or moved from.
     reply end(bool ok, const name &gave = {}) {
-        if (!handle_) throw refusal(FLASH_NOT_BEGUN);
+        if (!handle_) throw refusal(MG_NOT_BEGUN);
         reply said{};
-        std::array<::flash_waived, 16> waived{};
-        must(::flash_end(std::exchange(handle_, nullptr), ok ? 1 : 0, &gave, &said, waived.data(), waived.size()));
+        std::array<::mg_waived, 16> waived{};
+        must(::mg_end(std::exchange(handle_, nullptr), ok ? 1 : 0, &gave, &said, waived.data(), waived.size()));
         said.waived_ones.assign(waived.begin(), waived.begin() + said.waived);
         return said;
     }
 
 private:
     friend class die;
-    slot(::flash_die *handle, const flash::call &c) : handle_(handle), call_(c) {}
-    ::flash_die *handle_;
-    flash::call call_;
+    slot(::mg_die *handle, const maulgreen::call &c) : handle_(handle), call_(c) {}
+    ::mg_die *handle_;
+    maulgreen::call call_;
 };
 
 // One die. It is used by one thread at a time, and stays on its thread. A die that was moved from may only be assigned to or
@@ -140,9 +140,9 @@ private:
 class die {
 public:
     die(const plan &p, const std::vector<task> &tasks) {
-        auto made = new ::flash_die{nullptr};
-        std::uint32_t code = ::flash_new(made, &p, items_of(tasks), tasks.size());
-        if (code != FLASH_OK) {
+        auto made = new ::mg_die{nullptr};
+        std::uint32_t code = ::mg_new(made, &p, items_of(tasks), tasks.size());
+        if (code != MG_OK) {
             delete made;
             throw refusal(code);
         }
@@ -153,12 +153,12 @@ public:
 
     // A die that goes on from a checkpoint. The chip has to be as that says.
     die(const plan &p, const std::vector<task> &tasks, const checkpoint &c) {
-        auto made = new ::flash_die{nullptr};
-        ::flash_why why{0, 0};
-        std::uint32_t code = ::flash_resume(made, &p, items_of(tasks), tasks.size(), items_of(c.places), c.places.size(),
+        auto made = new ::mg_die{nullptr};
+        ::mg_why why{0, 0};
+        std::uint32_t code = ::mg_resume(made, &p, items_of(tasks), tasks.size(), items_of(c.places), c.places.size(),
                                             items_of(c.names), c.names.size(), items_of(c.blocks), c.blocks.size(),
                                             items_of(c.balances), c.balances.size(), c.spare, &why);
-        if (code != FLASH_OK) {
+        if (code != MG_OK) {
             delete made;
             throw refusal(code, why);
         }
@@ -177,82 +177,82 @@ public:
     }
     ~die() {
         if (handle_) {
-            ::flash_free(handle_);
+            ::mg_free(handle_);
             delete handle_;
         }
     }
 
     std::uint32_t submit(std::uint32_t caller, std::uint32_t task, std::uint32_t release, std::uint32_t due, const std::vector<op> &ops) {
         std::uint32_t number = 0;
-        ::flash_why why{0, 0};
-        must(::flash_submit(handle_, caller, task, release, due, items_of(ops), ops.size(), &number, &why), why);
+        ::mg_why why{0, 0};
+        must(::mg_submit(handle_, caller, task, release, due, items_of(ops), ops.size(), &number, &why), why);
         return number;
     }
 
     std::uint32_t collect(std::uint32_t caller, std::uint32_t task, std::uint32_t release, std::uint32_t due) {
         std::uint32_t number = 0;
-        ::flash_why why{0, 0};
-        must(::flash_collect(handle_, caller, task, release, due, &number, &why), why);
+        ::mg_why why{0, 0};
+        must(::mg_collect(handle_, caller, task, release, due, &number, &why), why);
         return number;
     }
 
     // The slot may not outlive the die, but the die may be moved meanwhile.
     slot begin(std::uint32_t caller) {
-        flash::call said{};
-        must(::flash_begin(handle_, caller, &said));
+        maulgreen::call said{};
+        must(::mg_begin(handle_, caller, &said));
         return slot(handle_, said);
     }
 
-    void reserve(std::uint32_t slots) { must(::flash_reserve(handle_, slots)); }
+    void reserve(std::uint32_t slots) { must(::mg_reserve(handle_, slots)); }
 
     void renew() {
-        ::flash_why why{0, 0};
-        must(::flash_renew(handle_, &why), why);
+        ::mg_why why{0, 0};
+        must(::mg_renew(handle_, &why), why);
     }
 
     // What stands, with the names of the pages. The die stays as it is.
-    flash::checkpoint checkpoint() {
-        flash::checkpoint said;
+    maulgreen::checkpoint checkpoint() {
+        maulgreen::checkpoint said;
         said.places.resize(size_.logical);
         said.names.resize(size_.logical);
         said.blocks.resize(size_.blocks);
         said.balances.resize(tasks_);
-        ::flash_why why{0, 0};
-        must(::flash_checkpoint(handle_, said.places.data(), said.places.size(), said.names.data(), said.names.size(),
+        ::mg_why why{0, 0};
+        must(::mg_checkpoint(handle_, said.places.data(), said.places.size(), said.names.data(), said.names.size(),
                                 said.blocks.data(), said.blocks.size(), said.balances.data(), said.balances.size(),
                                 &said.spare, &why),
              why);
         return said;
     }
 
-    std::uint32_t now() const { return ::flash_now(handle_); }
-    std::uint64_t entries() const { return ::flash_len(handle_); }
-    std::uint64_t records() const { return ::flash_records(handle_); }
+    std::uint32_t now() const { return ::mg_now(handle_); }
+    std::uint64_t entries() const { return ::mg_len(handle_); }
+    std::uint64_t records() const { return ::mg_records(handle_); }
 
     job_head job(std::uint32_t number) const {
         job_head said{};
-        must(::flash_job(handle_, number, &said));
+        must(::mg_job(handle_, number, &said));
         return said;
     }
 
-    flash::outcome outcome(std::uint32_t job) const {
-        flash::outcome said{};
+    maulgreen::outcome outcome(std::uint32_t job) const {
+        maulgreen::outcome said{};
         std::array<name, 64> reads{};
-        must(::flash_outcome(handle_, job, &said, reads.data(), reads.size()));
+        must(::mg_outcome(handle_, job, &said, reads.data(), reads.size()));
         said.read_names.assign(reads.begin(), reads.begin() + said.reads);
         return said;
     }
 
     worst_job worst() const {
         worst_job said{};
-        must(::flash_worst(handle_, &said));
+        must(::mg_worst(handle_, &said));
         return said;
     }
 
-    flash::certificate certificate() const {
-        flash::certificate said{};
+    maulgreen::certificate certificate() const {
+        maulgreen::certificate said{};
         for (said.listed.resize(64);; said.listed.resize(said.jobs)) {
-            must(::flash_certificate(handle_, &said, said.listed.data(), said.listed.size()));
+            must(::mg_certificate(handle_, &said, said.listed.data(), said.listed.size()));
             if (said.jobs <= said.listed.size()) break;
         }
         said.listed.resize(said.jobs);
@@ -263,7 +263,7 @@ public:
         std::vector<row> said(64);
         std::uint32_t total = 0;
         for (;; said.resize(total)) {
-            must(::flash_rows(handle_, said.data(), said.size(), &total));
+            must(::mg_rows(handle_, said.data(), said.size(), &total));
             if (total <= said.size()) break;
         }
         said.resize(total);
@@ -272,10 +272,10 @@ public:
 
 private:
     // On the heap, so that a die moves while one of its slots has begun, and so that a handle is never copied.
-    ::flash_die *handle_ = nullptr;
+    ::mg_die *handle_ = nullptr;
     plan size_{};
     std::size_t tasks_ = 0;
 };
 
-} // namespace flash
+} // namespace maulgreen
 #endif

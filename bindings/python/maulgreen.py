@@ -1,6 +1,6 @@
-"""A die of a proved flash translation layer with deadlines, over libflash.so, which bindings/c/Makefile makes.
+"""A die of a proved flash translation layer with deadlines, over libmaulgreen.so, which bindings/c/Makefile makes.
 
-Standard library only. bindings/c/flash.h says what each call does, and what refuses it; a refusal is raised as Refusal.
+Standard library only. bindings/c/maulgreen.h says what each call does, and what refuses it; a refusal is raised as Refusal.
 """
 import ctypes as c
 import os
@@ -57,21 +57,21 @@ Block = namedtuple("Block", "filled erases")
 # by logical page its cell, (block, page) or None, and its name; by block its counts; by task its tokens; the spare pages
 Checkpoint = namedtuple("Checkpoint", "places names blocks balances spare")
 
-_lib = c.CDLL(os.environ.get("FLASH_LIB", os.path.join(os.path.dirname(os.path.abspath(__file__)), "../c/out/libflash.so")))
+_lib = c.CDLL(os.environ.get("MAULGREEN_LIB", os.path.join(os.path.dirname(os.path.abspath(__file__)), "../c/out/libmaulgreen.so")))
 for _word in ("version refusal_name plan_bound plan_test new submit collect begin end reserve renew now job outcome worst "
               "certificate rows check checkpoint resume").split():
-    getattr(_lib, "flash_" + _word).restype = U32
-_lib.flash_len.restype = _lib.flash_records.restype = U64
-_lib.flash_free.restype = None
-assert _lib.flash_version() == 1, "another version of libflash.so"
+    getattr(_lib, "mg_" + _word).restype = U32
+_lib.mg_len.restype = _lib.mg_records.restype = U64
+_lib.mg_free.restype = None
+assert _lib.mg_version() == 1, "another version of libmaulgreen.so"
 
 
 class Refusal(Exception):
-    """Why a call is refused: its number of flash.h, its name, and the numbers that it has."""
+    """Why a call is refused: its number of maulgreen.h, its name, and the numbers that it has."""
 
     def __init__(self, code, why=None):
         text = c.create_string_buffer(16)
-        _lib.flash_refusal_name(U32(code), text, c.c_size_t(16))
+        _lib.mg_refusal_name(U32(code), text, c.c_size_t(16))
         self.code, self.name = code, text.value.decode()
         self.first, self.second = (why.first, why.second) if why else (0, 0)
         super().__init__(f"{self.name} {self.first} {self.second}" if why else self.name)
@@ -95,13 +95,13 @@ def _plan(plan, tasks):
 
 def bound(plan, tasks):
     """Raises where Die doesn't take the plan."""
-    _must(_lib.flash_plan_bound(*_plan(plan, tasks)))
+    _must(_lib.mg_plan_bound(*_plan(plan, tasks)))
 
 
 def plan_test(plan, tasks):
     """The load of a plan with times; raises where it doesn't pass."""
     load = _Load()
-    _must(_lib.flash_plan_test(*_plan(plan, tasks), c.byref(load)))
+    _must(_lib.mg_plan_test(*_plan(plan, tasks), c.byref(load)))
     return Load(load.demand, load.common)
 
 
@@ -110,7 +110,7 @@ def check(rows, certificate):
     rows, row_count = _list(_Row, (_Row(r.number, r.release, r.due, r.work, r.completion is not None, r.completion or 0) for r in rows))
     jobs, count = _list(U32, certificate.jobs)
     given = _Certificate(certificate.job, certificate.start, certificate.due, certificate.completion, 0)
-    _must(_lib.flash_check(rows, row_count, c.byref(given), jobs, count))
+    _must(_lib.mg_check(rows, row_count, c.byref(given), jobs, count))
 
 
 class Die:
@@ -123,10 +123,10 @@ class Die:
         self._shape = Plan(*plan), len(tasks)
         handle = _Handle()
         if checkpoint is None:
-            _must(_lib.flash_new(c.byref(handle), *_plan(plan, tasks)))
+            _must(_lib.mg_new(c.byref(handle), *_plan(plan, tasks)))
         else:
             why = _Why()
-            _must(_lib.flash_resume(
+            _must(_lib.mg_resume(
                 c.byref(handle), *_plan(plan, tasks), *_list(_Place, (_Place(*(at or (_NOWHERE, 0))) for at in checkpoint.places)),
                 *_list(_Name, (_Name(*name) for name in checkpoint.names)), *_list(_Block, (_Block(*b) for b in checkpoint.blocks)),
                 *_list(U32, checkpoint.balances), U32(checkpoint.spare), c.byref(why)), why)
@@ -143,7 +143,7 @@ class Die:
 
     def close(self):
         if self._at is not None:
-            _lib.flash_free(c.byref(self._at))
+            _lib.mg_free(c.byref(self._at))
             self._at = None
 
     def __copy__(self):
@@ -162,25 +162,25 @@ class Die:
         """Accepts a job of (READ, page), (WRITE, page, name) and (TRIM, page), and answers its number."""
         ops, count = _list(_Op, (_Op(op[0], op[1], _Name(*(op[2] if len(op) > 2 else BLANK))) for op in ops))
         number, why = U32(), _Why()
-        _must(_lib.flash_submit(self._die, U32(caller), U32(task), U32(release), U32(due), ops, count, c.byref(number),
+        _must(_lib.mg_submit(self._die, U32(caller), U32(task), U32(release), U32(due), ops, count, c.byref(number),
                                 c.byref(why)), why)
         return number.value
 
     def collect(self, task, release, due, caller=0):
         number, why = U32(), _Why()
-        _must(_lib.flash_collect(self._die, U32(caller), U32(task), U32(release), U32(due), c.byref(number), c.byref(why)), why)
+        _must(_lib.mg_collect(self._die, U32(caller), U32(task), U32(release), U32(due), c.byref(number), c.byref(why)), why)
         return number.value
 
     def begin(self, caller=0):
         """Begins the present slot, and reports what the device is to do."""
         call = _Call()
-        _must(_lib.flash_begin(self._die, U32(caller), c.byref(call)))
+        _must(_lib.mg_begin(self._die, U32(caller), c.byref(call)))
         return Call(call.kind, call.block, call.page, call.last == 1, call.slot, call.act, call.job, bytes(call.name))
 
     def end(self, ok, name=BLANK):
         """Ends the slot that has begun: whether the device did it, and the name of what a read gave."""
         said, waived = _Reply(), (_Waived * 16)()
-        _must(_lib.flash_end(self._die, U32(1 if ok else 0), c.byref(_Name(*name)), c.byref(said), waived, c.c_size_t(16)))
+        _must(_lib.mg_end(self._die, U32(1 if ok else 0), c.byref(_Name(*name)), c.byref(said), waived, c.c_size_t(16)))
         return Reply(said.slot, said.act, said.job, said.page, said.finished == 1,
                      [Waived(w.job, w.given) for w in waived[:said.waived]], bytes(said.name))
 
@@ -198,52 +198,52 @@ class Die:
         return self.end(ok, name)
 
     def reserve(self, slots):
-        _must(_lib.flash_reserve(self._die, U32(slots)))
+        _must(_lib.mg_reserve(self._die, U32(slots)))
 
     def renew(self):
         why = _Why()
-        _must(_lib.flash_renew(self._die, c.byref(why)), why)
+        _must(_lib.mg_renew(self._die, c.byref(why)), why)
 
     def checkpoint(self):
         """What stands at a moment at which all is done or was waived, with the names of the pages."""
         plan, count = self._shape
         places, names, blocks = (_Place * plan.logical)(), (_Name * plan.logical)(), (_Block * plan.blocks)()
         balances, spare, why = (U32 * count)(), U32(), _Why()
-        _must(_lib.flash_checkpoint(self._die, places, c.c_size_t(plan.logical), names, c.c_size_t(plan.logical), blocks,
+        _must(_lib.mg_checkpoint(self._die, places, c.c_size_t(plan.logical), names, c.c_size_t(plan.logical), blocks,
                                     c.c_size_t(plan.blocks), balances, c.c_size_t(count), c.byref(spare), c.byref(why)), why)
         return Checkpoint([None if p.block == _NOWHERE else (p.block, p.page) for p in places], [bytes(n) for n in names],
                           [Block(b.filled, b.erases) for b in blocks], list(balances), spare.value)
 
     def now(self):
-        return _lib.flash_now(self._die)
+        return _lib.mg_now(self._die)
 
     def __len__(self):
-        return _lib.flash_len(self._die)
+        return _lib.mg_len(self._die)
 
     def records(self):
-        return _lib.flash_records(self._die)
+        return _lib.mg_records(self._die)
 
     def job(self, number):
         job = _Job()
-        _must(_lib.flash_job(self._die, U32(number), c.byref(job)))
+        _must(_lib.mg_job(self._die, U32(number), c.byref(job)))
         return Job(job.collects == 1, job.task, job.release, job.due)
 
     def outcome(self, job):
         said, reads = _Outcome(), (_Name * 64)()
-        _must(_lib.flash_outcome(self._die, U32(job), c.byref(said), reads, c.c_size_t(64)))
+        _must(_lib.mg_outcome(self._die, U32(job), c.byref(said), reads, c.c_size_t(64)))
         return Outcome(said.state, said.completion, said.lateness, said.given, [bytes(r) for r in reads[:said.reads]])
 
     def worst(self):
         worst = _Worst()
-        _must(_lib.flash_worst(self._die, c.byref(worst)))
+        _must(_lib.mg_worst(self._die, c.byref(worst)))
         return Worst(worst.job, worst.lateness)
 
     def certificate(self):
         said, jobs = _Certificate(), (U32 * 65536)()
-        _must(_lib.flash_certificate(self._die, c.byref(said), jobs, c.c_size_t(65536)))
+        _must(_lib.mg_certificate(self._die, c.byref(said), jobs, c.c_size_t(65536)))
         return Certificate(said.job, said.start, said.due, said.completion, jobs[:said.jobs])
 
     def rows(self):
         rows, total = (_Row * 65536)(), U32()
-        _must(_lib.flash_rows(self._die, rows, c.c_size_t(65536), c.byref(total)))
+        _must(_lib.mg_rows(self._die, rows, c.c_size_t(65536), c.byref(total)))
         return [Row(r.number, r.release, r.due, r.work, r.completion if r.done else None) for r in rows[:total.value]]
