@@ -44,7 +44,7 @@ extern "C" {
 #define MG_VERSION_MAJOR 1u
 #define MG_VERSION_MINOR 0u
 #define MG_VERSION (MG_VERSION_MAJOR << 16 | MG_VERSION_MINOR)
-#define MG_FITS(version) ((version) >> 16 == MG_VERSION_MAJOR && ((version) & 0xFFFFu) >= MG_VERSION_MINOR)
+#define MG_FITS(version) ((version) >> 16 == MG_VERSION_MAJOR && ((version) & 0xFFFFu) + 1u > MG_VERSION_MINOR)
 
 /* Refusals. In brackets, what `why` has; first and second are 0 else. */
 enum {
@@ -287,8 +287,8 @@ uint32_t mg_checkpoint(mg_die *die, struct mg_cell *places, size_t place_count, 
  * programs and erases as it goes on, and then the chip isn't as it was: so destroy a checkpoint before the first
  * MG_CALL_PROGRAM or MG_CALL_ERASE of the die that goes on from it. From a spent one a die is made all the same, which gives old
  * data as good. All that
- * the arrays alone can show is tested. The first that stands: NO_MEMORY, which may come at any time; OTHER_SHAPE; BAD_PLAN,
- * where mg_new answers BAD_SHAPE, too;
+ * the arrays alone can show is tested. The first that stands: NO_MEMORY, which may come at any time; BAD_PLAN,
+ * where the plan's times are out of their limits; OTHER_SHAPE; BAD_PLAN else, for its shape, too;
  * OVERFULL; SECOND_OPEN; WORN_OUT; UNPROGRAMMED; ABOVE_CAP; OTHER_SUM; SHARED_CELL. The handle stays empty then. */
 uint32_t mg_resume(mg_die *die, const struct mg_plan *plan, const struct mg_task *tasks, size_t count,
                       const struct mg_cell *places, size_t place_count, const struct mg_name *names, size_t name_count,

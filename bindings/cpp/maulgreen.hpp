@@ -6,12 +6,13 @@
 #ifndef MAULGREEN_HPP
 #define MAULGREEN_HPP
 #include "maulgreen.h"
+#include "maulgreen_layout.h"
 
 #include <algorithm>
 #include <array>
 #include <cstdint>
 #include <exception>
-#include <string>
+#include <stdexcept>
 #include <utility>
 #include <vector>
 
@@ -32,17 +33,16 @@ using worst_job = struct ::mg_worst_job;
 class refusal : public std::exception {
 public:
     explicit refusal(std::uint32_t code, ::mg_why why = {0, 0}) : code(code), why(why) {
-        std::array<std::uint8_t, 16> text{};
-        ::mg_refusal_name(code, text.data(), text.size());
-        text_ = reinterpret_cast<const char *>(text.data());
+        ::mg_refusal_name(code, name_.data(), name_.size());
     }
-    const char *what() const noexcept override { return text_.c_str(); }
+    const char *what() const noexcept override { return name_.data(); }      // "NoTokens"
+    const char *text() const noexcept { return ::mg_refusal_text(code); } // what that means, in a line
 
     const std::uint32_t code;
     const ::mg_why why;
 
 private:
-    std::string text_;
+    std::array<char, 16> name_{};
 };
 
 inline void must(std::uint32_t code, const ::mg_why &why = {0, 0}) {
@@ -78,23 +78,20 @@ struct checkpoint {
     std::uint32_t spare = 0;
 };
 
-// The items of a vector. That of an empty one may be null, which no pointer may be.
-template <class T> const T *items_of(const std::vector<T> &items) {
-    static const T none{};
-    return items.empty() ? &none : items.data();
-}
+// Whether the library has what this header says: see MG_FITS. A die isn't made with another one.
+inline bool fits() noexcept { return MG_FITS(::mg_version()); }
 
 // Whether maulgreen::die takes the plan, and, of a plan with times, what it asks for.
-inline void bound(const plan &p, const std::vector<task> &tasks) { must(::mg_plan_bound(&p, items_of(tasks), tasks.size())); }
+inline void bound(const plan &p, const std::vector<task> &tasks) { must(::mg_plan_bound(&p, tasks.data(), tasks.size())); }
 inline ::mg_load plan_test(const plan &p, const std::vector<task> &tasks) {
     ::mg_load load{};
-    must(::mg_plan_test(&p, items_of(tasks), tasks.size(), &load));
+    must(::mg_plan_test(&p, tasks.data(), tasks.size(), &load));
     return load;
 }
 
 // MG_OK where the certificate holds for the rows, else its first flaw.
 inline std::uint32_t check(const std::vector<row> &rows, const certificate &c) {
-    return ::mg_check(items_of(rows), rows.size(), &c, items_of(c.listed), c.listed.size());
+    return ::mg_check(rows.data(), rows.size(), &c, c.listed.data(), c.listed.size());
 }
 
 class die;
@@ -135,13 +132,15 @@ private:
     maulgreen::call call_;
 };
 
-// One die. It is used by one thread at a time, and stays on its thread. A die that was moved from may only be assigned to or
-// destroyed.
+// One die. As with the containers of the standard library, members that are `const` may run beside each other, and any other
+// beside nothing else of the same die, the end of its slot neither: that is for the program to see to. It may be made on one
+// thread and used on another. Each call of a die that was moved from is refused with MG_EMPTY_HANDLE, or answers 0.
 class die {
 public:
     die(const plan &p, const std::vector<task> &tasks) {
+        must_fit();
         auto made = new ::mg_die{nullptr};
-        std::uint32_t code = ::mg_new(made, &p, items_of(tasks), tasks.size());
+        std::uint32_t code = ::mg_new(made, &p, tasks.data(), tasks.size());
         if (code != MG_OK) {
             delete made;
             throw refusal(code);
@@ -153,11 +152,12 @@ public:
 
     // A die that goes on from a checkpoint. The chip has to be as that says.
     die(const plan &p, const std::vector<task> &tasks, const checkpoint &c) {
+        must_fit();
         auto made = new ::mg_die{nullptr};
         ::mg_why why{0, 0};
-        std::uint32_t code = ::mg_resume(made, &p, items_of(tasks), tasks.size(), items_of(c.places), c.places.size(),
-                                            items_of(c.names), c.names.size(), items_of(c.blocks), c.blocks.size(),
-                                            items_of(c.balances), c.balances.size(), c.spare, &why);
+        std::uint32_t code = ::mg_resume(made, &p, tasks.data(), tasks.size(), c.places.data(), c.places.size(),
+                                            c.names.data(), c.names.size(), c.blocks.data(), c.blocks.size(),
+                                            c.balances.data(), c.balances.size(), c.spare, &why);
         if (code != MG_OK) {
             delete made;
             throw refusal(code, why);
@@ -185,7 +185,7 @@ public:
     std::uint32_t submit(std::uint32_t caller, std::uint32_t task, std::uint32_t release, std::uint32_t due, const std::vector<op> &ops) {
         std::uint32_t number = 0;
         ::mg_why why{0, 0};
-        must(::mg_submit(handle_, caller, task, release, due, items_of(ops), ops.size(), &number, &why), why);
+        must(::mg_submit(handle_, caller, task, release, due, ops.data(), ops.size(), &number, &why), why);
         return number;
     }
 
@@ -271,6 +271,10 @@ public:
     }
 
 private:
+    static void must_fit() {
+        if (!fits()) throw std::runtime_error("another version of libmaulgreen");
+    }
+
     // On the heap, so that a die moves while one of its slots has begun, and so that a handle is never copied.
     ::mg_die *handle_ = nullptr;
     plan size_{};

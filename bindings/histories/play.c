@@ -12,7 +12,7 @@
 #include <stdlib.h>
 #include <string.h>
 
-enum { BLOCKS = 12, PAGES = 6, TASKS = 3, LISTED = 4096 };
+enum { BLOCKS = 12, PAGES = 6, TASKS = 3, LOGICAL = 60, LISTED = 4096 };
 
 static FILE *script, *answers;
 
@@ -54,10 +54,35 @@ static uint32_t word_of(const struct mg_name *name) {
 static struct { uint32_t filled, erasing; struct mg_name cells[PAGES]; } chip[BLOCKS];
 static uint32_t pages, erase_slots, calls_left;
 
+/* What copies have read, by task's collection. A buffer is free at its collection's next call, which is another one than the
+ * program where the page was written or trimmed meanwhile. */
+static struct { uint32_t used, job; struct mg_name name; } buffers[TASKS];
+static uint32_t copies, dropped; /* over all histories */
+static uint32_t copied;          /* the page that was copied last: jobs like it */
+
+static void buffer(const struct mg_call *call) {
+    uint32_t at = TASKS;
+    for (uint32_t b = 0; b < TASKS; b++) {
+        if (buffers[b].used && buffers[b].job == call->job) {
+            if (call->act == MG_COPY_PROGRAM) check(!memcmp(&buffers[b].name, &call->name, sizeof call->name), "a copy of what was read");
+            else dropped++;
+            buffers[b].used = 0;
+        }
+        if (!buffers[b].used) at = b;
+    }
+    if (call->act != MG_COPY_READ) return;
+    check(at < TASKS, "as many buffers as tasks");
+    copies++;
+    buffers[at].used = 1;
+    buffers[at].job = call->job;
+    buffers[at].name = call->name;
+}
+
 /* Whether the call went well; a read that goes wrong may give another name, too. */
 static uint32_t drive(const struct mg_call *call, struct mg_name *gave) {
     *gave = name_of(0xFFFFFFFFu);
-    if (call->kind == MG_CALL_NONE) return random_below(2); /* isn't looked at */
+    if (call->kind == MG_CALL_NONE) return random_below(3); /* isn't looked at */
+    if (call->act >= MG_COPY_READ) buffer(call);
     if (calls_left-- == 0) {
         if (call->kind != MG_CALL_READ || random_below(2)) return 0;
         *gave = name_of(word_of(&call->name) + 1);
@@ -85,6 +110,9 @@ static struct mg_plan plan;
 static struct mg_task tasks[TASKS];
 static uint32_t task_count;
 
+static int is_met(void) { return mg_plan_bound(&plan, tasks, task_count) == MG_OK; }
+
+/* Most plans have as many logical pages as their blocks allow, so that collections have to copy. */
 static void random_plan(void) {
     for (;;) {
         plan.blocks = between(2, BLOCKS);
@@ -94,8 +122,13 @@ static void random_plan(void) {
         plan.logical = between(1, 24);
         task_count = between(1, TASKS);
         for (uint32_t t = 0; t < task_count; t++) tasks[t].cap = between(1, 6);
-        if (mg_plan_bound(&plan, tasks, task_count) == MG_OK) return;
+        if (is_met()) break;
     }
+    if (!random_below(4)) return;
+    while (plan.blocks > 2 && (plan.blocks--, is_met())) continue;
+    if (!is_met()) plan.blocks++;
+    while (plan.logical < LOGICAL && (plan.logical++, is_met())) continue;
+    if (!is_met()) plan.logical--;
 }
 
 /* ---- Calls ------------------------------------------------------------------------------------------------------- */
@@ -103,6 +136,11 @@ static void random_plan(void) {
 static uint32_t jobs; /* that were accepted */
 static uint32_t words;
 static int begun; /* a slot has begun */
+
+/* `why` before a call: each refusal writes it, and nothing else does. */
+static const struct mg_why unsaid = {0xABCD, 0xABCE};
+
+static int is_said(const struct mg_why *why) { return why->first != unsaid.first && why->second != unsaid.second; }
 
 static void report(uint32_t code, const struct mg_why *why, uint32_t number) {
     if (code == MG_OK) fprintf(answers, "taken %" PRIu32 "\n", number), jobs++;
@@ -118,7 +156,7 @@ static int held_back(mg_die *die, uint32_t code, uint32_t release) {
 
 static void submit(mg_die *die, uint32_t least_release) {
     struct mg_op ops[70] = {{0, 0, {{0}}}};
-    struct mg_why why = {0, 0};
+    struct mg_why why = unsaid;
     uint32_t number = 0;
     uint32_t count = random_below(20) ? between(1, 5) : random_below(3) ? 0 : 65 + random_below(5);
     uint32_t task = random_below(30) ? random_below(task_count) : task_count;
@@ -126,10 +164,20 @@ static void submit(mg_die *die, uint32_t least_release) {
     if (!random_below(20) && release) release--;
     uint32_t due = release + (random_below(20) ? between(1, 12) : 0);
     for (uint32_t i = 0; i < count; i++) {
-        uint32_t kind = random_below(3), page = random_below(40) ? random_below(plan.logical) : plan.logical;
+        uint32_t kind = random_below(16) ? random_below(2) : MG_TRIM, page = random_below(40) ? random_below(plan.logical) : plan.logical;
+        if (!random_below(4)) page = copied;
         ops[i] = (struct mg_op){kind, page, name_of(++words)};
     }
+    if (count > 0 && !random_below(20)) { /* none of the history: the store has no such operation */
+        struct mg_op last = ops[count > 65 ? 64 : count - 1];
+        ops[count > 65 ? 64 : count - 1].kind = 3 + random_below(2) * 0xFFFFFFF0u;
+        check(mg_submit(die, 7, task, release, due, ops, count, &number, &why) == MG_BAD_KIND, "a kind above 2");
+        check(why.first == 0 && why.second == 0, "it has no numbers");
+        why = unsaid;
+        ops[count > 65 ? 64 : count - 1] = last;
+    }
     uint32_t code = mg_submit(die, 7, task, release, due, ops, count, &number, &why);
+    check(is_said(&why) == (code != MG_OK), "each refusal says why, and nothing else");
     if (held_back(die, code, release)) return;
     fprintf(script, "submit 7 %" PRIu32 " %" PRIu32 " %" PRIu32 " %" PRIu32, task, release, due, count);
     for (uint32_t i = 0; i < count; i++)
@@ -139,12 +187,13 @@ static void submit(mg_die *die, uint32_t least_release) {
 }
 
 static void collect(mg_die *die, uint32_t least_release) {
-    struct mg_why why = {0, 0};
+    struct mg_why why = unsaid;
     uint32_t number = 0;
     uint32_t task = random_below(30) ? random_below(task_count) : task_count;
     uint32_t release = least_release + (random_below(3) ? 0 : between(0, 9));
     uint32_t due = release + (random_below(20) ? between(1, 30) : 0);
     uint32_t code = mg_collect(die, 7, task, release, due, &number, &why);
+    check(is_said(&why) == (code != MG_OK), "each refusal says why, and nothing else");
     if (held_back(die, code, release)) return;
     fprintf(script, "collect 7 %" PRIu32 " %" PRIu32 " %" PRIu32 "\n", task, release, due);
     report(code, &why, number);
@@ -193,6 +242,7 @@ static int slot(mg_die *die) {
     struct mg_waived waived[16];
     struct mg_name gave;
     check(mg_begin(die, 9, &call) == MG_OK, "begin");
+    if (!random_below(8)) check(mg_reserve(die, 2) == MG_OK, "slots may be reserved within one");
     check(call.slot == mg_now(die), "the slot that has begun is the present one");
     begun = 1;
     for (uint32_t n = random_below(4) ? 0 : between(1, 3); n > 0; n--) { /* arrivals while the device works */
@@ -206,8 +256,10 @@ static int slot(mg_die *die) {
     if (code) {
         fprintf(answers, "refused %" PRIu32 " 0 0\n", code);
         check(mg_begin(die, 9, &call) == MG_DIE_STOPPED, "the die is stopped");
+        check(mg_reserve(die, 2) == MG_OK, "slots may be reserved of it");
         return 0;
     }
+    if (reply.act == MG_COPY_READ) copied = reply.page;
     check(reply.slot == call.slot && reply.act == call.act && reply.job == call.job, "the slot did what was announced");
     fprintf(answers, "slot %" PRIu32 " %" PRIu32 " %" PRIu32 " %" PRIu32 " %" PRIu32 " %" PRIu32, reply.slot, reply.act, reply.job, reply.page,
             reply.finished, word_of(&reply.name));
@@ -218,8 +270,8 @@ static int slot(mg_die *die) {
 
 /* A renewal; or the die is freed and made again from its checkpoint, which has to come to the same. */
 static uint32_t start_anew(mg_die *die, struct mg_why *why) {
-    static struct mg_cell places[64];
-    static struct mg_name names[64];
+    static struct mg_cell places[LOGICAL];
+    static struct mg_name names[LOGICAL];
     struct mg_block blocks[BLOCKS];
     uint32_t balances[TASKS], spare;
     if (random_below(2)) return mg_renew(die, why);
@@ -233,14 +285,17 @@ static uint32_t start_anew(mg_die *die, struct mg_why *why) {
     mg_free(die);
     check(mg_resume(die, &plan, tasks, task_count, places, plan.logical, names, plan.logical, blocks, plan.blocks, balances,
                        task_count, spare + 1, why) == MG_OTHER_SUM, "a page more than are free");
+    check(is_said(why), "and why");
+    *why = unsaid;
     return mg_resume(die, &plan, tasks, task_count, places, plan.logical, names, plan.logical, blocks, plan.blocks, balances,
                         task_count, spare, why);
 }
 
 static void renew(mg_die *die) {
-    struct mg_why why = {0, 0};
+    struct mg_why why = unsaid;
     fputs("renew\n", script);
     uint32_t code = start_anew(die, &why);
+    check(is_said(&why) == (code != MG_OK), "each refusal says why, and nothing else");
     if (code == MG_OK) { fputs("renewed\n", answers); jobs = 0; }
     else fprintf(answers, "refused %" PRIu32 " %" PRIu32 " 0\n", code, why.first);
 }
@@ -253,18 +308,20 @@ static void history(void) {
     calls_left = random_below(2) ? 1000000u : random_below(60);
     jobs = 0;
     memset(chip, 0, sizeof chip);
+    memset(buffers, 0, sizeof buffers);
+    copied = 0;
     fprintf(script, "die %" PRIu32 " %" PRIu32 " %" PRIu32 " %" PRIu32 " %" PRIu32 " %" PRIu32 " %" PRIu32, plan.blocks, plan.pages, plan.erase_slots,
             plan.logical, plan.alpha, calls_left, task_count);
     for (uint32_t t = 0; t < task_count; t++) fprintf(script, " %" PRIu32, tasks[t].cap);
     fputc('\n', script);
     check(mg_new(&die, &plan, tasks, task_count) == MG_OK, "new");
     fputs("new\n", answers);
-    for (uint32_t step = between(20, 160); step > 0; step--) {
-        uint32_t what = random_below(16);
+    for (uint32_t step = between(20, 400); step > 0; step--) {
+        uint32_t what = random_below(32);
         if (what < 5) submit(&die, mg_now(&die));
-        else if (what < 7) collect(&die, mg_now(&die));
-        else if (what == 7) ask(&die);
-        else if (what == 8 && !random_below(3)) renew(&die);
+        else if (what < 8) collect(&die, mg_now(&die));
+        else if (what == 8) ask(&die);
+        else if (what == 9 && !random_below(3)) renew(&die);
         else if (!slot(&die)) {
             for (int i = 0; i < 3; i++) ask(&die);
             submit(&die, mg_now(&die));
@@ -282,7 +339,10 @@ int main(int argc, char **argv) {
     script = fopen(argv[3], "w");
     answers = fopen(argv[4], "w");
     check(script && answers, "the files are opened");
-    for (uint32_t n = (uint32_t)atoi(argv[2]); n > 0; n--) history();
+    uint32_t count = (uint32_t)atoi(argv[2]);
+    for (uint32_t n = count; n > 0; n--) history();
+    check(count < 1000 || (copies > 0 && dropped > 0), "copies, and some that aren't needed any more");
     check(!fclose(script) && !fclose(answers), "the files are written");
+    printf("%" PRIu32 " copies, %" PRIu32 " of them dropped\n", copies, dropped);
     return 0;
 }

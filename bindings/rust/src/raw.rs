@@ -1,8 +1,8 @@
 //! The structs and functions of maulgreen.h, which says what each means.
 
 use crate::Name;
-use std::ffi::c_void;
-use std::ptr::null_mut;
+use core::ffi::c_void;
+use core::ptr::null_mut;
 
 #[repr(C)]
 pub struct Handle {
@@ -41,6 +41,7 @@ structs! {
 
 extern "C" {
     pub fn mg_version() -> u32;
+    pub fn mg_refusal_text(refusal: u32) -> *const core::ffi::c_char;
     pub fn mg_plan_bound(plan: *const Plan, tasks: *const Task, count: usize) -> u32;
     pub fn mg_plan_test(plan: *const Plan, tasks: *const Task, count: usize, load: *mut Load) -> u32;
     pub fn mg_new(die: *mut Handle, plan: *const Plan, tasks: *const Task, count: usize) -> u32;
@@ -67,14 +68,14 @@ extern "C" {
         names: *const Name, name_count: usize, blocks: *const Block, block_count: usize, balances: *const u32,
         balance_count: usize, spare: u32, why: *mut Why,
     ) -> u32;
-    pub fn mg_now(die: *mut Handle) -> u32;
-    pub fn mg_len(die: *mut Handle) -> u64;
-    pub fn mg_records(die: *mut Handle) -> u64;
-    pub fn mg_job(die: *mut Handle, number: u32, job: *mut Job) -> u32;
-    pub fn mg_outcome(die: *mut Handle, job: u32, outcome: *mut Outcome, reads: *mut Name, count: usize) -> u32;
-    pub fn mg_worst(die: *mut Handle, worst: *mut Worst) -> u32;
-    pub fn mg_certificate(die: *mut Handle, certificate: *mut Certificate, jobs: *mut u32, count: usize) -> u32;
-    pub fn mg_rows(die: *mut Handle, rows: *mut Row, count: usize, total: *mut u32) -> u32;
+    pub fn mg_now(die: *const Handle) -> u32;
+    pub fn mg_len(die: *const Handle) -> u64;
+    pub fn mg_records(die: *const Handle) -> u64;
+    pub fn mg_job(die: *const Handle, number: u32, job: *mut Job) -> u32;
+    pub fn mg_outcome(die: *const Handle, job: u32, outcome: *mut Outcome, reads: *mut Name, count: usize) -> u32;
+    pub fn mg_worst(die: *const Handle, worst: *mut Worst) -> u32;
+    pub fn mg_certificate(die: *const Handle, certificate: *mut Certificate, jobs: *mut u32, count: usize) -> u32;
+    pub fn mg_rows(die: *const Handle, rows: *mut Row, count: usize, total: *mut u32) -> u32;
     pub fn mg_check(
         rows: *const Row, row_count: usize, certificate: *const Certificate, jobs: *const u32, count: usize,
     ) -> u32;
