@@ -201,6 +201,8 @@ enum { MG_CALL_NONE = 0, MG_CALL_READ = 1, MG_CALL_PROGRAM = 2, MG_CALL_ERASE = 
 enum { MG_IDLE = 0, MG_DID_READ = 1, MG_DID_WRITE = 2, MG_DID_TRIM = 3, MG_COPY_READ = 4,
        MG_COPY_PROGRAM = 5, MG_ERASE = 6 };
 
+#define MG_NO_PAGE UINT32_MAX
+
 /* What the device is to do, once:
  *   MG_CALL_NONE     nothing
  *   MG_CALL_READ     read the cell (block, page), whose payload has to have this name. For MG_COPY_READ keep it until the
@@ -215,6 +217,7 @@ struct mg_call {
     uint32_t last;
     uint32_t slot;          /* the slot that has begun */
     uint32_t act, job;      /* for what (MG_IDLE ..), and for which job or collection; 0 where idle */
+    uint32_t logical;       /* the logical page that is read, written, trimmed or copied; MG_NO_PAGE in an erase and where idle */
     struct mg_name name;
 };
 

@@ -260,6 +260,7 @@ static int slot(mg_die *die) {
         return 0;
     }
     if (reply.act == MG_COPY_READ) copied = reply.page;
+    check(call.logical == (reply.act == MG_IDLE || reply.act == MG_ERASE ? MG_NO_PAGE : reply.page), "the page was announced");
     check(reply.slot == call.slot && reply.act == call.act && reply.job == call.job, "the slot did what was announced");
     fprintf(answers, "slot %" PRIu32 " %" PRIu32 " %" PRIu32 " %" PRIu32 " %" PRIu32 " %" PRIu32, reply.slot, reply.act, reply.job, reply.page,
             reply.finished, word_of(&reply.name));

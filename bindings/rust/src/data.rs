@@ -135,11 +135,13 @@ pub struct Begun {
     pub call: Call,
     /// The job or collection that has the slot, if one has it.
     pub job: Option<u32>,
+    /// The logical page that is read, written, trimmed or copied; none in an erase and in an idle slot.
+    pub logical: Option<u32>,
 }
 
 impl Begun {
     pub(crate) fn of(call: &raw::Call) -> Begun {
-        Begun { slot: call.slot, call: Call::of(call), job: (call.act != 0).then_some(call.job) }
+        Begun { slot: call.slot, call: Call::of(call), job: (call.act != 0).then_some(call.job), logical: (call.logical != u32::MAX).then_some(call.logical) }
     }
 }
 

@@ -300,6 +300,11 @@ impl Slot<'_> {
         self.begun.job
     }
 
+    /// The logical page that is read, written, trimmed or copied, if one is.
+    pub fn logical(&self) -> Option<u32> {
+        self.begun.logical
+    }
+
     /// As [`Die::submit`], of a job whose release is above this slot; `Begun` of another one. It is answered by the log
     /// without this slot.
     pub fn submit(&mut self, caller: u32, task: u32, release: u32, due: u32, ops: &[Op]) -> Result<u32, Refusal> {

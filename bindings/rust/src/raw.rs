@@ -27,7 +27,7 @@ structs! {
     Load { demand: u64, common: u32 }
     Why { first: u32, second: u32 }
     Op { kind: u32, page: u32, name: Name }
-    Call { kind: u32, block: u32, page: u32, last: u32, slot: u32, act: u32, job: u32, name: Name }
+    Call { kind: u32, block: u32, page: u32, last: u32, slot: u32, act: u32, job: u32, logical: u32, name: Name }
     Reply { slot: u32, act: u32, job: u32, page: u32, finished: u32, waived: u32, name: Name }
     Waived { job: u32, given: u32 }
     Job { collects: u32, task: u32, release: u32, due: u32 }
