@@ -176,11 +176,49 @@ static void show_texts(void) {
     printf("%" PRIu32 " refusals have a text\n", texts);
 }
 
-int main(void) {
+/* A report goes to the file that is named, if one is: .ci/bindings has it audited. */
+static int put(void *to, const char *text, size_t size) { return fwrite(text, 1, size, to) != size; }
+
+static int refuse(void *to, const char *text, size_t size) {
+    ++*(int *)to;
+    return text[0] != 'r' || size != 1024;
+}
+
+static void show_report(const char *path) {
+    mg_die dies[2] = {{0}, {0}};
+    const mg_die *of[2] = {&dies[0], &dies[1]};
+    int pieces = 0;
+    for (int d = 0; d < 2; d++) check(mg_new(&dies[d], &plan, &task, 1) == MG_OK, "new");
+    for (uint32_t r = 0; r < 40; r++) {
+        const uint32_t now = mg_now(&dies[0]), page = r * 7 % LOGICAL;
+        const struct mg_op ops[3] = {{MG_WRITE, page, {{(uint8_t)r, 171}}}, {MG_READ, page, {{0}}}, {MG_READ, 15, {{0}}}};
+        struct mg_reply reply;
+        mg_collect(&dies[0], 1, 0, now, now + 40, NULL, NULL);
+        check(mg_submit(&dies[0], 1, 0, now, now + 2 + r % 3, ops, 3, NULL, NULL) == MG_OK, "submit");
+        do {
+            struct mg_call call;
+            check(mg_begin(&dies[0], 9, &call) == MG_OK && mg_end(&dies[0], 1, &call.name, &reply, NULL, 0) == MG_OK, "a slot");
+        } while (reply.act != MG_IDLE && r < 39);
+    }
+    FILE *file = path ? fopen(path, "wb") : tmpfile();
+    check(file && mg_report(of, 2, put, file) == MG_OK && ftell(file) > 1024 && !fclose(file), "a report");
+    check(mg_report(of, 2, refuse, &pieces) == MG_NOT_TAKEN && pieces == 2, "a piece that isn't taken is the last");
+    check(mg_report(of, 2, NULL, NULL) == MG_NULL_POINTER && mg_report(NULL, 2, put, NULL) == MG_NULL_POINTER, "none to take it");
+    left = 0;
+    check(mg_report(of, 2, refuse, &pieces) == MG_NO_MEMORY, "no memory");
+    left = UINT32_MAX;
+    mg_free(&dies[1]);
+    check(mg_report(of, 2, refuse, &pieces) != MG_OK, "a die that isn't there");
+    mg_free(&dies[0]);
+    check(mg_report(of, 1, refuse, &pieces) == MG_EMPTY_HANDLE, "nor this one");
+}
+
+int main(int argc, char **argv) {
     show_handles();
     show_pointers();
     show_memory();
     show_texts();
+    show_report(argc > 1 ? argv[1] : NULL);
     puts("all as it should be");
     return 0;
 }

@@ -75,6 +75,7 @@ enum {
     MG_EMPTY_HANDLE = 107,    /* the handle has no die */
     MG_FULL_HANDLE = 108,     /* the handle has a die, which would be lost */
     MG_NULL_POINTER = 109,    /* a pointer is null that may not be */
+    MG_NOT_TAKEN = 110,       /* the program didn't take a piece of a report */
     /* what is wrong with a certificate first */
     MG_CERT_EMPTY = 201,         /* it lists no job */
     MG_CERT_NOT_RISING = 202,    /* a listed number isn't above the one before */
@@ -340,6 +341,15 @@ struct mg_row {
 };
 /* The rows of all jobs and collections but the waived ones, by number; *total gets how many they are. NO_MEMORY. */
 uint32_t mg_rows(const mg_die *die, struct mg_row *rows, size_t count, uint32_t *total);
+
+/* Takes a piece of a report, which has no 0 at its end: 0, or anything else where it can't. */
+typedef int (*mg_put)(void *to, const char *text, size_t size);
+
+/* The report of some dies, numbered from 0 by their places, as `flashrec audit` reads it: what was accepted, what became of it,
+ * and the certificate of each die, as CSV. It is put out in pieces of up to 1,024 bytes; where it is refused, the pieces so far are
+ * no report. A die of which it tells may be asked meanwhile, and nothing else. EMPTY_HANDLE, NO_MEMORY; NOT_TAKEN, where a piece
+ * wasn't taken, after which none is put out. */
+uint32_t mg_report(const mg_die *const *dies, size_t count, mg_put put, void *to);
 
 /* ---- For auditors, without a die --------------------------------------------------------------------------------- */
 

@@ -41,7 +41,7 @@ pub const NOT_QUIET: u32 = 105;
 /// A block was erased too often for a life more.
 pub const WORN_OUT: u32 = 106;
 
-// 107 to 109 are refusals of the C above: an empty handle, a full one, and a null pointer.
+// 107 to 110 are refusals of the C above: an empty handle, a full one, a null pointer, and a report that isn't taken.
 
 /// The faults of a certificate are 201 to 207.
 pub const VERDICTS: u32 = 200;

@@ -46,6 +46,7 @@ pub(crate) fn name_of(refusal: u32) -> &'static str
         107 => "EmptyHandle",
         108 => "FullHandle",
         109 => "NullPointer",
+        110 => "NotTaken",
         201 => "Empty",
         202 => "NotRising",
         203 => "UnknownJob",
