@@ -6,13 +6,13 @@
  *
  * The chip is simulated here, and finds fault with each call that a chip doesn't allow. In half of the histories it fails
  * after some calls, or gives another name than was programmed. Each certificate is checked, too. */
-#include "flash.h"
+#include "maulgreen.h"
 #include <inttypes.h>
 #include <stdio.h>
 #include <stdlib.h>
 #include <string.h>
 
-enum { BLOCKS = 12, PAGES = 6, TASKS = 3, LISTED = 4096 };
+enum { BLOCKS = 12, PAGES = 6, TASKS = 3, LOGICAL = 60, LISTED = 4096 };
 
 static FILE *script, *answers;
 
@@ -35,38 +35,63 @@ static uint32_t between(uint32_t least, uint32_t most) { return least + random_b
 
 /* ---- Names: a word, four times ----------------------------------------------------------------------------------- */
 
-static struct flash_name name_of(uint32_t word) {
-    struct flash_name name;
+static struct mg_name name_of(uint32_t word) {
+    struct mg_name name;
     for (int i = 0; i < 16; i++) name.bytes[i] = (uint8_t)(word >> (8 * (i % 4)));
     return name;
 }
 
-static uint32_t word_of(const struct flash_name *name) {
+static uint32_t word_of(const struct mg_name *name) {
     uint32_t word = 0;
     for (int i = 0; i < 4; i++) word |= (uint32_t)name->bytes[i] << (8 * i);
-    struct flash_name again = name_of(word);
+    struct mg_name again = name_of(word);
     check(!memcmp(&again, name, sizeof again), "a name that nobody gave");
     return word;
 }
 
 /* ---- The chip ---------------------------------------------------------------------------------------------------- */
 
-static struct { uint32_t filled, erasing; struct flash_name cells[PAGES]; } chip[BLOCKS];
+static struct { uint32_t filled, erasing; struct mg_name cells[PAGES]; } chip[BLOCKS];
 static uint32_t pages, erase_slots, calls_left;
 
+/* What copies have read, by task's collection. A buffer is free at its collection's next call, which is another one than the
+ * program where the page was written or trimmed meanwhile. */
+static struct { uint32_t used, job; struct mg_name name; } buffers[TASKS];
+static uint32_t copies, dropped; /* over all histories */
+static uint32_t copied;          /* the page that was copied last: jobs like it */
+
+static void buffer(const struct mg_call *call) {
+    uint32_t at = TASKS;
+    for (uint32_t b = 0; b < TASKS; b++) {
+        if (buffers[b].used && buffers[b].job == call->job) {
+            if (call->act == MG_COPY_PROGRAM) check(!memcmp(&buffers[b].name, &call->name, sizeof call->name), "a copy of what was read");
+            else dropped++;
+            buffers[b].used = 0;
+        }
+        if (!buffers[b].used) at = b;
+    }
+    if (call->act != MG_COPY_READ) return;
+    check(at < TASKS, "as many buffers as tasks");
+    copies++;
+    buffers[at].used = 1;
+    buffers[at].job = call->job;
+    buffers[at].name = call->name;
+}
+
 /* Whether the call went well; a read that goes wrong may give another name, too. */
-static uint32_t drive(const struct flash_call *call, struct flash_name *gave) {
+static uint32_t drive(const struct mg_call *call, struct mg_name *gave) {
     *gave = name_of(0xFFFFFFFFu);
-    if (call->kind == FLASH_CALL_NONE) return random_below(2); /* isn't looked at */
+    if (call->kind == MG_CALL_NONE) return random_below(3); /* isn't looked at */
+    if (call->act >= MG_COPY_READ) buffer(call);
     if (calls_left-- == 0) {
-        if (call->kind != FLASH_CALL_READ || random_below(2)) return 0;
+        if (call->kind != MG_CALL_READ || random_below(2)) return 0;
         *gave = name_of(word_of(&call->name) + 1);
         return 1;
     }
-    if (call->kind == FLASH_CALL_READ) {
+    if (call->kind == MG_CALL_READ) {
         check(call->page < chip[call->block].filled && !chip[call->block].erasing, "a read of a programmed cell");
         *gave = chip[call->block].cells[call->page];
-    } else if (call->kind == FLASH_CALL_PROGRAM) {
+    } else if (call->kind == MG_CALL_PROGRAM) {
         check(call->page == chip[call->block].filled && call->page < pages, "a program of the next free cell");
         check(!chip[call->block].erasing, "a program of a block in erase");
         chip[call->block].cells[chip[call->block].filled++] = call->name;
@@ -81,10 +106,13 @@ static uint32_t drive(const struct flash_call *call, struct flash_name *gave) {
 
 /* ---- Plans ------------------------------------------------------------------------------------------------------- */
 
-static struct flash_plan plan;
-static struct flash_task tasks[TASKS];
+static struct mg_plan plan;
+static struct mg_task tasks[TASKS];
 static uint32_t task_count;
 
+static int is_met(void) { return mg_plan_bound(&plan, tasks, task_count) == MG_OK; }
+
+/* Most plans have as many logical pages as their blocks allow, so that collections have to copy. */
 static void random_plan(void) {
     for (;;) {
         plan.blocks = between(2, BLOCKS);
@@ -94,8 +122,13 @@ static void random_plan(void) {
         plan.logical = between(1, 24);
         task_count = between(1, TASKS);
         for (uint32_t t = 0; t < task_count; t++) tasks[t].cap = between(1, 6);
-        if (flash_plan_bound(&plan, tasks, task_count) == FLASH_OK) return;
+        if (is_met()) break;
     }
+    if (!random_below(4)) return;
+    while (plan.blocks > 2 && (plan.blocks--, is_met())) continue;
+    if (!is_met()) plan.blocks++;
+    while (plan.logical < LOGICAL && (plan.logical++, is_met())) continue;
+    if (!is_met()) plan.logical--;
 }
 
 /* ---- Calls ------------------------------------------------------------------------------------------------------- */
@@ -104,21 +137,26 @@ static uint32_t jobs; /* that were accepted */
 static uint32_t words;
 static int begun; /* a slot has begun */
 
-static void report(uint32_t code, const struct flash_why *why, uint32_t number) {
-    if (code == FLASH_OK) fprintf(answers, "taken %" PRIu32 "\n", number), jobs++;
+/* `why` before a call: each refusal writes it, and nothing else does. */
+static const struct mg_why unsaid = {0xABCD, 0xABCE};
+
+static int is_said(const struct mg_why *why) { return why->first != unsaid.first && why->second != unsaid.second; }
+
+static void report(uint32_t code, const struct mg_why *why, uint32_t number) {
+    if (code == MG_OK) fprintf(answers, "taken %" PRIu32 "\n", number), jobs++;
     else fprintf(answers, "refused %" PRIu32 " %" PRIu32 " %" PRIu32 "\n", code, why->first, why->second);
 }
 
 /* A slot has begun that isn't below the release: the call is none of the history. */
-static int held_back(flash_die *die, uint32_t code, uint32_t release) {
-    if (code != FLASH_BEGUN) return 0;
-    check(begun && release <= flash_now(die), "only what could change the choice has to wait");
+static int held_back(mg_die *die, uint32_t code, uint32_t release) {
+    if (code != MG_BEGUN) return 0;
+    check(begun && release <= mg_now(die), "only what could change the choice has to wait");
     return 1;
 }
 
-static void submit(flash_die *die, uint32_t least_release) {
-    struct flash_op ops[70] = {{0, 0, {{0}}}};
-    struct flash_why why = {0, 0};
+static void submit(mg_die *die, uint32_t least_release) {
+    struct mg_op ops[70] = {{0, 0, {{0}}}};
+    struct mg_why why = unsaid;
     uint32_t number = 0;
     uint32_t count = random_below(20) ? between(1, 5) : random_below(3) ? 0 : 65 + random_below(5);
     uint32_t task = random_below(30) ? random_below(task_count) : task_count;
@@ -126,10 +164,20 @@ static void submit(flash_die *die, uint32_t least_release) {
     if (!random_below(20) && release) release--;
     uint32_t due = release + (random_below(20) ? between(1, 12) : 0);
     for (uint32_t i = 0; i < count; i++) {
-        uint32_t kind = random_below(3), page = random_below(40) ? random_below(plan.logical) : plan.logical;
-        ops[i] = (struct flash_op){kind, page, name_of(++words)};
+        uint32_t kind = random_below(16) ? random_below(2) : MG_TRIM, page = random_below(40) ? random_below(plan.logical) : plan.logical;
+        if (!random_below(4)) page = copied;
+        ops[i] = (struct mg_op){kind, page, name_of(++words)};
     }
-    uint32_t code = flash_submit(die, 7, task, release, due, ops, count, &number, &why);
+    if (count > 0 && !random_below(20)) { /* none of the history: the store has no such operation */
+        struct mg_op last = ops[count > 65 ? 64 : count - 1];
+        ops[count > 65 ? 64 : count - 1].kind = 3 + random_below(2) * 0xFFFFFFF0u;
+        check(mg_submit(die, 7, task, release, due, ops, count, &number, &why) == MG_BAD_KIND, "a kind above 2");
+        check(why.first == 0 && why.second == 0, "it has no numbers");
+        why = unsaid;
+        ops[count > 65 ? 64 : count - 1] = last;
+    }
+    uint32_t code = mg_submit(die, 7, task, release, due, ops, count, &number, &why);
+    check(is_said(&why) == (code != MG_OK), "each refusal says why, and nothing else");
     if (held_back(die, code, release)) return;
     fprintf(script, "submit 7 %" PRIu32 " %" PRIu32 " %" PRIu32 " %" PRIu32, task, release, due, count);
     for (uint32_t i = 0; i < count; i++)
@@ -138,47 +186,48 @@ static void submit(flash_die *die, uint32_t least_release) {
     report(code, &why, number);
 }
 
-static void collect(flash_die *die, uint32_t least_release) {
-    struct flash_why why = {0, 0};
+static void collect(mg_die *die, uint32_t least_release) {
+    struct mg_why why = unsaid;
     uint32_t number = 0;
     uint32_t task = random_below(30) ? random_below(task_count) : task_count;
     uint32_t release = least_release + (random_below(3) ? 0 : between(0, 9));
     uint32_t due = release + (random_below(20) ? between(1, 30) : 0);
-    uint32_t code = flash_collect(die, 7, task, release, due, &number, &why);
+    uint32_t code = mg_collect(die, 7, task, release, due, &number, &why);
+    check(is_said(&why) == (code != MG_OK), "each refusal says why, and nothing else");
     if (held_back(die, code, release)) return;
     fprintf(script, "collect 7 %" PRIu32 " %" PRIu32 " %" PRIu32 "\n", task, release, due);
     report(code, &why, number);
 }
 
 /* Every question: the moment, the worst and its certificate, the rows, and one job. */
-static void ask(flash_die *die) {
-    static struct flash_row rows[LISTED];
+static void ask(mg_die *die) {
+    static struct mg_row rows[LISTED];
     static uint32_t listed[LISTED];
-    struct flash_worst worst;
-    struct flash_certificate cert;
-    struct flash_outcome outcome;
-    struct flash_job head;
-    struct flash_name reads[64];
+    struct mg_worst_job worst;
+    struct mg_cert cert;
+    struct mg_job_outcome outcome;
+    struct mg_job_head head;
+    struct mg_name reads[64];
     uint32_t total, number = random_below(jobs + 2);
     fprintf(script, "ask %" PRIu32 "\n", number);
-    fprintf(answers, "at %" PRIu32 " %" PRIu64 " %" PRIu64, flash_now(die), flash_len(die), flash_records(die));
-    if (flash_worst(die, &worst) == FLASH_OK) fprintf(answers, " worst %" PRIu32 " %" PRId64, worst.job, worst.lateness);
-    check(flash_rows(die, rows, LISTED, &total) == FLASH_OK && total <= LISTED, "rows");
+    fprintf(answers, "at %" PRIu32 " %" PRIu64 " %" PRIu64, mg_now(die), mg_len(die), mg_records(die));
+    if (mg_worst(die, &worst) == MG_OK) fprintf(answers, " worst %" PRIu32 " %" PRId64, worst.job, worst.lateness);
+    check(mg_rows(die, rows, LISTED, &total) == MG_OK && total <= LISTED, "rows");
     fprintf(answers, " rows %" PRIu32, total);
     for (uint32_t i = 0; i < total; i++)
         fprintf(answers, " %" PRIu32 " %" PRIu32 " %" PRIu32 " %" PRIu32 " %" PRIu32 " %" PRIu32, rows[i].number, rows[i].release,
                 rows[i].due, rows[i].work, rows[i].done, rows[i].completion);
-    if (flash_certificate(die, &cert, listed, LISTED) == FLASH_OK) {
+    if (mg_certificate(die, &cert, listed, LISTED) == MG_OK) {
         fprintf(answers, " certificate %" PRIu32 " %" PRIu32 " %" PRIu32 " %" PRIu32, cert.job, cert.start, cert.due, cert.completion);
         for (uint32_t i = 0; i < cert.jobs; i++) fprintf(answers, " %" PRIu32, listed[i]);
-        check(flash_check(rows, total, &cert, listed, cert.jobs) == FLASH_OK, "the certificate holds");
+        check(mg_check(rows, total, &cert, listed, cert.jobs) == MG_OK, "the certificate holds");
         cert.completion++;
-        check(flash_check(rows, total, &cert, listed, cert.jobs) == FLASH_CERT_WRONG_SUM, "a later one doesn't");
+        check(mg_check(rows, total, &cert, listed, cert.jobs) == MG_CERT_WRONG_SUM, "a later one doesn't");
     }
-    uint32_t code = flash_outcome(die, number, &outcome, reads, 64);
+    uint32_t code = mg_outcome(die, number, &outcome, reads, 64);
     fprintf(answers, " job %" PRIu32, code);
-    if (code == FLASH_OK) {
-        check(flash_job(die, number, &head) == FLASH_OK, "job");
+    if (code == MG_OK) {
+        check(mg_job(die, number, &head) == MG_OK, "job");
         fprintf(answers, " %" PRIu32 " %" PRIu32 " %" PRIu32 " %" PRIu32 " state %" PRIu32 " %" PRIu32 " %" PRId64 " %" PRIu32, head.collects,
                 head.task, head.release, head.due, outcome.state, outcome.completion, outcome.lateness, outcome.given);
         for (uint32_t i = 0; i < outcome.reads; i++) fprintf(answers, " %" PRIu32, word_of(&reads[i]));
@@ -187,13 +236,14 @@ static void ask(flash_die *die) {
 }
 
 /* One slot. Answers whether the die goes on. */
-static int slot(flash_die *die) {
-    struct flash_call call;
-    struct flash_reply reply;
-    struct flash_waived waived[16];
-    struct flash_name gave;
-    check(flash_begin(die, 9, &call) == FLASH_OK, "begin");
-    check(call.slot == flash_now(die), "the slot that has begun is the present one");
+static int slot(mg_die *die) {
+    struct mg_call call;
+    struct mg_reply reply;
+    struct mg_waived waived[16];
+    struct mg_name gave;
+    check(mg_begin(die, 9, &call) == MG_OK, "begin");
+    if (!random_below(8)) check(mg_reserve(die, 2) == MG_OK, "slots may be reserved within one");
+    check(call.slot == mg_now(die), "the slot that has begun is the present one");
     begun = 1;
     for (uint32_t n = random_below(4) ? 0 : between(1, 3); n > 0; n--) { /* arrivals while the device works */
         uint32_t least = call.slot + 1;
@@ -201,13 +251,16 @@ static int slot(flash_die *die) {
         if (!random_below(3)) ask(die);
     }
     fputs("slot\n", script);
-    uint32_t ok = drive(&call, &gave), code = flash_end(die, ok, &gave, &reply, waived, 16);
+    uint32_t ok = drive(&call, &gave), code = mg_end(die, ok, &gave, &reply, waived, 16);
     begun = 0;
     if (code) {
         fprintf(answers, "refused %" PRIu32 " 0 0\n", code);
-        check(flash_begin(die, 9, &call) == FLASH_DIE_STOPPED, "the die is stopped");
+        check(mg_begin(die, 9, &call) == MG_DIE_STOPPED, "the die is stopped");
+        check(mg_reserve(die, 2) == MG_OK, "slots may be reserved of it");
         return 0;
     }
+    if (reply.act == MG_COPY_READ) copied = reply.page;
+    check(call.logical == (reply.act == MG_IDLE || reply.act == MG_ERASE ? MG_NO_PAGE : reply.page), "the page was announced");
     check(reply.slot == call.slot && reply.act == call.act && reply.job == call.job, "the slot did what was announced");
     fprintf(answers, "slot %" PRIu32 " %" PRIu32 " %" PRIu32 " %" PRIu32 " %" PRIu32 " %" PRIu32, reply.slot, reply.act, reply.job, reply.page,
             reply.finished, word_of(&reply.name));
@@ -217,63 +270,68 @@ static int slot(flash_die *die) {
 }
 
 /* A renewal; or the die is freed and made again from its checkpoint, which has to come to the same. */
-static uint32_t start_anew(flash_die *die, struct flash_why *why) {
-    static struct flash_place places[64];
-    static struct flash_name names[64];
-    struct flash_block blocks[BLOCKS];
+static uint32_t start_anew(mg_die *die, struct mg_why *why) {
+    static struct mg_cell places[LOGICAL];
+    static struct mg_name names[LOGICAL];
+    struct mg_block blocks[BLOCKS];
     uint32_t balances[TASKS], spare;
-    if (random_below(2)) return flash_renew(die, why);
-    uint32_t code = flash_checkpoint(die, places, plan.logical, names, plan.logical, blocks, plan.blocks, balances, task_count, &spare, why);
+    if (random_below(2)) return mg_renew(die, why);
+    uint32_t code = mg_checkpoint(die, places, plan.logical, names, plan.logical, blocks, plan.blocks, balances, task_count, &spare, why);
     if (code) return code;
     for (uint32_t p = 0; p < plan.logical; p++) {
-        if (places[p].block == FLASH_NOWHERE) check(word_of(&names[p]) == 0xFFFFFFFFu, "a page that lies nowhere is blank");
+        if (places[p].block == MG_NOWHERE) check(word_of(&names[p]) == 0xFFFFFFFFu, "a page that lies nowhere is blank");
         else check(!memcmp(&names[p], &chip[places[p].block].cells[places[p].page], sizeof names[p]), "a page's name is that of its cell");
     }
     for (uint32_t b = 0; b < plan.blocks; b++) check(blocks[b].filled == chip[b].filled && !chip[b].erasing, "the chip is as it says");
-    flash_free(die);
-    check(flash_resume(die, &plan, tasks, task_count, places, plan.logical, names, plan.logical, blocks, plan.blocks, balances,
-                       task_count, spare + 1, why) == FLASH_OTHER_SUM, "a page more than are free");
-    return flash_resume(die, &plan, tasks, task_count, places, plan.logical, names, plan.logical, blocks, plan.blocks, balances,
+    mg_free(die);
+    check(mg_resume(die, &plan, tasks, task_count, places, plan.logical, names, plan.logical, blocks, plan.blocks, balances,
+                       task_count, spare + 1, why) == MG_OTHER_SUM, "a page more than are free");
+    check(is_said(why), "and why");
+    *why = unsaid;
+    return mg_resume(die, &plan, tasks, task_count, places, plan.logical, names, plan.logical, blocks, plan.blocks, balances,
                         task_count, spare, why);
 }
 
-static void renew(flash_die *die) {
-    struct flash_why why = {0, 0};
+static void renew(mg_die *die) {
+    struct mg_why why = unsaid;
     fputs("renew\n", script);
     uint32_t code = start_anew(die, &why);
-    if (code == FLASH_OK) { fputs("renewed\n", answers); jobs = 0; }
+    check(is_said(&why) == (code != MG_OK), "each refusal says why, and nothing else");
+    if (code == MG_OK) { fputs("renewed\n", answers); jobs = 0; }
     else fprintf(answers, "refused %" PRIu32 " %" PRIu32 " 0\n", code, why.first);
 }
 
 static void history(void) {
-    flash_die die = {0};
+    mg_die die = {0};
     random_plan();
     pages = plan.pages;
     erase_slots = plan.erase_slots;
     calls_left = random_below(2) ? 1000000u : random_below(60);
     jobs = 0;
     memset(chip, 0, sizeof chip);
+    memset(buffers, 0, sizeof buffers);
+    copied = 0;
     fprintf(script, "die %" PRIu32 " %" PRIu32 " %" PRIu32 " %" PRIu32 " %" PRIu32 " %" PRIu32 " %" PRIu32, plan.blocks, plan.pages, plan.erase_slots,
             plan.logical, plan.alpha, calls_left, task_count);
     for (uint32_t t = 0; t < task_count; t++) fprintf(script, " %" PRIu32, tasks[t].cap);
     fputc('\n', script);
-    check(flash_new(&die, &plan, tasks, task_count) == FLASH_OK, "new");
+    check(mg_new(&die, &plan, tasks, task_count) == MG_OK, "new");
     fputs("new\n", answers);
-    for (uint32_t step = between(20, 160); step > 0; step--) {
-        uint32_t what = random_below(16);
-        if (what < 5) submit(&die, flash_now(&die));
-        else if (what < 7) collect(&die, flash_now(&die));
-        else if (what == 7) ask(&die);
-        else if (what == 8 && !random_below(3)) renew(&die);
+    for (uint32_t step = between(20, 400); step > 0; step--) {
+        uint32_t what = random_below(32);
+        if (what < 5) submit(&die, mg_now(&die));
+        else if (what < 8) collect(&die, mg_now(&die));
+        else if (what == 8) ask(&die);
+        else if (what == 9 && !random_below(3)) renew(&die);
         else if (!slot(&die)) {
             for (int i = 0; i < 3; i++) ask(&die);
-            submit(&die, flash_now(&die));
-            collect(&die, flash_now(&die));
+            submit(&die, mg_now(&die));
+            collect(&die, mg_now(&die));
             renew(&die);
             break;
         }
     }
-    flash_free(&die);
+    mg_free(&die);
 }
 
 int main(int argc, char **argv) {
@@ -282,7 +340,10 @@ int main(int argc, char **argv) {
     script = fopen(argv[3], "w");
     answers = fopen(argv[4], "w");
     check(script && answers, "the files are opened");
-    for (uint32_t n = (uint32_t)atoi(argv[2]); n > 0; n--) history();
+    uint32_t count = (uint32_t)atoi(argv[2]);
+    for (uint32_t n = count; n > 0; n--) history();
+    check(count < 1000 || (copies > 0 && dropped > 0), "copies, and some that aren't needed any more");
     check(!fclose(script) && !fclose(answers), "the files are written");
+    printf("%" PRIu32 " copies, %" PRIu32 " of them dropped\n", copies, dropped);
     return 0;
 }

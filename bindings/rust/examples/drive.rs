@@ -1,6 +1,6 @@
 //! Drives a chip of 4 KiB pages, which is simulated here: what `../c/example.c` does, in Rust.
 
-use flash::{check, Act, Call, Die, Misfit, Name, Op, Outcome, Plan, Refusal};
+use maulgreen::{check, Act, Call, Die, Misfit, Name, Op, Outcome, Plan, Refusal};
 use std::collections::HashMap;
 
 const PAYLOAD: usize = 4096;

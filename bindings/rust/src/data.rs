@@ -1,6 +1,7 @@
 //! What goes into a die and comes out of it.
 
 use crate::raw;
+use alloc::vec::Vec;
 
 /// The sixteen bytes of a page: the name of a payload of any size, which the driver moves.
 #[derive(Clone, Copy, PartialEq, Eq, Debug, Hash)]
@@ -103,8 +104,9 @@ impl Op {
 #[derive(Clone, Copy, PartialEq, Eq, Debug)]
 pub enum Call {
     Nothing,
-    /// Read the cell, whose payload has to have this name. What a collection reads is kept until it is programmed
-    /// elsewhere, which is that collection's next call.
+    /// Read the cell, whose payload has to have this name. What a collection reads (`copy`) is kept until that collection's next
+    /// call, whichever it is: it programs the payload elsewhere; or it reads another page or erases, where the page was written
+    /// or trimmed meanwhile, and the payload isn't needed.
     Read { block: u32, page: u32, name: Name, copy: bool },
     /// Program the next free cell of the block with the payload of this name.
     Program { block: u32, page: u32, name: Name },
@@ -121,6 +123,25 @@ impl Call {
             3 => Call::Erase { block, last: last == 1 },
             _ => Call::Nothing,
         }
+    }
+}
+
+/// A slot that has begun: what the device is to do, and for whom.
+#[derive(Clone, Copy, PartialEq, Eq, Debug)]
+pub struct Begun {
+    /// The slot's number.
+    pub slot: u32,
+    /// What the device is to do.
+    pub call: Call,
+    /// The job or collection that has the slot, if one has it.
+    pub job: Option<u32>,
+    /// The logical page that is read, written, trimmed or copied; none in an erase and in an idle slot.
+    pub logical: Option<u32>,
+}
+
+impl Begun {
+    pub(crate) fn of(call: &raw::Call) -> Begun {
+        Begun { slot: call.slot, call: Call::of(call), job: (call.act != 0).then_some(call.job), logical: (call.logical != u32::MAX).then_some(call.logical) }
     }
 }
 

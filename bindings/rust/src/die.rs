@@ -1,13 +1,13 @@
 //! A die, and a slot that has begun.
 
 use crate::data::{
-    BlockCounts, Call, Certificate, Checkpoint, Job, Load, Name, Op, Outcome, Place, Plan, Reply, Row, Worst,
+    Begun, BlockCounts, Call, Certificate, Checkpoint, Job, Load, Name, Op, Outcome, Place, Plan, Reply, Row, Worst,
 };
 use crate::raw;
 use crate::refusals::{answer, Refusal};
-use std::cell::UnsafeCell;
-use std::marker::PhantomData;
-use std::ops::Deref;
+use alloc::vec;
+use alloc::vec::Vec;
+use core::ops::Deref;
 
 const NO_NUMBERS: raw::Why = raw::Why { first: 0, second: 0 };
 
@@ -21,7 +21,7 @@ impl Plan {
     pub fn bound(&self) -> Result<(), Refusal> {
         let (plan, tasks) = self.raw();
         // SAFETY: each pointer comes from a reference, and the count is the slice's.
-        plain(unsafe { raw::flash_plan_bound(&plan, tasks.as_ptr(), tasks.len()) })
+        plain(unsafe { raw::mg_plan_bound(&plan, tasks.as_ptr(), tasks.len()) })
     }
 
     /// Tests a plan with times: where it passes, nothing that it lets its tasks ask is refused or late.
@@ -32,7 +32,7 @@ impl Plan {
         let (plan, tasks) = self.raw();
         let mut load = raw::Load::default();
         // SAFETY: as in `bound`.
-        plain(unsafe { raw::flash_plan_test(&plan, tasks.as_ptr(), tasks.len(), &mut load) })?;
+        plain(unsafe { raw::mg_plan_test(&plan, tasks.as_ptr(), tasks.len(), &mut load) })?;
         Ok(Load { demand: load.demand, common: load.common })
     }
 }
@@ -44,16 +44,29 @@ pub fn check(rows: &[Row], certificate: &Certificate) -> Result<(), Refusal> {
     let Certificate { job, start, due, completion, ref jobs } = *certificate;
     let given = raw::Certificate { job, start, due, completion, jobs: 0 };
     // SAFETY: each pointer comes from a reference, and each count is its slice's.
-    plain(unsafe { raw::flash_check(rows.as_ptr(), rows.len(), &given, jobs.as_ptr(), jobs.len()) })
+    plain(unsafe { raw::mg_check(rows.as_ptr(), rows.len(), &given, jobs.as_ptr(), jobs.len()) })
 }
 
-/// One die. It belongs to one thread.
+/// One die. Questions (`&self`) may be asked by several threads at a time.
 pub struct Die {
-    // It is full from `new` to `drop`. Questions fill and empty it, too.
-    handle: UnsafeCell<raw::Handle>,
+    // It is full from `new` to `drop`.
+    handle: raw::Handle,
     // What a checkpoint has: logical pages, blocks, tasks.
     counts: [usize; 3],
-    stays: PhantomData<*mut ()>,
+}
+
+// SAFETY: the library knows no thread. A die shares nothing with another but the heap, and what takes it by `&` only reads it.
+unsafe impl Send for Die {}
+unsafe impl Sync for Die {}
+
+/// The version of the interface that this crate was written for: a library of the same major number serves, whose minor one
+/// isn't below.
+const VERSION: u32 = 1 << 16;
+
+fn must_fit() {
+    // SAFETY: it takes nothing.
+    let version = unsafe { raw::mg_version() };
+    assert!(version >> 16 == VERSION >> 16 && version >= VERSION, "another version of libmaulgreen");
 }
 
 /// The block of a page that lies nowhere.
@@ -62,14 +75,13 @@ const NOWHERE: u32 = u32::MAX;
 impl Die {
     /// A die at slot 0, of a chip that is erased. `BadShape`, `BadPlan` or `NoMemory` where it is refused.
     pub fn new(plan: &Plan) -> Result<Die, Refusal> {
-        // SAFETY: it takes nothing.
-        assert_eq!(unsafe { raw::flash_version() }, 1, "another version of libflash_c");
+        must_fit();
         let counts = [plan.logical as usize, plan.blocks as usize, plan.caps.len()];
         let (plan, tasks) = plan.raw();
         let mut handle = raw::Handle::EMPTY;
         // SAFETY: the handle is empty, and stays so where this is refused.
-        plain(unsafe { raw::flash_new(&mut handle, &plan, tasks.as_ptr(), tasks.len()) })?;
-        Ok(Die { handle: UnsafeCell::new(handle), counts, stays: PhantomData })
+        plain(unsafe { raw::mg_new(&mut handle, &plan, tasks.as_ptr(), tasks.len()) })?;
+        Ok(Die { handle, counts })
     }
 
     /// A die that goes on from a checkpoint, at slot 0 with an empty log. The chip has to be as that says: so many pages of each
@@ -79,8 +91,7 @@ impl Die {
     /// Refused with the first that stands: `NoMemory`, which may come at any time; `Checkpoint` with what is wrong first with
     /// it, `BadPlan` coming behind [`Misfit::OtherShape`], and `WornOut` behind [`Misfit::SecondOpen`].
     pub fn resume(plan: &Plan, checkpoint: &Checkpoint) -> Result<Die, Refusal> {
-        // SAFETY: it takes nothing.
-        assert_eq!(unsafe { raw::flash_version() }, 1, "another version of libflash_c");
+        must_fit();
         let counts = [plan.logical as usize, plan.blocks as usize, plan.caps.len()];
         let (plan, tasks) = plan.raw();
         let Checkpoint { ref pages, ref blocks, ref balances, spare } = *checkpoint;
@@ -93,13 +104,13 @@ impl Die {
         let (mut handle, mut why) = (raw::Handle::EMPTY, NO_NUMBERS);
         // SAFETY: the handle is empty, and stays so where this is refused; each count is its slice's.
         let code = unsafe {
-            raw::flash_resume(
+            raw::mg_resume(
                 &mut handle, &plan, tasks.as_ptr(), tasks.len(), places.as_ptr(), places.len(), names.as_ptr(), names.len(),
                 blocks.as_ptr(), blocks.len(), balances.as_ptr(), balances.len(), spare, &mut why,
             )
         };
         answer(code, &why)?;
-        Ok(Die { handle: UnsafeCell::new(handle), counts, stays: PhantomData })
+        Ok(Die { handle, counts })
     }
 
     /// What stands, with the names of the pages. The die stays as it is. Refused with the first that stands: `DieStopped`,
@@ -112,8 +123,8 @@ impl Die {
         let mut balances = vec![0; tasks];
         let (mut spare, mut why) = (0, NO_NUMBERS);
         let code = unsafe {
-            raw::flash_checkpoint(
-                self.at(), places.as_mut_ptr(), places.len(), names.as_mut_ptr(), names.len(), counts.as_mut_ptr(), counts.len(),
+            raw::mg_checkpoint(
+                &mut self.handle, places.as_mut_ptr(), places.len(), names.as_mut_ptr(), names.len(), counts.as_mut_ptr(), counts.len(),
                 balances.as_mut_ptr(), balances.len(), &mut spare, &mut why,
             )
         };
@@ -127,11 +138,6 @@ impl Die {
         })
     }
 
-    /// The handle. It is full, and no other call uses it: a die isn't `Sync`, and no call of the library calls back.
-    fn at(&self) -> *mut raw::Handle {
-        self.handle.get()
-    }
-
     /// Accepts a job of 1 to 64 operations, and answers its number. Refused, where nothing changes, with the first that
     /// stands: `DieStopped`, `UnknownTask`, `EmptyJob`, `TooManyOps`, `BadPage`, `ReleasePast`, `BadDue`, `JobsFull`,
     /// `NoTokens`, `NoMemory`.
@@ -140,8 +146,8 @@ impl Die {
         let (mut number, mut why) = (0, NO_NUMBERS);
         // SAFETY: the handle is full, as in each call below, and the pointers come from references.
         let code = unsafe {
-            raw::flash_submit(
-                self.at(), caller, task, release, due, ops.as_ptr(), ops.len(), &mut number, &mut why,
+            raw::mg_submit(
+                &mut self.handle, caller, task, release, due, ops.as_ptr(), ops.len(), &mut number, &mut why,
             )
         };
         answer(code, &why).map(|()| number)
@@ -151,50 +157,69 @@ impl Die {
     /// stands: `DieStopped`, `UnknownTask`, `ReleasePast`, `BadDue`, `CollectorBusy`, `JobsFull`, `NoMemory`.
     pub fn collect(&mut self, caller: u32, task: u32, release: u32, due: u32) -> Result<u32, Refusal> {
         let (mut number, mut why) = (0, NO_NUMBERS);
-        let code = unsafe { raw::flash_collect(self.at(), caller, task, release, due, &mut number, &mut why) };
+        let code = unsafe { raw::mg_collect(&mut self.handle, caller, task, release, due, &mut number, &mut why) };
         answer(code, &why).map(|()| number)
     }
 
-    /// Begins the present slot. Refused, where nothing changes, with the first that stands: `DieStopped`, `ClockEnd`,
-    /// `NoMemory`, which never comes while slots are reserved.
+    /// Begins the present slot, which borrows the die until it is ended. Refused, where nothing changes, with the first that
+    /// stands: `DieStopped`, `Begun`, `ClockEnd`, `NoMemory`, which never comes while slots are reserved.
     pub fn begin(&mut self, caller: u32) -> Result<Slot<'_>, Refusal> {
+        let begun = self.begin_slot(caller)?;
+        Ok(Slot { die: self, begun, ended: false })
+    }
+
+    /// Begins the present slot, and borrows nothing: another function may end it, by [`Die::end_slot`], as where an interrupt
+    /// says that the device is done. Every slot that has begun is to be ended. Refused as [`Die::begin`].
+    pub fn begin_slot(&mut self, caller: u32) -> Result<Begun, Refusal> {
         let mut call = raw::Call::default();
-        plain(unsafe { raw::flash_begin(self.at(), caller, &mut call) })?;
-        Ok(Slot { die: self, call, ended: false })
+        plain(unsafe { raw::mg_begin(&mut self.handle, caller, &mut call) })?;
+        Ok(Begun::of(&call))
+    }
+
+    /// Ends the slot that has begun: whether the device did the call, and the name of what it read, if it read. `DieStopped`;
+    /// `NotBegun`; `DeviceFault` where it failed, or a read gave another name than its cell was programmed with: the die is
+    /// stopped then, and the slot isn't in its log.
+    pub fn end_slot(&mut self, ok: bool, name: Name) -> Result<Reply, Refusal> {
+        let mut said = raw::Reply::default();
+        let mut waived = [raw::Waived::default(); 16]; // one a task at most
+        plain(unsafe {
+            raw::mg_end(&mut self.handle, u32::from(ok), &name, &mut said, waived.as_mut_ptr(), waived.len())
+        })?;
+        Ok(Reply::of(&said, &waived))
     }
 
     /// Takes the memory for so many later slots, which then take none. `NoMemory` where it isn't there.
     pub fn reserve(&mut self, slots: u32) -> Result<(), Refusal> {
-        plain(unsafe { raw::flash_reserve(self.at(), slots) })
+        plain(unsafe { raw::mg_reserve(&mut self.handle, slots) })
     }
 
     /// Starts the log anew: the present slot is 0 again, and jobs are numbered from 0. Pages, tokens, erases and reserved
     /// slots stay. Refused with the first that stands: `DieStopped`, `NotQuiet`, `WornOut`.
     pub fn renew(&mut self) -> Result<(), Refusal> {
         let mut why = NO_NUMBERS;
-        let code = unsafe { raw::flash_renew(self.at(), &mut why) };
+        let code = unsafe { raw::mg_renew(&mut self.handle, &mut why) };
         answer(code, &why)
     }
 
     /// The present slot: how many were carried out.
     pub fn now(&self) -> u32 {
-        unsafe { raw::flash_now(self.at()) }
+        unsafe { raw::mg_now(&self.handle) }
     }
 
     /// How many entries the log has: jobs and collections accepted, and slots.
     pub fn entries(&self) -> u64 {
-        unsafe { raw::flash_len(self.at()) }
+        unsafe { raw::mg_len(&self.handle) }
     }
 
     /// How many records these take in memory: runs of alike entries.
     pub fn records(&self) -> u64 {
-        unsafe { raw::flash_records(self.at()) }
+        unsafe { raw::mg_records(&self.handle) }
     }
 
     /// What a job or a collection was accepted with. `UnknownJob` where there is none of that number.
     pub fn job(&self, number: u32) -> Result<Job, Refusal> {
         let mut said = raw::Job::default();
-        plain(unsafe { raw::flash_job(self.at(), number, &mut said) })?;
+        plain(unsafe { raw::mg_job(&self.handle, number, &mut said) })?;
         let raw::Job { collects, task, release, due } = said;
         Ok(Job { collects: collects == 1, task, release, due })
     }
@@ -203,7 +228,7 @@ impl Die {
     pub fn outcome(&self, job: u32) -> Result<Outcome, Refusal> {
         let mut said = raw::Outcome::default();
         let mut reads = [Name::BLANK; 64]; // a job has 64 operations at most
-        plain(unsafe { raw::flash_outcome(self.at(), job, &mut said, reads.as_mut_ptr(), reads.len()) })?;
+        plain(unsafe { raw::mg_outcome(&self.handle, job, &mut said, reads.as_mut_ptr(), reads.len()) })?;
         let raw::Outcome { lateness, state, completion, given, reads: count } = said;
         Ok(match state {
             0 => Outcome::Waiting,
@@ -215,7 +240,7 @@ impl Die {
     /// The done job or collection with the greatest lateness. `NothingDone`.
     pub fn worst(&self) -> Result<Worst, Refusal> {
         let mut said = raw::Worst::default();
-        plain(unsafe { raw::flash_worst(self.at(), &mut said) })?;
+        plain(unsafe { raw::mg_worst(&self.handle, &mut said) })?;
         Ok(Worst { job: said.job, lateness: said.lateness })
     }
 
@@ -224,7 +249,7 @@ impl Die {
         let mut jobs = vec![0; 64];
         loop {
             let mut said = raw::Certificate::default();
-            plain(unsafe { raw::flash_certificate(self.at(), &mut said, jobs.as_mut_ptr(), jobs.len()) })?;
+            plain(unsafe { raw::mg_certificate(&self.handle, &mut said, jobs.as_mut_ptr(), jobs.len()) })?;
             let raw::Certificate { job, start, due, completion, jobs: count } = said;
             if count as usize <= jobs.len() {
                 jobs.truncate(count as usize);
@@ -239,7 +264,7 @@ impl Die {
         let mut rows = vec![raw::Row::default(); 64];
         loop {
             let mut total = 0;
-            plain(unsafe { raw::flash_rows(self.at(), rows.as_mut_ptr(), rows.len(), &mut total) })?;
+            plain(unsafe { raw::mg_rows(&self.handle, rows.as_mut_ptr(), rows.len(), &mut total) })?;
             if total as usize <= rows.len() {
                 return Ok(rows[..total as usize].iter().map(Row::of).collect());
             }
@@ -251,7 +276,7 @@ impl Die {
 impl Drop for Die {
     fn drop(&mut self) {
         // SAFETY: the handle is full, and isn't used again.
-        unsafe { raw::flash_free(self.at()) }
+        unsafe { raw::mg_free(&mut self.handle) }
     }
 }
 
@@ -260,19 +285,24 @@ impl Drop for Die {
 /// One that is dropped without an end is ended as a fault, which stops the die if the device was to do something.
 pub struct Slot<'a> {
     die: &'a mut Die,
-    call: raw::Call,
+    begun: Begun,
     ended: bool,
 }
 
 impl Slot<'_> {
     /// What the device is to do.
     pub fn call(&self) -> Call {
-        Call::of(&self.call)
+        self.begun.call
     }
 
     /// The job or collection that has the slot, if one has it.
     pub fn job(&self) -> Option<u32> {
-        (self.call.act != 0).then_some(self.call.job)
+        self.begun.job
+    }
+
+    /// The logical page that is read, written, trimmed or copied, if one is.
+    pub fn logical(&self) -> Option<u32> {
+        self.begun.logical
     }
 
     /// As [`Die::submit`], of a job whose release is above this slot; `Begun` of another one. It is answered by the log
@@ -292,16 +322,7 @@ impl Slot<'_> {
     /// its log.
     pub fn end(mut self, ok: bool, name: Name) -> Result<Reply, Refusal> {
         self.ended = true;
-        self.finish(ok, name)
-    }
-
-    fn finish(&mut self, ok: bool, name: Name) -> Result<Reply, Refusal> {
-        let mut said = raw::Reply::default();
-        let mut waived = [raw::Waived::default(); 16]; // one a task at most
-        plain(unsafe {
-            raw::flash_end(self.die.at(), u32::from(ok), &name, &mut said, waived.as_mut_ptr(), waived.len())
-        })?;
-        Ok(Reply::of(&said, &waived))
+        self.die.end_slot(ok, name)
     }
 }
 
@@ -316,7 +337,7 @@ impl Deref for Slot<'_> {
 impl Drop for Slot<'_> {
     fn drop(&mut self) {
         if !self.ended {
-            let _ = self.finish(false, Name::BLANK);
+            let _ = self.die.end_slot(false, Name::BLANK);
         }
     }
 }

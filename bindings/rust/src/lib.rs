@@ -5,9 +5,9 @@
 //! name than the cell was programmed with, stops the die for good.
 //!
 //! ```
-//! use flash::{Call, Die, Name, Op, Plan};
+//! use maulgreen::{Call, Die, Name, Op, Plan};
 //!
-//! # fn main() -> Result<(), flash::Refusal> {
+//! # fn main() -> Result<(), maulgreen::Refusal> {
 //! let plan = Plan { blocks: 8, pages: 4, erase_slots: 3, logical: 16, alpha: 2, caps: vec![4], times: None };
 //! let mut die = Die::new(&plan)?;
 //! let mut chip = [[Name::BLANK; 4]; 8];
@@ -23,28 +23,71 @@
 //!     slot.end(true, gave)?;
 //! }
 //! assert_eq!(die.worst()?.lateness, 0);
-//! assert!(matches!(die.outcome(job)?, flash::Outcome::Done { reads, .. } if reads == [Name([7; 16])]));
+//! assert!(matches!(die.outcome(job)?, maulgreen::Outcome::Done { reads, .. } if reads == [Name([7; 16])]));
 //! # Ok(())
 //! # }
 //! ```
 //!
-//! A die can be neither copied nor used by two threads; the compiler sees to it:
+//! A die isn't copied. It may go to another thread, and questions may be asked by several at a time:
+//!
+//! ```
+//! # let plan = maulgreen::Plan { blocks: 8, pages: 4, erase_slots: 3, logical: 16, alpha: 2, caps: vec![4], times: None };
+//! let die = maulgreen::Die::new(&plan).unwrap();
+//! std::thread::scope(|scope| for _ in 0..2 { scope.spawn(|| assert_eq!(die.now(), 0)); });
+//! assert_eq!(std::thread::spawn(move || die.entries()).join().unwrap(), 0);
+//! ```
+//!
+//! What changes it is done by one at a time:
 //!
 //! ```compile_fail
-//! # let plan = flash::Plan { blocks: 8, pages: 4, erase_slots: 3, logical: 16, alpha: 2, caps: vec![4], times: None };
-//! let die = flash::Die::new(&plan).unwrap();
-//! std::thread::spawn(move || die.now());
+//! # let plan = maulgreen::Plan { blocks: 8, pages: 4, erase_slots: 3, logical: 16, alpha: 2, caps: vec![4], times: None };
+//! let mut die = maulgreen::Die::new(&plan).unwrap();
+//! std::thread::scope(|scope| for _ in 0..2 { scope.spawn(|| die.renew()); });
 //! ```
 //!
 //! While a slot has begun, the die is lent to it: what may arrive then goes through the [`Slot`].
 //!
 //! ```compile_fail
-//! # let plan = flash::Plan { blocks: 8, pages: 4, erase_slots: 3, logical: 16, alpha: 2, caps: vec![4], times: None };
-//! let mut die = flash::Die::new(&plan).unwrap();
+//! # let plan = maulgreen::Plan { blocks: 8, pages: 4, erase_slots: 3, logical: 16, alpha: 2, caps: vec![4], times: None };
+//! let mut die = maulgreen::Die::new(&plan).unwrap();
 //! let slot = die.begin(9).unwrap();
 //! die.begin(9).unwrap();
-//! slot.end(true, flash::Name::BLANK).unwrap();
+//! slot.end(true, maulgreen::Name::BLANK).unwrap();
 //! ```
+//!
+//! Where an interrupt says that the device is done, the slot is ended by another function than the one that began it:
+//!
+//! ```
+//! use maulgreen::{Begun, Die, Name, Op, Plan, Refusal};
+//!
+//! struct Driver { die: Die, under_way: Option<Begun> }
+//!
+//! impl Driver {
+//!     fn start(&mut self) -> Result<(), Refusal> {
+//!         self.under_way = Some(self.die.begin_slot(9)?); // and hands the call to the device
+//!         Ok(())
+//!     }
+//!     fn interrupt(&mut self, ok: bool, name: Name) -> Result<(), Refusal> {
+//!         if self.under_way.take().is_some() { self.die.end_slot(ok, name)?; }
+//!         Ok(())
+//!     }
+//! }
+//!
+//! # fn main() -> Result<(), Refusal> {
+//! # let plan = Plan { blocks: 8, pages: 4, erase_slots: 3, logical: 16, alpha: 2, caps: vec![4], times: None };
+//! let mut driver = Driver { die: Die::new(&plan)?, under_way: None };
+//! driver.die.submit(9, 0, 0, 2, &[Op::Write(5, Name([7; 16]))])?;
+//! driver.start()?;
+//! assert_eq!(driver.die.begin_slot(9), Err(Refusal::Begun));
+//! driver.interrupt(true, Name::BLANK)?;
+//! assert_eq!(driver.die.now(), 1);
+//! # Ok(())
+//! # }
+//! ```
+
+#![no_std]
+
+extern crate alloc;
 
 mod data;
 mod die;
@@ -52,7 +95,7 @@ mod raw;
 mod refusals;
 
 pub use data::{
-    Act, BlockCounts, Call, Certificate, Checkpoint, Job, Load, Name, Op, Outcome, Place, Plan, Reply, Row, TaskTimes, Times,
+    Act, Begun, BlockCounts, Call, Certificate, Checkpoint, Job, Load, Name, Op, Outcome, Place, Plan, Reply, Row, TaskTimes, Times,
     Waived, Worst,
 };
 pub use die::{check, Die, Slot};

@@ -1,8 +1,8 @@
-//! The structs and functions of flash.h, which says what each means.
+//! The structs and functions of maulgreen.h, which says what each means.
 
 use crate::Name;
-use std::ffi::c_void;
-use std::ptr::null_mut;
+use core::ffi::c_void;
+use core::ptr::null_mut;
 
 #[repr(C)]
 pub struct Handle {
@@ -27,7 +27,7 @@ structs! {
     Load { demand: u64, common: u32 }
     Why { first: u32, second: u32 }
     Op { kind: u32, page: u32, name: Name }
-    Call { kind: u32, block: u32, page: u32, last: u32, slot: u32, act: u32, job: u32, name: Name }
+    Call { kind: u32, block: u32, page: u32, last: u32, slot: u32, act: u32, job: u32, logical: u32, name: Name }
     Reply { slot: u32, act: u32, job: u32, page: u32, finished: u32, waived: u32, name: Name }
     Waived { job: u32, given: u32 }
     Job { collects: u32, task: u32, release: u32, due: u32 }
@@ -40,42 +40,43 @@ structs! {
 }
 
 extern "C" {
-    pub fn flash_version() -> u32;
-    pub fn flash_plan_bound(plan: *const Plan, tasks: *const Task, count: usize) -> u32;
-    pub fn flash_plan_test(plan: *const Plan, tasks: *const Task, count: usize, load: *mut Load) -> u32;
-    pub fn flash_new(die: *mut Handle, plan: *const Plan, tasks: *const Task, count: usize) -> u32;
-    pub fn flash_free(die: *mut Handle);
-    pub fn flash_submit(
+    pub fn mg_version() -> u32;
+    pub fn mg_refusal_text(refusal: u32) -> *const core::ffi::c_char;
+    pub fn mg_plan_bound(plan: *const Plan, tasks: *const Task, count: usize) -> u32;
+    pub fn mg_plan_test(plan: *const Plan, tasks: *const Task, count: usize, load: *mut Load) -> u32;
+    pub fn mg_new(die: *mut Handle, plan: *const Plan, tasks: *const Task, count: usize) -> u32;
+    pub fn mg_free(die: *mut Handle);
+    pub fn mg_submit(
         die: *mut Handle, caller: u32, task: u32, release: u32, due: u32, ops: *const Op, count: usize,
         number: *mut u32, why: *mut Why,
     ) -> u32;
-    pub fn flash_collect(
+    pub fn mg_collect(
         die: *mut Handle, caller: u32, task: u32, release: u32, due: u32, number: *mut u32, why: *mut Why,
     ) -> u32;
-    pub fn flash_begin(die: *mut Handle, caller: u32, call: *mut Call) -> u32;
-    pub fn flash_end(
+    pub fn mg_begin(die: *mut Handle, caller: u32, call: *mut Call) -> u32;
+    pub fn mg_end(
         die: *mut Handle, ok: u32, name: *const Name, reply: *mut Reply, waived: *mut Waived, count: usize,
     ) -> u32;
-    pub fn flash_reserve(die: *mut Handle, slots: u32) -> u32;
-    pub fn flash_renew(die: *mut Handle, why: *mut Why) -> u32;
-    pub fn flash_checkpoint(
+    pub fn mg_reserve(die: *mut Handle, slots: u32) -> u32;
+    pub fn mg_renew(die: *mut Handle, why: *mut Why) -> u32;
+    pub fn mg_checkpoint(
         die: *mut Handle, places: *mut Place, place_count: usize, names: *mut Name, name_count: usize, blocks: *mut Block,
         block_count: usize, balances: *mut u32, balance_count: usize, spare: *mut u32, why: *mut Why,
     ) -> u32;
-    pub fn flash_resume(
+    pub fn mg_resume(
         die: *mut Handle, plan: *const Plan, tasks: *const Task, count: usize, places: *const Place, place_count: usize,
         names: *const Name, name_count: usize, blocks: *const Block, block_count: usize, balances: *const u32,
         balance_count: usize, spare: u32, why: *mut Why,
     ) -> u32;
-    pub fn flash_now(die: *mut Handle) -> u32;
-    pub fn flash_len(die: *mut Handle) -> u64;
-    pub fn flash_records(die: *mut Handle) -> u64;
-    pub fn flash_job(die: *mut Handle, number: u32, job: *mut Job) -> u32;
-    pub fn flash_outcome(die: *mut Handle, job: u32, outcome: *mut Outcome, reads: *mut Name, count: usize) -> u32;
-    pub fn flash_worst(die: *mut Handle, worst: *mut Worst) -> u32;
-    pub fn flash_certificate(die: *mut Handle, certificate: *mut Certificate, jobs: *mut u32, count: usize) -> u32;
-    pub fn flash_rows(die: *mut Handle, rows: *mut Row, count: usize, total: *mut u32) -> u32;
-    pub fn flash_check(
+    pub fn mg_now(die: *const Handle) -> u32;
+    pub fn mg_len(die: *const Handle) -> u64;
+    pub fn mg_records(die: *const Handle) -> u64;
+    pub fn mg_job(die: *const Handle, number: u32, job: *mut Job) -> u32;
+    pub fn mg_outcome(die: *const Handle, job: u32, outcome: *mut Outcome, reads: *mut Name, count: usize) -> u32;
+    pub fn mg_worst(die: *const Handle, worst: *mut Worst) -> u32;
+    pub fn mg_certificate(die: *const Handle, certificate: *mut Certificate, jobs: *mut u32, count: usize) -> u32;
+    pub fn mg_rows(die: *const Handle, rows: *mut Row, count: usize, total: *mut u32) -> u32;
+    pub fn mg_check(
         rows: *const Row, row_count: usize, certificate: *const Certificate, jobs: *const u32, count: usize,
     ) -> u32;
 }

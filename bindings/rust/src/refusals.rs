@@ -1,7 +1,7 @@
 //! Why a call is refused.
 
 use crate::raw;
-use std::fmt;
+use core::fmt;
 
 /// Why a call is refused, or what is wrong with a certificate.
 #[derive(Clone, Copy, PartialEq, Eq, Debug)]
@@ -38,8 +38,10 @@ pub enum Refusal {
     DieStopped,
     /// No job or collection of this number.
     UnknownJob,
-    /// A slot has begun that isn't below the release.
+    /// A slot has begun, and is to be ended first; or, of a job or collection, one that isn't below its release.
     Begun,
+    /// No slot has begun.
+    NotBegun,
     /// No job or collection is done yet.
     NothingDone,
     /// Rows whose numbers don't rise.
@@ -52,7 +54,7 @@ pub enum Refusal {
     Certificate(Flaw),
     /// A checkpoint doesn't fit the plan.
     Checkpoint(Misfit),
-    /// A number that flash.h doesn't have.
+    /// A number that maulgreen.h doesn't have.
     Other(u32),
 }
 
@@ -95,6 +97,55 @@ pub enum Misfit {
     SharedCell { page: u32 },
 }
 
+impl Refusal {
+    /// What it means, in a line, without the numbers that it has.
+    pub fn text(&self) -> &'static str {
+        // SAFETY: the library answers a text of ASCII that is there for good, for any number.
+        let text = unsafe { core::ffi::CStr::from_ptr(raw::mg_refusal_text(self.code())) };
+        text.to_str().unwrap_or("")
+    }
+
+    /// Its number in maulgreen.h.
+    pub fn code(&self) -> u32 {
+        use Refusal::*;
+        match *self {
+            NoMemory => 1,
+            BadShape => 2,
+            BadPlan => 3,
+            UnknownTask => 5,
+            EmptyJob => 6,
+            TooManyOps => 7,
+            BadPage { .. } => 8,
+            ReleasePast { .. } => 9,
+            BadDue => 10,
+            JobsFull => 11,
+            NoTokens { .. } => 12,
+            CollectorBusy => 13,
+            ClockEnd => 14,
+            DeviceFault => 15,
+            DieStopped => 16,
+            UnknownJob => 17,
+            Begun => 100,
+            NotBegun => 101,
+            NothingDone => 103,
+            RowsNotRising => 104,
+            NotQuiet { .. } => 105,
+            WornOut { .. } => 106,
+            Certificate(flaw) => 201 + flaw as u32,
+            Checkpoint(misfit) => match misfit {
+                Misfit::OtherShape => 301,
+                Misfit::Overfull { .. } => 302,
+                Misfit::SecondOpen { .. } => 303,
+                Misfit::Unprogrammed { .. } => 304,
+                Misfit::AboveCap { .. } => 305,
+                Misfit::OtherSum { .. } => 306,
+                Misfit::SharedCell { .. } => 307,
+            },
+            Other(number) => number,
+        }
+    }
+}
+
 /// What a call answered, by its number.
 pub(crate) fn answer(code: u32, why: &raw::Why) -> Result<(), Refusal> {
     use Refusal::*;
@@ -117,6 +168,7 @@ pub(crate) fn answer(code: u32, why: &raw::Why) -> Result<(), Refusal> {
         16 => DieStopped,
         17 => UnknownJob,
         100 => Begun,
+        101 => NotBegun,
         103 => NothingDone,
         104 => RowsNotRising,
         105 => NotQuiet { job: why.first },
@@ -145,4 +197,4 @@ impl fmt::Display for Refusal {
     }
 }
 
-impl std::error::Error for Refusal {}
+impl core::error::Error for Refusal {}

@@ -7,12 +7,13 @@ use Rattle.slot_types.specs.declared.replies.SlotReply.{SlotReply}
 use Rattle.stepped_die.specs.declared.refusals.StepRefusal.{StepRefusal}
 use Rattle.stepped_die.specs.declared.refusals.StepRefusal.TheVariants.{Die}
 use Rattle.stepped_die.specs.Stepped.{Stepped}
-use Rattle.stepped_die.specs.Steps.{RefusesNewDie, HasEnded, RefusesBeginning}
+use Rattle.stepped_die.specs.Steps.{HasEnded, RefusesBeginning}
 use Rattle.flash_c.specs.declared.shapes.FlashWhy.{FlashWhy}
 use Rattle.flash_c.specs.declared.shapes.FlashReply.{FlashReply}
 use Rattle.flash_c.specs.declared.shapes.FlashWaived.{FlashWaived}
 use Rattle.flash_c.specs.Codes.{code_of, why_of}
 use Rattle.flash_c.specs.Lists.{array_with}
+use Rattle.flash_c.specs.Plans.{RefusesPlan}
 use Rattle.flash_c.specs.Slots.{reply_of, waived_of}
 
 -- the number of a refusal of this kind, with its numbers
@@ -25,7 +26,7 @@ pub record SaysRefusal (Refuses : StepRefusal → Type 0) (code : ℕ) (why : Fl
 -- the number of why no die is made of a plan
 pub record SaysNoPlan (plan : DiePlan) (code : ℕ) : Type 0 where
   pub refusal : Refusal
-  pub refuses : RefusesNewDie plan refusal
+  pub refuses : RefusesPlan plan refusal
   pub code_is : code ≡ code_of (Die refusal)
 
 -- the number of why no slot is begun

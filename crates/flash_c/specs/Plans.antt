@@ -1,9 +1,14 @@
 -- Plans as C has them.
-use Rattle.std.specs.Prelude.{ℕ, List, map, Option, Some, None, ◌==◌, if◌then◌else◌}
+use Rattle.std.specs.Prelude.{ℕ, List, map, Option, Some, None, ◌==◌, if◌then◌else◌, IfSome, ⊤}
 use Rattle.slot_types.specs.declared.plans.DiePlan.{DiePlan}
 use Rattle.slot_types.specs.declared.plans.Times.{Times}
 use Rattle.slot_types.specs.declared.plans.TaskTimes.{TaskTimes}
 use Rattle.slot_types.specs.declared.plans.Shape.{Shape}
+use Rattle.slot_types.specs.declared.refusals.Refusal.{Refusal}
+use Rattle.slot_types.specs.declared.refusals.Refusal.TheVariants.{BadShape, BadPlan, NoMemory}
+use Rattle.slot_types.specs.Shapes.{IsShape}
+use Rattle.plan_rules.specs.Bound.{MeetsBound}
+use Rattle.plan_rules.specs.Times.{HasTimes}
 use Rattle.flash_c.specs.declared.shapes.FlashPlan.{FlashPlan}
 use Rattle.flash_c.specs.declared.shapes.FlashTask.{FlashTask}
 
@@ -29,3 +34,15 @@ plan_in plan tasks = record {
   caps = map cap_in tasks;
   times = all_times plan tasks;
 }
+
+-- its times, if it has any, are within their limits
+abbrev pub IsTimed : DiePlan → Type 0
+IsTimed plan = IfSome plan.times (HasTimes plan)
+
+-- why no die is made of a plan: its shape is out of its limits; else it doesn't meet its bound, or its times are out of
+-- theirs; or there was no memory
+abbrev pub RefusesPlan : DiePlan → Refusal → Type 0
+RefusesPlan plan BadShape = ¬ IsShape plan.shape
+RefusesPlan plan BadPlan = IsShape plan.shape × ¬ (MeetsBound plan × IsTimed plan)
+RefusesPlan plan NoMemory = ⊤
+RefusesPlan plan _ = ⊥

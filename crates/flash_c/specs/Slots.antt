@@ -65,10 +65,26 @@ abbrev pub next_job : Option (ℕ × NextAct) → ℕ
 next_job None = 0
 next_job (Some runs) = runs.0
 
+-- the logical page that a slot will read, write, trim or copy; in an erase, and where it is idle, it is none
+abbrev pub no_page : ℕ
+no_page = 4294967295
+
+abbrev pub act_page : NextAct → ℕ
+act_page (next.Read page) = page
+act_page (next.Write page) = page
+act_page (next.Trim page) = page
+act_page (next.CopyRead page) = page
+act_page (next.CopyProgram page) = page
+act_page (next.Erase block) = no_page
+
+abbrev pub next_page : Option (ℕ × NextAct) → ℕ
+next_page None = no_page
+next_page (Some runs) = act_page runs.1
+
 -- what the device is asked: its kind, the cell or block, and the name
-abbrev pub call_by : ℕ → ℕ → ℕ → Option Call → FlashCall
-call_by slot act job None = record { kind = 0; block = 0; page = 0; last = 0; slot = slot; act = act; job = job; name = no_name }
-call_by slot act job (Some (calls.Read place bytes)) = record {
+abbrev pub call_by : ℕ → ℕ → ℕ → ℕ → Option Call → FlashCall
+call_by slot act job logical None = record { kind = 0; block = 0; page = 0; last = 0; slot = slot; act = act; job = job; logical = logical; name = no_name }
+call_by slot act job logical (Some (calls.Read place bytes)) = record {
   kind = 1;
   block = place.block;
   page = place.page;
@@ -76,9 +92,10 @@ call_by slot act job (Some (calls.Read place bytes)) = record {
   slot = slot;
   act = act;
   job = job;
+  logical = logical;
   name = name_of bytes;
 }
-call_by slot act job (Some (calls.Program place bytes)) = record {
+call_by slot act job logical (Some (calls.Program place bytes)) = record {
   kind = 2;
   block = place.block;
   page = place.page;
@@ -86,9 +103,10 @@ call_by slot act job (Some (calls.Program place bytes)) = record {
   slot = slot;
   act = act;
   job = job;
+  logical = logical;
   name = name_of bytes;
 }
-call_by slot act job (Some (calls.Erase block last)) = record {
+call_by slot act job logical (Some (calls.Erase block last)) = record {
   kind = 3;
   block = block;
   page = 0;
@@ -96,8 +114,9 @@ call_by slot act job (Some (calls.Erase block last)) = record {
   slot = slot;
   act = act;
   job = job;
+  logical = logical;
   name = no_name;
 }
 
 abbrev pub call_of : Begun → FlashCall
-call_of begun = call_by begun.slot (next_act begun.runs) (next_job begun.runs) begun.call
+call_of begun = call_by begun.slot (next_act begun.runs) (next_job begun.runs) (next_page begun.runs) begun.call

@@ -8,7 +8,7 @@ ghost use Rattle.late_cert.specs.Check.{verdict_of};
 ghost use Rattle.late_cert.specs.Bound.{IsCertificate, BindsEverySchedule};
 ghost use Rattle.flash_c.specs.Answers.{SaysNoPlan};
 ghost use Rattle.flash_c.specs.Codes.{verdict_code};
-ghost use Rattle.flash_c.specs.Plans.{plan_in};
+ghost use Rattle.flash_c.specs.Plans.{plan_in, IsTimed};
 ghost use Rattle.flash_c.specs.Texts.{name_at};
 ghost use Rattle.flash_c.specs.Lists.{array_with};
 ghost use Rattle.flash_c.specs.Conversions.{row_in, number_in};
@@ -20,18 +20,20 @@ use crate::plans::plan_in;
 use crate::said::load_of;
 use crate::shapes::{FlashCertificate, FlashLoad, FlashPlan, FlashRow, FlashTask};
 use crate::texts::{name_of, put_text};
+use crate::times::may_be_used;
 use late_cert::{Certificate, check, rows_rise};
 use plan_rules::{bound, plan_test};
 use slot_types::JobNo;
 use std::alloc::Global;
 
-/// The number of this interface. It changes where a struct, a function or a number does.
-pub const VERSION: u32 = 1;
+/// The version of this interface, 1.0: 65,536 times the major number, which changes where something that was there changes,
+/// and the minor one, which changes where something is added.
+pub const VERSION: u32 = 0x10000;
 
-/// The number of this interface.
+/// The version of this interface.
 #[unsafe(no_mangle)]
 pub extern "C" fn flash_version() -> u32
-    ensures { result ≡ 1 }
+    ensures { result ≡ 65536 }
 {
     VERSION
 }
@@ -40,15 +42,16 @@ pub extern "C" fn flash_version() -> u32
 #[unsafe(no_mangle)]
 pub extern "C" fn flash_plan_bound(alloc: Global, plan: &FlashPlan, tasks: &[FlashTask]) -> u32
     ensures met { result ≡ 0 → MeetsBound (plan_in plan.now tasks.now) }
-    ensures unmet { result ≢ 0 → result ≢ 1
-        → ((result ≡ 2) ⊎ (result ≡ 3)) × ¬ MeetsBound (plan_in plan.now tasks.now) }
+    ensures timed { result ≡ 0 → IsTimed (plan_in plan.now tasks.now) }
+    ensures unmet { result ≢ 0 → result ≢ 1 → ((result ≡ 2) ⊎ (result ≡ 3))
+        × ¬ (MeetsBound (plan_in plan.now tasks.now) × IsTimed (plan_in plan.now tasks.now)) }
     ensures cause { result ≢ 0 → SaysNoPlan (plan_in plan.now tasks.now) result }
 {
     let plan = match plan_in(alloc, plan, tasks) {
         Ok(plan) => plan,
         Err(refusal) => return of_refusal(refusal),
     };
-    match bound(&plan) {
+    match may_be_used(&plan) {
         Ok(()) => OK,
         Err(refusal) => of_refusal(refusal),
     }

@@ -10,16 +10,18 @@ ghost use Rattle.stepped_die.specs.Stepped.{Stepped};
 ghost use Rattle.stepped_die.specs.Names.{GoesOn};
 ghost use Rattle.flash_c.specs.Lists.{array_with};
 ghost use Rattle.flash_c.specs.Names.{name_of, page_in};
-ghost use Rattle.flash_c.specs.Plans.{plan_in};
+ghost use Rattle.flash_c.specs.Plans.{plan_in, IsTimed};
 ghost use Rattle.flash_c.specs.Checkpoints.{place_of, place_in, counts_of, counts_in, checkpoint_in, SaysCheckpoint, SaysUntaken, SaysFault};
+ghost use Rattle.flash_c.specs.Codes.{two};
 ghost use Rattle.flash_c.specs.Conversions.{number_in};
 
-use crate::codes::{NO_MEMORY, OK, fault_why, of_fault, of_untaken, untaken_why};
+use crate::codes::{BAD_PLAN, NO_MEMORY, OK, fault_why, no_numbers, of_fault, of_untaken, untaken_why};
 use crate::handles::{Handle, put, take};
 use crate::lists::put_names;
 use crate::names::page_in;
 use crate::plans::plan_in;
 use crate::shapes::{FlashBlock, FlashName, FlashPlace, FlashPlan, FlashTask, FlashWhy};
+use crate::times::is_timed;
 use die_checkpoint::{BlockCounts, Checkpoint};
 use slot_types::{Items, PageData, Place, Refusal};
 use std::alloc::Global;
@@ -174,6 +176,7 @@ pub extern "C" fn flash_checkpoint(
         blocks.old blocks.new balances.old balances.new spare.new }
     ensures names { result ≡ 0 → names.new
         ≡ array_with name_of names.old (contents held.core.start held.core.log) }
+    ensures well { result ≡ 0 → why.new ≡ why.old }
     ensures cause { result ≢ 0 → SaysUntaken held result why.new }
     ensures silent { result ≢ 0 → (places.new ≡ places.old) × (names.new ≡ names.old)
         × (blocks.new ≡ blocks.old)
@@ -217,21 +220,40 @@ pub extern "C" fn flash_resume(
     ensures goes_on { result ≡ 0 → IfSome die.new.value (GoesOn (plan_in plan.now tasks.now)
         (checkpoint_in places.now blocks.now balances.now spare) (map page_in names.now)) }
     ensures refused { result ≢ 0 → die.new.value ≡ None }
-    ensures cause { result ≢ 0 → result ≢ 1 → SaysFault (plan_in plan.now tasks.now)
+    ensures timed { result ≡ 0 → IsTimed (plan_in plan.now tasks.now) }
+    ensures cause { IsTimed (plan_in plan.now tasks.now) → result ≢ 0 → result ≢ 1
+        → SaysFault (plan_in plan.now tasks.now)
         (checkpoint_in places.now blocks.now balances.now spare) result why.new }
+    ensures untimed { ¬ IsTimed (plan_in plan.now tasks.now) → result ≢ 1
+        → (result ≡ 3) × (why.new ≡ two 0 0) }
+    ensures memory { result ≡ 1 → why.new ≡ two 0 0 }
+    ensures well { result ≡ 0 → why.new ≡ why.old }
 {
     let plan = match plan_in(alloc, plan, tasks) {
         Ok(plan) => plan,
-        Err(_) => return NO_MEMORY,
+        Err(_) => {
+            *why = no_numbers();
+            return NO_MEMORY;
+        }
     };
     let checkpoint = match checkpoint_in(alloc, places, blocks, balances, spare) {
         Ok(checkpoint) => checkpoint,
-        Err(_) => return NO_MEMORY,
+        Err(_) => {
+            *why = no_numbers();
+            return NO_MEMORY;
+        }
     };
     let pages = match pages_in(alloc, names) {
         Ok(pages) => pages,
-        Err(_) => return NO_MEMORY,
+        Err(_) => {
+            *why = no_numbers();
+            return NO_MEMORY;
+        }
     };
+    if !is_timed(&plan) {
+        *why = no_numbers();
+        return BAD_PLAN;
+    }
     let made = match SteppedDie::resume(alloc, plan, &checkpoint, pages.as_slice()) {
         Ok(made) => made,
         Err(fault) => {
@@ -244,6 +266,9 @@ pub extern "C" fn flash_resume(
             put(die, boxed);
             OK
         }
-        Err(_) => NO_MEMORY,
+        Err(_) => {
+            *why = no_numbers();
+            NO_MEMORY
+        }
     }
 }

@@ -1,7 +1,7 @@
 //! The numbers of refusals. 0 is none, 1 to 24 are those of the store.
 
 ghost use Rattle.std.specs.Prelude.{◌≡◌, ◌<◌};
-ghost use Rattle.flash_c.specs.Codes.{code_of, why_of, renewal_code, renewal_why, verdict_code};
+ghost use Rattle.flash_c.specs.Codes.{code_of, two, why_of, renewal_code, renewal_why, verdict_code};
 ghost use Rattle.flash_c.specs.Checkpoints.{untaken_code, untaken_why, fault_code, fault_why};
 
 use crate::counts::count_of;
@@ -40,6 +40,8 @@ pub const NOT_QUIET: u32 = 105;
 
 /// A block was erased too often for a life more.
 pub const WORN_OUT: u32 = 106;
+
+// 107 to 110 are refusals of the C above: an empty handle, a full one, a null pointer, and a report that isn't taken.
 
 /// The faults of a certificate are 201 to 207.
 pub const VERDICTS: u32 = 200;
@@ -83,6 +85,16 @@ pub(crate) fn of_step(refusal: StepRefusal) -> u32
         StepRefusal::Die(refusal) => of_refusal(refusal),
         StepRefusal::Begun => BEGUN,
         StepRefusal::NotBegun => NOT_BEGUN,
+    }
+}
+
+/// The numbers of a refusal that has none.
+pub(crate) fn no_numbers() -> FlashWhy
+    ensures { result ≡ two 0 0 }
+{
+    FlashWhy {
+        first: 0,
+        second: 0,
     }
 }
 

@@ -7,13 +7,16 @@ ghost use Rattle.slot_core.specs.Calls.{HasEntered};
 ghost use Rattle.slot_core.specs.Renewals.{MayBeRenewed, renewed_core};
 ghost use Rattle.stepped_die.specs.Stepped.{Stepped};
 ghost use Rattle.stepped_die.specs.Steps.{IsNew, HasBegun, HasFailed, RefusesArrival};
+ghost use Rattle.flash_c.specs.Codes.{two};
 ghost use Rattle.flash_c.specs.Names.{page_in, is_of_a_kind, ops_looked_at, ops_in};
-ghost use Rattle.flash_c.specs.Plans.{plan_in};
+ghost use Rattle.flash_c.specs.Plans.{plan_in, IsTimed};
 ghost use Rattle.flash_c.specs.Slots.{call_of};
 ghost use Rattle.flash_c.specs.Answers.{SaysNoPlan, SaysRefusal, SaysReply, SaysUnbegun};
 ghost use Rattle.flash_c.specs.Checkpoints.{SaysUnrenewed};
 
-use crate::codes::{BAD_KIND, NO_MEMORY, OK, of_refusal, of_renewal, of_step, renewal_why, why_of};
+use crate::codes::{
+    BAD_KIND, NO_MEMORY, OK, no_numbers, of_refusal, of_renewal, of_step, renewal_why, why_of,
+};
 use crate::handles::{Handle, put, take};
 use crate::lists::put_waived;
 use crate::names::{FEW_OPS, MOST_OPS, are_of_a_kind, page_in, put_ops, seen};
@@ -22,6 +25,7 @@ use crate::shapes::{
     FlashCall, FlashName, FlashOp, FlashPlan, FlashReply, FlashTask, FlashWaived, FlashWhy,
 };
 use crate::slots::{call_of, reply_of};
+use crate::times::may_be_used;
 use slot_core::new_reply;
 use slot_types::{JobNo, Op, TaskNo};
 use std::alloc::Global;
@@ -38,6 +42,7 @@ pub extern "C" fn flash_new(
     requires empty { die.old.value ≡ None }
     ensures made { result ≡ 0 → IsSome die.new.value }
     ensures new { result ≡ 0 → IfSome die.new.value (IsNew (plan_in plan.now tasks.now)) }
+    ensures timed { result ≡ 0 → IsTimed (plan_in plan.now tasks.now) }
     ensures refused { result ≢ 0 → die.new.value ≡ None }
     ensures cause { result ≢ 0 → SaysNoPlan (plan_in plan.now tasks.now) result }
 {
@@ -45,6 +50,10 @@ pub extern "C" fn flash_new(
         Ok(plan) => plan,
         Err(refusal) => return of_refusal(refusal),
     };
+    match may_be_used(&plan) {
+        Ok(()) => {}
+        Err(refusal) => return of_refusal(refusal),
+    }
     let made = match SteppedDie::new(alloc, plan) {
         Ok(made) => made,
         Err(refusal) => return of_refusal(refusal),
@@ -118,13 +127,16 @@ pub extern "C" fn flash_submit(
         after.core) }
     ensures refused { result ≢ 0 → die.new.value ≡ Some held }
     ensures silent { result ≢ 0 → number.new ≡ number.old }
-    ensures kind { list_all is_of_a_kind (ops_looked_at ops.now) ≡ false → result ≡ 102 }
+    ensures well { result ≡ 0 → why.new ≡ why.old }
+    ensures kind { list_all is_of_a_kind (ops_looked_at ops.now) ≡ false
+        → (result ≡ 102) × (why.new ≡ two 0 0) }
     ensures cause { list_all is_of_a_kind (ops_looked_at ops.now) ≡ true → result ≢ 0 →
         SaysRefusal
         (RefusesArrival release (events.Submit task release due (ops_in ops.now)) held held) result
         why.new }
 {
     if !are_of_a_kind(seen(ops)) {
+        *why = no_numbers();
         return BAD_KIND;
     }
     let mut boxed = take(alloc, die);
@@ -161,6 +173,7 @@ pub extern "C" fn flash_collect(
         HasEntered caller (events.Collect task release due) number.new held.core after.core) }
     ensures refused { result ≢ 0 → die.new.value ≡ Some held }
     ensures silent { result ≢ 0 → number.new ≡ number.old }
+    ensures well { result ≡ 0 → why.new ≡ why.old }
     ensures cause { result ≢ 0
         → SaysRefusal (RefusesArrival release (events.Collect task release due) held held) result
         why.new }
@@ -278,6 +291,7 @@ pub extern "C" fn flash_renew(alloc: Global, die: &mut Handle, why: &mut FlashWh
     ensures renewed { result ≡ 0 → IfSome die.new.value (λ after.
         after ≡ record held { core = renewed_core held.core }) }
     ensures may { result ≡ 0 → MayBeRenewed held.core }
+    ensures well { result ≡ 0 → why.new ≡ why.old }
     ensures cause { result ≢ 0 → SaysUnrenewed held result why.new }
     ensures refused { result ≢ 0 → die.new.value ≡ Some held }
 {

@@ -17,3 +17,4 @@ mod said;
 pub mod shapes;
 mod slots;
 mod texts;
+mod times;

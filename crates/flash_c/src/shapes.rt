@@ -1,4 +1,4 @@
-//! What crosses to C and back. flash.h has the same structs, field by field.
+//! What crosses to C and back. maulgreen.h has the same structs, field by field.
 
 /// The sixteen bytes of a page, which name a payload of any size.
 #[repr(C)]
@@ -70,6 +70,8 @@ pub struct FlashCall {
     pub slot: u32,
     pub act: u32,
     pub job: u32,
+    /// The logical page that is read, written, trimmed or copied; 0xFFFFFFFF in an erase, and where the slot is idle.
+    pub logical: u32,
     /// What is programmed, or what a read has to give.
     pub name: FlashName,
 }

@@ -1,7 +1,7 @@
 //! Calls of the device and replies as C has them.
 
 ghost use Rattle.std.specs.Prelude.{◌≡◌};
-ghost use Rattle.flash_c.specs.Slots.{act_shown, job_in, shown_of, reply_of, waived_of, next_act, next_job, call_of};
+ghost use Rattle.flash_c.specs.Slots.{act_shown, job_in, shown_of, reply_of, waived_of, next_act, next_job, next_page, call_of};
 
 use crate::counts::{count_of, flag};
 use crate::names::{NO_NAME, name_of};
@@ -105,10 +105,29 @@ fn next_job(runs: Option<(JobNo, NextAct)>) -> u32
     }
 }
 
+/// The logical page of no act.
+const NO_PAGE: u32 = u32::MAX;
+
+/// The logical page that a slot will read, write, trim or copy.
+fn next_page(runs: Option<(JobNo, NextAct)>) -> u32
+    ensures { result ≡ next_page runs }
+{
+    match runs {
+        Some((_, NextAct::Read { page })) => page,
+        Some((_, NextAct::Write { page })) => page,
+        Some((_, NextAct::Trim { page })) => page,
+        Some((_, NextAct::CopyRead { page })) => page,
+        Some((_, NextAct::CopyProgram { page })) => page,
+        Some((_, NextAct::Erase { .. })) => NO_PAGE,
+        None => NO_PAGE,
+    }
+}
+
 fn made(
     slot: u32,
     act: u32,
     job: u32,
+    logical: u32,
     kind: u32,
     block: u32,
     page: u32,
@@ -124,6 +143,7 @@ fn made(
           slot = slot;
           act = act;
           job = job;
+          logical = logical;
           name = name;
         } }
 {
@@ -135,6 +155,7 @@ fn made(
         slot,
         act,
         job,
+        logical,
         name,
     }
 }
@@ -145,13 +166,15 @@ pub(crate) fn call_of(begun: Begun) -> FlashCall
     let slot = begun.slot;
     let act = next_act(begun.runs);
     let job = next_job(begun.runs);
+    let logical = next_page(begun.runs);
     match begun.call {
-        None => made(slot, act, job, 0, 0, 0, 0, NO_NAME),
+        None => made(slot, act, job, logical, 0, 0, 0, 0, NO_NAME),
         Some(Call::Read { place, bytes }) => {
             made(
                 slot,
                 act,
                 job,
+                logical,
                 1,
                 place.block,
                 place.page,
@@ -164,6 +187,7 @@ pub(crate) fn call_of(begun: Begun) -> FlashCall
                 slot,
                 act,
                 job,
+                logical,
                 2,
                 place.block,
                 place.page,
@@ -172,7 +196,7 @@ pub(crate) fn call_of(begun: Begun) -> FlashCall
             )
         }
         Some(Call::Erase { block, last }) => {
-            made(slot, act, job, 3, block, 0, flag(last), NO_NAME)
+            made(slot, act, job, logical, 3, block, 0, flag(last), NO_NAME)
         }
     }
 }

@@ -1,0 +1,224 @@
+/* What a careful program in C may do: questions to an empty handle and to none, null pointers where they are allowed and where
+ * they aren't, memory that is refused, and the order in which refusals come. It has the heap in itself. */
+#include "maulgreen.h"
+#include <inttypes.h>
+#include <stdio.h>
+#include <stdlib.h>
+#include <string.h>
+
+static uint32_t left = UINT32_MAX; /* so many calls of the heap are granted */
+
+void *mg_alloc(size_t size, size_t align) {
+    if (size == 0 || align == 0 || align > 16 || (align & (align - 1))) { puts("wrong: a size or an alignment"); exit(1); }
+    return left && left-- ? malloc(size) : NULL;
+}
+
+void *mg_realloc(void *at, size_t kept, size_t size, size_t align) {
+    if (size == 0 || kept > size || align > 16) { puts("wrong: a size or an alignment"); exit(1); }
+    return left && left-- ? realloc(at, size) : NULL;
+}
+
+void mg_dealloc(void *at) { free(at); }
+
+static void check(int holds, const char *what) {
+    if (!holds) { printf("wrong: %s\n", what); exit(1); }
+}
+
+enum { BLOCKS = 8, PAGES = 4, LOGICAL = 16 };
+static const struct mg_plan plan = {BLOCKS, PAGES, 3, LOGICAL, 2, 0};
+static const struct mg_task task = {4, 0, 0, 0, 0};
+static const struct mg_why unsaid = {77, 78};
+
+static int says(const struct mg_why *why, uint32_t first, uint32_t second) { return why->first == first && why->second == second; }
+
+/* Every call of a handle that has no die, or of none. */
+static void of_no_die(mg_die *die) {
+    struct mg_why why = unsaid;
+    struct mg_call call;
+    struct mg_reply reply;
+    struct mg_name name = {{0}};
+    struct mg_job_head head;
+    struct mg_job_outcome outcome;
+    struct mg_worst_job worst;
+    struct mg_cert cert;
+    uint32_t number = 5, spare = 6, total = 7;
+    struct mg_op read = {MG_READ, 0, {{0}}};
+    mg_free(die);
+    mg_free(die);
+    check(mg_now(die) == 0 && mg_len(die) == 0 && mg_records(die) == 0, "it has no log");
+    check(mg_submit(die, 1, 0, 0, 1, &read, 1, &number, &why) == MG_EMPTY_HANDLE && says(&why, 0, 0), "submit");
+    why = unsaid;
+    check(mg_collect(die, 1, 0, 0, 1, &number, &why) == MG_EMPTY_HANDLE && says(&why, 0, 0), "collect");
+    check(mg_begin(die, 1, &call) == MG_EMPTY_HANDLE && mg_end(die, 1, &name, &reply, NULL, 0) == MG_EMPTY_HANDLE, "a slot");
+    check(mg_reserve(die, 1) == MG_EMPTY_HANDLE && mg_renew(die, NULL) == MG_EMPTY_HANDLE, "reserve and renew");
+    check(mg_checkpoint(die, NULL, 0, NULL, 0, NULL, 0, NULL, 0, &spare, NULL) == MG_EMPTY_HANDLE, "checkpoint");
+    check(mg_job(die, 0, &head) == MG_EMPTY_HANDLE && mg_outcome(die, 0, &outcome, NULL, 0) == MG_EMPTY_HANDLE, "a job");
+    check(mg_worst(die, &worst) == MG_EMPTY_HANDLE && mg_certificate(die, &cert, NULL, 0) == MG_EMPTY_HANDLE, "the worst");
+    check(mg_rows(die, NULL, 0, &total) == MG_EMPTY_HANDLE && number == 5 && spare == 6 && total == 7, "and nothing is written");
+}
+
+static void show_handles(void) {
+    mg_die die = {0};
+    of_no_die(NULL);
+    of_no_die(&die);
+    check(mg_new(NULL, &plan, &task, 1) == MG_EMPTY_HANDLE, "a die needs a handle");
+    check(mg_new(&die, &plan, &task, 1) == MG_OK, "new");
+    check(mg_new(&die, &plan, &task, 1) == MG_FULL_HANDLE, "a die isn't lost");
+    struct mg_why why = unsaid;
+    check(mg_resume(&die, &plan, &task, 1, NULL, 0, NULL, 0, NULL, 0, NULL, 0, 0, &why) == MG_FULL_HANDLE && says(&why, 0, 0), "nor then");
+    mg_free(&die);
+    of_no_die(&die);
+}
+
+static void show_pointers(void) {
+    mg_die die = {0};
+    struct mg_call call;
+    struct mg_reply reply;
+    struct mg_name name = {{7}};
+    struct mg_job_outcome outcome;
+    struct mg_worst_job worst;
+    struct mg_cert cert;
+    struct mg_load load;
+    uint32_t total, spare;
+    struct mg_op ops[2] = {{MG_WRITE, 3, {{7}}}, {MG_READ, 3, {{0}}}};
+    check(mg_plan_bound(&plan, NULL, 0) == MG_BAD_PLAN && mg_plan_test(&plan, NULL, 0, &load) == MG_BAD_PLAN, "no task");
+    check(mg_plan_bound(NULL, &task, 1) == MG_NULL_POINTER && mg_plan_bound(&plan, NULL, 1) == MG_NULL_POINTER, "no plan");
+    check(mg_plan_test(&plan, &task, 1, NULL) == MG_NULL_POINTER && mg_check(NULL, 0, NULL, NULL, 0) == MG_NULL_POINTER, "nothing");
+    check(mg_new(&die, &plan, NULL, 0) == MG_BAD_PLAN && mg_new(&die, NULL, &task, 1) == MG_NULL_POINTER, "the same");
+    check(mg_new(&die, &plan, &task, 1) == MG_OK, "new");
+    check(mg_submit(&die, 1, 0, 0, 2, NULL, 0, NULL, NULL) == MG_EMPTY_JOB, "no operation");
+    check(mg_submit(&die, 1, 0, 0, 2, NULL, 1, NULL, NULL) == MG_NULL_POINTER, "an operation that isn't there");
+    check(mg_submit(&die, 1, 0, 0, 2, ops, 2, NULL, NULL) == MG_OK, "its number isn't wanted");
+    check(mg_collect(&die, 1, 0, 5, 9, NULL, NULL) == MG_OK, "nor this one");
+    check(mg_begin(&die, 9, NULL) == MG_NULL_POINTER && mg_begin(&die, 9, &call) == MG_OK, "begin");
+    check(mg_end(&die, 1, NULL, &reply, NULL, 0) == MG_NULL_POINTER && mg_end(&die, 1, &name, NULL, NULL, 0) == MG_NULL_POINTER, "end");
+    check(mg_end(&die, 1, &name, &reply, NULL, 1) == MG_NULL_POINTER, "no room for one");
+    check(mg_end(&die, 1, &name, &reply, NULL, 0) == MG_OK && mg_begin(&die, 9, &call) == MG_OK, "the write, and its read");
+    check(mg_end(&die, 1, &call.name, &reply, NULL, 0) == MG_OK && reply.finished, "the job is done");
+    check(mg_outcome(&die, 0, &outcome, NULL, 0) == MG_OK && outcome.reads == 1, "how many reads");
+    check(mg_outcome(&die, 0, &outcome, NULL, 1) == MG_NULL_POINTER && mg_outcome(&die, 0, NULL, NULL, 0) == MG_NULL_POINTER, "not there");
+    check(mg_worst(&die, &worst) == MG_OK && mg_worst(&die, NULL) == MG_NULL_POINTER, "worst");
+    check(mg_certificate(&die, &cert, NULL, 0) == MG_OK && cert.jobs == 1, "how many jobs");
+    check(mg_rows(&die, NULL, 0, &total) == MG_OK && total == 2, "how many rows");
+    check(mg_renew(&die, NULL) == MG_NOT_QUIET, "the collection waits");
+    check(mg_checkpoint(&die, NULL, 0, NULL, 0, NULL, 0, NULL, 0, NULL, NULL) == MG_NULL_POINTER, "where to");
+    check(mg_checkpoint(&die, NULL, 0, NULL, 0, NULL, 0, NULL, 0, &spare, NULL) == MG_NOT_QUIET, "the same");
+    check(mg_refusal_name(MG_NO_TOKENS, NULL, 0) == 8, "the length of a name");
+    mg_free(&die);
+}
+
+/* Memory that is refused at each call of the heap in turn. */
+static void show_memory(void) {
+    struct mg_task tasks[16];
+    struct mg_plan wrong = plan, timed = {BLOCKS, PAGES, 3, LOGICAL, 1, 0};
+    struct mg_cell places[LOGICAL];
+    struct mg_name names[LOGICAL];
+    struct mg_block blocks[BLOCKS];
+    struct mg_why why = unsaid;
+    uint32_t balance, spare, tried;
+    mg_die die = {0};
+    for (int i = 0; i < 16; i++) tasks[i] = task;
+    wrong.blocks = 1;
+    left = 0;
+    check(mg_plan_bound(&wrong, tasks, 16) == MG_NO_MEMORY && mg_new(&die, &wrong, tasks, 16) == MG_NO_MEMORY, "memory comes first");
+    left = UINT32_MAX;
+    check(mg_plan_bound(&wrong, tasks, 16) == MG_BAD_SHAPE && mg_new(&die, &wrong, tasks, 16) == MG_BAD_SHAPE, "and then the shape");
+    check(mg_new(&die, &plan, &task, 1) == MG_OK, "new");
+    check(mg_checkpoint(&die, places, LOGICAL, names, LOGICAL, blocks, BLOCKS, &balance, 1, &spare, &why) == MG_OK, "checkpoint");
+    check(says(&why, unsaid.first, unsaid.second), "nothing is refused");
+    mg_free(&die);
+    for (tried = 0;; tried++) {
+        why = unsaid;
+        left = tried;
+        uint32_t code = mg_resume(&die, &plan, &task, 1, places, LOGICAL, names, LOGICAL, blocks, BLOCKS, &balance, 1, spare, &why);
+        left = UINT32_MAX;
+        if (code == MG_OK) break;
+        check(code == MG_NO_MEMORY && says(&why, 0, 0) && !die.at, "a die isn't made, and why is written");
+    }
+    check(tried > 10 && says(&why, unsaid.first, unsaid.second), "more than ten were refused");
+    mg_free(&die);
+    check(mg_resume(&die, &plan, &task, 1, places, LOGICAL, names, LOGICAL, blocks, BLOCKS, &balance, 1, UINT32_MAX, &why) == MG_OTHER_SUM
+          && why.first == UINT32_MAX && why.second == BLOCKS * PAGES, "a sum above 32 bits");
+    /* times out of their limits, which the bound doesn't look at */
+    const struct mg_task good = {4, 8, 8, 2, 1};
+    struct mg_task bad[7] = {good, good, good, good, good, good, good};
+    bad[0].period = 0;
+    bad[1].period = 1048577;
+    bad[2].collect_period = 0;
+    bad[3].collect_period = 1048577;
+    bad[4].work = 0;
+    bad[5].work = 65;
+    bad[6].writes = 3;
+    timed.common = 8;
+    check(mg_plan_bound(&timed, &good, 1) == MG_OK, "good times");
+    for (int i = 0; i < 8; i++) {
+        const struct mg_task *of = i < 7 ? &bad[i] : &good;
+        if (i == 7) timed.common = 1048577;
+        why = unsaid;
+        check(mg_plan_bound(&timed, of, 1) == MG_BAD_PLAN && mg_new(&die, &timed, of, 1) == MG_BAD_PLAN, "times out of their limits");
+        check(mg_resume(&die, &timed, of, 1, places, LOGICAL, names, LOGICAL, blocks, BLOCKS, &balance, 1, spare, &why) == MG_BAD_PLAN
+              && says(&why, 0, 0), "here, too");
+    }
+}
+
+static void show_texts(void) {
+    uint32_t texts = 0;
+    for (uint32_t code = 0; code < 400; code++) {
+        char name[14];
+        uint32_t length = mg_refusal_name(code, name, sizeof name);
+        check(length <= 13 && strlen(name) == length, "a name");
+        if (strcmp(mg_refusal_text(code), mg_refusal_text(UINT32_MAX))) {
+            check(strcmp(name, "Unknown") != 0, "what has a text has a name");
+            texts++;
+        }
+    }
+    check(MG_FITS(mg_version()) && !MG_FITS(mg_version() + 0x10000), "a library of this version");
+    printf("%" PRIu32 " refusals have a text\n", texts);
+}
+
+/* A report goes to the file that is named, if one is: .ci/bindings has it audited. */
+static int put(void *to, const char *text, size_t size) { return fwrite(text, 1, size, to) != size; }
+
+static int refuse(void *to, const char *text, size_t size) {
+    ++*(int *)to;
+    return text[0] != 'r' || size != 1024;
+}
+
+static void show_report(const char *path) {
+    mg_die dies[2] = {{0}, {0}};
+    const mg_die *of[2] = {&dies[0], &dies[1]};
+    int pieces = 0;
+    for (int d = 0; d < 2; d++) check(mg_new(&dies[d], &plan, &task, 1) == MG_OK, "new");
+    for (uint32_t r = 0; r < 40; r++) {
+        const uint32_t now = mg_now(&dies[0]), page = r * 7 % LOGICAL;
+        const struct mg_op ops[3] = {{MG_WRITE, page, {{(uint8_t)r, 171}}}, {MG_READ, page, {{0}}}, {MG_READ, 15, {{0}}}};
+        struct mg_reply reply;
+        mg_collect(&dies[0], 1, 0, now, now + 40, NULL, NULL);
+        check(mg_submit(&dies[0], 1, 0, now, now + 2 + r % 3, ops, 3, NULL, NULL) == MG_OK, "submit");
+        do {
+            struct mg_call call;
+            check(mg_begin(&dies[0], 9, &call) == MG_OK && mg_end(&dies[0], 1, &call.name, &reply, NULL, 0) == MG_OK, "a slot");
+        } while (reply.act != MG_IDLE && r < 39);
+    }
+    FILE *file = path ? fopen(path, "wb") : tmpfile();
+    check(file && mg_report(of, 2, put, file) == MG_OK && ftell(file) > 1024 && !fclose(file), "a report");
+    check(mg_report(of, 2, refuse, &pieces) == MG_NOT_TAKEN && pieces == 2, "a piece that isn't taken is the last");
+    check(mg_report(of, 2, NULL, NULL) == MG_NULL_POINTER && mg_report(NULL, 2, put, NULL) == MG_NULL_POINTER, "none to take it");
+    left = 0;
+    check(mg_report(of, 2, refuse, &pieces) == MG_NO_MEMORY, "no memory");
+    left = UINT32_MAX;
+    mg_free(&dies[1]);
+    check(mg_report(of, 2, refuse, &pieces) != MG_OK, "a die that isn't there");
+    mg_free(&dies[0]);
+    check(mg_report(of, 1, refuse, &pieces) == MG_EMPTY_HANDLE, "nor this one");
+}
+
+int main(int argc, char **argv) {
+    show_handles();
+    show_pointers();
+    show_memory();
+    show_texts();
+    show_report(argc > 1 ? argv[1] : NULL);
+    puts("all as it should be");
+    return 0;
+}

@@ -1,0 +1,62 @@
+#define _DEFAULT_SOURCE
+#include "chip.h"
+#include <fcntl.h>
+#include <stdlib.h>
+#include <string.h>
+#include <sys/mman.h>
+#include <unistd.h>
+
+static struct chip_page (*cells)[PAGES];
+static long calls_left; /* 0: the power stays */
+
+void chip_open(const char *file) {
+    const size_t size = sizeof(struct chip_page) * BLOCKS * PAGES;
+    int fd = open(file, O_RDWR | O_CREAT, 0644);
+    bool is_new = fd >= 0 && lseek(fd, 0, SEEK_END) != (off_t)size;
+    if (fd < 0 || ftruncate(fd, (off_t)size)) abort();
+    cells = mmap(NULL, size, PROT_READ | PROT_WRITE, MAP_SHARED, fd, 0);
+    close(fd);
+    if (cells == MAP_FAILED) abort();
+    if (is_new) memset(cells, 0xFF, size);
+}
+
+void chip_cut(long calls) { calls_left = calls; }
+
+static bool is_cut(void) { return calls_left > 0 && --calls_left == 0; }
+
+bool chip_is_free(const struct chip_page *page) {
+    const uint8_t *bytes = (const uint8_t *)page;
+    for (size_t i = 0; i < sizeof *page; i++)
+        if (bytes[i] != 0xFF) return false;
+    return true;
+}
+
+bool chip_read(uint32_t block, uint32_t page, struct chip_page *out) {
+    if (is_cut()) _exit(77);
+    *out = cells[block][page];
+    return true;
+}
+
+bool chip_program(uint32_t block, uint32_t page, const struct chip_page *in) {
+    if (!chip_is_free(&cells[block][page])) return false;
+    if (is_cut()) { /* torn: some of its bytes are there, and maybe those of the spare area */
+        memcpy(cells[block][page].payload, in->payload, (size_t)rand() % PAYLOAD);
+        if (rand() & 1) memcpy(cells[block][page].spare, in->spare, SPARE);
+        _exit(77);
+    }
+    cells[block][page] = *in;
+    return true;
+}
+
+bool chip_erase_slot(uint32_t block, bool last) {
+    if (is_cut()) { /* some pages are erased, and some half */
+        for (int page = 0; page < PAGES; page++) {
+            size_t part = rand() & 1 ? sizeof(struct chip_page) : (size_t)rand() % sizeof(struct chip_page);
+            if (rand() & 1) memset(&cells[block][page], 0xFF, part);
+        }
+        _exit(77);
+    }
+    if (last) memset(cells[block], 0xFF, sizeof cells[block]);
+    else memset(cells[block][PAGES - 1].spare, 0, SPARE); /* what was there can't be relied on any more */
+    return true;
+}

@@ -1,0 +1,34 @@
+/* A driver over maulgreen.h: two tasks write and read pages of 2,048 bytes. What a page holds is named by a digest, and a label
+ * in its spare area says which logical page it is and how new. So after a loss of power the driver finds the newest payload of
+ * each page, and the die goes on from there. Trims aren't used: no label would say of one. */
+#ifndef DRIVER_H
+#define DRIVER_H
+#include "../maulgreen.h"
+#include "chip.h"
+
+enum { TASKS = 2, LOGICAL = 150, ALPHA = 4, CAP = 16, BUFFERS = 40, BROKEN = 1000 };
+
+struct buffer { bool is_used; uint32_t job; uint8_t payload[PAYLOAD]; };
+
+struct driver {
+    mg_die die;
+    uint64_t serial;             /* of the last program, over all lives of the chip */
+    uint32_t erases[BLOCKS];
+    struct buffer buffers[BUFFERS]; /* of writes until they are programmed, of copies until the collection's next call */
+    uint8_t read[PAYLOAD];       /* what the last read of a job gave */
+};
+
+/* Each answers MG_OK, the number of a refusal, or BROKEN where the chip has failed beyond what the driver recovers. */
+
+/* Finds what is on the chip, and makes a die of it. */
+uint32_t driver_open(struct driver *driver);
+
+/* Asks for a write by `due`, which is done in some later slot. */
+uint32_t driver_write(struct driver *driver, uint32_t task, uint32_t page, const uint8_t *payload, uint32_t due, uint32_t *job);
+
+/* Reads a page, in as many slots as it takes; `blank` where it was never written. */
+uint32_t driver_read(struct driver *driver, uint32_t page, uint8_t *payload, bool *blank);
+
+/* One slot. After MG_DEVICE_FAULT the driver is opened again. */
+uint32_t driver_slot(struct driver *driver, struct mg_reply *reply);
+#endif

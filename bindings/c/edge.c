@@ -1,0 +1,200 @@
+/* The edge of the library: each function of maulgreen.h, over what crates/flash_c proves. Nothing checks that a program in C
+ * keeps to what a proof takes for granted, so this does: a pointer that may not be null is refused, one of an array of no
+ * items points somewhere, and an empty handle is answered. Beyond that it passes on what it is given. */
+#include "proved.h"
+#include "maulgreen_layout.h"
+#include <stdbool.h>
+#include <string.h>
+
+/* What an array of no items points to. Nothing is read or written there. */
+static union { uint64_t aligned; uint8_t bytes[64]; } nowhere;
+
+static bool is_array(const void *items, size_t count) { return items || count == 0; }
+
+#define ARRAY(items) ((items) ? (items) : (void *)&nowhere)
+
+static uint32_t unmade(const mg_die *die) { return !die ? MG_EMPTY_HANDLE : die->at ? MG_FULL_HANDLE : MG_OK; }
+
+static bool is_full(const mg_die *die) { return die && die->at; }
+
+/* A refusal of the edge itself, which has no numbers. */
+static uint32_t refused(uint32_t refusal, struct mg_why *why) {
+    if (why) why->first = why->second = 0;
+    return refusal;
+}
+
+/* ---- The heap ---------------------------------------------------------------------------------------------------- */
+
+/* What the archive asks for, under the names that it has for it: whether there was room, and where. */
+struct tried { bool ok; void *at; };
+
+struct tried rattle_alloc(size_t size, size_t align) {
+    void *at = mg_alloc(size ? size : align, align);
+    return (struct tried){at != NULL, at ? at : &nowhere};
+}
+
+struct tried rattle_realloc(void *old, size_t kept, size_t size, size_t align) {
+    void *at = mg_realloc(old, kept, size ? size : align, align);
+    return (struct tried){at != NULL, at ? at : &nowhere};
+}
+
+void rattle_dealloc(void *at) { mg_dealloc(at); }
+
+/* ---- Versions and plans ------------------------------------------------------------------------------------------ */
+
+uint32_t mg_version(void) { return flash_version(); }
+
+uint32_t mg_refusal_name(uint32_t refusal, char *text, size_t count) {
+    return flash_refusal_name(refusal, ARRAY(text), text ? count : 0);
+}
+
+uint32_t mg_plan_bound(const struct mg_plan *plan, const struct mg_task *tasks, size_t count) {
+    if (!plan || !is_array(tasks, count)) return MG_NULL_POINTER;
+    return flash_plan_bound(plan, ARRAY(tasks), count);
+}
+
+uint32_t mg_plan_test(const struct mg_plan *plan, const struct mg_task *tasks, size_t count, struct mg_load *load) {
+    if (!plan || !load || !is_array(tasks, count)) return MG_NULL_POINTER;
+    return flash_plan_test(plan, ARRAY(tasks), count, load);
+}
+
+uint32_t mg_check(const struct mg_row *rows, size_t row_count, const struct mg_cert *certificate, const uint32_t *jobs,
+                  size_t count) {
+    if (!certificate || !is_array(rows, row_count) || !is_array(jobs, count)) return MG_NULL_POINTER;
+    return flash_check(ARRAY(rows), row_count, certificate, ARRAY(jobs), count);
+}
+
+/* ---- A die ------------------------------------------------------------------------------------------------------- */
+
+uint32_t mg_new(mg_die *die, const struct mg_plan *plan, const struct mg_task *tasks, size_t count) {
+    uint32_t handle = unmade(die);
+    if (handle) return handle;
+    if (!plan || !is_array(tasks, count)) return MG_NULL_POINTER;
+    return flash_new(die, plan, ARRAY(tasks), count);
+}
+
+void mg_free(mg_die *die) {
+    if (is_full(die)) flash_free(die);
+}
+
+uint32_t mg_submit(mg_die *die, uint32_t caller, uint32_t task, uint32_t release, uint32_t due, const struct mg_op *ops,
+                   size_t count, uint32_t *number, struct mg_why *why) {
+    uint32_t given;
+    struct mg_why numbers;
+    if (!is_full(die)) return refused(MG_EMPTY_HANDLE, why);
+    if (!is_array(ops, count)) return refused(MG_NULL_POINTER, why);
+    return flash_submit(die, caller, task, release, due, ARRAY(ops), count, number ? number : &given, why ? why : &numbers);
+}
+
+uint32_t mg_collect(mg_die *die, uint32_t caller, uint32_t task, uint32_t release, uint32_t due, uint32_t *number,
+                    struct mg_why *why) {
+    uint32_t given;
+    struct mg_why numbers;
+    if (!is_full(die)) return refused(MG_EMPTY_HANDLE, why);
+    return flash_collect(die, caller, task, release, due, number ? number : &given, why ? why : &numbers);
+}
+
+uint32_t mg_begin(mg_die *die, uint32_t caller, struct mg_call *call) {
+    if (!is_full(die)) return MG_EMPTY_HANDLE;
+    if (!call) return MG_NULL_POINTER;
+    return flash_begin(die, caller, call);
+}
+
+uint32_t mg_end(mg_die *die, uint32_t ok, const struct mg_name *name, struct mg_reply *reply, struct mg_waived *waived,
+                size_t count) {
+    if (!is_full(die)) return MG_EMPTY_HANDLE;
+    if (!name || !reply || !is_array(waived, count)) return MG_NULL_POINTER;
+    return flash_end(die, ok, name, reply, ARRAY(waived), count);
+}
+
+uint32_t mg_reserve(mg_die *die, uint32_t slots) { return is_full(die) ? flash_reserve(die, slots) : MG_EMPTY_HANDLE; }
+
+uint32_t mg_renew(mg_die *die, struct mg_why *why) {
+    struct mg_why numbers;
+    if (!is_full(die)) return refused(MG_EMPTY_HANDLE, why);
+    return flash_renew(die, why ? why : &numbers);
+}
+
+uint32_t mg_checkpoint(mg_die *die, struct mg_cell *places, size_t place_count, struct mg_name *names, size_t name_count,
+                       struct mg_block *blocks, size_t block_count, uint32_t *balances, size_t balance_count, uint32_t *spare,
+                       struct mg_why *why) {
+    struct mg_why numbers;
+    if (!is_full(die)) return refused(MG_EMPTY_HANDLE, why);
+    if (!spare || !is_array(places, place_count) || !is_array(names, name_count) || !is_array(blocks, block_count)
+        || !is_array(balances, balance_count))
+        return refused(MG_NULL_POINTER, why);
+    return flash_checkpoint(die, ARRAY(places), place_count, ARRAY(names), name_count, ARRAY(blocks), block_count,
+                            ARRAY(balances), balance_count, spare, why ? why : &numbers);
+}
+
+uint32_t mg_resume(mg_die *die, const struct mg_plan *plan, const struct mg_task *tasks, size_t count,
+                   const struct mg_cell *places, size_t place_count, const struct mg_name *names, size_t name_count,
+                   const struct mg_block *blocks, size_t block_count, const uint32_t *balances, size_t balance_count,
+                   uint32_t spare, struct mg_why *why) {
+    struct mg_why numbers;
+    uint32_t handle = unmade(die);
+    if (handle) return refused(handle, why);
+    if (!plan || !is_array(tasks, count) || !is_array(places, place_count) || !is_array(names, name_count)
+        || !is_array(blocks, block_count) || !is_array(balances, balance_count))
+        return refused(MG_NULL_POINTER, why);
+    return flash_resume(die, plan, ARRAY(tasks), count, ARRAY(places), place_count, ARRAY(names), name_count, ARRAY(blocks),
+                        block_count, ARRAY(balances), balance_count, spare, why ? why : &numbers);
+}
+
+/* ---- Questions ---------------------------------------------------------------------------------------------------
+ *
+ * A function that has a handle takes the die out of it and puts it back. A question has one of its own for that, so that it
+ * writes nothing that another one reads: of the die itself it only reads. */
+
+uint32_t mg_now(const mg_die *die) {
+    if (!is_full(die)) return 0;
+    mg_die own = *die;
+    return flash_now(&own);
+}
+
+uint64_t mg_len(const mg_die *die) {
+    if (!is_full(die)) return 0;
+    mg_die own = *die;
+    return flash_len(&own);
+}
+
+uint64_t mg_records(const mg_die *die) {
+    if (!is_full(die)) return 0;
+    mg_die own = *die;
+    return flash_records(&own);
+}
+
+uint32_t mg_job(const mg_die *die, uint32_t number, struct mg_job_head *job) {
+    if (!is_full(die)) return MG_EMPTY_HANDLE;
+    if (!job) return MG_NULL_POINTER;
+    mg_die own = *die;
+    return flash_job(&own, number, job);
+}
+
+uint32_t mg_outcome(const mg_die *die, uint32_t job, struct mg_job_outcome *outcome, struct mg_name *reads, size_t count) {
+    if (!is_full(die)) return MG_EMPTY_HANDLE;
+    if (!outcome || !is_array(reads, count)) return MG_NULL_POINTER;
+    mg_die own = *die;
+    return flash_outcome(&own, job, outcome, ARRAY(reads), count);
+}
+
+uint32_t mg_worst(const mg_die *die, struct mg_worst_job *worst) {
+    if (!is_full(die)) return MG_EMPTY_HANDLE;
+    if (!worst) return MG_NULL_POINTER;
+    mg_die own = *die;
+    return flash_worst(&own, worst);
+}
+
+uint32_t mg_certificate(const mg_die *die, struct mg_cert *certificate, uint32_t *jobs, size_t count) {
+    if (!is_full(die)) return MG_EMPTY_HANDLE;
+    if (!certificate || !is_array(jobs, count)) return MG_NULL_POINTER;
+    mg_die own = *die;
+    return flash_certificate(&own, certificate, ARRAY(jobs), count);
+}
+
+uint32_t mg_rows(const mg_die *die, struct mg_row *rows, size_t count, uint32_t *total) {
+    if (!is_full(die)) return MG_EMPTY_HANDLE;
+    if (!total || !is_array(rows, count)) return MG_NULL_POINTER;
+    mg_die own = *die;
+    return flash_rows(&own, ARRAY(rows), count, total);
+}

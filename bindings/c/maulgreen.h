@@ -1,0 +1,365 @@
+/* A die of a proved flash translation layer with deadlines, for C and C++. bindings/README.md is the way in.
+ *
+ * HANDLES. One `struct mg_die` is one die. `{0}` is empty; mg_new and mg_resume fill an empty one, mg_free empties it, and
+ * nothing else may look inside. A handle is never copied: both copies would free the die. Every call of an empty handle, or
+ * of none, is answered: MG_EMPTY_HANDLE, or 0 by mg_now, mg_len and mg_records; mg_free does nothing then. mg_new and mg_resume
+ * of a full one answer MG_FULL_HANDLE.
+ *
+ * THREADS. Several dies share nothing but the heap. A die may be made on one thread and used on another. A call that takes a
+ * `const` handle is a question: it reads the die, and several may run beside each other. While any other call of a die runs,
+ * no other call of that die may, a question neither: that is for the program to see to, by a lock where it needs one. The
+ * heap is to allow calls from several threads if several use the library.
+ *
+ * POINTERS. That of an array of no items may be null, and `why` and `number` where they aren't wanted. Any other null pointer
+ * is refused with MG_NULL_POINTER, before all else but the handle. Arrays go in as pointer and count. They come out into the
+ * caller's array, as far as there is room: items[0..count) are written, and how many there are is reported beside them.
+ *
+ * ANSWERS. Each function that answers MG_OK or the number of a refusal leaves the die as it was where it is refused, but for
+ * MG_DEVICE_FAULT of mg_end, and writes through none of its pointers then but `why`. `why` gets the numbers of a refusal: it
+ * is written by each refusal of a function that has it, and by nothing else.
+ *
+ * TIME is counted in slots, from 0. In each slot the die does at most one call of the device. Jobs and collections have a
+ * release, the first slot that may carry them, and a due, the slot before which they are to be done. The head, the one of
+ * those released that is due first (of equal ones, accepted first), has the slot.
+ *
+ * PAGES. A page has sixteen bytes here. They are the name of a payload of any size, which the driver moves: a digest of
+ * it, or the number of a buffer that is kept in the page's spare area.
+ *
+ * THE CHIP is erased before mg_new. It has to allow that several blocks are in erase at once, at most one a task, each
+ * suspended after any of its slots; pages of a block are programmed in rising order.
+ *
+ * THE PROCESSOR. The archive for x86-64 is for x86-64-v2 (SSE4.2, any since 2009): on a plainer one, QEMU's default among
+ * them, a program ends with an illegal instruction. There is one for AArch64, too. */
+#ifndef MAULGREEN_H
+#define MAULGREEN_H
+#include <stddef.h>
+#include <stdint.h>
+#ifdef __cplusplus
+extern "C" {
+#endif
+
+/* The version of this interface. The major number changes where something that was there changes, the minor one where
+ * something is added. So a program that was compiled with this header works with a library of the same major number whose
+ * minor one isn't below: MG_FITS(mg_version()). */
+#define MG_VERSION_MAJOR 1u
+#define MG_VERSION_MINOR 0u
+#define MG_VERSION (MG_VERSION_MAJOR << 16 | MG_VERSION_MINOR)
+#define MG_FITS(version) ((version) >> 16 == MG_VERSION_MAJOR && ((version) & 0xFFFFu) + 1u > MG_VERSION_MINOR)
+
+/* Refusals. In brackets, what `why` has; first and second are 0 else. */
+enum {
+    MG_OK = 0,
+    MG_NO_MEMORY = 1,         /* memory was asked for and not had; the call may be made again */
+    MG_BAD_SHAPE = 2,         /* blocks, pages or erase slots out of their limits */
+    MG_BAD_PLAN = 3,          /* another number of a plan out of its limits, or the plan's bound isn't met */
+    MG_UNKNOWN_TASK = 5,
+    MG_EMPTY_JOB = 6,         /* a job without an operation */
+    MG_TOO_MANY_OPS = 7,      /* a job of more than 64 operations */
+    MG_BAD_PAGE = 8,          /* an operation on a page that the die doesn't have [first: the first such page] */
+    MG_RELEASE_PAST = 9,      /* a release below the present slot [first: the present slot] */
+    MG_BAD_DUE = 10,          /* a due that isn't above its release, or is above 1,048,576 */
+    MG_JOBS_FULL = 11,        /* 65,536 jobs and collections were accepted since the die was new or was renewed */
+    MG_NO_TOKENS = 12,        /* a job of more writes than its task has tokens [first: it has; second: it needs] */
+    MG_COLLECTOR_BUSY = 13,   /* the task has a collection that is neither done nor waived */
+    MG_CLOCK_END = 14,        /* the present slot is 1,048,576 */
+    MG_DEVICE_FAULT = 15,     /* the device failed in this slot, or gave another name than its cell was programmed with */
+    MG_DIE_STOPPED = 16,      /* the device failed before; the die answers questions and mg_reserve, and nothing else */
+    MG_UNKNOWN_JOB = 17,      /* no job or collection of this number */
+    MG_BEGUN = 100,           /* a slot has begun, and is to be ended first */
+    MG_NOT_BEGUN = 101,       /* no slot has begun */
+    MG_BAD_KIND = 102,        /* an operation whose kind is above 2 */
+    MG_NOTHING_DONE = 103,    /* no job or collection is done yet */
+    MG_ROWS_NOT_RISING = 104, /* rows whose numbers don't rise */
+    MG_NOT_QUIET = 105,       /* a job or collection is neither done nor waived [first: the one that is carried next] */
+    MG_WORN_OUT = 106,        /* a block was erased more than 4,293,918,718 times [first: the first such block] */
+    MG_EMPTY_HANDLE = 107,    /* the handle has no die */
+    MG_FULL_HANDLE = 108,     /* the handle has a die, which would be lost */
+    MG_NULL_POINTER = 109,    /* a pointer is null that may not be */
+    MG_NOT_TAKEN = 110,       /* the program didn't take a piece of a report */
+    /* what is wrong with a certificate first */
+    MG_CERT_EMPTY = 201,         /* it lists no job */
+    MG_CERT_NOT_RISING = 202,    /* a listed number isn't above the one before */
+    MG_CERT_UNKNOWN_JOB = 203,   /* a listed number has no row */
+    MG_CERT_UNFINISHED = 204,    /* a listed job isn't done, or no slot carried it */
+    MG_CERT_EARLY_RELEASE = 205, /* a listed job was released before the certificate's start */
+    MG_CERT_LATE_DUE = 206,      /* a listed job is due after the certificate's due */
+    MG_CERT_WRONG_SUM = 207,     /* the work of the listed jobs isn't the number of slots from start to completion */
+    /* what is wrong with a checkpoint first */
+    MG_OTHER_SHAPE = 301,        /* it has another number of logical pages, blocks or tasks than the plan */
+    MG_OVERFULL = 302,           /* more pages are programmed in a block than it has [first: the first such block] */
+    MG_SECOND_OPEN = 303,        /* two blocks have programmed and free pages [first: the second of them] */
+    MG_UNPROGRAMMED = 304,       /* a page lies in a cell that isn't programmed, or isn't there [first: the first such page] */
+    MG_ABOVE_CAP = 305,          /* a balance is above its task's cap [first: the first such task] */
+    MG_OTHER_SUM = 306,          /* the accounts share out another number of pages than are free [first: they, and
+                                       4,294,967,295 where they are more; second: free] */
+    MG_SHARED_CELL = 307         /* a page lies in the cell of a page before it [first: the first such page] */
+};
+
+/* What a refusal has beside its number. */
+struct mg_why { uint32_t first, second; };
+
+/* The name of a refusal's number, as "NoTokens"; "Ok" of 0 and "Unknown" of a number that is none. It goes into
+ * text[0..count) with a 0 behind it, as far as there is room; answers its length without the 0, which is at most 13. */
+uint32_t mg_refusal_name(uint32_t refusal, char *text, size_t count);
+
+/* What a refusal's number means, in a line: "a job of more writes than its task has tokens". Never null. */
+const char *mg_refusal_text(uint32_t refusal);
+
+/* MG_VERSION of the library. */
+uint32_t mg_version(void);
+
+/* The same as a text: "1.0"; "1.0, not proved" of a library that was built without a proof. */
+const char *mg_version_text(void);
+
+/* ---- What the library asks of the program ------------------------------------------------------------------------
+ *
+ * libmaulgreen_heap has these three, over malloc, realloc and free. A program with an allocator of its own has them itself,
+ * and doesn't link that. `size` is above 0, `align` is 1, 2, 4, 8 or 16, and a block is aligned to it. */
+
+void *mg_alloc(size_t size, size_t align);                          /* null where there is no room */
+void *mg_realloc(void *at, size_t kept, size_t size, size_t align); /* the first `kept` bytes stay; where there is no room,
+                                                                       null, and the block stays */
+void mg_dealloc(void *at);
+
+/* ---- Plans ------------------------------------------------------------------------------------------------------- */
+
+struct mg_plan {
+    uint32_t blocks;      /* 2 to 1,024 */
+    uint32_t pages;       /* of a block: 2 to 256 */
+    uint32_t erase_slots; /* slots that the erase of a block takes: 1 to 64 */
+    uint32_t logical;     /* logical pages, numbered from 0: at least 1 */
+    uint32_t alpha;       /* the most pages that a collection gives its task: 1 to `pages` */
+    uint32_t common;      /* a multiple of all periods, 1 to 1,048,576 slots; 0: a plan without times */
+};
+
+/* A task, numbered from 0 by its place; a die has 1 to 16. */
+struct mg_task {
+    uint32_t cap;            /* the most free pages that it may own tokens for: at least 1 */
+    /* the rest isn't looked at in a plan without times */
+    uint32_t period;         /* its jobs come at most once in so many slots, and have as long: 1 to 1,048,576 */
+    uint32_t collect_period; /* its collections come at each multiple of this, and have as long: 1 to 1,048,576 */
+    uint32_t work;           /* the most operations of a job: 1 to 64 */
+    uint32_t writes;         /* the most writes among these: 0 to `work` */
+};
+
+/* Whether mg_new takes a plan: with K tasks and fmax = alpha - 1 + K * (pages - alpha) + the sum of the caps, the die has
+ * more than fmax / pages + K blocks (rounded down), and, with `closed` for how many more, fewer than
+ * closed * (pages - alpha + 1) logical pages. The times of a plan that has them are within their limits, too; whether they fit
+ * is for mg_plan_test. The first that stands: NO_MEMORY, since the tasks are copied first; BAD_SHAPE; BAD_PLAN. */
+uint32_t mg_plan_bound(const struct mg_plan *plan, const struct mg_task *tasks, size_t count);
+
+/* The most slots that the tasks ask for in each `common` ones. */
+struct mg_load { uint64_t demand; uint32_t common; };
+
+/* Tests a plan with times: where it passes, nothing that it lets its tasks ask is refused or late. Refused as
+ * mg_plan_bound is; BAD_PLAN also where it has no times, or doesn't pass. */
+uint32_t mg_plan_test(const struct mg_plan *plan, const struct mg_task *tasks, size_t count, struct mg_load *load);
+
+/* ---- A die ------------------------------------------------------------------------------------------------------- */
+
+typedef struct mg_die { void *at; } mg_die;
+
+/* Makes a die at slot 0 in an empty handle. Its chip has to be erased: no page is programmed, no block is in erase.
+ * Refused as mg_plan_bound is, and with NO_MEMORY after that, too. The handle stays empty then. */
+uint32_t mg_new(mg_die *die, const struct mg_plan *plan, const struct mg_task *tasks, size_t count);
+
+/* Frees a die, and leaves its handle empty. Of an empty handle, or of none, it does nothing. */
+void mg_free(mg_die *die);
+
+struct mg_name { uint8_t bytes[16]; }; /* sixteen bytes 0xFF: a page that was never written, or was trimmed since */
+
+enum { MG_READ = 0, MG_WRITE = 1, MG_TRIM = 2 };
+struct mg_op {
+    uint32_t kind;          /* 0 to 2 */
+    uint32_t page;          /* a logical page */
+    struct mg_name name; /* what a write writes; not looked at else */
+};
+
+/* Accepts a job of 1 to 64 operations, done in order, one a slot, and reports its number: 0, 1, 2, .. in order of acceptance,
+ * jobs and collections counted together. `caller` is any number of yours, which the log keeps. A write takes a token of the
+ * task; collections give tokens.
+ *
+ * The first that stands: BAD_KIND, among the first 65 operations; DIE_STOPPED; BEGUN, where a slot has begun and `release`
+ * isn't above it; UNKNOWN_TASK; EMPTY_JOB; TOO_MANY_OPS; BAD_PAGE; RELEASE_PAST; BAD_DUE; JOBS_FULL; NO_TOKENS; NO_MEMORY.
+ *
+ * While a slot has begun, a job or collection whose release is above it is answered at once, by the log without that slot,
+ * and stands before it: as if what the slot waives were not waived yet. */
+uint32_t mg_submit(mg_die *die, uint32_t caller, uint32_t task, uint32_t release, uint32_t due,
+                      const struct mg_op *ops, size_t count, uint32_t *number, struct mg_why *why);
+
+/* Accepts a collection for the task, and reports its number: it copies what is valid out of the block that has the fewest
+ * valid pages, erases it, and gives the task up to `alpha` tokens. A collection that comes first while at least `alpha`
+ * pages are spare is waived: it does nothing, and gives its tokens.
+ *
+ * The first that stands: DIE_STOPPED; BEGUN, as for mg_submit; UNKNOWN_TASK; RELEASE_PAST; BAD_DUE; COLLECTOR_BUSY;
+ * JOBS_FULL; NO_MEMORY. */
+uint32_t mg_collect(mg_die *die, uint32_t caller, uint32_t task, uint32_t release, uint32_t due, uint32_t *number,
+                       struct mg_why *why);
+
+/* ---- Slots: begin, do the call, end ------------------------------------------------------------------------------ */
+
+enum { MG_CALL_NONE = 0, MG_CALL_READ = 1, MG_CALL_PROGRAM = 2, MG_CALL_ERASE = 3 };
+enum { MG_IDLE = 0, MG_DID_READ = 1, MG_DID_WRITE = 2, MG_DID_TRIM = 3, MG_COPY_READ = 4,
+       MG_COPY_PROGRAM = 5, MG_ERASE = 6 };
+
+#define MG_NO_PAGE UINT32_MAX
+
+/* What the device is to do, once:
+ *   MG_CALL_NONE     nothing
+ *   MG_CALL_READ     read the cell (block, page), whose payload has to have this name. For MG_COPY_READ keep it until the
+ *                       next call for the same collection, whichever that is: it programs the payload elsewhere; or, where
+ *                       the page was written or trimmed meanwhile, it reads another page or erases, and the payload isn't
+ *                       needed any more. Else it is a job's read
+ *   MG_CALL_PROGRAM  program the cell (block, page), the next free one of its block, with the payload of this name
+ *   MG_CALL_ERASE    do one slot of the erase of `block`; `last` is 1 in its last one, which frees the block's pages */
+struct mg_call {
+    uint32_t kind;          /* MG_CALL_.. */
+    uint32_t block, page;
+    uint32_t last;
+    uint32_t slot;          /* the slot that has begun */
+    uint32_t act, job;      /* for what (MG_IDLE ..), and for which job or collection; 0 where idle */
+    uint32_t logical;       /* the logical page that is read, written, trimmed or copied; MG_NO_PAGE in an erase and where idle */
+    struct mg_name name;
+};
+
+/* Begins the present slot, and reports the one call of the device that it needs. The first that stands: DIE_STOPPED; BEGUN;
+ * CLOCK_END; NO_MEMORY, never while slots are reserved: nothing has begun then. Every slot that has begun is to be ended. */
+uint32_t mg_begin(mg_die *die, uint32_t caller, struct mg_call *call);
+
+struct mg_reply {
+    uint32_t slot;
+    uint32_t act;           /* MG_IDLE .. */
+    uint32_t job;           /* who had the slot; 0 where idle */
+    uint32_t page;          /* the logical page, or the block that is erased */
+    uint32_t finished;      /* 1: it was the last slot of `job` */
+    uint32_t waived;        /* how many collections were waived, at most one a task */
+    struct mg_name name; /* what was read or written, by a job */
+};
+
+/* A collection that was waived, and how many tokens it gave its task. */
+struct mg_waived { uint32_t job, given; };
+
+/* Ends the slot that has begun. `ok` is 1 where the device did what it was asked, else the device has failed; it isn't looked at
+ * where nothing was asked (MG_CALL_NONE). `name` is that of what a read gave, and isn't looked at else.
+ * Reports what the slot did, and the collections that it waived.
+ *
+ * The first that stands: DIE_STOPPED; NOT_BEGUN; DEVICE_FAULT, where something was asked and `ok` isn't 1, or a read gave
+ * another name than the cell was programmed with. It never answers NO_MEMORY.
+ *
+ * After a DEVICE_FAULT the die is stopped for good. The slot that failed isn't in the log, nor is what it would have waived:
+ * every question is answered by the log before it. */
+uint32_t mg_end(mg_die *die, uint32_t ok, const struct mg_name *name, struct mg_reply *reply,
+                   struct mg_waived *waived, size_t count);
+
+/* Takes the memory for so many later slots: begin and end of these take no memory and are never refused for it. Each slot
+ * that is ended uses one of them up, and one that has begun is the first of them. It may be called at any time, within a slot
+ * and of a die that is stopped, too. NO_MEMORY. */
+uint32_t mg_reserve(mg_die *die, uint32_t slots);
+
+/* Starts the log anew at a moment at which all that was accepted is done or was waived: the present slot is 0 again, and
+ * jobs are numbered from 0. Pages, tokens, erases and reserved slots stay. It takes no memory. A die reaches 1,048,576 slots
+ * and 65,536 jobs and collections between two renewals.
+ *
+ * The first that stands: DIE_STOPPED; BEGUN; NOT_QUIET; WORN_OUT. */
+uint32_t mg_renew(mg_die *die, struct mg_why *why);
+
+/* ---- Shutting down and going on ----------------------------------------------------------------------------------- */
+
+/* Where a logical page lies: in this cell, or nowhere if `block` is MG_NOWHERE. */
+#define MG_NOWHERE UINT32_MAX
+struct mg_cell { uint32_t block, page; };
+
+/* How many pages of a block are programmed since its last erase, the first so many, and how often it was erased. */
+struct mg_block { uint32_t filled, erases; };
+
+/* Reports what stands at a moment at which all that was accepted is done or was waived, and leaves the die as it is: by logical
+ * page its cell, and its name, which is what was written to it last (sixteen bytes 0xFF where it lies nowhere); by block its
+ * counts; by task how many tokens it has; and the pages that are spare. Give places and names as many items as the plan
+ * has logical pages, blocks as it has blocks, balances as it has tasks: what is reported is whole then, and mg_resume takes it.
+ *
+ * The first that stands: DIE_STOPPED; BEGUN; NOT_QUIET; WORN_OUT; NO_MEMORY. */
+uint32_t mg_checkpoint(mg_die *die, struct mg_cell *places, size_t place_count, struct mg_name *names,
+                          size_t name_count, struct mg_block *blocks, size_t block_count, uint32_t *balances,
+                          size_t balance_count, uint32_t *spare, struct mg_why *why);
+
+/* Makes a die in an empty handle that goes on from a checkpoint, at slot 0 with an empty log, as mg_renew would have. The
+ * plan may be another one than before, if the checkpoint fits it: the same blocks, pages, logical pages and number of tasks.
+ * A page that lies nowhere, or that has no name here, is blank. What the chip has changed meanwhile is found: a read that gives
+ * another name than the one of its page here is a fault.
+ *
+ * The chip has to be as the checkpoint says: so many pages of each block are programmed, and no block is in erase. The die
+ * programs and erases as it goes on, and then the chip isn't as it was: so destroy a checkpoint before the first
+ * MG_CALL_PROGRAM or MG_CALL_ERASE of the die that goes on from it. From a spent one a die is made all the same, which gives old
+ * data as good. All that
+ * the arrays alone can show is tested. The first that stands: NO_MEMORY, which may come at any time; BAD_PLAN,
+ * where the plan's times are out of their limits; OTHER_SHAPE; BAD_PLAN else, for its shape, too;
+ * OVERFULL; SECOND_OPEN; WORN_OUT; UNPROGRAMMED; ABOVE_CAP; OTHER_SUM; SHARED_CELL. The handle stays empty then. */
+uint32_t mg_resume(mg_die *die, const struct mg_plan *plan, const struct mg_task *tasks, size_t count,
+                      const struct mg_cell *places, size_t place_count, const struct mg_name *names, size_t name_count,
+                      const struct mg_block *blocks, size_t block_count, const uint32_t *balances, size_t balance_count,
+                      uint32_t spare, struct mg_why *why);
+
+/* ---- Questions ----------------------------------------------------------------------------------------------------
+ *
+ * They may be asked while a slot has begun, too: that slot is not in the log before it has ended. A die that is stopped
+ * answers them. */
+
+uint32_t mg_now(const mg_die *die);     /* the present slot: how many were carried out */
+uint64_t mg_len(const mg_die *die);     /* the entries of the log: jobs and collections accepted, and slots */
+uint64_t mg_records(const mg_die *die); /* the records that these take in memory: runs of alike entries */
+
+struct mg_job_head { uint32_t collects, task, release, due; }; /* collects is 1 for a collection */
+/* What it was accepted with. UNKNOWN_JOB. */
+uint32_t mg_job(const mg_die *die, uint32_t number, struct mg_job_head *job);
+
+enum { MG_WAITING = 0, MG_DONE = 1, MG_WAIVED = 2 };
+struct mg_job_outcome {
+    int64_t lateness;    /* completion - due, negative where it was early; 0 where it isn't done */
+    uint32_t state;      /* MG_WAITING .. */
+    uint32_t completion; /* 1 + its last slot; 0 where it isn't done */
+    uint32_t given;      /* tokens that a collection gave its task, done or waived */
+    uint32_t reads;      /* how many reads a job that is done had */
+};
+/* What became of a job or collection, and the names that its reads gave, in order. UNKNOWN_JOB; NO_MEMORY. */
+uint32_t mg_outcome(const mg_die *die, uint32_t job, struct mg_job_outcome *outcome, struct mg_name *reads, size_t count);
+
+struct mg_worst_job { int64_t lateness; uint32_t job; };
+/* The done job or collection with the greatest lateness, of equal ones the one completed first. NOTHING_DONE. */
+uint32_t mg_worst(const mg_die *die, struct mg_worst_job *worst);
+
+/* `jobs` jobs fill the slots from `start` to `completion`; none was released before `start`, none is due after `due`. So in
+ * every schedule of them one is at least `completion - due` late. */
+struct mg_cert { uint32_t job, start, due, completion, jobs; };
+/* The certificate of the worst job or collection, and the numbers of its jobs, rising. NOTHING_DONE; NO_MEMORY. */
+uint32_t mg_certificate(const mg_die *die, struct mg_cert *certificate, uint32_t *jobs, size_t count);
+
+struct mg_row {
+    uint32_t number, release, due;
+    uint32_t work;       /* how many slots carried it so far */
+    uint32_t done;       /* 1 where it is done; a row that you give: anything but 0 */
+    uint32_t completion; /* 1 + its last slot, where it is done; 0 else */
+};
+/* The rows of all jobs and collections but the waived ones, by number; *total gets how many they are. NO_MEMORY. */
+uint32_t mg_rows(const mg_die *die, struct mg_row *rows, size_t count, uint32_t *total);
+
+/* Takes a piece of a report, which has no 0 at its end: 0, or anything else where it can't. */
+typedef int (*mg_put)(void *to, const char *text, size_t size);
+
+/* The report of some dies, numbered from 0 by their places, as `flashrec audit` reads it: what was accepted, what became of it,
+ * and the certificate of each die, as CSV. It is put out in pieces of up to 1,024 bytes; where it is refused, the pieces so far are
+ * no report. A die of which it tells may be asked meanwhile, and nothing else. EMPTY_HANDLE, NO_MEMORY; NOT_TAKEN, where a piece
+ * wasn't taken, after which none is put out. */
+uint32_t mg_report(const mg_die *const *dies, size_t count, mg_put put, void *to);
+
+/* ---- For auditors, without a die --------------------------------------------------------------------------------- */
+
+/* Whether a certificate over jobs[0..count) holds for the rows: MG_OK, or its first fault, 201 to 207.
+ * ROWS_NOT_RISING where a row's number isn't above the one before; NO_MEMORY. `certificate->jobs` and `->job` aren't
+ * looked at. */
+uint32_t mg_check(const struct mg_row *rows, size_t row_count, const struct mg_cert *certificate,
+                     const uint32_t *jobs, size_t count);
+
+#ifdef __cplusplus
+}
+#endif
+#endif

@@ -1,0 +1,39 @@
+/* What crates/flash_c exports, under the names that it has there. edge.c alone calls it: it sees to what these take for
+ * granted, that no pointer is null, and that a handle is full, or empty for flash_new and flash_resume. */
+#ifndef PROVED_H
+#define PROVED_H
+#include "maulgreen.h"
+
+uint32_t flash_version(void);
+uint32_t flash_refusal_name(uint32_t refusal, uint8_t *text, size_t count);
+uint32_t flash_plan_bound(const struct mg_plan *plan, const struct mg_task *tasks, size_t count);
+uint32_t flash_plan_test(const struct mg_plan *plan, const struct mg_task *tasks, size_t count, struct mg_load *load);
+uint32_t flash_new(mg_die *die, const struct mg_plan *plan, const struct mg_task *tasks, size_t count);
+void flash_free(mg_die *die);
+uint32_t flash_submit(mg_die *die, uint32_t caller, uint32_t task, uint32_t release, uint32_t due, const struct mg_op *ops,
+                      size_t count, uint32_t *number, struct mg_why *why);
+uint32_t flash_collect(mg_die *die, uint32_t caller, uint32_t task, uint32_t release, uint32_t due, uint32_t *number,
+                       struct mg_why *why);
+uint32_t flash_begin(mg_die *die, uint32_t caller, struct mg_call *call);
+uint32_t flash_end(mg_die *die, uint32_t ok, const struct mg_name *name, struct mg_reply *reply, struct mg_waived *waived,
+                   size_t count);
+uint32_t flash_reserve(mg_die *die, uint32_t slots);
+uint32_t flash_renew(mg_die *die, struct mg_why *why);
+uint32_t flash_checkpoint(mg_die *die, struct mg_cell *places, size_t place_count, struct mg_name *names, size_t name_count,
+                          struct mg_block *blocks, size_t block_count, uint32_t *balances, size_t balance_count,
+                          uint32_t *spare, struct mg_why *why);
+uint32_t flash_resume(mg_die *die, const struct mg_plan *plan, const struct mg_task *tasks, size_t count,
+                      const struct mg_cell *places, size_t place_count, const struct mg_name *names, size_t name_count,
+                      const struct mg_block *blocks, size_t block_count, const uint32_t *balances, size_t balance_count,
+                      uint32_t spare, struct mg_why *why);
+uint32_t flash_now(mg_die *die);
+uint64_t flash_len(mg_die *die);
+uint64_t flash_records(mg_die *die);
+uint32_t flash_job(mg_die *die, uint32_t number, struct mg_job_head *job);
+uint32_t flash_outcome(mg_die *die, uint32_t job, struct mg_job_outcome *outcome, struct mg_name *reads, size_t count);
+uint32_t flash_worst(mg_die *die, struct mg_worst_job *worst);
+uint32_t flash_certificate(mg_die *die, struct mg_cert *certificate, uint32_t *jobs, size_t count);
+uint32_t flash_rows(mg_die *die, struct mg_row *rows, size_t count, uint32_t *total);
+uint32_t flash_check(const struct mg_row *rows, size_t row_count, const struct mg_cert *certificate, const uint32_t *jobs,
+                     size_t count);
+#endif

@@ -1,0 +1,285 @@
+// A die of a proved flash translation layer with deadlines, for C++17: maulgreen.h with types that see to its rules.
+//
+// A `maulgreen::die` moves and isn't copied, and frees its die. A `maulgreen::slot` is a slot that has begun: it is ended by `end`,
+// or, where it is destroyed first, as a fault, which stops the die if the device was to do something. What is refused is thrown as a
+// `maulgreen::refusal`. maulgreen.h says what each call does.
+#ifndef MAULGREEN_HPP
+#define MAULGREEN_HPP
+#include "maulgreen.h"
+#include "maulgreen_layout.h"
+
+#include <algorithm>
+#include <array>
+#include <cstdint>
+#include <exception>
+#include <stdexcept>
+#include <utility>
+#include <vector>
+
+inline bool operator==(const mg_name &a, const mg_name &b) { return std::equal(a.bytes, a.bytes + 16, b.bytes); }
+
+namespace maulgreen {
+
+using name = ::mg_name;
+using plan = ::mg_plan;
+using task = ::mg_task;
+using op = ::mg_op;
+using call = ::mg_call;
+using row = ::mg_row;
+using job_head = struct ::mg_job_head;
+using worst_job = struct ::mg_worst_job;
+
+// Why a call is refused: its number of maulgreen.h, and the numbers that it has.
+class refusal : public std::exception {
+public:
+    explicit refusal(std::uint32_t code, ::mg_why why = {0, 0}) : code(code), why(why) {
+        ::mg_refusal_name(code, name_.data(), name_.size());
+    }
+    const char *what() const noexcept override { return name_.data(); }      // "NoTokens"
+    const char *text() const noexcept { return ::mg_refusal_text(code); } // what that means, in a line
+
+    const std::uint32_t code;
+    const ::mg_why why;
+
+private:
+    std::array<char, 16> name_{};
+};
+
+inline void must(std::uint32_t code, const ::mg_why &why = {0, 0}) {
+    if (code != MG_OK) throw refusal(code, why);
+}
+
+inline op read(std::uint32_t page) { return {MG_READ, page, {}}; }
+inline op write(std::uint32_t page, const name &what) { return {MG_WRITE, page, what}; }
+inline op trim(std::uint32_t page) { return {MG_TRIM, page, {}}; }
+
+// A slot's reply, with the collections that it waived.
+struct reply : ::mg_reply {
+    std::vector<::mg_waived> waived_ones;
+};
+
+// What became of a job or a collection, with what its reads gave.
+struct outcome : ::mg_job_outcome {
+    std::vector<name> read_names;
+};
+
+// A certificate, with the numbers of its jobs.
+struct certificate : ::mg_cert {
+    std::vector<std::uint32_t> listed;
+};
+
+// What stands on a die at a moment at which all is done or was waived: by logical page its cell and its name, by block its
+// counts, by task how many tokens it has, and the pages that are spare.
+struct checkpoint {
+    std::vector<::mg_cell> places;
+    std::vector<name> names;
+    std::vector<::mg_block> blocks;
+    std::vector<std::uint32_t> balances;
+    std::uint32_t spare = 0;
+};
+
+// Whether the library has what this header says: see MG_FITS. A die isn't made with another one.
+inline bool fits() noexcept { return MG_FITS(::mg_version()); }
+
+// Whether maulgreen::die takes the plan, and, of a plan with times, what it asks for.
+inline void bound(const plan &p, const std::vector<task> &tasks) { must(::mg_plan_bound(&p, tasks.data(), tasks.size())); }
+inline ::mg_load plan_test(const plan &p, const std::vector<task> &tasks) {
+    ::mg_load load{};
+    must(::mg_plan_test(&p, tasks.data(), tasks.size(), &load));
+    return load;
+}
+
+// MG_OK where the certificate holds for the rows, else its first flaw.
+inline std::uint32_t check(const std::vector<row> &rows, const certificate &c) {
+    return ::mg_check(rows.data(), rows.size(), &c, c.listed.data(), c.listed.size());
+}
+
+class die;
+
+// A slot that has begun. The die may be asked meanwhile, and jobs may arrive.
+class slot {
+public:
+    slot(const slot &) = delete;
+    slot &operator=(const slot &) = delete;
+    slot(slot &&other) noexcept : handle_(std::exchange(other.handle_, nullptr)), call_(other.call_) {}
+    slot &operator=(slot &&) = delete;
+    ~slot() {
+        if (handle_) {
+            ::mg_reply said;
+            ::mg_waived waived;
+            name blank{};
+            ::mg_end(handle_, 0, &blank, &said, &waived, 1);
+        }
+    }
+
+    // What the device is to do.
+    const maulgreen::call &call() const { return call_; }
+
+    // Ends it: whether the device did that, and the name of what a read gave. NOT_BEGUN where it was ended or moved from.
+    reply end(bool ok, const name &gave = {}) {
+        if (!handle_) throw refusal(MG_NOT_BEGUN);
+        reply said{};
+        std::array<::mg_waived, 16> waived{};
+        must(::mg_end(std::exchange(handle_, nullptr), ok ? 1 : 0, &gave, &said, waived.data(), waived.size()));
+        said.waived_ones.assign(waived.begin(), waived.begin() + said.waived);
+        return said;
+    }
+
+private:
+    friend class die;
+    slot(::mg_die *handle, const maulgreen::call &c) : handle_(handle), call_(c) {}
+    ::mg_die *handle_;
+    maulgreen::call call_;
+};
+
+// One die. As with the containers of the standard library, members that are `const` may run beside each other, and any other
+// beside nothing else of the same die, the end of its slot neither: that is for the program to see to. It may be made on one
+// thread and used on another. Each call of a die that was moved from is refused with MG_EMPTY_HANDLE, or answers 0.
+class die {
+public:
+    die(const plan &p, const std::vector<task> &tasks) {
+        must_fit();
+        auto made = new ::mg_die{nullptr};
+        std::uint32_t code = ::mg_new(made, &p, tasks.data(), tasks.size());
+        if (code != MG_OK) {
+            delete made;
+            throw refusal(code);
+        }
+        handle_ = made;
+        size_ = p;
+        tasks_ = tasks.size();
+    }
+
+    // A die that goes on from a checkpoint. The chip has to be as that says.
+    die(const plan &p, const std::vector<task> &tasks, const checkpoint &c) {
+        must_fit();
+        auto made = new ::mg_die{nullptr};
+        ::mg_why why{0, 0};
+        std::uint32_t code = ::mg_resume(made, &p, tasks.data(), tasks.size(), c.places.data(), c.places.size(),
+                                            c.names.data(), c.names.size(), c.blocks.data(), c.blocks.size(),
+                                            c.balances.data(), c.balances.size(), c.spare, &why);
+        if (code != MG_OK) {
+            delete made;
+            throw refusal(code, why);
+        }
+        handle_ = made;
+        size_ = p;
+        tasks_ = tasks.size();
+    }
+    die(const die &) = delete;
+    die &operator=(const die &) = delete;
+    die(die &&other) noexcept : handle_(std::exchange(other.handle_, nullptr)), size_(other.size_), tasks_(other.tasks_) {}
+    die &operator=(die &&other) noexcept {
+        std::swap(handle_, other.handle_);
+        std::swap(size_, other.size_);
+        std::swap(tasks_, other.tasks_);
+        return *this;
+    }
+    ~die() {
+        if (handle_) {
+            ::mg_free(handle_);
+            delete handle_;
+        }
+    }
+
+    std::uint32_t submit(std::uint32_t caller, std::uint32_t task, std::uint32_t release, std::uint32_t due, const std::vector<op> &ops) {
+        std::uint32_t number = 0;
+        ::mg_why why{0, 0};
+        must(::mg_submit(handle_, caller, task, release, due, ops.data(), ops.size(), &number, &why), why);
+        return number;
+    }
+
+    std::uint32_t collect(std::uint32_t caller, std::uint32_t task, std::uint32_t release, std::uint32_t due) {
+        std::uint32_t number = 0;
+        ::mg_why why{0, 0};
+        must(::mg_collect(handle_, caller, task, release, due, &number, &why), why);
+        return number;
+    }
+
+    // The slot may not outlive the die, but the die may be moved meanwhile.
+    slot begin(std::uint32_t caller) {
+        maulgreen::call said{};
+        must(::mg_begin(handle_, caller, &said));
+        return slot(handle_, said);
+    }
+
+    void reserve(std::uint32_t slots) { must(::mg_reserve(handle_, slots)); }
+
+    void renew() {
+        ::mg_why why{0, 0};
+        must(::mg_renew(handle_, &why), why);
+    }
+
+    // What stands, with the names of the pages. The die stays as it is.
+    maulgreen::checkpoint checkpoint() {
+        maulgreen::checkpoint said;
+        said.places.resize(size_.logical);
+        said.names.resize(size_.logical);
+        said.blocks.resize(size_.blocks);
+        said.balances.resize(tasks_);
+        ::mg_why why{0, 0};
+        must(::mg_checkpoint(handle_, said.places.data(), said.places.size(), said.names.data(), said.names.size(),
+                                said.blocks.data(), said.blocks.size(), said.balances.data(), said.balances.size(),
+                                &said.spare, &why),
+             why);
+        return said;
+    }
+
+    std::uint32_t now() const { return ::mg_now(handle_); }
+    std::uint64_t entries() const { return ::mg_len(handle_); }
+    std::uint64_t records() const { return ::mg_records(handle_); }
+
+    job_head job(std::uint32_t number) const {
+        job_head said{};
+        must(::mg_job(handle_, number, &said));
+        return said;
+    }
+
+    maulgreen::outcome outcome(std::uint32_t job) const {
+        maulgreen::outcome said{};
+        std::array<name, 64> reads{};
+        must(::mg_outcome(handle_, job, &said, reads.data(), reads.size()));
+        said.read_names.assign(reads.begin(), reads.begin() + said.reads);
+        return said;
+    }
+
+    worst_job worst() const {
+        worst_job said{};
+        must(::mg_worst(handle_, &said));
+        return said;
+    }
+
+    maulgreen::certificate certificate() const {
+        maulgreen::certificate said{};
+        for (said.listed.resize(64);; said.listed.resize(said.jobs)) {
+            must(::mg_certificate(handle_, &said, said.listed.data(), said.listed.size()));
+            if (said.jobs <= said.listed.size()) break;
+        }
+        said.listed.resize(said.jobs);
+        return said;
+    }
+
+    std::vector<row> rows() const {
+        std::vector<row> said(64);
+        std::uint32_t total = 0;
+        for (;; said.resize(total)) {
+            must(::mg_rows(handle_, said.data(), said.size(), &total));
+            if (total <= said.size()) break;
+        }
+        said.resize(total);
+        return said;
+    }
+
+private:
+    static void must_fit() {
+        if (!fits()) throw std::runtime_error("another version of libmaulgreen");
+    }
+
+    // On the heap, so that a die moves while one of its slots has begun, and so that a handle is never copied.
+    ::mg_die *handle_ = nullptr;
+    plan size_{};
+    std::size_t tasks_ = 0;
+};
+
+} // namespace maulgreen
+#endif

@@ -1,0 +1,389 @@
+"""A die of a proved flash translation layer with deadlines, over libmaulgreen.so, which bindings/c/Makefile makes.
+
+Standard library only. maulgreen.h says what each call does, and what refuses it; a refusal is raised as Refusal. A number that is
+none of 32 bits, a name that hasn't 16 bytes, or an operation of another shape is a ValueError, and nothing was called then.
+
+The calls of one die wait for each other, so threads may share it; a slot that one thread began may be ended by another.
+"""
+from __future__ import annotations
+
+import ctypes as c
+import os
+import threading
+from typing import Callable, Iterable, List, NamedTuple, Optional, Sequence, Tuple, Union
+
+BLANK = b"\xff" * 16  # the name of a page that was never written, or was trimmed since
+READ, WRITE, TRIM = 0, 1, 2
+NOTHING, READ_CELL, PROGRAM_CELL, ERASE_SLOT = 0, 1, 2, 3
+IDLE, DID_READ, DID_WRITE, DID_TRIM, COPY_READ, COPY_PROGRAM, ERASE = range(7)
+WAITING, DONE, WAIVED = 0, 1, 2
+
+U32, U64, I64 = c.c_uint32, c.c_uint64, c.c_int64
+_Name = c.c_uint8 * 16
+
+
+def _struct(name, words, more=()):
+    return type(name, (c.Structure,), {"_fields_": list(more) + [(word, U32) for word in words.split()]})
+
+
+def _named(name, words):
+    return type(name, (c.Structure,), {"_fields_": [(word, U32) for word in words.split()] + [("name", _Name)]})
+
+
+_Handle = type("_Handle", (c.Structure,), {"_fields_": [("at", c.c_void_p)]})
+_Plan = _struct("_Plan", "blocks pages erase_slots logical alpha common")
+_Task = _struct("_Task", "cap period collect_period work writes")
+_Load = _struct("_Load", "common", [("demand", U64)])
+_Why = _struct("_Why", "first second")
+_Op = _named("_Op", "kind page")
+_Call = _named("_Call", "kind block page last slot act job logical")
+_Reply = _named("_Reply", "slot act job page finished waived")
+_Waived = _struct("_Waived", "job given")
+_Job = _struct("_Job", "collects task release due")
+_Outcome = _struct("_Outcome", "state completion given reads", [("lateness", I64)])
+_Worst = _struct("_Worst", "job", [("lateness", I64)])
+_Certificate = _struct("_Certificate", "job start due completion jobs")
+_Row = _struct("_Row", "number release due work done completion")
+_Place = _struct("_Place", "block page")
+_Block = _struct("_Block", "filled erases")
+_NOWHERE = _NO_PAGE = 0xFFFFFFFF
+
+
+
+class Plan(NamedTuple):
+    """What a die has; `common` is a multiple of all periods, or 0 where the tasks have no times."""
+    blocks: int
+    pages: int
+    erase_slots: int
+    logical: int
+    alpha: int
+    common: int = 0
+
+
+class Task(NamedTuple):
+    """The most free pages that a task may own tokens for, and its times."""
+    cap: int
+    period: int = 0
+    collect_period: int = 0
+    work: int = 0
+    writes: int = 0
+
+
+class Load(NamedTuple):
+    demand: int
+    common: int
+
+
+class Call(NamedTuple):
+    """What the device is to do, and for whom. `logical` is the page that is read, written, trimmed or copied, or None."""
+    kind: int
+    block: int
+    page: int
+    last: bool
+    slot: int
+    act: int
+    job: int
+    logical: Optional[int]
+    name: bytes
+
+
+class Waived(NamedTuple):
+    job: int
+    given: int
+
+
+class Reply(NamedTuple):
+    """What a slot did. `page` is the logical page, or the block that is erased."""
+    slot: int
+    act: int
+    job: int
+    page: int
+    finished: bool
+    waived: List[Waived]
+    name: bytes
+
+
+class Job(NamedTuple):
+    collects: bool
+    task: int
+    release: int
+    due: int
+
+
+class Outcome(NamedTuple):
+    state: int
+    completion: int
+    lateness: int
+    given: int
+    reads: List[bytes]
+
+
+class Worst(NamedTuple):
+    job: int
+    lateness: int
+
+
+class Certificate(NamedTuple):
+    job: int
+    start: int
+    due: int
+    completion: int
+    jobs: List[int]
+
+
+class Row(NamedTuple):
+    """`completion` is None where it isn't done."""
+    number: int
+    release: int
+    due: int
+    work: int
+    completion: Optional[int]
+
+
+class Block(NamedTuple):
+    filled: int
+    erases: int
+
+
+class Checkpoint(NamedTuple):
+    """By logical page its cell, (block, page) or None, and its name; by block its counts; by task its tokens; the spare pages."""
+    places: Sequence[Optional[Tuple[int, int]]]
+    names: Sequence[bytes]
+    blocks: Sequence[Tuple[int, int]]
+    balances: Sequence[int]
+    spare: int
+
+
+Op = Union[Tuple[int, int], Tuple[int, int, bytes]]
+
+_HERE = os.path.dirname(os.path.abspath(__file__))
+
+
+def _library() -> str:
+    """MAULGREEN_LIB; else the one that a wheel has beside this file; else that of bindings/c."""
+    beside = os.path.join(_HERE, "libmaulgreen.so")
+    return os.environ.get("MAULGREEN_LIB") or (beside if os.path.exists(beside) else os.path.join(_HERE, "../c/out/libmaulgreen.so"))
+
+
+_lib = c.CDLL(_library())
+for _word in ("version refusal_name plan_bound plan_test new submit collect begin end reserve renew now job outcome worst "
+              "certificate rows check checkpoint resume").split():
+    getattr(_lib, "mg_" + _word).restype = U32
+_lib.mg_len.restype = _lib.mg_records.restype = U64
+_lib.mg_free.restype = None
+_lib.mg_refusal_text.restype = c.c_char_p
+# Another major number has other calls; a lower minor one lacks some of these.
+if _lib.mg_version() >> 16 != 1:
+    raise ImportError("another version of libmaulgreen.so")
+
+
+class Refusal(Exception):
+    """Why a call is refused: its number of maulgreen.h, its name, what it means, and the numbers that it has."""
+
+    def __init__(self, code, why=None):
+        text = c.create_string_buffer(16)
+        _lib.mg_refusal_name(U32(code), text, c.c_size_t(16))
+        self.code, self.name, self.text = code, text.value.decode(), _lib.mg_refusal_text(U32(code)).decode()
+        self.first, self.second = (why.first, why.second) if why else (0, 0)
+        super().__init__(f"{self.name} {self.first} {self.second}" if why else self.name)
+
+
+def _must(code, why=None):
+    if code:
+        raise Refusal(code, why)
+
+
+def _u32(number) -> int:
+    """A number of 32 bits: ctypes would take any other one by its last 32 bits."""
+    if isinstance(number, bool) or not isinstance(number, int) or not 0 <= number < 2**32:
+        raise ValueError(f"{number!r} is no number from 0 to 4,294,967,295")
+    return number
+
+
+def _name(name) -> c.Array:
+    if not isinstance(name, (bytes, bytearray, memoryview)) or len(name) != 16:
+        raise ValueError(f"{name!r} has not 16 bytes")
+    return _Name(*bytes(name))
+
+
+def _op(op) -> _Op:
+    kind, page, *names = op
+    if len(names) > (kind == WRITE) or (kind == WRITE and not names):
+        raise ValueError(f"{op!r} is neither (READ, page), nor (WRITE, page, name), nor (TRIM, page)")
+    return _Op(_u32(kind), _u32(page), _name(names[0] if names else BLANK))
+
+
+def _list(kind, items):
+    """An array of C, and how many items it has."""
+    items = list(items)
+    return (kind * len(items))(*items), c.c_size_t(len(items))
+
+
+def _numbers(kind, numbers):
+    return kind(*map(_u32, numbers))
+
+
+def _plan(plan, tasks):
+    tasks, count = _list(_Task, (_numbers(_Task, Task(*task)) for task in tasks))
+    return c.byref(_numbers(_Plan, Plan(*plan))), tasks, count
+
+
+def bound(plan: Plan, tasks: Iterable[Task]) -> None:
+    """Raises where Die doesn't take the plan."""
+    _must(_lib.mg_plan_bound(*_plan(plan, tasks)))
+
+
+def plan_test(plan: Plan, tasks: Iterable[Task]) -> Load:
+    """The load of a plan with times; raises where it doesn't pass."""
+    load = _Load()
+    _must(_lib.mg_plan_test(*_plan(plan, tasks), c.byref(load)))
+    return Load(load.demand, load.common)
+
+
+def check(rows: Iterable[Row], certificate: Certificate) -> None:
+    """Raises what is wrong with a certificate first, or that the rows don't rise."""
+    rows, row_count = _list(_Row, (_numbers(
+        _Row, (r.number, r.release, r.due, r.work, int(r.completion is not None), r.completion or 0)) for r in rows))
+    jobs, count = _list(U32, map(_u32, certificate.jobs))
+    given = _numbers(_Certificate, (certificate.job, certificate.start, certificate.due, certificate.completion, 0))
+    _must(_lib.mg_check(rows, row_count, c.byref(given), jobs, count))
+
+
+class Die:
+    """One die; `with` frees it. Calls of several threads wait for each other."""
+
+    def __init__(self, plan: Plan, tasks: Iterable[Task], checkpoint: Optional[Checkpoint] = None):
+        """A die over a chip that is erased; with a checkpoint one that goes on from there, over a chip that is as that says."""
+        self._at = None
+        self._lock = threading.RLock()
+        tasks = list(tasks)
+        self._shape = Plan(*plan), len(tasks)
+        handle = _Handle()
+        if checkpoint is None:
+            _must(_lib.mg_new(c.byref(handle), *_plan(plan, tasks)))
+        else:
+            why = _Why()
+            _must(_lib.mg_resume(
+                c.byref(handle), *_plan(plan, tasks), *_list(_Place, (_numbers(_Place, at or (_NOWHERE, 0)) for at in checkpoint.places)),
+                *_list(_Name, map(_name, checkpoint.names)), *_list(_Block, (_numbers(_Block, b) for b in checkpoint.blocks)),
+                *_list(U32, map(_u32, checkpoint.balances)), U32(_u32(checkpoint.spare)), c.byref(why)), why)
+        self._at = handle
+
+    def __enter__(self):
+        return self
+
+    def __exit__(self, *_):
+        self.close()
+
+    def __del__(self):
+        self.close()
+
+    def close(self) -> None:
+        if self._at is not None:
+            with self._lock:
+                _lib.mg_free(c.byref(self._at))
+                self._at = None
+
+    def __copy__(self):
+        raise TypeError("a die isn't copied")
+
+    def __deepcopy__(self, _):
+        raise TypeError("a die isn't copied")
+
+    def _call(self, function: str, *words) -> int:
+        """A call of the library, while no other call of this die runs: ctypes lets other threads run meanwhile."""
+        with self._lock:
+            if self._at is None:
+                raise ValueError("the die was freed")
+            return getattr(_lib, "mg_" + function)(c.byref(self._at), *words)
+
+    def submit(self, task: int, release: int, due: int, ops: Iterable[Op], caller: int = 0) -> int:
+        """Accepts a job of (READ, page), (WRITE, page, name) and (TRIM, page), and answers its number."""
+        ops, count = _list(_Op, map(_op, ops))
+        number, why = U32(), _Why()
+        _must(self._call("submit", U32(_u32(caller)), U32(_u32(task)), U32(_u32(release)), U32(_u32(due)), ops, count, c.byref(number),
+                                c.byref(why)), why)
+        return number.value
+
+    def collect(self, task: int, release: int, due: int, caller: int = 0) -> int:
+        number, why = U32(), _Why()
+        _must(self._call("collect", U32(_u32(caller)), U32(_u32(task)), U32(_u32(release)), U32(_u32(due)), c.byref(number), c.byref(why)), why)
+        return number.value
+
+    def begin(self, caller: int = 0) -> Call:
+        """Begins the present slot, and reports what the device is to do."""
+        call = _Call()
+        _must(self._call("begin", U32(_u32(caller)), c.byref(call)))
+        return Call(call.kind, call.block, call.page, call.last == 1, call.slot, call.act, call.job,
+                    None if call.logical == _NO_PAGE else call.logical, bytes(call.name))
+
+    def end(self, ok: bool, name: bytes = BLANK) -> Reply:
+        """Ends the slot that has begun: whether the device did it, and the name of what a read gave."""
+        said, waived = _Reply(), (_Waived * 16)()
+        _must(self._call("end", U32(1 if ok else 0), c.byref(_name(name)), c.byref(said), waived, c.c_size_t(16)))
+        return Reply(said.slot, said.act, said.job, said.page, said.finished == 1,
+                     [Waived(w.job, w.given) for w in waived[:said.waived]], bytes(said.name))
+
+    def slot(self, drive: Callable[[Call], Tuple[bool, bytes]], caller: int = 0) -> Reply:
+        """One slot. drive(call) does what is asked on the device, and answers (ok, name). Where it raises, the slot is a fault."""
+        call = self.begin(caller)
+        try:
+            ok, name = drive(call)
+        except BaseException:
+            try:
+                self.end(False)
+            except Refusal:
+                pass
+            raise
+        return self.end(ok, name)
+
+    def reserve(self, slots: int) -> None:
+        _must(self._call("reserve", U32(_u32(slots))))
+
+    def renew(self) -> None:
+        why = _Why()
+        _must(self._call("renew", c.byref(why)), why)
+
+    def checkpoint(self) -> Checkpoint:
+        """What stands at a moment at which all is done or was waived, with the names of the pages."""
+        plan, count = self._shape
+        places, names, blocks = (_Place * plan.logical)(), (_Name * plan.logical)(), (_Block * plan.blocks)()
+        balances, spare, why = (U32 * count)(), U32(), _Why()
+        _must(self._call("checkpoint", places, c.c_size_t(plan.logical), names, c.c_size_t(plan.logical), blocks,
+                                    c.c_size_t(plan.blocks), balances, c.c_size_t(count), c.byref(spare), c.byref(why)), why)
+        return Checkpoint([None if p.block == _NOWHERE else (p.block, p.page) for p in places], [bytes(n) for n in names],
+                          [Block(b.filled, b.erases) for b in blocks], list(balances), spare.value)
+
+    def now(self) -> int:
+        return self._call("now")
+
+    def __len__(self) -> int:
+        return self._call("len")
+
+    def records(self) -> int:
+        return self._call("records")
+
+    def job(self, number: int) -> Job:
+        job = _Job()
+        _must(self._call("job", U32(_u32(number)), c.byref(job)))
+        return Job(job.collects == 1, job.task, job.release, job.due)
+
+    def outcome(self, job: int) -> Outcome:
+        said, reads = _Outcome(), (_Name * 64)()
+        _must(self._call("outcome", U32(_u32(job)), c.byref(said), reads, c.c_size_t(64)))
+        return Outcome(said.state, said.completion, said.lateness, said.given, [bytes(r) for r in reads[:said.reads]])
+
+    def worst(self) -> Worst:
+        worst = _Worst()
+        _must(self._call("worst", c.byref(worst)))
+        return Worst(worst.job, worst.lateness)
+
+    def certificate(self) -> Certificate:
+        said, jobs = _Certificate(), (U32 * 65536)()
+        _must(self._call("certificate", c.byref(said), jobs, c.c_size_t(65536)))
+        return Certificate(said.job, said.start, said.due, said.completion, jobs[:said.jobs])
+
+    def rows(self) -> List[Row]:
+        rows, total = (_Row * 65536)(), U32()
+        _must(self._call("rows", rows, c.c_size_t(65536), c.byref(total)))
+        return [Row(r.number, r.release, r.due, r.work, r.completion if r.done else None) for r in rows[:total.value]]
