@@ -35,3 +35,4 @@ pub mod BusyIntervals
 pub mod Planning
 pub mod Accepting
 pub mod Fitting
+pub mod FirstOverdue

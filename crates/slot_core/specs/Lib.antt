@@ -22,3 +22,4 @@ pub mod NextSlot
 pub mod NextHeadSteps
 pub mod HeadSlots
 pub mod Entering
+pub mod Overdues

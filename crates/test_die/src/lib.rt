@@ -1,7 +1,7 @@
 //! Tables of one die, for what needs a value of its own: what one die answers to calls alone is a text of
 //! `test_die_plays`.
 //!
-//! `steps` has the words of a test, `plans` the dies on which tests are played, and `collections` a test. A test fails
+//! `steps` has the words of a test, `plans` the dies on which tests are played, and `collections` and `overdue_work` tests. A test fails
 //! as `said` says and `failed` shows. `played` carries a step out, and `dies` a table on a new die.
 #![tactic(auto)]
 
@@ -19,6 +19,8 @@ mod failed;
 mod memory;
 #[cfg(test)]
 mod outcomes;
+#[cfg(test)]
+mod overdue_work;
 #[cfg(test)]
 mod pages;
 #[cfg(test)]

@@ -9,7 +9,7 @@ use crate::slotted::{acts, carries, waives};
 use crate::steps::{Fact, Step};
 use flash_die::Nand;
 use late_cert::Verdict;
-use slot_core::DieCore;
+use slot_core::{DieCore, Overdue};
 use slot_types::{JobNo, Refusal};
 use std::alloc::Global;
 use std::process::Abort;
@@ -97,6 +97,15 @@ fn goes<N: Nand, R: Abort>(said: &Reported<R>, die: &mut DieCore<N>, alloc: Glob
         Step::Acts { job, acts: wanted } => acts(said, die, alloc, *job, *wanted),
         Step::Waives { collection, given } => waives(said, die, alloc, *collection, *given),
         Step::NoSlot { want } => said.same(&carry(said.memory, die, alloc), &Err(*want)),
+        Step::Waits { job, due, late_by } => {
+            let want = Overdue {
+                job: JobNo(*job),
+                due: *due,
+                late_by: *late_by,
+            };
+            said.same(&die.overdue(), &Some(want))
+        }
+        Step::NothingWaits => said.same(&die.overdue(), &None),
         Step::Is(fact) => stands(said, die, alloc, fact),
     }
 }

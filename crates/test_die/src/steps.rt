@@ -46,6 +46,14 @@ pub(crate) enum Step<'a> {
     NoSlot {
         want: Refusal,
     },
+    /// Of what is overdue this is the first, and it will be late by so many slots at least.
+    Waits {
+        job: u32,
+        due: u32,
+        late_by: u64,
+    },
+    /// Nothing is overdue.
+    NothingWaits,
     /// This stands of the die.
     Is(Fact<'a>),
 }
