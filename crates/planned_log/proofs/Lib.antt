@@ -1,0 +1,8 @@
+mod Counts
+mod Lefts
+mod Asking
+mod Steps
+mod Kept
+mod Served
+mod Moving
+mod Answered
