@@ -1,25 +1,23 @@
 -- What a task is answered tells from the slots and its own asks alone.
 use Rattle.std.proofs.Common.{◌≡◌, ℕ, ◌+◌, ◌<◌, ◌==◌, nat_lt, Bool, true, false, cond, List, [], ◌∷◌, length}
-use Rattle.std.proofs.Common.{Option, Some, None, refl, ap, sym, subst, ◌∙◌, inl, inr, arith}
-use Rattle.std.proofs.lemmas.Bool.{cases_Bool, ltb-true, eqb-true}
+use Rattle.std.proofs.Common.{Option, Some, None, refl, ap, sym, ◌∙◌, arith}
+use Rattle.std.proofs.lemmas.Bool.{ltb-true, eqb-true}
 use Rattle.std.proofs.lemmas.List.{length_push}
 use Rattle.slot_types.specs.declared.events.Op.{Op}
-use Rattle.slot_types.specs.declared.events.Event.{Event}
 use Rattle.slot_types.specs.declared.events.Event.TheVariants as events
 use Rattle.slot_types.specs.declared.plans.DiePlan.{DiePlan}
 use Rattle.slot_types.specs.Operations.{writes}
 use Rattle.demand_rules.specs.declared.terms.Terms.{Terms}
-use Rattle.demand_rules.specs.Demand.{terms_of}
 use Rattle.die_log.specs.Model.Log.{Log, now, carried_slots}
 use Rattle.die_log.specs.Model.Start.{Start}
 use Rattle.die_log.specs.Model.Lives.{Lives, all_slots}
 use Rattle.die_log.specs.Model.Answers.{after_call, choice, slot_reply}
 use Rattle.planned_log.specs.declared.refusals.AskRefusal.{AskRefusal}
-use Rattle.planned_log.specs.Asks.{Asked, with_ask, asked_by, asked_job, ask_refusals, first_refusal, ask_refusal}
+use Rattle.planned_log.specs.Asks.{Asked, asked_by, asked_job, ask_refusals, first_refusal, ask_refusal}
 use Rattle.planned_log.specs.Laws.{IsKept, Seen, Asks, Slots, Answer, seen_by, answer_by, answers_of}
 use Rattle.planned_log.specs.Moves.{Move, Ask, Slot, after_ask, after_own, after_move}
 use Rattle.planned_log.proofs.Kept.{after_accepted, ask_accepted, slot_accepted}
-use Rattle.planned_log.proofs.Moving.{HaveCome, come, move_keeps}
+use Rattle.planned_log.proofs.Moving.{come, move_keeps}
 
 -- what the task has asked for after an ask that was answered so
 abbrev then_asked : List Asked → Asked → Option AskRefusal → List Asked

@@ -1,8 +1,8 @@
 -- An ask that isn't refused is for a job that the plan has; and what came of a task's jobs is what it asked for.
 use Rattle.std.proofs.Common.{◌≡◌, ℕ, ◌+◌, ◌<◌, ◌≤◌, ◌==◌, ◌&&◌, not, nat_le, nat_lt, Bool, true, false, cond, List, [], ◌∷◌, ◌++◌, length, map}
-use Rattle.std.proofs.Common.{Some, None, is_some, find, option_map, sum_by, refl, ap, sym, subst, ◌∙◌, inl, inr, arith}
+use Rattle.std.proofs.Common.{Some, None, is_some, find, option_map, sum_by, refl, ap, subst, ◌∙◌, arith}
 use Rattle.std.specs.List.{AllByRecursion}
-use Rattle.std.proofs.lemmas.Bool.{true≢false, cases_Bool, and_parts, not-true, leb-true, eqb-true, ltb-true}
+use Rattle.std.proofs.lemmas.Bool.{true≢false, and_parts, leb-true, eqb-true, ltb-true}
 use Rattle.std.proofs.lemmas.Bool.Decides.{nat_tests}
 use Rattle.std.proofs.lemmas.List.Sums.{sum_by-cons, sum_by-append}
 use Rattle.slot_types.specs.declared.limits.TheConstants.{MAX_OPS}
@@ -23,7 +23,7 @@ use Rattle.die_log.specs.Model.Lives.{Lives, all_slots}
 use Rattle.die_log.specs.Model.Answers.{bad_page}
 use Rattle.die_log.specs.Results.InTime.{events_of_log}
 use Rattle.planned_log.specs.declared.refusals.AskRefusal.{AskRefusal}
-use Rattle.planned_log.specs.Asks.{Asked, with_ask, asked_in, asked_by, counts_in, operations_in, writes_in, has_room, most_operations}
+use Rattle.planned_log.specs.Asks.{Asked, with_ask, asked_in, asked_by, counts_in, operations_in, writes_in, has_room}
 use Rattle.planned_log.specs.Asks.{ask_refusals, first_refusal}
 use Rattle.planned_log.specs.KeptLogs.{is_asked_in, amount_in, AskForFew}
 use Rattle.planned_log.specs.Lives.{all_came, IsWithinLife, ArePlannedLives}

@@ -1,5 +1,5 @@
 -- How many jobs and collections come where events keep a plan: no more than a life has numbers.
-use Rattle.std.proofs.Common.{◌≡◌, ℕ, ◌+◌, ◌-◌, ◌*◌, ◌/◌, ◌%◌, ◌<◌, ◌≤◌, ◌==◌, ◌&&◌, nat_le, nat_lt, not, Bool, true, false, cond}
+use Rattle.std.proofs.Common.{◌≡◌, ℕ, ◌+◌, ◌-◌, ◌*◌, ◌/◌, ◌%◌, ◌<◌, ◌≤◌, ◌==◌, ◌&&◌, nat_le, nat_lt, Bool, true, false, cond}
 use Rattle.std.proofs.Common.{List, [], ◌∷◌, length, count_by, sum_by, refl, sym, ap, subst, ◌⊎◌, inl, inr, arith}
 use Rattle.std.specs.Prelude.{MatchBool}
 use Rattle.std.specs.List.{AllByRecursion}
@@ -8,7 +8,6 @@ use Rattle.std.proofs.lemmas.Nat.{div-add-mod'}
 use Rattle.std.proofs.lemmas.Bool.{cases_Bool, cases_lt, and_parts, and_from, eq-eqb, leb-true, ltb-true, le-leb}
 use Rattle.std.proofs.lemmas.List.Sums.{sum_by-cons}
 use Rattle.slot_types.specs.declared.plans.DiePlan.{DiePlan}
-use Rattle.plan_rules.specs.Times.{collection_work}
 use Rattle.plan_rules.specs.Keeping.{TaskArrival, is_collection_at}
 use Rattle.plan_rules.proofs.Arriving.{is_job_of, is_collection_of, release_of, due_of}
 use Rattle.plan_rules.proofs.Windows.{count_more}

@@ -1,7 +1,6 @@
 -- The log of a die that keeps its plan itself: what it takes next isn't refused, and keeps the plan.
-use Rattle.std.proofs.Common.{◌≡◌, ℕ, zero, suc, ◌+◌, ◌-◌, ◌*◌, ◌<◌, ◌≤◌, ◌==◌, ◌%◌, nat_lt, add-one, Bool, true, false, cond, List, [], ◌∷◌, ◌++◌}
+use Rattle.std.proofs.Common.{◌≡◌, ℕ, zero, suc, ◌+◌, ◌-◌, ◌*◌, ◌<◌, ◌≤◌, ◌%◌, nat_lt, add-one, Bool, true, false, cond, List, [], ◌∷◌, ◌++◌}
 use Rattle.std.proofs.Common.{length, drop, map, sum_by, get_or, slice_index, None, refl, ap, sym, subst, ◌∙◌, inl, inr, arith, append_assoc}
-use Rattle.std.specs.Prelude.{Contains}
 use Rattle.std.specs.List.{AllByRecursion}
 use Rattle.std.proofs.Math.Nat.{mul-le-mul_left}
 use Rattle.std.proofs.Math.Seq.{drop-cons}
@@ -10,7 +9,6 @@ use Rattle.std.proofs.lemmas.Bool.{cases_Bool, eqb-true, lt-ltb, ltb-true}
 use Rattle.std.proofs.lemmas.List.{length_push, append-nil, get_or-drop, length-drop}
 use Rattle.std.proofs.lemmas.List.Sums.{sum_by-cons, sum_by-append}
 use Rattle.std.proofs.lemmas.List.Elements.{recursion_from_All, All-from_recursion}
-use Rattle.slot_types.specs.declared.limits.TheConstants.{MAX_SLOT}
 use Rattle.slot_types.specs.declared.events.Op.{Op}
 use Rattle.slot_types.specs.declared.events.Event.{Event}
 use Rattle.slot_types.specs.declared.events.Event.TheVariants as events
@@ -24,10 +22,10 @@ use Rattle.demand_rules.specs.declared.terms.Terms.{Terms}
 use Rattle.demand_rules.specs.Demand.{terms_of, IsTaskTerms, PassesDemand}
 use Rattle.demand_rules.specs.Keeping.{IsDemandedJob, KeepsDemandPlan, comes_in}
 use Rattle.demand_rules.proofs.Fitting.{task_terms}
-use Rattle.die_log.specs.Model.Log.{Log, Job, jobs, now, carried_slots}
+use Rattle.die_log.specs.Model.Log.{Log, jobs, now, carried_slots}
 use Rattle.die_log.specs.Model.Start.{Start}
 use Rattle.die_log.specs.Model.Lives.{Lives, all_slots}
-use Rattle.die_log.specs.Model.Opening.{IsOpening, IsQuiet, renewed_start}
+use Rattle.die_log.specs.Model.Opening.{IsQuiet, renewed_start}
 use Rattle.die_log.specs.Model.Answers.{refusal_of, reply_if_accepted, with_answer, after_call, choice, slot_reply, IsExact}
 use Rattle.die_log.specs.Results.InTime.{IsInTime, events_of_log}
 use Rattle.die_log.proofs.Renewal.{renewed_opens}
@@ -40,12 +38,12 @@ use Rattle.demand_laws.proofs.Unrefused.{unrefused}
 use Rattle.demand_laws.proofs.Covering.{never_late}
 use Rattle.demand_laws.proofs.Restocking.{goes_on, stocked_for_next}
 use Rattle.demand_laws.proofs.Owing.{come_by}
-use Rattle.planned_log.specs.Asks.{asked_job, ask_refusal, asked_in, asked_by}
+use Rattle.planned_log.specs.Asks.{asked_job, ask_refusal, asked_by}
 use Rattle.planned_log.specs.Lives.{IsLife, all_came, IsWithinLife}
 use Rattle.planned_log.specs.KeptLogs.{comes_at, left_of_slot, left_of, KeepsSoFar, own_collection, amount_in, AskForFew}
 use Rattle.planned_log.specs.Laws.{IsKept, StartsFull}
 use Rattle.planned_log.proofs.Lefts.{AreTermsFrom, no_jobs, left_planned}
-use Rattle.planned_log.proofs.Asking.{IsTimelyAsk, timely_ask, all_parts, all_joined, all_as, sum_mapped, prompt, joined_is, released_within, coming_within}
+use Rattle.planned_log.proofs.Asking.{IsTimelyAsk, timely_ask, all_joined, all_as, sum_mapped, prompt, joined_is, released_within, coming_within}
 use Rattle.planned_log.proofs.Asking.{came_is, came_by, few_more}
 use Rattle.planned_log.proofs.Steps.{operations_at, writes_at, with_job, with_slot}
 
@@ -99,22 +97,22 @@ stocked : (start : Start) (terms : Terms) (earlier : Lives) (life entered : ℕ)
 stocked start terms earlier life entered log k next rest keeps few each none =
     stocked_for_next start terms (all_came earlier) (all_slots earlier) (events_of_log next ++ rest) keeps (came_by life earlier k.lived)
     (λ task slot lt.
-        let first : ℕ = all_slots earlier in
-        let end : ℕ = slot + (terms_of terms task).period in
-        let weigh : TaskArrival → ℕ = λ a. cond (comes_in task slot end a) (writes a.ops) 0 in
-        let own : List TaskArrival = arrivals 0 (events_of_log next) in
-        let more : List TaskArrival = arrivals (slots (events_of_log next)) rest in
-        omega (
-          arith,
-          sum_by-append weigh (all_came earlier) (map (at_later first) (arrivals 0 (events_of_log next ++ rest))),
-          sum_mapped weigh (at_later first) (arrivals 0 (events_of_log next ++ rest)),
-          ap (λ (l : List TaskArrival). sum_by (λ a. weigh (at_later first a)) l) (arrivals_after (events_of_log next) rest),
-          sum_by-append (λ a. weigh (at_later first a)) own more,
-          none (λ a. weigh (at_later first a)) (λ a is. weightless task slot end first a is),
-          joined_is task first writes (λ a. a.writes) (λ n ops. refl) slot end (asked_by task earlier) next (prompt life own each),
-          came_is life task slot end earlier k.lived,
-          few.writes task slot lt,
-        ))
+    let first : ℕ = all_slots earlier in
+    let end : ℕ = slot + (terms_of terms task).period in
+    let weigh : TaskArrival → ℕ = λ a. cond (comes_in task slot end a) (writes a.ops) 0 in
+    let own : List TaskArrival = arrivals 0 (events_of_log next) in
+    let more : List TaskArrival = arrivals (slots (events_of_log next)) rest in
+    omega (
+      arith,
+      sum_by-append weigh (all_came earlier) (map (at_later first) (arrivals 0 (events_of_log next ++ rest))),
+      sum_mapped weigh (at_later first) (arrivals 0 (events_of_log next ++ rest)),
+      ap (λ (l : List TaskArrival). sum_by (λ a. weigh (at_later first a)) l) (arrivals_after (events_of_log next) rest),
+      sum_by-append (λ a. weigh (at_later first a)) own more,
+      none (λ a. weigh (at_later first a)) (λ a is. weightless task slot end first a is),
+      joined_is task first writes (λ a. a.writes) (λ n ops. refl) slot end (asked_by task earlier) next (prompt life own each),
+      came_is life task slot end earlier k.lived,
+      few.writes task slot lt,
+    ))
     k.stocked
   where
     weightless : (task slot end first : ℕ) (a : TaskArrival) → a.collects ≡ true → cond (comes_in task slot end (at_later first a)) (writes a.ops) 0 ≡ 0
@@ -158,6 +156,9 @@ module _ (start : Start) (terms : Terms) (earlier : Lives) (life entered : ℕ) 
 
   clock : now log ≡ slots xs
   clock = sym (follows start terms log k.exact (left_at terms life entered (now log)) k.kept.keeps).clock
+
+  pub clock_is : now log ≡ slots xs
+  clock_is = clock
 
   each : AllByRecursion (IsWithinLife life) (arrivals 0 xs)
   each = recursion_from_All (IsWithinLife life) (arrivals 0 xs) k.kept.each

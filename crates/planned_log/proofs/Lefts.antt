@@ -1,11 +1,10 @@
 -- What is left of a slot: its collections, each once, and the slot.
-use Rattle.std.proofs.Common.{◌≡◌, ℕ, zero, suc, ◌+◌, ◌%◌, ◌<◌, ◌≤◌, ◌==◌, ◌&&◌, not, nat_lt, Bool, true, false, cond}
-use Rattle.std.proofs.Common.{List, [], ◌∷◌, ◌++◌, length, get_or, count_by, sum_by, refl, ap, sym, subst, ◌∙◌, inl, inr, arith}
+use Rattle.std.proofs.Common.{◌≡◌, ℕ, zero, suc, ◌+◌, ◌%◌, ◌<◌, ◌≤◌, ◌==◌, Bool, true, false, cond}
+use Rattle.std.proofs.Common.{List, [], ◌∷◌, ◌++◌, length, get_or, count_by, sum_by, refl, ap, sym, subst, inl, inr, arith}
 use Rattle.std.specs.List.{AllByRecursion}
-use Rattle.std.proofs.lemmas.Bool.{cases_Bool, and_parts, and_from, eq-eqb, ne_eqb, eqb-true}
+use Rattle.std.proofs.lemmas.Bool.{cases_Bool, eq-eqb, ne_eqb, eqb-true}
 use Rattle.std.proofs.lemmas.Bool.Decides.{nat_tests}
 use Rattle.std.proofs.lemmas.List.Sums.{sum_by-cons}
-use Rattle.slot_types.specs.declared.limits.TheConstants.{MAX_SLOT}
 use Rattle.slot_types.specs.declared.plans.DiePlan.{DiePlan}
 use Rattle.slot_types.specs.declared.events.Event.{Event}
 use Rattle.slot_types.specs.declared.events.Event.TheVariants as events
@@ -160,16 +159,22 @@ module _ (task now : ℕ) where
   left_without : (first : ℕ) (ts : List TaskTerms) → task < first → count_at task now (arrivals now (ended_by ts first now)) ≡ 0
   left_without first [] after = refl
   left_without first (t ∷ ts) after = elim (cases_Bool (comes_at t.collect_period now)) [
-    | inl due ↦ omega (arith, left_count_cons first t ts due false (ne_eqb first task (λ e. absurd (omega (arith, after, e)))),
-      left_without (first + 1) ts (omega (arith, after)))
+    | inl due ↦ omega (
+      arith,
+      left_count_cons first t ts due false (ne_eqb first task (λ e. absurd (omega (arith, after, e)))),
+      left_without (first + 1) ts (omega (arith, after)),
+    )
     | inr not_due ↦ rw not_due (left_without (first + 1) ts (omega (arith, after)))
   ]
 
   pub left_once : (first k : ℕ) (ts : List TaskTerms) (d : TaskTerms) → task ≡ first + k → k < length ts
       → comes_at (get_or ts k d).collect_period now ≡ true → count_at task now (arrivals now (ended_by ts first now)) ≡ 1
   left_once first k [] d at lt due = absurd (omega (arith, lt))
-  left_once first zero (t ∷ ts) d at lt due = omega (arith, left_count_cons first t ts due true (eq-eqb first task (omega (arith, at))),
-      left_without (first + 1) ts (omega (arith, at)))
+  left_once first zero (t ∷ ts) d at lt due = omega (
+    arith,
+    left_count_cons first t ts due true (eq-eqb first task (omega (arith, at))),
+    left_without (first + 1) ts (omega (arith, at)),
+  )
   left_once first (suc k) (t ∷ ts) d at lt due =
       let rest = left_once (first + 1) k ts d (omega (arith, at)) (omega (arith, lt)) due in
       elim (cases_Bool (comes_at t.collect_period now)) [

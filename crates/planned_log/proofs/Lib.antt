@@ -3,6 +3,7 @@ mod Lefts
 mod Asking
 mod Steps
 mod Kept
-mod Served
+pub mod Served
 mod Moving
 mod Answered
+mod Waiting

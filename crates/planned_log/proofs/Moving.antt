@@ -107,7 +107,6 @@ module _ (start : Start) (terms : Terms) (earlier : Lives) (life caller : ℕ) (
       due_as b e = subst (λ n. comes_at (terms_of terms entered).collect_period n ≡ b) (sym at)
           (subst (λ (x : TaskTerms). comes_at x.collect_period slot ≡ b) time_is e)
 
-
 module _ (start : Start) (terms : Terms) (earlier : Lives) (life caller : ℕ) (log : Log) (k : IsKept start terms earlier life 0 log) where
   -- the collections of a slot have come
   pub come : now log < life → HaveCome start terms earlier life (now log) (λ task. asked_by task (log ∷ earlier)) (after_own start terms log caller)

@@ -95,8 +95,10 @@ ask_refusals plan terms life first slot asked task ops =
     ∷ (nat_lt (most_operations t) (length ops), because.TooManyOps (most_operations t))
     ∷ (is_some (bad_page plan ops), because.BadPage (unwrap_or (bad_page plan ops) 0))
     ∷ (nat_lt t.writes (counted.writes ops), because.TooManyWrites t.writes)
-    ∷ (not (has_room t (first + slot) asked (length ops) (counted.writes ops)),
-    because.TooSoon (room_at t (counting t.period (first + slot) asked) (length ops) (counted.writes ops) - first))
+    ∷ (
+      not (has_room t (first + slot) asked (length ops) (counted.writes ops)),
+      because.TooSoon (room_at t (counting t.period (first + slot) asked) (length ops) (counted.writes ops) - first),
+    )
     ∷ (nat_lt life (slot + t.deadline), because.LifeEnd)
     ∷ []
 

@@ -1,5 +1,5 @@
 -- What laws of logs say that keep their plan so far.
-use Rattle.std.specs.Prelude.{◌≡◌, ℕ, ◌+◌, ◌≤◌, ◌==◌, false, nat_lt, if◌then◌else◌, Contains, IsTrue, List, [], ◌∷◌, length, Option, Some, None}
+use Rattle.std.specs.Prelude.{◌≡◌, ℕ, ◌+◌, ◌≤◌, ◌==◌, false, if◌then◌else◌, Contains, IsTrue, List, [], ◌∷◌, Option, Some, None}
 use Rattle.slot_types.specs.declared.events.Op.{Op}
 use Rattle.slot_types.specs.declared.plans.DiePlan.{DiePlan}
 use Rattle.demand_rules.specs.declared.terms.Terms.{Terms}
@@ -13,7 +13,7 @@ use Rattle.die_log.specs.Model.Answers.{IsExact}
 use Rattle.die_log.specs.Model.Lives.{Lives, all_slots}
 use Rattle.demand_laws.specs.Renewing.{AreFull, AreStockedAfter}
 use Rattle.planned_log.specs.declared.refusals.AskRefusal.{AskRefusal}
-use Rattle.planned_log.specs.Asks.{Asked, asked_by, ask_refusals, first_refusal, ask_refusal}
+use Rattle.planned_log.specs.Asks.{ask_refusal}
 use Rattle.planned_log.specs.Lives.{IsLife, all_came, ArePlannedLives}
 use Rattle.planned_log.specs.KeptLogs.{KeepsSoFar, AskForFew}
 use Rattle.planned_log.specs.Moves.{Move, Ask, Slot, after_move}

@@ -1,6 +1,6 @@
 //! What holds of the log of a die that keeps its plan itself. Each law is a function that does nothing.
 
-ghost use Rattle.std.specs.Prelude.{◌≡◌, ◌∷◌, ◌+◌, ◌<◌, ℕ, List, [], None, true, false, length};
+ghost use Rattle.std.specs.Prelude.{◌≡◌, ◌≤◌, ◌↔◌, IsTrue, ◌∷◌, ◌+◌, ◌<◌, ℕ, List, [], None, true, false, length};
 ghost use Rattle.slot_types.specs.declared.plans.DiePlan.{DiePlan};
 ghost use Rattle.slot_types.specs.declared.events.Op.{Op};
 ghost use Rattle.slot_types.specs.declared.events.Event.TheVariants as events;
@@ -12,7 +12,7 @@ ghost use Rattle.die_log.specs.Model.Opening.{IsQuiet, renewed_start};
 ghost use Rattle.die_log.specs.Model.Answers.{refusal_of, after_call};
 ghost use Rattle.die_log.specs.Model.Lives.{Lives, all_slots, start_after, HaveEnded};
 ghost use Rattle.die_log.specs.Results.InTime.{IsInTime};
-ghost use Rattle.planned_log.specs.Asks.{asked_by, asked_job, ask_refusal};
+ghost use Rattle.planned_log.specs.Asks.{asked_by, counting, has_room, room_at, asked_job, ask_refusal};
 ghost use Rattle.planned_log.specs.KeptLogs.{comes_at, own_collection};
 ghost use Rattle.planned_log.specs.Moves.{Move, after_moves, lives_after, ReachTheEnd};
 ghost use Rattle.planned_log.specs.Laws.{IsKept, ForKeptLogs, StartsFull, AreDoneInTime, seen_by, answers_of};
@@ -100,6 +100,19 @@ pub fn tasks_are_answered_for_their_own_asks()
         (moves others : List Move) → seen_by task moves ≡ seen_by task others
         → answers_of start terms earlier life task one moves
         ≡ answers_of other terms before life task two others }
+{}
+
+/// `TooSoon` has the first slot that serves. Of an ask that the task may make at all, with no more operations and writes
+/// than it may have, there is room in a slot of this life or a later one exactly from that slot on, if the task asks for
+/// nothing else before.
+pub fn too_soon_says_from_when()
+    ensures { ForKeptLogs (λ start terms earlier life entered log.
+        (task slot ops written : ℕ) → now log ≤ slot → let t = terms_of terms task in
+        ops ≤ t.work → written ≤ t.writes →
+        let asked = asked_by task (log ∷ earlier) in
+        IsTrue (has_room t (all_slots earlier + slot) asked ops written)
+        ↔ (room_at t (counting t.period (all_slots earlier + now log) asked) ops written
+        ≤ all_slots earlier + slot)) }
 {}
 
 /// Whatever the callers do, in whatever order and amount, the log keeps the plan: so no ask that its own task's part
