@@ -16,8 +16,8 @@ use Rattle.plan_rules.proofs.Moments.{arrivals_after}
 use Rattle.demand_rules.specs.declared.terms.Terms.{Terms}
 use Rattle.demand_rules.specs.Demand.{terms_of}
 use Rattle.demand_rules.specs.Keeping.{is_released_in, comes_in}
-use Rattle.demand_laws.specs.Renewing.{at_later}
-use Rattle.demand_laws.proofs.Owing.{come_by}
+use Rattle.die_log.specs.Results.DemandedLives.{at_later}
+use Rattle.die_log.proofs.Supply.Owing.{come_by}
 use Rattle.die_log.specs.Model.Log.{Log, now}
 use Rattle.die_log.specs.Model.Lives.{Lives, all_slots}
 use Rattle.die_log.specs.Model.Answers.{bad_page}

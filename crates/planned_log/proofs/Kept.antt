@@ -31,13 +31,13 @@ use Rattle.die_log.specs.Results.InTime.{IsInTime, events_of_log}
 use Rattle.die_log.proofs.Renewal.{renewed_opens}
 use Rattle.die_log.proofs.Legality.{entry, accepted_answer}
 use Rattle.die_log.proofs.Runs.{call_exact}
-use Rattle.demand_laws.specs.Covered.{AreStockedFor}
-use Rattle.demand_laws.specs.Renewing.{at_later, AreStockedAfter, AreFull}
-use Rattle.demand_laws.proofs.Following.{follows, of_job}
-use Rattle.demand_laws.proofs.Unrefused.{unrefused}
-use Rattle.demand_laws.proofs.Covering.{never_late}
-use Rattle.demand_laws.proofs.Restocking.{goes_on, stocked_for_next}
-use Rattle.demand_laws.proofs.Owing.{come_by}
+use Rattle.die_log.specs.Results.Covered.{AreStockedFor}
+use Rattle.die_log.specs.Results.DemandedLives.{at_later, AreStockedAfter, AreFull}
+use Rattle.die_log.proofs.Supply.Following.{follows, of_job}
+use Rattle.die_log.proofs.Supply.Accepted.{unrefused}
+use Rattle.die_log.proofs.Supply.Covering.{never_late}
+use Rattle.die_log.proofs.Restocking.{goes_on, stocked_for_next}
+use Rattle.die_log.proofs.Supply.Owing.{come_by}
 use Rattle.planned_log.specs.Asks.{asked_job, ask_refusal, asked_by}
 use Rattle.planned_log.specs.Lives.{IsLife, all_came, IsWithinLife}
 use Rattle.planned_log.specs.KeptLogs.{comes_at, left_of_slot, left_of, KeepsSoFar, own_collection, amount_in, AskForFew}
@@ -390,10 +390,11 @@ module _ (start : Start) (terms : Terms) (earlier : Lives) (life entered : ℕ) 
             let r = of_job (IsWithinLife life) (arrivals 0 xs) (jobs log)
             (follows start terms log k.exact (left_at terms life entered (now log)) k.kept.keeps).came each j stands in
             omega (arith, r.2.due, r.1.due, ended);
-        reached = λ task lt. elim (k.is_life.reached task lt) [
-          | inl room ↦ inl (omega (arith, room, ended))
-          | inr multiple ↦ inr (subst (λ n. n % (terms_of terms task).collect_period ≡ 0) (sym ended) multiple)
-        ];
+        none_left_out = λ task slot lt before multiple. omega (
+          arith,
+          k.is_life.collected task slot lt (omega (arith, before, ended)) multiple,
+          k.is_life.within,
+        );
       })
 
   pub ends_quiet : now log ≡ life → IsQuiet start log

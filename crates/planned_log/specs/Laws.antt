@@ -11,7 +11,7 @@ use Rattle.die_log.specs.Model.Start.{Start}
 use Rattle.die_log.specs.Model.Opening.{IsOpening}
 use Rattle.die_log.specs.Model.Answers.{IsExact}
 use Rattle.die_log.specs.Model.Lives.{Lives, all_slots}
-use Rattle.demand_laws.specs.Renewing.{AreFull, AreStockedAfter}
+use Rattle.die_log.specs.Results.DemandedLives.{AreFull, AreStockedAfter}
 use Rattle.planned_log.specs.declared.refusals.AskRefusal.{AskRefusal}
 use Rattle.planned_log.specs.Asks.{ask_refusal}
 use Rattle.planned_log.specs.Lives.{IsLife, all_came, ArePlannedLives}

@@ -1,5 +1,5 @@
 -- How long a life is, and what came in all lives, on one clock.
-use Rattle.std.specs.Prelude.{◌≡◌, ◌⊎◌, ℕ, ◌+◌, ◌*◌, ◌%◌, ◌≤◌, ◌<◌, List, [], ◌∷◌, ◌++◌, map, length, sum_by, All}
+use Rattle.std.specs.Prelude.{◌≡◌, ℕ, ◌+◌, ◌*◌, ◌%◌, ◌≤◌, ◌<◌, List, [], ◌∷◌, ◌++◌, map, length, sum_by, All}
 use Rattle.slot_types.specs.declared.limits.TheConstants.{MAX_SLOT, MAX_JOBS}
 use Rattle.slot_types.specs.declared.plans.DiePlan.{DiePlan}
 use Rattle.plan_rules.specs.Keeping.{TaskArrival, arrivals, slots}
@@ -9,7 +9,7 @@ use Rattle.demand_rules.specs.Demand.{terms_of, periods_within}
 use Rattle.die_log.specs.Model.Log.{Log, now}
 use Rattle.die_log.specs.Model.Lives.{Lives, all_slots}
 use Rattle.die_log.specs.Results.InTime.{events_of_log}
-use Rattle.demand_laws.specs.Renewing.{at_later}
+use Rattle.die_log.specs.Results.DemandedLives.{at_later}
 
 -- how many jobs and collections of a task may be released in so many slots and be due by their end; each job has an operation
 abbrev pub task_arrivals : ℕ → TaskTerms → ℕ
@@ -19,14 +19,12 @@ task_arrivals slots t = t.work * periods_within t.period t.deadline slots + peri
 abbrev pub most_arrivals : Terms → ℕ → ℕ
 most_arrivals terms slots = sum_by (task_arrivals slots) terms.tasks
 
--- A life of so many slots: each collection that comes in it is due by its end, and there is a number for each job and each
--- collection. Where it ends either a collection more would be due by the last slot that there may be, or one comes.
+-- a life of so many slots: each collection that comes in it is due by its end, and there is a number for each job and each
+-- collection
 pub record IsLife (plan : DiePlan) (terms : Terms) (life : ℕ) : Type 0 where
   pub within : life ≤ MAX_SLOT
   pub collected : (task slot : ℕ) → task < length plan.caps → slot < life → slot % (terms_of terms task).collect_period ≡ 0
       → slot + (terms_of terms task).collect_deadline ≤ life
-  pub reached : (task : ℕ) → task < length plan.caps → let t = terms_of terms task in
-      (life + t.collect_deadline ≤ MAX_SLOT) ⊎ (life % t.collect_period ≡ 0)
   pub few : most_arrivals terms life ≤ MAX_JOBS
 
 -- what came in the lives of these logs, on the clock of all lives
