@@ -115,7 +115,8 @@ module _ (start : Start) (terms : Terms) (earlier : Lives) (life task : ℕ) whe
           → (b : Bool) → (other == task) ≡ b
           → cond b (answer_by terms task (now log) mine ∷ answers_of start terms earlier life task next moves)
           (answers_of start terms earlier life task next moves)
-          ≡ seen_answers start.plan terms life first task (now log) (asked_by task (log ∷ earlier)) (cond b (Asks ops ∷ seen_by task moves) (seen_by task moves))
+          ≡ seen_answers start.plan terms life first task (now log) (asked_by task (log ∷ earlier))
+          (cond b (Asks ops ∷ seen_by task moves) (seen_by task moves))
       by_test rest false e =
           let o = other_ask log k caller other ops e (ask_refusal start.plan terms life earlier log other ops) refl in
           rest ∙ (ap (λ n. told n (asked_by task (next ∷ earlier)) moves) o.0 ∙ ap (λ (l : List Asked). told (now log) l moves) o.1)

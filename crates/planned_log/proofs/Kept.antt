@@ -1,6 +1,8 @@
 -- The log of a die that keeps its plan itself: what it takes next isn't refused, and keeps the plan.
-use Rattle.std.proofs.Common.{◌≡◌, ℕ, zero, suc, ◌+◌, ◌-◌, ◌*◌, ◌<◌, ◌≤◌, ◌%◌, nat_lt, add-one, Bool, true, false, cond, List, [], ◌∷◌, ◌++◌}
-use Rattle.std.proofs.Common.{length, drop, map, sum_by, get_or, slice_index, None, refl, ap, sym, subst, ◌∙◌, inl, inr, arith, append_assoc}
+use Rattle.std.proofs.Common.{◌≡◌, ℕ, zero, suc, ◌+◌, ◌-◌, ◌*◌, ◌<◌, ◌≤◌, ◌%◌, nat_lt, add-one, Bool, true, false}
+use Rattle.std.proofs.Common.{cond, List, [], ◌∷◌, ◌++◌}
+use Rattle.std.proofs.Common.{length, drop, map, sum_by, get_or, slice_index, None, refl, ap, sym, subst, ◌∙◌, inl}
+use Rattle.std.proofs.Common.{inr, arith, append_assoc}
 use Rattle.std.specs.List.{AllByRecursion}
 use Rattle.std.proofs.Math.Nat.{mul-le-mul_left}
 use Rattle.std.proofs.Math.Seq.{drop-cons}
@@ -43,7 +45,8 @@ use Rattle.planned_log.specs.Lives.{IsLife, all_came, IsWithinLife}
 use Rattle.planned_log.specs.KeptLogs.{comes_at, left_of_slot, left_of, KeepsSoFar, own_collection, amount_in, AskForFew}
 use Rattle.planned_log.specs.Laws.{IsKept, StartsFull}
 use Rattle.planned_log.proofs.Lefts.{AreTermsFrom, no_jobs, left_planned}
-use Rattle.planned_log.proofs.Asking.{IsTimelyAsk, timely_ask, all_joined, all_as, sum_mapped, prompt, joined_is, released_within, coming_within}
+use Rattle.planned_log.proofs.Asking.{IsTimelyAsk, timely_ask, all_joined, all_as, sum_mapped, prompt, joined_is}
+use Rattle.planned_log.proofs.Asking.{released_within, coming_within}
 use Rattle.planned_log.proofs.Asking.{came_is, came_by, few_more}
 use Rattle.planned_log.proofs.Steps.{operations_at, writes_at, with_job, with_slot}
 
@@ -170,7 +173,8 @@ module _ (start : Start) (terms : Terms) (earlier : Lives) (life entered : ℕ) 
   each_left : now log < life → AllByRecursion (IsWithinLife life) (arrivals (now log) (left_of_slot terms entered (now log)))
   each_left before = (left_planned start.plan terms life k.is_life (now log + 1) (now log) entered (drop entered terms.tasks) (omega arith) before
       (omega (arith, rest_length, k.kept.few_entered, k.demand.has.one_each)) (λ i d lt.
-      ap (terms_of terms) (no_more (entered + i)) ∙ (terms_are terms (entered + i) d (omega (arith, lt, rest_length)) ∙ sym (get_or-drop entered terms.tasks i d)))).1
+      ap (terms_of terms) (no_more (entered + i)) ∙ (terms_are terms (entered + i) d (omega (arith, lt, rest_length))
+      ∙ sym (get_or-drop entered terms.tasks i d)))).1
     where
       no_more : (n : ℕ) → n ≡ 0 + n
       no_more n = omega arith

@@ -16,11 +16,13 @@ use Rattle.plan_rules.proofs.Moments.{slots_append, arrivals_append}
 use Rattle.demand_rules.specs.declared.terms.TaskTerms.{TaskTerms}
 use Rattle.demand_rules.specs.declared.terms.Terms.{Terms}
 use Rattle.demand_rules.specs.Demand.{terms_of, HasTerms}
-use Rattle.demand_rules.specs.Keeping.{IsDemanded, IsDemandedJob, IsDemandedCollection, IsCollectSlot, KeepsDemandPlan, is_released_in, comes_in}
+use Rattle.demand_rules.specs.Keeping.{IsDemanded, IsDemandedJob, IsDemandedCollection, IsCollectSlot}
+use Rattle.demand_rules.specs.Keeping.{KeepsDemandPlan, is_released_in, comes_in}
 use Rattle.planned_log.specs.KeptLogs.{comes_at}
 use Rattle.planned_log.specs.Lives.{IsLife, IsWithinLife}
 use Rattle.planned_log.proofs.Counts.{few_come}
-use Rattle.planned_log.proofs.Lefts.{ended_by, slots_cons, one_slot, no_jobs, AreTermsFrom, left_planned, none_elsewhere, left_here, left_once}
+use Rattle.planned_log.proofs.Lefts.{ended_by, slots_cons, one_slot, no_jobs, AreTermsFrom, left_planned}
+use Rattle.planned_log.proofs.Lefts.{none_elsewhere, left_here, left_once}
 use Rattle.planned_log.proofs.Asking.{all_parts, all_joined, all_as}
 
 -- what a task's jobs weigh that are released, or that come, in a period

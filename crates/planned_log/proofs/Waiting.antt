@@ -19,7 +19,8 @@ use Rattle.die_log.specs.Model.Log.{Log, now}
 use Rattle.die_log.specs.Model.Start.{Start}
 use Rattle.die_log.specs.Model.Lives.{Lives, all_slots}
 use Rattle.die_log.specs.Results.InTime.{events_of_log}
-use Rattle.planned_log.specs.Asks.{Asked, with_ask, asked_in, asked_by, counts_in, counting, operations_in, writes_in, has_room, free_at, room_at}
+use Rattle.planned_log.specs.Asks.{Asked, with_ask, asked_in, asked_by, counts_in, counting, operations_in, writes_in}
+use Rattle.planned_log.specs.Asks.{has_room, free_at, room_at}
 use Rattle.planned_log.specs.Lives.{IsWithinLife, ArePlannedLives}
 use Rattle.planned_log.specs.Laws.{IsKept}
 use Rattle.planned_log.proofs.Asking.{all_parts, all_as, prompt}

@@ -1,5 +1,6 @@
 -- When a task may ask for a job, and why not.
-use Rattle.std.specs.Prelude.{ℕ, ◌+◌, ◌-◌, ◌==◌, nat_lt, nat_le, not, ◌&&◌, Bool, if◌then◌else◌, max, filter, List, [], ◌∷◌, length, sum_by}
+use Rattle.std.specs.Prelude.{ℕ, ◌+◌, ◌-◌, ◌==◌, nat_lt, nat_le, not, ◌&&◌, Bool, if◌then◌else◌, max, filter, List}
+use Rattle.std.specs.Prelude.{[], ◌∷◌, length, sum_by}
 use Rattle.std.specs.Prelude.{Option, Some, None, is_some, unwrap_or}
 use Rattle.slot_types.specs.declared.limits.TheConstants.{MAX_OPS}
 use Rattle.slot_types.specs.declared.events.Op.{Op}
@@ -18,8 +19,8 @@ use Rattle.planned_log.specs.declared.refusals.AskRefusal.TheVariants as because
 
 -- What a task asked for
 
--- a job that a task asked for: the slot of the clock of all lives in which it came and was released, and how many operations
--- and how many writes it has
+-- a job that a task asked for: the slot of the clock of all lives in which it came and was released, and how many
+-- operations and how many writes it has
 pub record Asked : Type 0 where
   pub at : ℕ
   pub operations : ℕ
@@ -59,8 +60,8 @@ abbrev pub has_room : TaskTerms → ℕ → List Asked → (operations writes : 
 has_room t slot asked ops written =
     nat_le (operations_in t.period slot asked + ops) t.work && nat_le (writes_in t.period slot asked + written) t.writes
 
--- The first slot in which, with so much, what counts isn't above the limit: a period after the newest job with which and with
--- those after it that is too much, or slot 0
+-- The first slot in which, with so much, what counts isn't above the limit: a period after the newest job with which
+-- and with those after it that is too much, or slot 0
 abbrev pub free_at : (Asked → ℕ) → (limit period : ℕ) → List Asked → ℕ → ℕ
 free_at amount limit period [] n = 0
 free_at amount limit period (a ∷ older) n =
@@ -85,8 +86,8 @@ asked_job terms log task ops = events.Submit task (now log) (now log + (terms_of
 abbrev pub most_operations : TaskTerms → ℕ
 most_operations t = if nat_le t.work MAX_OPS then t.work else MAX_OPS
 
--- What refuses an ask in slot `slot` of a life that began in slot `first` of the clock, of a task that asked for this before,
--- in the order in which it is looked at
+-- What refuses an ask in slot `slot` of a life that began in slot `first` of the clock, of a task that asked for this
+-- before, in the order in which it is looked at
 abbrev pub ask_refusals : DiePlan → Terms → (life first slot : ℕ) → List Asked → ℕ → List Op → List (Bool × AskRefusal)
 ask_refusals plan terms life first slot asked task ops =
     let t = terms_of terms task in
@@ -107,8 +108,8 @@ abbrev pub first_refusal : List (Bool × AskRefusal) → Option AskRefusal
 first_refusal [] = None
 first_refusal (c ∷ rest) = if c.0 then Some c.1 else first_refusal rest
 
--- Why an ask is refused after a log, which follows those of earlier lives. Of these it sees the present slot and what the task
--- itself asked for, and nothing of other tasks.
+-- Why an ask is refused after a log, which follows those of earlier lives. Of these it sees the present slot and what
+-- the task itself asked for, and nothing of other tasks.
 abbrev pub ask_refusal : DiePlan → Terms → ℕ → Lives → Log → ℕ → List Op → Option AskRefusal
 ask_refusal plan terms life earlier log task ops =
     first_refusal (ask_refusals plan terms life (all_slots earlier) (now log) (asked_by task (log ∷ earlier)) task ops)

@@ -1,5 +1,6 @@
 -- Which logs keep a plan so far, where a die enters its collections itself.
-use Rattle.std.specs.Prelude.{ℕ, ◌+◌, ◌%◌, ◌==◌, ◌≤◌, ◌<◌, ◌&&◌, nat_lt, nat_le, Bool, if◌then◌else◌, List, [], ◌∷◌, ◌++◌, length, drop, sum_by}
+use Rattle.std.specs.Prelude.{ℕ, ◌+◌, ◌%◌, ◌==◌, ◌≤◌, ◌<◌, ◌&&◌, nat_lt, nat_le, Bool, if◌then◌else◌, List, [], ◌∷◌}
+use Rattle.std.specs.Prelude.{◌++◌, length, drop, sum_by}
 use Rattle.slot_types.specs.declared.events.Event.{Event}
 use Rattle.slot_types.specs.declared.events.Event.TheVariants as events
 use Rattle.slot_types.specs.declared.plans.DiePlan.{DiePlan}
@@ -25,7 +26,8 @@ collections_at (t ∷ rest) task now =
     then events.Collect task now (now + t.collect_deadline) ∷ collections_at rest (task + 1) now
     else collections_at rest (task + 1) now
 
--- what is left of a slot where the collections of the first `entered` tasks have come: those of the others, and the slot
+-- what is left of a slot where the collections of the first `entered` tasks have come: those of the others, and the
+-- slot
 abbrev pub left_of_slot : Terms → ℕ → ℕ → List Event
 left_of_slot terms entered now = collections_at (drop entered terms.tasks) entered now ++ events.Slot ∷ []
 
@@ -33,8 +35,8 @@ left_of_slot terms entered now = collections_at (drop entered terms.tasks) enter
 abbrev pub left_of : Terms → ℕ → ℕ → ℕ → List Event
 left_of terms life entered now = if nat_lt now life then left_of_slot terms entered now else []
 
--- With what is left of the present slot the events keep the plan; jobs are released as they come, and all is due by the end
--- of the life. Of the present slot the collections of the first `entered` tasks have come.
+-- With what is left of the present slot the events keep the plan; jobs are released as they come, and all is due by
+-- the end of the life. Of the present slot the collections of the first `entered` tasks have come.
 pub record KeepsSoFar (plan : DiePlan) (terms : Terms) (life entered : ℕ) (log : Log) : Type 0 where
   pub keeps : KeepsDemandPlan plan terms (events_of_log log ++ left_of terms life entered (now log))
   pub within : now log ≤ life

@@ -1,5 +1,6 @@
 -- What laws of logs say that keep their plan so far.
-use Rattle.std.specs.Prelude.{◌≡◌, ℕ, ◌+◌, ◌≤◌, ◌==◌, false, if◌then◌else◌, Contains, IsTrue, List, [], ◌∷◌, Option, Some, None}
+use Rattle.std.specs.Prelude.{◌≡◌, ℕ, ◌+◌, ◌≤◌, ◌==◌, false, if◌then◌else◌, Contains, IsTrue, List, [], ◌∷◌, Option}
+use Rattle.std.specs.Prelude.{Some, None}
 use Rattle.slot_types.specs.declared.events.Op.{Op}
 use Rattle.slot_types.specs.declared.plans.DiePlan.{DiePlan}
 use Rattle.demand_rules.specs.declared.terms.Terms.{Terms}
@@ -18,8 +19,8 @@ use Rattle.planned_log.specs.Lives.{IsLife, all_came, ArePlannedLives}
 use Rattle.planned_log.specs.KeptLogs.{KeepsSoFar, AskForFew}
 use Rattle.planned_log.specs.Moves.{Move, Ask, Slot, after_move}
 
--- The log starts at an opening that is stocked after what came in earlier lives, for a plan that passes both tests, is exact
--- from there, and keeps that plan so far; and in no period of all lives a task asked for more than it may.
+-- The log starts at an opening that is stocked after what came in earlier lives, for a plan that passes both tests,
+-- is exact from there, and keeps that plan so far; and in no period of all lives a task asked for more than it may.
 pub record IsKept (start : Start) (terms : Terms) (earlier : Lives) (life entered : ℕ) (log : Log) : Type 0 where
   pub opens : IsOpening start
   pub demand : PassesDemand start.plan terms

@@ -11,7 +11,8 @@ use Rattle.die_log.specs.Model.Lives.{Lives, all_slots}
 use Rattle.die_log.specs.Results.InTime.{events_of_log}
 use Rattle.die_log.specs.Results.DemandedLives.{at_later}
 
--- how many jobs and collections of a task may be released in so many slots and be due by their end; each job has an operation
+-- how many jobs and collections of a task may be released in so many slots and be due by their end; each job has an
+-- operation
 abbrev pub task_arrivals : ℕ → TaskTerms → ℕ
 task_arrivals slots t = t.work * periods_within t.period t.deadline slots + periods_within t.collect_period t.collect_deadline slots
 
@@ -19,8 +20,8 @@ task_arrivals slots t = t.work * periods_within t.period t.deadline slots + peri
 abbrev pub most_arrivals : Terms → ℕ → ℕ
 most_arrivals terms slots = sum_by (task_arrivals slots) terms.tasks
 
--- a life of so many slots: each collection that comes in it is due by its end, and there is a number for each job and each
--- collection
+-- a life of so many slots: each collection that comes in it is due by its end, and there is a number for each job and
+-- each collection
 pub record IsLife (plan : DiePlan) (terms : Terms) (life : ℕ) : Type 0 where
   pub within : life ≤ MAX_SLOT
   pub collected : (task slot : ℕ) → task < length plan.caps → slot < life → slot % (terms_of terms task).collect_period ≡ 0

@@ -1,4 +1,5 @@
--- All that the callers of a die that keeps its plan itself may do: ask, and carry out slots, in whatever order and amount.
+-- All that the callers of a die that keeps its plan itself may do: ask, and carry out slots, in whatever order and
+-- amount.
 use Rattle.std.specs.Prelude.{◌≡◌, ℕ, nat_lt, if◌then◌else◌, List, [], ◌∷◌, map, Option, Some, None}
 use Rattle.slot_types.specs.declared.events.Op.{Op}
 use Rattle.slot_types.specs.declared.events.Event.TheVariants as events
@@ -23,7 +24,8 @@ after_ask start terms log caller task ops (Some refusal) = log
 abbrev pub after_own : Start → Terms → Log → ℕ → Log
 after_own start terms log caller = run start log (map (λ event. (caller, event)) (collections_at terms.tasks 0 (now log)))
 
--- an ask that the plan doesn't refuse is a call of the log; a slot is so many collections and a slot, until the life ends
+-- an ask that the plan doesn't refuse is a call of the log; a slot is so many collections and a slot, until the life
+-- ends
 abbrev pub after_move : Start → Terms → Lives → ℕ → Log → Move → Log
 after_move start terms earlier life log (Ask caller task ops) =
     after_ask start terms log caller task ops (ask_refusal start.plan terms life earlier log task ops)

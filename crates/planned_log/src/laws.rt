@@ -102,9 +102,9 @@ pub fn tasks_are_answered_for_their_own_asks()
         ≡ answers_of other terms before life task two others }
 {}
 
-/// `TooSoon` has the first slot that serves. Of an ask that the task may make at all, with no more operations and writes
-/// than it may have, there is room in a slot of this life or a later one exactly from that slot on, if the task asks for
-/// nothing else before.
+/// `TooSoon` has the first slot that serves. Of an ask that the task may make at all, with no more operations and
+/// writes than it may have, there is room in a slot of this life or a later one exactly from that slot on, if the
+/// task asks for nothing else before.
 pub fn too_soon_says_from_when()
     ensures { ForKeptLogs (λ start terms earlier life entered log.
         (task slot ops written : ℕ) → now log ≤ slot → let t = terms_of terms task in
