@@ -1,0 +1,154 @@
+-- What a task is answered tells from the slots and its own asks alone.
+use Rattle.std.proofs.Common.{◌≡◌, ℕ, ◌+◌, ◌<◌, ◌==◌, nat_lt, Bool, true, false, cond, List, [], ◌∷◌, length}
+use Rattle.std.proofs.Common.{Option, Some, None, refl, ap, sym, ◌∙◌, arith}
+use Rattle.std.proofs.lemmas.Bool.{ltb-true, eqb-true}
+use Rattle.std.proofs.lemmas.List.{length_push}
+use Rattle.slot_types.specs.declared.events.Op.{Op}
+use Rattle.slot_types.specs.declared.events.Event.TheVariants as events
+use Rattle.slot_types.specs.declared.plans.DiePlan.{DiePlan}
+use Rattle.slot_types.specs.Operations.{writes}
+use Rattle.demand_rules.specs.declared.terms.Terms.{Terms}
+use Rattle.die_log.specs.Model.Log.{Log, now, carried_slots}
+use Rattle.die_log.specs.Model.Start.{Start}
+use Rattle.die_log.specs.Model.Lives.{Lives, all_slots}
+use Rattle.die_log.specs.Model.Answers.{after_call, choice, slot_reply}
+use Rattle.planned_log.specs.declared.refusals.AskRefusal.{AskRefusal}
+use Rattle.planned_log.specs.Asks.{Asked, asked_by, asked_job, ask_refusals, first_refusal, ask_refusal}
+use Rattle.planned_log.specs.Laws.{IsKept, Seen, Asks, Slots, Answer, seen_by, answer_by, answers_of}
+use Rattle.planned_log.specs.Moves.{Move, Ask, Slot, after_ask, after_own, after_move}
+use Rattle.planned_log.proofs.Kept.{after_accepted, ask_accepted, slot_accepted}
+use Rattle.planned_log.proofs.Moving.{come, move_keeps}
+
+-- what the task has asked for after an ask that was answered so
+abbrev then_asked : List Asked → Asked → Option AskRefusal → List Asked
+then_asked asked x None = x ∷ asked
+then_asked asked x (Some refusal) = asked
+
+module _ (plan : DiePlan) (terms : Terms) (life first task : ℕ) where
+  abbrev refused_now : ℕ → List Asked → List Op → Option AskRefusal
+  refused_now slot asked ops = first_refusal (ask_refusals plan terms life first slot asked task ops)
+
+  abbrev asked_now : ℕ → List Op → Asked
+  asked_now slot ops = record { at = first + slot; operations = length ops; writes = writes ops }
+
+  -- the answers by what the task sees
+  abbrev seen_answers : ℕ → List Asked → List Seen → List Answer
+  seen_answers slot asked [] = []
+  seen_answers slot asked (Asks ops ∷ rest) =
+      answer_by terms task slot (refused_now slot asked ops)
+      ∷ seen_answers slot (then_asked asked (asked_now slot ops) (refused_now slot asked ops)) rest
+  seen_answers slot asked (Slots ∷ rest) = seen_answers (cond (nat_lt slot life) (slot + 1) slot) asked rest
+
+module _ (start : Start) (terms : Terms) (earlier : Lives) (life task : ℕ) where
+  abbrev first : ℕ
+  first = all_slots earlier
+
+  -- another task's ask leaves the slot and what this one asked for
+  other_ask : (log : Log) → IsKept start terms earlier life 0 log → (caller other : ℕ) (ops : List Op) → (other == task) ≡ false
+      → (o : Option AskRefusal) → ask_refusal start.plan terms life earlier log other ops ≡ o
+      → (now (after_ask start terms log caller other ops o) ≡ now log)
+      × (asked_by task (after_ask start terms log caller other ops o ∷ earlier) ≡ asked_by task (log ∷ earlier))
+  other_ask log k caller other ops away (Some refusal) e = (refl, refl)
+  other_ask log k caller other ops away None e =
+      let is = after_accepted start terms earlier life 0 log k caller (asked_job terms log other ops)
+      (ask_accepted start terms earlier life 0 log k other ops e) in (
+        ap now is,
+        ap (λ (l : Log). asked_by task (l ∷ earlier)) is
+            ∙ ap (λ b. cond b (record { at = first + now log; operations = length ops; writes = writes ops } ∷ asked_by task (log ∷ earlier))
+            (asked_by task (log ∷ earlier))) away,
+      )
+
+  own_ask : (log : Log) → IsKept start terms earlier life 0 log → (caller other : ℕ) (ops : List Op) → (other == task) ≡ true
+      → (o : Option AskRefusal) → ask_refusal start.plan terms life earlier log other ops ≡ o
+      → (now (after_ask start terms log caller other ops o) ≡ now log)
+      × (asked_by task (after_ask start terms log caller other ops o ∷ earlier)
+      ≡ then_asked (asked_by task (log ∷ earlier)) (record { at = first + now log; operations = length ops; writes = writes ops }) o)
+  own_ask log k caller other ops own (Some refusal) e = (refl, refl)
+  own_ask log k caller other ops own None e =
+      let is = after_accepted start terms earlier life 0 log k caller (asked_job terms log other ops)
+      (ask_accepted start terms earlier life 0 log k other ops e) in (
+        ap now is,
+        ap (λ (l : Log). asked_by task (l ∷ earlier)) is
+            ∙ ap (λ b. cond b (record { at = first + now log; operations = length ops; writes = writes ops } ∷ asked_by task (log ∷ earlier))
+            (asked_by task (log ∷ earlier))) own,
+      )
+
+  a_slot : (log : Log) → IsKept start terms earlier life 0 log → (caller : ℕ) (b : Bool) → nat_lt (now log) life ≡ b
+      → (now (cond b (after_call start (after_own start terms log caller) (caller, events.Slot)) log) ≡ cond b (now log + 1) (now log))
+      × (asked_by task (cond b (after_call start (after_own start terms log caller) (caller, events.Slot)) log ∷ earlier)
+      ≡ asked_by task (log ∷ earlier))
+  a_slot log k caller false e = (refl, refl)
+  a_slot log k caller true e =
+      let before : now log < life = ltb-true (now log) life e in
+      let c = come start terms earlier life caller log k before in
+      let own : Log = after_own start terms log caller in
+      let is = after_accepted start terms earlier life (length start.plan.caps) own c.kept caller events.Slot
+      (slot_accepted start terms earlier life (length start.plan.caps) own c.kept refl (omega (arith, c.now_is, before))) in (
+        ap now is ∙ (length_push (carried_slots own) (slot_reply start own (choice start own).waived (choice start own).head).ran
+            ∙ ap (λ n. n + 1) c.now_is),
+        ap (λ (l : Log). asked_by task (l ∷ earlier)) is ∙ c.asked_is task,
+      )
+
+  abbrev told : ℕ → List Asked → List Move → List Answer
+  told slot asked moves = seen_answers start.plan terms life first task slot asked (seen_by task moves)
+
+  pub answers_told : (moves : List Move) (log : Log) → IsKept start terms earlier life 0 log
+      → answers_of start terms earlier life task log moves ≡ told (now log) (asked_by task (log ∷ earlier)) moves
+  answers_told [] log k = refl
+  answers_told (Slot caller ∷ moves) log k =
+      let s = a_slot log k caller (nat_lt (now log) life) refl in
+      answers_told moves (after_move start terms earlier life log (Slot caller)) (move_keeps start terms earlier life log (Slot caller) k)
+      ∙ (ap (λ n. told n (asked_by task (after_move start terms earlier life log (Slot caller) ∷ earlier)) moves) s.0
+      ∙ ap (λ (l : List Asked). told (cond (nat_lt (now log) life) (now log + 1) (now log)) l moves) s.1)
+  answers_told (Ask caller other ops ∷ moves) log k = by_test
+      (answers_told moves (after_move start terms earlier life log (Ask caller other ops))
+      (move_keeps start terms earlier life log (Ask caller other ops) k))
+      (other == task) refl
+    where
+      next : Log
+      next = after_move start terms earlier life log (Ask caller other ops)
+
+      mine : Option AskRefusal
+      mine = ask_refusal start.plan terms life earlier log task ops
+
+      by_test : answers_of start terms earlier life task next moves ≡ told (now next) (asked_by task (next ∷ earlier)) moves
+          → (b : Bool) → (other == task) ≡ b
+          → cond b (answer_by terms task (now log) mine ∷ answers_of start terms earlier life task next moves)
+          (answers_of start terms earlier life task next moves)
+          ≡ seen_answers start.plan terms life first task (now log) (asked_by task (log ∷ earlier))
+          (cond b (Asks ops ∷ seen_by task moves) (seen_by task moves))
+      by_test rest false e =
+          let o = other_ask log k caller other ops e (ask_refusal start.plan terms life earlier log other ops) refl in
+          rest ∙ (ap (λ n. told n (asked_by task (next ∷ earlier)) moves) o.0 ∙ ap (λ (l : List Asked). told (now log) l moves) o.1)
+      by_test rest true e =
+          let o = own_ask log k caller other ops e (ask_refusal start.plan terms life earlier log other ops) refl in
+          let same : ask_refusal start.plan terms life earlier log other ops ≡ mine =
+          ap (λ i. ask_refusal start.plan terms life earlier log i ops) (eqb-true other task e) in
+          ap (λ (l : List Answer). answer_by terms task (now log) mine ∷ l)
+          (rest ∙ (ap (λ n. told n (asked_by task (next ∷ earlier)) moves) o.0
+          ∙ (ap (λ (l : List Asked). told (now log) l moves) o.1
+          ∙ ap (λ (r : Option AskRefusal). told (now log) (then_asked (asked_by task (log ∷ earlier))
+          (record { at = first + now log; operations = length ops; writes = writes ops }) r) moves) same)))
+
+-- so two runs that agree on the slots and the task's asks answer it alike
+pub answered_alike : (start other : Start) (terms : Terms) (earlier before : Lives) (life task : ℕ) (one two : Log)
+    → IsKept start terms earlier life 0 one → IsKept other terms before life 0 two → start.plan ≡ other.plan → all_slots earlier ≡ all_slots before
+    → now one ≡ now two → asked_by task (one ∷ earlier) ≡ asked_by task (two ∷ before) → (moves others : List Move)
+    → seen_by task moves ≡ seen_by task others
+    → answers_of start terms earlier life task one moves ≡ answers_of other terms before life task two others
+answered_alike start other terms earlier before life task one two k h plan clock slot asked moves others same =
+    answers_told start terms earlier life task moves one k
+    ∙ (ap (λ (p : DiePlan). seen_answers p terms life (all_slots earlier) task (now one) (asked_by task (one ∷ earlier)) (seen_by task moves)) plan
+    ∙ (ap (λ n. seen_answers other.plan terms life n task (now one) (asked_by task (one ∷ earlier)) (seen_by task moves)) clock
+    ∙ (ap (λ n. seen_answers other.plan terms life (all_slots before) task n (asked_by task (one ∷ earlier)) (seen_by task moves)) slot
+    ∙ (ap (λ (l : List Asked). seen_answers other.plan terms life (all_slots before) task (now two) l (seen_by task moves)) asked
+    ∙ (ap (λ (l : List Seen). seen_answers other.plan terms life (all_slots before) task (now two) (asked_by task (two ∷ before)) l) same
+    ∙ sym (answers_told other terms before life task others two h))))))
+
+pub refused_alike : (plan : DiePlan) (terms : Terms) (life : ℕ) (earlier before : Lives) (one two : Log) (task : ℕ) (ops : List Op)
+    → all_slots earlier ≡ all_slots before → now one ≡ now two → asked_by task (one ∷ earlier) ≡ asked_by task (two ∷ before)
+    → ask_refusal plan terms life earlier one task ops ≡ ask_refusal plan terms life before two task ops
+refused_alike plan terms life earlier before one two task ops clock slot asked =
+    ap (λ n. first_refusal (ask_refusals plan terms life n (now one) (asked_by task (one ∷ earlier)) task ops)) clock
+    ∙ (ap (λ n. first_refusal (ask_refusals plan terms life (all_slots before) n (asked_by task (one ∷ earlier)) task ops)) slot
+    ∙ ap (λ (l : List Asked). first_refusal (ask_refusals plan terms life (all_slots before) (now two) l task ops)) asked)

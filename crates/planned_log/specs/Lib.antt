@@ -1,0 +1,5 @@
+pub mod Asks
+pub mod Lives
+pub mod KeptLogs
+pub mod Moves
+pub mod Laws
