@@ -66,6 +66,47 @@ fn jobs_go_in_the_order_of_their_policy(rt: HostRuntime) -> Result<(), Fail> {
     Ok(())
 }
 
+// The order of both jobs by a policy, where the first row comes a slot later than the second, which has two reads.
+fn ends_ahead(alloc: Global, due: u32, policy: Policy) -> Result<(u32, u32), Fault> {
+    let mut load = Load::new(alloc);
+    load.push(0, 1, due, &[Op::Read(0)])?;
+    load.push(0, 0, 10, &[Op::Read(1), Op::Read(2)])?;
+    first_two(alloc, &load, policy)
+}
+
+// A row may come long before its release. By release, and by the span, which is the task's, the second row goes first; by
+// deadline the first one interrupts it, also where both are due at once, since its row is the smaller.
+#[test]
+fn rows_come_at_their_releases(rt: HostRuntime) -> Result<(), Fail> {
+    for due in [9u32, 10] {
+        for (policy, want) in [
+            (Policy::Fifo, (3u32, 2u32)),
+            (Policy::RateMonotonic, (3, 2)),
+            (Policy::RateMonotonicBackground, (3, 2)),
+            (Policy::EarliestDeadline, (2, 3)),
+            (Policy::EarliestDeadlineBackground, (2, 3)),
+            (Policy::EarliestDeadlineStepwise, (2, 3)),
+        ] {
+            let ends = ends_ahead(rt.alloc(), due, policy);
+            assert_eq!(rt; ends, Ok(want), "{} due {due}", policy.name());
+        }
+    }
+    Ok(())
+}
+
+// The first row is released in slot 30, and holds nobody up before.
+#[test]
+fn a_release_ahead_makes_no_other_job_late(rt: HostRuntime) -> Result<(), Fail> {
+    let mut load = Load::new(rt.alloc());
+    load.push(0, 30, 40, &[Op::Read(0)])?;
+    load.push(0, 0, 5, &[Op::Read(1)])?;
+    for policy in Policy::ALL {
+        let ends = first_two(rt.alloc(), &load, policy);
+        assert_eq!(rt; ends, Ok((31u32, 1u32)), "{}", policy.name());
+    }
+    Ok(())
+}
+
 // Nine writes go twice and once more over four pages: then one block is wholly stale, one holds the pages, one is open,
 // and one is wholly free, which is fewer than two. A read comes right then.
 fn nine_writes_and_a_read(alloc: Global) -> Result<Load, AllocError> {

@@ -64,6 +64,18 @@ store,0,0,2,1,1,0,1,1.00,refused,refused,,,,
 store,0,,2,1,1,0,1,1.00,refused,refused,0,0,,6
 ";
 
+// From slot 8 on no job is released. The store carries nothing then; of a layer the last write lies in slot 8.
+const WITHOUT_JOBS: &str = "\
+policy,die,task,jobs,refused,late,unfinished,worst,mean,p99,p999,written,copied,amplification,idle
+store,0,,0,0,0,0,,,,,0,0,,2
+fifo,0,,0,0,0,0,,,,,1,0,1.000,1
+rm,0,,0,0,0,0,,,,,1,0,1.000,1
+rm-back,0,,0,0,0,0,,,,,1,0,1.000,1
+edf,0,,0,0,0,0,,,,,1,0,1.000,1
+edf-back,0,,0,0,0,0,,,,,1,0,1.000,1
+edf-step,0,,0,0,0,0,,,,,1,0,1.000,1
+";
+
 // The front of the table for eyes.
 const FOR_EYES: &str = "\
 policy    die  task   jobs  refused   late  unfinished   worst      mean      p99     p999  written  copied  amplification    idle
@@ -117,6 +129,15 @@ fn what_comes_before_the_first_measured_slot_does_not_count(rt: HostRuntime) -> 
             let store: &str = text.split_once('\n').map(|halves| halves.1).unwrap_or("");
             assert!(rt; store.starts_with(MEASURED), "{text}");
         }
+        Err(fault) => assert!(rt; false, "{fault:?}"),
+    }
+    Ok(())
+}
+
+#[test]
+fn a_die_without_counted_jobs_has_its_record(rt: HostRuntime) -> Result<(), Fail> {
+    match compared(rt.alloc(), 8, Form::Csv) {
+        Ok(text) => assert_eq!(rt; str::from_utf8(&text), Ok(WITHOUT_JOBS)),
         Err(fault) => assert!(rt; false, "{fault:?}"),
     }
     Ok(())

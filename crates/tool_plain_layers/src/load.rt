@@ -16,7 +16,8 @@ pub struct PlainJob {
     pub(crate) count: usize,
 }
 
-/// Jobs in the order of their rows, whose releases never fall. A list of theirs has their operations.
+/// Jobs in the order of their rows. A row may come before its release, so releases may fall. A list of theirs has their
+/// operations.
 #[derive(Drop)]
 pub struct Load {
     jobs: Vec<PlainJob>,
@@ -68,6 +69,17 @@ impl Load {
         self.ops
             .get(job.first.saturating_add(place as usize))
             .copied()
+    }
+
+    /// The places of the jobs in the order in which they come: by release, then by row.
+    pub(crate) fn arrivals(&self, alloc: Global) -> Result<Vec<(u32, u32)>, AllocError> {
+        let mut arrivals = Vec::new(alloc);
+        for (place, job) in self.jobs.as_slice().iter().enumerate() {
+            let place = u32::try_from(place).unwrap_or(u32::MAX);
+            arrivals.push((job.release, place))?;
+        }
+        arrivals.as_mut_slice().sort(alloc)?;
+        Ok(arrivals)
     }
 
     /// By task the least time from release to deadline that a job of it has.

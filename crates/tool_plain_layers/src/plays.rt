@@ -51,8 +51,11 @@ pub struct Played {
     pub idle: u32,
 }
 
-/// What waits, least key first: a key of the policy, and the place of the job.
-type Waiting = BinaryHeap<Reverse<(u32, u32)>>;
+/// What a policy compares of a waiting job: its own measure, then the release where that counts, then the row.
+type Key = (u32, u32, u32);
+
+/// What waits, least key first. The last part of a key is the place of the job.
+type Waiting = BinaryHeap<Reverse<Key>>;
 
 // A die in the middle of a play.
 #[derive(Drop)]
@@ -73,8 +76,10 @@ struct Layer<'a> {
     carried: Vec<u32>,
     spans: Vec<u32>,
     waiting: Waiting,
-    /// The place of the next job that comes.
-    next: usize,
+    /// The releases and the places of all jobs, in the order in which they come.
+    arrivals: Vec<(u32, u32)>,
+    /// How many of these have come.
+    come: usize,
     collection: Option<Collection>,
     played: Played,
 }
@@ -87,42 +92,42 @@ struct Head {
 }
 
 impl<'a> Layer<'a> {
-    fn key(&self, job: &PlainJob) -> u32 {
+    fn key(&self, job: &PlainJob, place: u32) -> Key {
+        let span = at(self.spans.as_slice(), job.task as usize, u32::MAX);
         match self.policy.order() {
-            Order::Arrival => 0,
-            Order::RateMonotonic => at(self.spans.as_slice(), job.task as usize, u32::MAX),
-            Order::EarliestDeadline => job.due,
+            Order::Arrival => (0, job.release, place),
+            Order::RateMonotonic => (span, job.release, place),
+            Order::EarliestDeadline => (job.due, 0, place),
         }
     }
 
-    // The next job that comes, if it is released by a slot.
-    fn arrival(&self, now: u32) -> Option<PlainJob> {
-        let job = self.load.jobs().get(self.next)?;
-        if job.release > now {
+    // The key of the next job that comes, if it is released by a slot.
+    fn arrival(&self, now: u32) -> Option<Key> {
+        let (release, place) = self.arrivals.get(self.come)?;
+        if *release > now {
             return None;
         }
-        Some(*job)
+        let job = self.load.jobs().get(*place as usize)?;
+        Some(self.key(job, *place))
     }
 
-    // Takes in what is released by a slot. Rows are in the order of their releases.
+    // Takes in what is released by a slot.
     fn take_in(&mut self, now: u32) -> Result<(), Fault> {
-        for place in self.next..self.load.jobs().len() {
-            let Some(job) = self.arrival(now) else {
+        for come in self.come..self.arrivals.len() {
+            let Some(key) = self.arrival(now) else {
                 break;
             };
-            let number = u32::try_from(place).unwrap_or(u32::MAX);
-            let key = self.key(&job);
-            match self.waiting.push(Reverse((key, number))) {
+            match self.waiting.push(Reverse(key)) {
                 Ok(()) => {}
                 Err(_) => return Err(Fault::NoMemory),
             }
-            self.next = place.saturating_add(1);
+            self.come = come.saturating_add(1);
         }
         Ok(())
     }
 
     fn head(&self) -> Option<Head> {
-        let Some(Reverse((_, place))) = self.waiting.peek() else {
+        let Some(Reverse((_, _, place))) = self.waiting.peek() else {
             return None;
         };
         let place = *place;
@@ -309,7 +314,8 @@ fn layer_of<'a>(
         carried: vec![in alloc; 0u32; jobs]?,
         spans: load.spans(alloc, plan.caps.len())?,
         waiting: BinaryHeap::new(alloc),
-        next: 0,
+        arrivals: load.arrivals(alloc)?,
+        come: 0,
         collection: None,
         played: Played {
             completions: vec![in alloc; None; jobs]?,

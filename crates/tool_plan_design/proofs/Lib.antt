@@ -1,2 +1,4 @@
 mod Changing
+mod Dividing
+mod Quotients
 mod Tries

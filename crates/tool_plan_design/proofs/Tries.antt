@@ -3,7 +3,7 @@ use Rattle.std.proofs.Common.{◌≡◌, ℕ, ◌+◌, ◌-◌, ◌<◌, ◌≤�
 use Rattle.std.specs.Prelude.{IsTrue}
 use Rattle.std.proofs.lemmas.Bool.{cases_order, true≢false}
 use Rattle.slot_types.specs.declared.plans.DiePlan.{DiePlan}
-use Rattle.tool_plan_design.specs.Numbers.{WouldDo, with_number}
+use Rattle.tool_plan_design.specs.Numbers.{IsAlike, WouldDo, with_number}
 use Rattle.tool_plan_design.specs.declared.numbers.Number.{Number}
 
 -- upwards from a number
@@ -26,15 +26,16 @@ next_down P to back n is above at k lt le = elim (cases_order k n) [
 pub no_true : (b : Bool) → b ≡ false → IsTrue b → ⊥
 no_true b f t = true≢false (sym t ∙ f)
 
--- a trial that doesn't do tells that the plan with this number doesn't
-pub does_not : (which : Number) (plan trial next : DiePlan) (m : ℕ) (b : Bool)
-    → ((n : ℕ) → with_number which trial n ≡ with_number which plan n) → next ≡ with_number which trial m
-    → (WouldDo next → IsTrue b) → b ≡ false → WouldDo (with_number which plan m) → ⊥
-does_not which plan trial next m b same is if_does isnt does =
-    no_true b isnt (if_does (subst WouldDo (sym (is ∙ same m)) does))
+-- an attempt that fails tells that the plan with this number doesn't do
+pub fails : (which : Number) (plan trial : DiePlan) (n : ℕ) (b : Bool) → IsAlike which trial plan
+    → (WouldDo (with_number which trial n) → IsTrue b) → b ≡ false → WouldDo (with_number which plan n) → ⊥
+fails which plan trial n b same if_does isnt does = no_true b isnt (if_does (subst WouldDo (sym (same n)) does))
 
--- and one that does that it does
-pub does : (which : Number) (plan trial next : DiePlan) (m : ℕ) (b : Bool)
-    → ((n : ℕ) → with_number which trial n ≡ with_number which plan n) → next ≡ with_number which trial m
-    → (IsTrue b → WouldDo next) → b ≡ true → WouldDo (with_number which plan m)
-does which plan trial next m b same is if_true holds = subst WouldDo (is ∙ same m) (if_true holds)
+-- and one that succeeds that it does
+pub succeeds : (which : Number) (plan trial : DiePlan) (n : ℕ) (b : Bool) → IsAlike which trial plan
+    → (IsTrue b → WouldDo (with_number which trial n)) → b ≡ true → WouldDo (with_number which plan n)
+succeeds which plan trial n b same if_true holds = subst WouldDo (same n) (if_true holds)
+
+-- what differs from an attempt in that number alone differs so from the plan
+pub still_alike : (which : Number) (plan trial next : DiePlan) → IsAlike which next trial → IsAlike which trial plan → IsAlike which next plan
+still_alike which plan trial next one other n = one n ∙ other n

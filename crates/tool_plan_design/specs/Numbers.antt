@@ -1,10 +1,13 @@
 -- Plans with one number changed, and which numbers of a range would do.
-use Rattle.std.specs.Prelude.{◌≡◌, ℕ, ◌<◌, ◌≤◌, List, Option, Some, None, option_map, slice_set, IsSomeAnd}
+use Rattle.std.specs.Prelude.{◌≡◌, ℕ, ◌%◌, ◌<◌, ◌≤◌, ◌⊎◌, ⊤, length, List, Option, Some, None, option_map, slice_set, IsSomeAnd}
+use Rattle.slot_types.specs.declared.limits.TheConstants.{MAX_SLOT}
 use Rattle.slot_types.specs.declared.plans.DiePlan.{DiePlan}
 use Rattle.slot_types.specs.declared.plans.TaskTimes.{TaskTimes}
 use Rattle.slot_types.specs.declared.plans.Times.{Times}
 use Rattle.plan_rules.specs.Bound.{MeetsBound}
 use Rattle.plan_rules.specs.Times.{Passes, times_of}
+use Rattle.tool_plan_design.specs.Commons.{AreDivisors}
+use Rattle.tool_plan_design.specs.declared.commons.Periods.TheVariants as periods
 use Rattle.tool_plan_design.specs.declared.numbers.Number.{Number}
 use Rattle.tool_plan_design.specs.declared.numbers.Number.TheVariants as number
 
@@ -64,3 +67,23 @@ FindsLeast which plan from to None = NoneDoes which plan from to
 abbrev pub FindsGreatest : Number → DiePlan → ℕ → ℕ → Option ℕ → Type 0
 FindsGreatest which plan from to (Some n) = IsGreatest which plan from to n
 FindsGreatest which plan from to None = NoneDoes which plan from to
+
+-- two plans that differ in this number alone
+abbrev pub IsAlike : Number → DiePlan → DiePlan → Type 0
+IsAlike which one other = (n : ℕ) → with_number which one n ≡ with_number which other n
+
+-- each number with which the plan would do divides so many slots, which are some of a run's
+pub record OnlyDivisorsDo (which : Number) (plan : DiePlan) (common : ℕ) : Type 0 where
+  pub some : 1 ≤ common
+  pub few : common ≤ MAX_SLOT
+  pub divides : (n : ℕ) → WouldDo (with_number which plan n) → common % n ≡ 0
+
+-- what has to be of a number of times, whatever the rest of the plan: a period of a task divides the hyperperiod
+abbrev pub MayBe : Number → Times → ℕ → Type 0
+MayBe number.Alpha times n = ⊤
+MayBe number.Common times n = AreDivisors periods.All times.tasks n
+MayBe (number.Cap task) times n = ⊤
+MayBe (number.Period task) times n = (length times.tasks ≤ task) ⊎ (times.common % n ≡ 0)
+MayBe (number.CollectPeriod task) times n = (length times.tasks ≤ task) ⊎ (times.common % n ≡ 0)
+MayBe (number.Work task) times n = ⊤
+MayBe (number.Writes task) times n = ⊤

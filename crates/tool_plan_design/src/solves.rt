@@ -2,6 +2,7 @@
 
 ghost use Rattle.slot_types.specs.Refusal.{FailsForMemory};
 
+use crate::divisors::{greatest_collect_period, least_period};
 use crate::numbers::{Number, with_number};
 use crate::solving::{greatest, least};
 use crate::subjects::{Subject, TaskName};
@@ -50,13 +51,29 @@ impl Solver<'_> {
         Ok(greatest(plan, which, from, to))
     }
 
+    /// The least period of a task that would do. The only refusal is NoMemory.
+    fn period(&self, task: u32) -> Result<Option<u32>, Refusal>
+        ensures { FailsForMemory result }
+    {
+        let plan = die_plan(self.alloc, self.plan, self.die)?;
+        Ok(least_period(plan, task))
+    }
+
+    /// The greatest collect period of a task that would do. The only refusal is NoMemory.
+    fn collect_period(&self, task: u32) -> Result<Option<u32>, Refusal>
+        ensures { FailsForMemory result }
+    {
+        let plan = die_plan(self.alloc, self.plan, self.die)?;
+        Ok(greatest_collect_period(plan, task))
+    }
+
     /// What each number of a task could be. The only refusal is NoMemory.
-    fn of_task(&self, task: u32, common: u32) -> Result<TaskSolves, Refusal>
+    fn of_task(&self, task: u32) -> Result<TaskSolves, Refusal>
         ensures { FailsForMemory result }
     {
         Ok(TaskSolves {
-            period: self.least(Number::Period(task), 1, common)?,
-            collect_period: self.greatest(Number::CollectPeriod(task), 1, common)?,
+            period: self.period(task)?,
+            collect_period: self.collect_period(task)?,
             cap: self.least(Number::Cap(task), 1, MOST_CAP)?,
             work: self.greatest(Number::Work(task), 1, MAX_OPS)?,
             writes: self.greatest(Number::Writes(task), 0, MAX_OPS)?,
@@ -155,16 +172,11 @@ fn put_alphas(text: &mut Vec<u8>, solver: &Solver<'_>, pages: u32) -> Result<(),
 }
 
 /// Writes what each number of each task could be. The only refusal is NoMemory.
-fn put_tasks(
-    text: &mut Vec<u8>,
-    solver: &Solver<'_>,
-    names: &[TaskName],
-    common: u32,
-) -> Result<(), Refusal>
+fn put_tasks(text: &mut Vec<u8>, solver: &Solver<'_>, names: &[TaskName]) -> Result<(), Refusal>
     ensures { FailsForMemory result }
 {
     for name in names {
-        let solves = solver.of_task(name.task, common)?;
+        let solves = solver.of_task(name.task)?;
         match put_task(text, *name, solves) {
             Ok(()) => {}
             Err(_) => return Err(Refusal::NoMemory),
@@ -173,8 +185,7 @@ fn put_tasks(
     Ok(())
 }
 
-/// Writes what each number of a die with times could be, the rest being as it is: each that is reported is put to the
-/// test, and so is each beyond it. The only refusal is NoMemory.
+/// Writes what each number of a die with times could be, the rest being as it is. The only refusal is NoMemory.
 pub fn put_solves(
     alloc: Global,
     text: &mut Vec<u8>,
@@ -184,14 +195,14 @@ pub fn put_solves(
 ) -> Result<(), Refusal>
     ensures { FailsForMemory result }
 {
-    let Some(common) = plan.top.common else {
+    if plan.top.common.is_none() {
         return Ok(());
-    };
+    }
     let solver = Solver { alloc, plan, die };
     match put_common(text, die, solver.least(Number::Common, 1, MAX_SLOT)?) {
         Ok(()) => {}
         Err(_) => return Err(Refusal::NoMemory),
     }
-    put_tasks(text, &solver, names, common)?;
+    put_tasks(text, &solver, names)?;
     put_alphas(text, &solver, plan.top.pages)
 }

@@ -1,7 +1,7 @@
 //! Plans that are tried.
 
 use crate::datasheets::{Need, Part};
-use crate::slots::divisor_upto;
+use crate::slots::greatest_upto;
 use slot_types::{Caps, DiePlan, Refusal, Shape, TaskTimes, Times, TimesList};
 use std::alloc::Global;
 use std::io;
@@ -13,6 +13,8 @@ pub struct Choice<'a> {
     pub slot_us: u32,
     pub periods: &'a [u32],
     pub common: u32,
+    /// The divisors of `common`, rising.
+    pub divisors: &'a [u32],
     pub alpha: u32,
 }
 
@@ -21,7 +23,7 @@ fn collect_period(choice: &Choice<'_>, period: u32, writes: u32) -> Option<u32> 
     let given = u64::from(choice.alpha).saturating_mul(u64::from(period));
     match given.checked_div(u64::from(writes)) {
         None => Some(choice.common),
-        Some(most) => divisor_upto(choice.common, u32::try_from(most).unwrap_or(u32::MAX)),
+        Some(most) => greatest_upto(choice.divisors, u32::try_from(most).unwrap_or(u32::MAX)),
     }
 }
 

@@ -4,7 +4,7 @@
 use crate::datasheets::{Need, Part};
 use crate::faults::Reason;
 use crate::plans::{Choice, demand_of, plan_of};
-use crate::slots::{common_of, lengths, periods};
+use crate::slots::{common_of, divisors, lengths, periods};
 use plan_rules::{bound, plan_test};
 use slot_types::{DiePlan, MAX_ERASE_SLOTS, MAX_SLOT, Refusal};
 use std::alloc::Global;
@@ -147,10 +147,12 @@ impl Tried {
             if common > MAX_SLOT {
                 break;
             }
+            let divisors = divisors(alloc, common)?;
             let choice = Choice {
                 slot_us,
                 periods: periods.as_slice(),
                 common,
+                divisors: divisors.as_slice(),
                 alpha: 1,
             };
             self.try_alphas(alloc, part, needs, choice)?;

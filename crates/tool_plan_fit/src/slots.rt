@@ -4,6 +4,9 @@ use crate::datasheets::{Need, Part};
 use slot_types::MAX_SLOT;
 use std::alloc::{AllocError, Global};
 
+/// The root of the greatest hyperperiod: of a divisor of it and its quotient one is at most this.
+const ROOT: u32 = 1024;
+
 /// The most lengths that are tried.
 const MOST: usize = 24;
 
@@ -96,18 +99,21 @@ pub fn common_of(periods: &[u32]) -> Option<u32> {
     Some(common)
 }
 
-/// The greatest divisor of a number that is at most this; none where this is 0.
-pub fn divisor_upto(number: u32, most: u32) -> Option<u32> {
-    let mut greatest: u32 = 0;
-    for small in 1..=1024u32 {
-        if number % small != 0 {
-            continue;
-        }
-        for divisor in [small, number / small] {
-            if divisor <= most {
-                greatest = greatest.max(divisor);
-            }
+/// The divisors of a number up to 1,048,576, rising.
+pub fn divisors(alloc: Global, number: u32) -> Result<Vec<u32>, AllocError> {
+    let mut divisors = Vec::new(alloc);
+    for small in 1..=ROOT {
+        if number % small == 0 {
+            divisors.push(small)?;
+            divisors.push(number / small)?;
         }
     }
-    if greatest == 0 { None } else { Some(greatest) }
+    divisors.as_mut_slice().sort(alloc)?;
+    Ok(divisors)
+}
+
+/// The greatest of rising numbers that is at most this; none where all are greater.
+pub fn greatest_upto(rising: &[u32], most: u32) -> Option<u32> {
+    let within = rising.partition_point(|number| *number <= most);
+    rising.get(within.checked_sub(1)?).copied()
 }

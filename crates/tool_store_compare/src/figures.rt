@@ -50,9 +50,9 @@ pub(crate) struct Figures {
     pub(crate) worst: Option<i64>,
     /// Their mean lateness, in hundredths of a slot, rounded down.
     pub(crate) mean: Option<i64>,
-    /// The least lateness that 99 % of the jobs don't exceed, and that 99.9 % don't.
-    pub(crate) p99: i64,
-    pub(crate) p999: i64,
+    /// The least lateness that 99 % of the jobs don't exceed, and that 99.9 % don't; none where there are no jobs.
+    pub(crate) p99: Option<i64>,
+    pub(crate) p999: Option<i64>,
 }
 
 /// The figures of jobs that were so late, of which so many weren't done.
@@ -74,7 +74,7 @@ pub(crate) fn figures_from(
         unfinished,
         worst: done.last().copied(),
         mean: mean(done),
-        p99: nearest_rank(rising, 990).unwrap_or(0),
-        p999: nearest_rank(rising, 999).unwrap_or(0),
+        p99: nearest_rank(rising, 990),
+        p999: nearest_rank(rising, 999),
     })
 }

@@ -109,12 +109,12 @@ fn count(count: usize) -> Figure {
     Figure::Whole(i64::try_from(count).unwrap_or(i64::MAX))
 }
 
-// A lateness, or the word that the job was refused.
-fn rank(lateness: i64) -> Figure {
-    if lateness == REFUSED {
-        Figure::Refused
-    } else {
-        Figure::Whole(lateness)
+// A lateness, or the word that the job was refused; nothing where there is no job.
+fn rank(lateness: Option<i64>) -> Figure {
+    match lateness {
+        None => Figure::Nothing,
+        Some(REFUSED) => Figure::Refused,
+        Some(lateness) => Figure::Whole(lateness),
     }
 }
 
@@ -152,7 +152,7 @@ fn kept(put: io::Result<()>) -> Result<(), Refusal> {
     }
 }
 
-// Adds the record of a task, or of all: none where no job is counted.
+// Adds the record of a task, where it has a counted job, or of all, which is there without one, too.
 fn put_task(
     alloc: Global,
     sheet: &mut Sheet,
@@ -162,7 +162,7 @@ fn put_task(
     carried: Option<Carried>,
 ) -> Result<(), Refusal> {
     let (lateness, unfinished) = play.lateness(alloc, counted, task)?;
-    if lateness.is_empty() {
+    if lateness.is_empty() && task.is_some() {
         return Ok(());
     }
     let figures = figures_from(alloc, lateness, unfinished)?;
@@ -175,7 +175,8 @@ pub(crate) fn put_header(sheet: &mut Sheet) -> Result<(), Refusal> {
     kept(sheet.put_header())
 }
 
-/// Adds the records of a die: one of each of its tasks that has a counted job, and one of all of them with what was carried.
+/// Adds the records of a die: one of each of its tasks that has a counted job, and one of all of them with what was carried,
+/// whether or not a job is counted.
 pub(crate) fn put_die(
     alloc: Global,
     sheet: &mut Sheet,

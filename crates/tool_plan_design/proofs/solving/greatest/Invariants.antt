@@ -1,9 +1,9 @@
-use Rattle.std.proofs.Common.{◌≡◌, ℕ, ◌+◌, ◌<◌, ◌≤◌}
-use Rattle.tool_plan_design.specs.Numbers.{WouldDo, with_number}
+use Rattle.std.proofs.Common.{ℕ, ◌+◌, ◌<◌, ◌≤◌}
+use Rattle.tool_plan_design.specs.Numbers.{IsAlike, WouldDo, with_number}
 use Rattle.tool_plan_design.proofs.solving.greatest.Given as goal
 
 abbrev pub invariant-loop-back : goal.invariant-loop-back
 invariant-loop-back l = record {
-  same : (n : ℕ) → with_number l.which l.trial n ≡ with_number l.which l.fn.plan n;
+  same : IsAlike l.which l.trial l.fn.plan;
   none : (more : ℕ) → l.to < more + l.back → more ≤ l.to → ¬ WouldDo (with_number l.which l.fn.plan more);
 }
