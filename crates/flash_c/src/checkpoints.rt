@@ -15,7 +15,9 @@ ghost use Rattle.flash_c.specs.Checkpoints.{place_of, place_in, counts_of, count
 ghost use Rattle.flash_c.specs.Codes.{two};
 ghost use Rattle.flash_c.specs.Conversions.{number_in};
 
-use crate::codes::{BAD_PLAN, NO_MEMORY, OK, fault_why, no_numbers, of_fault, of_untaken, untaken_why};
+use crate::codes::{
+    BAD_PLAN, NO_MEMORY, OK, fault_why, no_numbers, of_fault, of_untaken, untaken_why,
+};
 use crate::handles::{Handle, put, take};
 use crate::lists::put_names;
 use crate::names::page_in;
