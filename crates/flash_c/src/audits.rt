@@ -26,8 +26,8 @@ use plan_rules::{bound, plan_test};
 use slot_types::JobNo;
 use std::alloc::Global;
 
-/// The version of this interface, 1.0: 65,536 times the major number, which changes where something that was there changes,
-/// and the minor one, which changes where something is added.
+/// The version of this interface, 1.0: 65,536 times the major number, which changes where something that was there
+/// changes, and the minor one, which changes where something is added.
 pub const VERSION: u32 = 0x10000;
 
 /// The version of this interface.
