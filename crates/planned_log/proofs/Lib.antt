@@ -7,3 +7,4 @@ pub mod Served
 mod Moving
 mod Answered
 mod Waiting
+mod Numbers

@@ -5,7 +5,9 @@ ghost use Rattle.slot_types.specs.declared.plans.DiePlan.{DiePlan};
 ghost use Rattle.slot_types.specs.declared.events.Op.{Op};
 ghost use Rattle.slot_types.specs.declared.events.Event.TheVariants as events;
 ghost use Rattle.demand_rules.specs.declared.terms.Terms.{Terms};
-ghost use Rattle.demand_rules.specs.Demand.{terms_of};
+ghost use Rattle.demand_rules.specs.Demand.{terms_of, PassesDemand};
+ghost use Rattle.slot_types.specs.declared.limits.TheConstants.{MAX_SLOT};
+ghost use Rattle.planned_log.specs.Lives.{most_arrivals};
 ghost use Rattle.die_log.specs.Model.Log.{Log, now};
 ghost use Rattle.die_log.specs.Model.Start.{Start};
 ghost use Rattle.die_log.specs.Model.Opening.{IsQuiet, renewed_start};
@@ -80,6 +82,13 @@ pub fn kept_lives_end_quiet()
         now log ≡ life → IsQuiet start log) }
     ensures next { ForKeptLogs (λ start terms earlier life entered log. now log ≡ life
         → IsKept (renewed_start start log) terms (log ∷ earlier) life 0 []) }
+{}
+
+/// There is a number for each job and collection of a life of at most 65,536 slots: by the test of demand no more come
+/// than it has slots, since each takes one at least. An erase takes one in every plan that meets its bound.
+pub fn lives_have_no_more_arrivals_than_slots()
+    ensures { (plan : DiePlan) (terms : Terms) (life : ℕ) → 1 ≤ plan.shape.erase_slots →
+        PassesDemand plan terms → life ≤ MAX_SLOT → most_arrivals terms life ≤ life }
 {}
 
 /// What a task is answered depends on the slots and on its own asks, and on nothing that other tasks do. Of two logs

@@ -15,8 +15,8 @@ mod refusals;
 
 pub use laws::{
     asks_are_accepted, kept_lives_end_quiet, kept_lives_go_on, kept_logs_are_in_time,
-    kept_logs_begin, own_collections_are_accepted, slots_are_accepted,
-    tasks_are_answered_for_their_own_asks, too_soon_says_from_when,
+    kept_logs_begin, lives_have_no_more_arrivals_than_slots, own_collections_are_accepted,
+    slots_are_accepted, tasks_are_answered_for_their_own_asks, too_soon_says_from_when,
     whatever_is_asked_the_plan_is_kept,
 };
 pub use refusals::AskRefusal;
