@@ -1,4 +1,4 @@
-#!/usr/bin/env python3
+#!/usr/bin/env -S python3 -B
 """The rules of one die (docs/RULES.md), read a second time: plays the histories of crates/test_die_plays/data by them, and
 writes those that are made by seeds. It reads nothing of the program, and is in no hurry: what can be counted is counted
 anew.
@@ -12,7 +12,10 @@ import copy
 import sys
 from pathlib import Path
 
-DATA = Path(__file__).resolve().parents[2] / "crates/test_die_plays/data"
+sys.path.insert(0, str(Path(__file__).resolve().parents[1]))
+from common.repository import CRATES, help_if_asked
+
+DATA = CRATES / "test_die_plays/data"
 LAST_SLOT = 1_048_576
 MOST_JOBS = 65_536
 MOST_OPS = 64
@@ -1105,4 +1108,5 @@ def main(words):
 
 
 if __name__ == "__main__":
+    help_if_asked(__doc__)
     sys.exit(main(sys.argv[1:]) > 0)

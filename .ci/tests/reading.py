@@ -24,7 +24,7 @@ def script(path):
     return module
 
 
-docs, plays = script("docs"), script("second_reading/plays")
+docs, plays, version, nightly = map(script, ("docs", "second_reading/plays", "release/version", "nightly"))
 
 SPEC = """-- What is small.
 use Rattle.low.specs.Sizes.{IsSmall as IsLittle, size}
@@ -212,6 +212,24 @@ class Plays(unittest.TestCase):
     def test_what_is_wanted(self):
         self.assertTrue(plays.is_answered("fro~*", b"fro\nnt", None))
         self.assertFalse(plays.is_answered("fro~", b"fro\nnt", None))
+
+
+class Releases(unittest.TestCase):
+    def test_versions(self):
+        forms = dict(version.PLACES)
+        self.assertEqual(version.stated("# Log\n\n## 0.3.0-dev, soon\n\n## 0.2.0\n", forms["CHANGELOG.md"]), ["0.3.0-dev"])
+        self.assertEqual(version.stated('[package]\nname = "x"\nversion = "1.2.3"\n[d]\nversion = "9.9.9"\n',
+                                        forms["bindings/rust/Cargo.toml"]), ["1.2.3"])
+        self.assertEqual(version.stated("0|flashrec 0.2.0~|\n0|flashplan 0.2.1~|\n", forms["crates/demo_examples/data/commands.txt"]),
+                         ["0.2.0", "0.2.1"])
+
+    def test_crates_that_changed(self):
+        before, nightly.crates = nightly.crates, lambda: [("low", [], []), ("mid", [], []), ("high", [], [])]
+        try:
+            self.assertEqual(nightly.changed(["crates/high/src/a.rt", "crates/low/must-fail/by_hand.md", "crates/mid/proofs/A.antt",
+                                              "docs/crates/mid/src/x", ""]), ["low", "high"])
+        finally:
+            nightly.crates = before
 
 
 if __name__ == "__main__":
