@@ -1,7 +1,9 @@
 //! The texts of refusals as they are printed, and lists at a concrete type.
 
+use crate::memory::is_scarce;
 use slot_types::{Cause, DiePlan, Items, JobNo, Op, PageData, Refusal, Shape, Waived, WaivedList};
 use std::alloc::Global;
+use std::env::Env;
 use std::test::Fail;
 
 /// Refusals, and how they are reported.
@@ -62,15 +64,23 @@ fn are_waived(list: &WaivedList) -> bool {
     true
 }
 
-// The next one takes memory, which may be refused.
+/// Adds a waiver. Where memory is scarce and is refused for it, it is added once more.
+fn push<R: Env>(rt: &R, list: &mut WaivedList, number: u32) -> Result<(), Refusal> {
+    match list.push(waived(number)) {
+        Err(Refusal::NoMemory) if is_scarce(rt) => list.push(waived(number)),
+        answer => answer,
+    }
+}
+
+// The seventeenth takes memory.
 #[test]
 fn sixteen_waivers_take_no_memory(rt: HostRuntime) -> Result<(), Fail> {
     let mut list = WaivedList::new(rt.alloc());
     for number in 0..16_u32 {
         assert!(rt; list.push(waived(number)).is_ok());
     }
-    let more = list.push(waived(16)).is_ok();
-    assert_eq!(rt; list.len(), if more { 17 } else { 16 });
+    push(&rt, &mut list, 16)?;
+    assert_eq!(rt; list.len(), 17);
     assert!(rt; are_waived(&list));
     Ok(())
 }
