@@ -1,13 +1,12 @@
 -- A number that is changed twice is as it was changed last.
-use Rattle.std.proofs.Common.{◌≡◌, ℕ, zero, suc, ◌+◌, ◌<◌, ◌≤◌, ◌⊎◌, List, [], ◌∷◌, length, get_or, refl, sym, ap, subst, ◌∙◌, inl, inr, arith}
+use Rattle.std.proofs.Common.{◌≡◌, ℕ, zero, suc, List, [], ◌∷◌, get_or, refl, ap, ◌∙◌}
 use Rattle.std.proofs.Common.{Option, Some, None}
 use Rattle.std.specs.Prelude.{option_map, slice_set}
 use Rattle.std.proofs.lemmas.List.{set-set}
 use Rattle.slot_types.specs.declared.plans.DiePlan.{DiePlan}
 use Rattle.slot_types.specs.declared.plans.TaskTimes.{TaskTimes}
 use Rattle.slot_types.specs.declared.plans.Times.{Times}
-use Rattle.plan_rules.specs.Times.{times_of}
-use Rattle.tool_plan_design.specs.Numbers.{times_with, with_number, with_own}
+use Rattle.tool_plan_design.specs.Numbers.{times_with, with_number}
 use Rattle.tool_plan_design.specs.declared.numbers.Number.{Number}
 use Rattle.tool_plan_design.specs.declared.numbers.Number.TheVariants as number
 

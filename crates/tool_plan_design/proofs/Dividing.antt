@@ -1,10 +1,10 @@
 -- The periods of a plan that would do divide its hyperperiod.
-use Rattle.std.proofs.Common.{◌≡◌, ℕ, ◌%◌, ◌<◌, ◌≤◌, ◌⊎◌, List, length, get_or, set, sym, subst, ap, ◌∙◌, inl, inr, arith, length-set}
+use Rattle.std.proofs.Common.{◌≡◌, ℕ, ◌%◌, ◌<◌, length, get_or, subst, inl, inr, arith, length-set}
 use Rattle.std.proofs.Common.{Option, Some, None}
 use Rattle.std.proofs.lemmas.Bool.{cases_order}
 use Rattle.std.proofs.lemmas.List.{get_or-set_same}
 use Rattle.std.proofs.lemmas.List.Elements.{All-from_get_or}
-use Rattle.std.specs.Prelude.{option_map, IsSomeAnd, slice_set}
+use Rattle.std.specs.Prelude.{option_map, IsSomeAnd}
 use Rattle.slot_types.specs.declared.plans.DiePlan.{DiePlan}
 use Rattle.slot_types.specs.declared.plans.TaskTimes.{TaskTimes}
 use Rattle.slot_types.specs.declared.plans.Times.{Times}

@@ -1,5 +1,5 @@
 -- Plans with one number changed, and which numbers of a range would do.
-use Rattle.std.specs.Prelude.{◌≡◌, ℕ, ◌%◌, ◌<◌, ◌≤◌, ◌⊎◌, ⊤, length, List, Option, Some, None, option_map, slice_set, IsSomeAnd}
+use Rattle.std.specs.Prelude.{◌≡◌, ℕ, ◌%◌, ◌<◌, ◌≤◌, ◌⊎◌, ⊤, length, Option, Some, None, option_map, slice_set, IsSomeAnd}
 use Rattle.slot_types.specs.declared.limits.TheConstants.{MAX_SLOT}
 use Rattle.slot_types.specs.declared.plans.DiePlan.{DiePlan}
 use Rattle.slot_types.specs.declared.plans.TaskTimes.{TaskTimes}

@@ -1,4 +1,4 @@
-use Rattle.std.proofs.Common.{ℕ, ◌+◌, ◌*◌, ◌<◌, ◌≤◌}
+use Rattle.std.proofs.Common.{ℕ, ◌+◌, ◌*◌, ◌<◌}
 use Rattle.tool_plan_design.specs.Numbers.{IsAlike, WouldDo, with_number}
 use Rattle.tool_plan_design.proofs.divisors.greatest_divisor.Given as goal
 
