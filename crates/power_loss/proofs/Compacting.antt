@@ -1,7 +1,8 @@
 -- A mount can put pages together until as many are free as all caps and reserves come to.
-use Rattle.std.proofs.Common.{◌≡◌, ◌≢◌, ◌⊎◌, ℕ, zero, suc, ◌+◌, ◌-◌, ◌*◌, ◌<◌, ◌≤◌, ◌==◌, Bool, true, cond, List, [], ◌∷◌, length}
-use Rattle.std.proofs.Common.{Option, Some, None, refl, ap, sym, ◌∙◌, subst, inl, inr, arith, sum}
+use Rattle.std.proofs.Common.{◌≡◌, ◌≢◌, ◌⊎◌, ℕ, zero, suc, ◌+◌, ◌-◌, ◌*◌, ◌/◌, ◌<◌, ◌≤◌, ◌==◌, Bool, true, cond, List, [], ◌∷◌, length}
+use Rattle.std.proofs.Common.{Option, Some, None, refl, ap, sym, ◌∙◌, subst, inl, inr, arith}
 use Rattle.std.specs.Prelude.{sum_by}
+use Rattle.std.proofs.Math.Nat.{suc-mul, lt-div-mul-add}
 use Rattle.std.proofs.lemmas.Bool.{cases_eq, cases_lt, eq-eqb, ne_eqb}
 use Rattle.std.proofs.lemmas.List.Sums.{get_or-le-sum_by}
 use Rattle.std.proofs.lemmas.Option.{slice_get-get_or}
@@ -18,7 +19,7 @@ use Rattle.die_log.proofs.Cells.FreePages.{free_idle, program_free, erase_free}
 use Rattle.die_log.proofs.Cells.Steps.{opens, open_is, program_is, erase_slot_is, within_blocks}
 use Rattle.die_log.proofs.Legal.Exact.{has_pages, has_slots}
 use Rattle.die_log.proofs.Tokens.Copying.{program_away}
-use Rattle.power_loss.specs.Recovery.{MayMount, cells_of, AreMountActs, AreIdle, AreSafe, CanGoBack, HasUnplaced, IsFreeBlock, IsSafe, NoneOpen, IsWorthIt, CanEnd}
+use Rattle.power_loss.specs.Recovery.{MayMount, cells_of, AreMountActs, AreIdle, AreSafe, CanGoBack, HasUnplaced, IsFreeBlock, IsSafe, NoneOpen, IsWorthIt, CanEnd, enough_of, most_rounds, most_acts}
 use Rattle.power_loss.proofs.Carrying.{placed_within}
 use Rattle.power_loss.proofs.MountActs.{mount_act, after_sound}
 use Rattle.power_loss.proofs.MountedStarts.{finds_block}
@@ -147,27 +148,28 @@ copied plan c b page q bound s idle closed room e is =
     idle_by o a w (inr other) = ap (λ (t : Block). t.erasing) (w.others a other) ∙ idle a
 
 -- all its pages are copied
-record IsEmptied (plan : DiePlan) (first c : Cells) (b : ℕ) : Type 0 where
+record IsEmptied (plan : DiePlan) (first c : Cells) (r : Reaches plan first c) (b : ℕ) : Type 0 where
   d : Cells
   reached : Reaches plan first d
   idle : AreIdle d
   closed : IsClosed plan d b
   none : valid d b ≡ 0
   free : free_of plan c ≤ free_of plan d + valid c b
+  took : length reached.acts ≤ length r.acts + valid c b
 
 copies_out : (plan : DiePlan) (first c : Cells) (b n : ℕ) → MeetsBound plan → (r : Reaches plan first c) → MayCopyOn plan first c r.acts → AreIdle c
-    → IsClosed plan c b → valid c b ≤ n → valid c b ≤ free_of plan c → IsEmptied plan first c b
+    → IsClosed plan c b → valid c b ≤ n → valid c b ≤ free_of plan c → IsEmptied plan first c r b
 unfolding further
 copies_out plan first c b zero bound r on idle closed few room =
-    record { d = c; reached = r; idle = idle; closed = closed; none = omega arith; free = omega arith }
+    record { d = c; reached = r; idle = idle; closed = closed; none = omega arith; free = omega arith; took = omega arith }
 copies_out plan first c b (suc n) bound r on idle closed few room = by_case (λ d. copies_out plan first d b n bound) (cases_eq (valid c b) 0)
   where
     Again : Type 0
     Again = (d : Cells) (q : Reaches plan first d) → MayCopyOn plan first d q.acts → AreIdle d → IsClosed plan d b → valid d b ≤ n
-        → valid d b ≤ free_of plan d → IsEmptied plan first d b
+        → valid d b ≤ free_of plan d → IsEmptied plan first d q b
 
-    by_case : Again → (valid c b ≡ 0) ⊎ (valid c b ≡ 0 → ⊥) → IsEmptied plan first c b
-    by_case again (inl none) = record { d = c; reached = r; idle = idle; closed = closed; none = none; free = omega arith }
+    by_case : Again → (valid c b ≡ 0) ⊎ (valid c b ≡ 0 → ⊥) → IsEmptied plan first c r b
+    by_case again (inl none) = record { d = c; reached = r; idle = idle; closed = closed; none = none; free = omega arith; took = omega arith }
     by_case again (inr some) =
         let p = placed_in c b some in
         let free : 0 < free_of plan c = omega arith in
@@ -186,16 +188,18 @@ copies_out plan first c b (suc n) bound r on idle closed few room = by_case (λ 
           closed = e.closed;
           none = e.none;
           free = omega (arith, e.free, k.fewer, k.free);
+          took = omega (arith, e.took, k.fewer);
         }
 
 -- Erases
 
-record IsErased (plan : DiePlan) (first c : Cells) : Type 0 where
+record IsErased (plan : DiePlan) (first c : Cells) (r : Reaches plan first c) (slots : ℕ) : Type 0 where
   d : Cells
   reached : Reaches plan first d
   idle : AreIdle d
   whole : IsWhollyFree d
   free : free_of plan c + plan.shape.pages ≤ free_of plan d
+  took : length reached.acts ≤ length r.acts + slots
 
 abbrev after_erase : DiePlan → ℕ → Cells → Cells
 after_erase plan b c = cells_after plan (Some (0, does.Erase b)) c
@@ -207,9 +211,10 @@ erase_safe plan first c b acts is w stands none =
     inl (subst (λ (x : Cells). HasUnplaced (after_erase plan b x)) (sym is) (record { b = b; stands = omega (arith, w.blocks); none = none }))
 
 -- k slots of its erase are left
-erases_out : (plan : DiePlan) (first c : Cells) (b k : ℕ) → MeetsBound plan → Reaches plan first c
+erases_out : (plan : DiePlan) (first c : Cells) (b k : ℕ) → MeetsBound plan → (r : Reaches plan first c)
     → ((a : ℕ) → a ≢ b → (block_at c a).erasing ≡ 0) → IsClosed plan c b → valid c b ≡ 0 → (block_at c b).erasing + suc k ≡ plan.shape.erase_slots
-    → IsErased plan first c
+    → IsErased plan first c r (suc k)
+unfolding further
 erases_out plan first c b zero bound r others closed none left =
     let more = has_pages plan bound in
     let stands = within_blocks plan c b (omega arith) (cases_lt b (length c.blocks)) in
@@ -221,6 +226,7 @@ erases_out plan first c b zero bound r others closed none left =
       idle = λ a. idle_by w a (cases_eq a b);
       whole = record { b = b; stands = omega (arith, stands, w.blocks); none = unfilled w };
       free = omega (arith, erase_free plan 0 b c more closed, ap (λ (t : Bool). cond t plan.shape.pages 0) last);
+      took = omega arith;
     }
   where
     unfilled : IsEraseSlot plan b c (after_erase plan b c) → (block_at (after_erase plan b c) b).filled ≡ 0
@@ -268,6 +274,7 @@ erases_out plan first c b (suc k) bound r others closed none left =
         erase_free plan 0 b c more closed,
         ap (λ (t : Bool). cond t plan.shape.pages 0) (ne_eqb ((block_at c b).erasing + 1) plan.shape.erase_slots not_last),
       );
+      took = omega (arith, e.took);
     }
   where
     slot_is : IsEraseSlot plan b c (after_erase plan b c)
@@ -288,17 +295,22 @@ free_pages plan c idle f =
     let one : free_in plan (block_at c f.b) ≡ plan.shape.pages = free_idle plan (block_at c f.b) (idle f.b) ∙ omega (arith, f.none) in
     omega (arith, one, get_or-le-sum_by (free_in plan) c.blocks f.b free_block f.stands)
 
+-- so many acts empty a block and erase it, at most
+abbrev round_of : DiePlan → ℕ
+round_of plan = plan.shape.pages - plan.alpha + plan.shape.erase_slots
+
 -- more pages are free, and a block wholly
-record HasGained (plan : DiePlan) (first c : Cells) : Type 0 where
+record HasGained (plan : DiePlan) (first c : Cells) (r : Reaches plan first c) : Type 0 where
   d : Cells
   reached : Reaches plan first d
   idle : AreIdle d
   whole : IsWhollyFree d
   free : free_of plan c + plan.alpha ≤ free_of plan d
+  took : length reached.acts ≤ length r.acts + round_of plan
 
 -- its pages are copied, and it is erased
-gains : (plan : DiePlan) (first c : Cells) (b : ℕ) → MeetsBound plan → Reaches plan first c → AreIdle c → IsWorthIt plan c b → IsWhollyFree c
-    → HasGained plan first c
+gains : (plan : DiePlan) (first c : Cells) (b : ℕ) → MeetsBound plan → (r : Reaches plan first c) → AreIdle c → IsWorthIt plan c b → IsWhollyFree c
+    → HasGained plan first c r
 gains plan first c b bound r idle worth free =
     let fits = bound.limits.alpha_fits in
     let room = free_pages plan c idle free in
@@ -306,42 +318,54 @@ gains plan first c b bound r idle worth free =
     let slots = has_slots plan bound in
     let x = erases_out plan first e.d b (plan.shape.erase_slots - 1) bound e.reached (λ a other. e.idle a) e.closed e.none
     (omega (arith, e.idle b)) in
-    record { d = x.d; reached = x.reached; idle = x.idle; whole = x.whole; free = omega (arith, x.free, e.free, worth.few) }
+    record {
+      d = x.d;
+      reached = x.reached;
+      idle = x.idle;
+      whole = x.whole;
+      free = omega (arith, x.free, e.free, worth.few);
+      took = omega (arith, x.took, e.took, worth.few);
+    }
 
-abbrev enough_of : DiePlan → ℕ
-enough_of plan = sum plan.caps + length plan.caps * (plan.shape.pages - plan.alpha)
+rounded : (x a : ℕ) → 0 < a → x ≤ (x + a - 1) / a * a
+rounded x a some = omega (arith, lt-div-mul-add {a = x + a - 1} {b = a} some, some)
 
-ended : (plan : DiePlan) (first c : Cells) → Reaches plan first c → AreIdle c → enough_of plan ≤ free_of plan c → CanEnd plan first
-ended plan first c r idle enough = record {
+ended : (plan : DiePlan) (first c : Cells) → (r : Reaches plan first c) → AreIdle c → length r.acts ≤ most_acts plan → enough_of plan ≤ free_of plan c
+    → CanEnd plan first
+ended plan first c r idle few enough = record {
   acts = r.acts;
+  few = few;
   may = r.may;
   safe = r.safe;
   idle = subst AreIdle (sym r.is) idle;
   enough = subst (λ (x : Cells). enough_of plan ≤ free_of plan x) (sym r.is) enough;
 }
 
-ends_by : (plan : DiePlan) (first c : Cells) (n : ℕ) → MeetsBound plan → Reaches plan first c → AreIdle c → IsWhollyFree c
-    → enough_of plan ≤ free_of plan c + n → CanEnd plan first
-ends_by plan first c zero bound r idle free lacks = ended plan first c r idle (omega arith)
-ends_by plan first c (suc n) bound r idle free lacks = by_case (λ d. ends_by plan first d n bound) (cases_lt (free_of plan c) (enough_of plan))
+-- n rounds are left
+ends_by : (plan : DiePlan) (first c : Cells) (n : ℕ) → MeetsBound plan → (r : Reaches plan first c) → AreIdle c → IsWhollyFree c
+    → enough_of plan ≤ free_of plan c + n * plan.alpha → length r.acts + n * round_of plan ≤ most_acts plan → CanEnd plan first
+ends_by plan first c zero bound r idle free lacks few = ended plan first c r idle (omega (arith, few)) (omega (arith, lacks))
+ends_by plan first c (suc n) bound r idle free lacks few = by_case (λ d. ends_by plan first d n bound) (cases_lt (free_of plan c) (enough_of plan))
   where
-    by_case : ((d : Cells) → Reaches plan first d → AreIdle d → IsWhollyFree d → enough_of plan ≤ free_of plan d + n → CanEnd plan first)
+    by_case : ((d : Cells) → (q : Reaches plan first d) → AreIdle d → IsWhollyFree d → enough_of plan ≤ free_of plan d + n * plan.alpha
+        → length q.acts + n * round_of plan ≤ most_acts plan → CanEnd plan first)
         → (free_of plan c < enough_of plan) ⊎ (enough_of plan ≤ free_of plan c) → CanEnd plan first
     by_case again (inl short) =
         let some = bound.limits.some_alpha in
         let f = finds_block plan c bound r.sound idle (omega arith) in
         let g = gains plan first c f.0 bound r idle f.1 free in
-        again g.d g.reached g.idle g.whole (omega (arith, g.free))
-    by_case again (inr enough) = ended plan first c r idle enough
+        again g.d g.reached g.idle g.whole (omega (arith, g.free, lacks, suc-mul n plan.alpha)) (omega (arith, g.took, few, suc-mul n (round_of plan)))
+    by_case again (inr enough) = ended plan first c r idle (omega (arith, few)) enough
 
 -- a mount that has a wholly free block can end
 pub can_end : (plan : DiePlan) (c : Cells) (b : ℕ) → MeetsBound plan → AreSoundCells plan c → AreIdle c → IsFreeBlock c b → CanEnd plan c
 can_end plan c b bound s idle f =
     let free : IsWhollyFree c = record { b = b; stands = f.stands; none = f.unfilled } in
-    ends_by plan c c (enough_of plan) bound (record {
+    let lacks = rounded (enough_of plan - plan.shape.pages) plan.alpha bound.limits.some_alpha in
+    ends_by plan c c (most_rounds plan) bound (record {
       acts = [];
       may = tt;
       safe = inl (free_unplaced plan c b s f.stands f.unfilled);
       is = refl;
       sound = s;
-    }) idle free (omega arith)
+    }) idle free (omega (arith, lacks, free_pages plan c idle free)) (omega arith)

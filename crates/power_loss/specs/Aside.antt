@@ -1,6 +1,6 @@
 -- A part with one block more than a die's plan. That block stands aside: the die never sees it, and it is wholly free
 -- while the die works. Each mount chooses it anew.
-use Rattle.std.specs.Prelude.{◌≡◌, ℕ, ◌+◌, ◌≤◌, ◌<◌, ◌==◌, if◌then◌else◌, List, [], ◌∷◌, ◌++◌, Option, None, Some, length, map, option_map, sum_by}
+use Rattle.std.specs.Prelude.{◌≡◌, ℕ, ◌+◌, ◌-◌, ◌*◌, ◌/◌, ◌≤◌, ◌<◌, ◌==◌, if◌then◌else◌, List, [], ◌∷◌, ◌++◌, Option, None, Some, length, map, option_map, sum_by}
 use Rattle.std.specs.Prelude.{slice_index_or, slice_set, take}
 use Rattle.slot_types.specs.declared.plans.DiePlan.{DiePlan}
 use Rattle.slot_types.specs.declared.pages.PageData.{PageData}
@@ -13,7 +13,7 @@ use Rattle.die_log.specs.Model.Answers.{IsExact}
 use Rattle.die_log.specs.Model.Opening.{IsOpening}
 use Rattle.die_log.specs.Model.Start.{Start}
 use Rattle.power_loss.specs.Labels.{Label, Labels, labels_in, CountFrom, IsLabelled}
-use Rattle.power_loss.specs.Recovery.{IsRecoverable, HasUnplaced, IsFreeBlock, AreMountActs, AreSafe, cells_of, labels_of, mounted_start, full_accounts}
+use Rattle.power_loss.specs.Recovery.{IsRecoverable, HasUnplaced, IsFreeBlock, AreMountActs, AreSafe, enough_of, cells_of, labels_of, mounted_start, full_accounts}
 use Rattle.power_loss.specs.Seen.{MaySeePlaced}
 
 -- The die's last number is the number of blocks of its plan, which is the number of the part's last block
@@ -114,9 +114,15 @@ pub record StartsBeside (plan : DiePlan) (c : Cells) (pages : List PageData) (l 
   pub labelled : IsLabelled start first
   pub untrimmed : AreUntrimmed start.cells first.blocks
 
--- a mount can get there, by acts at each moment of which the power may go again
+-- how many acts it takes at most: it empties as many blocks as full accounts take pages, each of which gives alpha, by so
+-- many copies and the slots of an erase
+abbrev pub most_acts_beside : DiePlan → ℕ
+most_acts_beside plan = (enough_of plan + plan.alpha - 1) / plan.alpha * (plan.shape.pages - plan.alpha + plan.shape.erase_slots)
+
+-- a mount can get there, by not more acts than that, at each moment of which the power may go again
 pub record CanStartBeside (plan : DiePlan) (c : Cells) (pages : List PageData) (l : Labels) : Type 0 where
   pub acts : List Act
+  pub few : length acts ≤ most_acts_beside plan
   pub may : AreMountActs (part_of plan) c acts
   pub safe : AreSafe (part_of plan) c acts
   pub aside : ℕ

@@ -1,5 +1,5 @@
 -- What stands on a die that can be recovered, and what a mount makes of it before another log starts.
-use Rattle.std.specs.Prelude.{◌≡◌, ◌⊎◌, ℕ, ◌++◌, ◌+◌, ◌-◌, ◌*◌, ◌<◌, ◌≤◌, ◌==◌, if◌then◌else◌, List, [], ◌∷◌, Some, None, map, length, sum, sum_by, slice_index_or}
+use Rattle.std.specs.Prelude.{◌≡◌, ◌⊎◌, ℕ, ◌++◌, ◌+◌, ◌-◌, ◌*◌, ◌/◌, ◌<◌, ◌≤◌, ◌==◌, if◌then◌else◌, List, [], ◌∷◌, Some, None, map, length, sum, sum_by, slice_index_or}
 use Rattle.std.specs.List.{range_with_len}
 use Rattle.slot_types.specs.Places.{place_of}
 use Rattle.slot_types.specs.declared.plans.DiePlan.{DiePlan}
@@ -145,14 +145,27 @@ pub record IsWorthIt (plan : DiePlan) (c : Cells) (b : ℕ) : Type 0 where
   pub closed : IsClosed plan c b
   pub few : valid c b ≤ plan.shape.pages - plan.alpha
 
--- acts of a mount after which no erase is under way, and as many pages are free as all caps and reserves come to; and
--- at each moment of them the power may go again
+-- as many free pages as full accounts share out
+abbrev pub enough_of : DiePlan → ℕ
+enough_of plan = sum plan.caps + length plan.caps * (plan.shape.pages - plan.alpha)
+
+-- how many blocks a mount has to empty at most, until so many pages are free: one is wholly free, and each gives alpha
+abbrev pub most_rounds : DiePlan → ℕ
+most_rounds plan = (enough_of plan - plan.shape.pages + plan.alpha - 1) / plan.alpha
+
+-- how many acts it takes at most: so many copies out of each of these blocks, and the slots of its erase
+abbrev pub most_acts : DiePlan → ℕ
+most_acts plan = most_rounds plan * (plan.shape.pages - plan.alpha + plan.shape.erase_slots)
+
+-- acts of a mount, not too many, after which no erase is under way, and as many pages are free as all caps and reserves
+-- come to; and at each moment of them the power may go again
 pub record CanEnd (plan : DiePlan) (c : Cells) : Type 0 where
   pub acts : List Act
+  pub few : length acts ≤ most_acts plan
   pub may : AreMountActs plan c acts
   pub safe : AreSafe plan c acts
   pub idle : AreIdle (cells_of plan acts c)
-  pub enough : sum plan.caps + length plan.caps * (plan.shape.pages - plan.alpha) ≤ sum_by (free_in plan) (cells_of plan acts c).blocks
+  pub enough : enough_of plan ≤ sum_by (free_in plan) (cells_of plan acts c).blocks
 
 -- a log may start after these acts, with full accounts
 pub record StartsAfter (plan : DiePlan) (c : Cells) (pages : List PageData) (l : Labels) (acts : List Act) (start : Start) : Type 0 where

@@ -17,7 +17,7 @@ use Rattle.die_log.specs.Model.Answers.{IsExact}
 use Rattle.die_log.proofs.Legal.Exact.{has_pages}
 use Rattle.power_loss.specs.Aside.{raised, part_of, part_cells, part_labels, die_cells, die_labels, without_aside, AreUntrimmed, NothingTrimmed, MaySeeOnPart, StandsOnPart, CanStartBeside, ForEveryUntrimmedLog}
 use Rattle.power_loss.specs.Labels.{Label, Labels, labels, IsLabelled}
-use Rattle.power_loss.specs.Recovery.{IsRecoverable, IsFreeBlock, AreIdle, CanEnd, RecoversFrom, AreMountActs, IsSafe, cells_of, labels_of, remounted_cells, remounted_labels, IsAbove, mounted_start, full_accounts}
+use Rattle.power_loss.specs.Recovery.{IsRecoverable, IsFreeBlock, AreIdle, CanEnd, enough_of, RecoversFrom, AreMountActs, IsSafe, cells_of, labels_of, remounted_cells, remounted_labels, IsAbove, mounted_start, full_accounts}
 use Rattle.power_loss.specs.Seen.{MaySeeAfter, MaySeeDuring, MaySeePlaced}
 use Rattle.power_loss.proofs.Aside.Lists.{with_length, with_at_aside}
 use Rattle.power_loss.proofs.Aside.Parts.{part_recoverable, part_sees, die_recoverable, die_idle, die_free}
@@ -152,6 +152,7 @@ starts plan c pages l bound less h idle b free =
     let long = raised_length plan.shape.pages plan.caps in
     let all : sum plan.caps + plan.shape.pages + length plan.caps * (plan.shape.pages - plan.alpha) ≤ sum_by (free_in plan) p.blocks =
     omega (arith, e.enough, sums, ap (λ n. n * (plan.shape.pages - plan.alpha)) long) in
+    let same : enough_of part - plan.shape.pages ≡ enough_of plan = omega (arith, sums, ap (λ n. n * (plan.shape.pages - plan.alpha)) long) in
     let f = has_free_block part p more there.sound (omega (arith, all)) in
     let last = plan.shape.blocks in
     let d : Cells = die_cells last f.0 p in
@@ -162,6 +163,7 @@ starts plan c pages l bound less h idle b free =
     (full_agree plan (sum_by (free_in plan) d.blocks) (omega (arith, all, rest))) in
     record {
       acts = e.acts;
+      few = subst (λ n. length e.acts ≤ (n + plan.alpha - 1) / plan.alpha * (plan.shape.pages - plan.alpha + plan.shape.erase_slots)) same e.few;
       may = e.may;
       safe = e.safe;
       aside = f.0;
