@@ -1,0 +1,5 @@
+pub mod Windows
+pub mod Sliding
+pub mod Planned
+pub mod Collecting
+pub mod Breaches

@@ -1,0 +1,47 @@
+-- What the jobs of a task ask of a window of slots.
+use Rattle.std.specs.Prelude.{ℕ, ◌≡◌, ◌&&◌, ◌==◌, not, nat_le, nat_lt, Bool, false, if◌then◌else◌, List, length, sum_by}
+use Rattle.std.specs.List.{AllByRecursion}
+use Rattle.slot_types.specs.Operations.{writes}
+use Rattle.plan_rules.specs.Keeping.{TaskArrival}
+use Rattle.demand_keeping.specs.declared.windows.Count.{Count}
+use Rattle.demand_keeping.specs.declared.windows.Count.TheVariants as count
+
+-- operations are counted where a job is released, writes where it comes
+abbrev pub slot_of : Count → TaskArrival → ℕ
+slot_of count.Operations a = a.release
+slot_of count.Writes a = a.at
+
+abbrev pub amount_of : Count → TaskArrival → ℕ
+amount_of count.Operations a = length a.ops
+amount_of count.Writes a = writes a.ops
+
+abbrev pub is_job_of : ℕ → TaskArrival → Bool
+is_job_of task a = not a.collects && (a.task == task)
+
+abbrev pub is_in : ℕ → ℕ → ℕ → Bool
+is_in start end slot = nat_le start slot && nat_lt slot end
+
+-- what is counted of a job, in all and in the slots from `start` on, `end` not among them
+abbrev pub amount : Count → ℕ → TaskArrival → ℕ
+amount c task a = if is_job_of task a then amount_of c a else 0
+
+abbrev pub amount_in : Count → ℕ → ℕ → ℕ → TaskArrival → ℕ
+amount_in c task start end a = if is_job_of task a && is_in start end (slot_of c a) then amount_of c a else 0
+
+abbrev pub total : Count → ℕ → List TaskArrival → ℕ
+total c task all = sum_by (amount c task) all
+
+abbrev pub window : Count → ℕ → ℕ → ℕ → List TaskArrival → ℕ
+window c task start end all = sum_by (amount_in c task start end) all
+
+-- there is no job of the task among these
+pub record CountsNothing (c : Count) (task : ℕ) (came : List TaskArrival) : Type 0 where
+  pub all : total c task came ≡ 0
+  pub inside : (start end : ℕ) → window c task start end came ≡ 0
+  pub each : AllByRecursion (λ a. is_job_of task a ≡ false) came
+
+-- there is one, and so much is counted of it, in this slot
+pub record CountsOne (c : Count) (task : ℕ) (came : List TaskArrival) (slot own : ℕ) : Type 0 where
+  pub all : total c task came ≡ own
+  pub inside : (start end : ℕ) → window c task start end came ≡ (if is_in start end slot then own else 0)
+  pub each : AllByRecursion (λ a. slot_of c a ≡ slot) came

@@ -1,0 +1,187 @@
+//! Whether events keep to a plan, and else what breaks it.
+
+ghost use Rattle.std.specs.Prelude.{◌≡◌, ℕ, ◌+◌, ◌<◌, ◌≤◌, ◌↔◌, [], ◌∷◌, length, All, IsOk, IfErr, IfSome, IsNone};
+ghost use Rattle.slot_types.specs.declared.limits.TheConstants.{MAX_SLOT};
+ghost use Rattle.plan_rules.specs.Keeping.{arrivals, slots};
+ghost use Rattle.demand_rules.specs.Demand.{HasTerms};
+ghost use Rattle.demand_rules.specs.Keeping.{IsDemanded, KeepsDemandPlan};
+ghost use Rattle.demand_keeping.specs.Breaches.{AreTasksKept, BreaksAlone, IsBreach, IsTaskKept};
+
+use crate::collecting::wrong_collection;
+use crate::planning::{CollectionRule, JobRule, broken_of_collection, broken_of_job, task_terms};
+use crate::sliding::{Limit, window_above};
+use crate::windows::{Count, slots_in};
+use demand_rules::{LimitFault, Terms, limits_test};
+use slot_types::{DiePlan, Event, MAX_JOBS, MAX_SLOT};
+
+/// A condition of a plan that doesn't hold of events.
+#[derive(Clone, Copy, PartialEq, Eq, Debug, Drop)]
+pub enum Breach {
+    /// The terms are none of the plan's.
+    Limits(LimitFault),
+    /// More than 1,048,576 slots are carried out.
+    Slots,
+    /// There are more than 65,536 jobs and collections.
+    Arrivals,
+    /// A condition doesn't hold of the job at this index of the events.
+    Job { index: usize, rule: JobRule },
+    /// A condition doesn't hold of the collection at this index of the events.
+    Collection { index: usize, rule: CollectionRule },
+    /// The jobs of a task that are released in the period that begins in this slot have more operations than it may ask for.
+    Operations { task: u32, start: u32 },
+    /// Those that come in the period that begins in this slot have more writes than it may ask for.
+    Writes { task: u32, start: u32 },
+    /// In this slot the plan has a collection of a task, and none comes, or more than one.
+    Collections { task: u32, slot: u32 },
+}
+
+/// How many slots events carry out.
+fn slots_of(events: &[Event]) -> usize
+    ensures { result ≡ slots events.now }
+{
+    events
+        .iter()
+        .filter(|event| matches!(event, Event::Slot))
+        .count()
+}
+
+// What of one event isn't as the plan has it.
+fn broken(
+    plan: &DiePlan,
+    terms: &Terms,
+    end: u32,
+    now: u32,
+    index: usize,
+    event: &Event,
+) -> Option<Breach>
+    requires { HasTerms plan.now terms.now }
+    ensures none { IsNone result → All (IsDemanded plan.now terms.now end) (arrivals now (event.now ∷ [])) }
+    ensures broken { IfSome result (BreaksAlone plan.now terms.now end now index event.now) }
+{
+    match event {
+        Event::Submit {
+            task,
+            release,
+            due,
+            ops,
+        } => match broken_of_job(plan, terms, now, task.0, *release, *due, ops.as_slice()) {
+            Some(rule) => Some(Breach::Job { index, rule }),
+            None => None,
+        },
+        Event::Collect { task, release, due } => {
+            match broken_of_collection(plan, terms, end, now, task.0, *release, *due) {
+                Some(rule) => Some(Breach::Collection { index, rule }),
+                None => None,
+            }
+        }
+        Event::Slot => None,
+    }
+}
+
+// The first event that isn't as the plan has it.
+fn first_broken(plan: &DiePlan, terms: &Terms, end: u32, events: &[Event]) -> Option<Breach>
+    requires has { HasTerms plan.now terms.now }
+    requires end { end ≡ slots events.now }
+    requires few { end ≤ 1048576 }
+    ensures none { IsNone result → All (IsDemanded plan.now terms.now end) (arrivals 0 events.now) }
+    ensures broken { IfSome result (IsBreach plan.now terms.now events.now) }
+{
+    let mut now: u32 = 0;
+    for i in 0..events.len() {
+        if let Some(breach) = broken(plan, terms, end, now, i, &events[i]) {
+            return Some(breach);
+        }
+        now += slots_in(&events[i]);
+    }
+    None
+}
+
+// What breaks the plan of a task's operations, its writes or its collections.
+fn broken_of_task(
+    plan: &DiePlan,
+    terms: &Terms,
+    task: u32,
+    end: u32,
+    events: &[Event],
+) -> Option<Breach>
+    requires has { HasTerms plan.now terms.now }
+    requires task { task < length plan.now.caps }
+    requires end { end ≡ slots events.now }
+    requires few { end ≤ 1048576 }
+    requires planned { All (IsDemanded plan.now terms.now end) (arrivals 0 events.now) }
+    ensures none { IsNone result → IsTaskKept terms.now task events.now }
+    ensures broken { IfSome result (IsBreach plan.now terms.now events.now) }
+{
+    let own = task_terms(terms, task as usize);
+    let operations = Limit {
+        count: Count::Operations,
+        task,
+        period: own.period,
+        limit: own.work,
+    };
+    if let Some(start) = window_above(operations, events) {
+        return Some(Breach::Operations { task, start });
+    }
+    let writes = Limit {
+        count: Count::Writes,
+        task,
+        period: own.period,
+        limit: own.writes,
+    };
+    if let Some(start) = window_above(writes, events) {
+        return Some(Breach::Writes { task, start });
+    }
+    if let Some(slot) = wrong_collection(plan, terms, task, &own, end, events) {
+        return Some(Breach::Collections { task, slot });
+    }
+    None
+}
+
+fn first_broken_task(plan: &DiePlan, terms: &Terms, end: u32, events: &[Event]) -> Option<Breach>
+    requires has { HasTerms plan.now terms.now }
+    requires few_tasks { length plan.now.caps ≤ 16 }
+    requires end { end ≡ slots events.now }
+    requires few { end ≤ 1048576 }
+    requires planned { All (IsDemanded plan.now terms.now end) (arrivals 0 events.now) }
+    ensures none { IsNone result → AreTasksKept plan.now terms.now events.now }
+    ensures broken { IfSome result (IsBreach plan.now terms.now events.now) }
+{
+    for task in 0..plan.caps.len() {
+        if let Some(breach) = broken_of_task(plan, terms, task as u32, end, events) {
+            return Some(breach);
+        }
+    }
+    None
+}
+
+/// Whether events keep to a plan with deadlines and bursts; else a condition that doesn't hold. It takes any plan of at most
+/// 16 tasks, any terms and events, and no memory.
+///
+/// It looks at the terms, the numbers of slots and of jobs and collections, each event by itself, and then task by task at
+/// what is released in a period, what comes in one, and at its collections. It takes time linear in the events for each
+/// task, where the jobs of each task are released in the order in which they come, and nothing breaks the plan; else, of such
+/// a task, as often that as it has jobs.
+pub fn keeps_demand_plan(plan: &DiePlan, terms: &Terms, events: &[Event]) -> Result<(), Breach>
+    requires { length plan.now.caps ≤ 16 }
+    ensures keeps { IsOk result ↔ KeepsDemandPlan plan.now terms.now events.now }
+    ensures breach { IfErr result (IsBreach plan.now terms.now events.now) }
+{
+    if let Err(fault) = limits_test(plan, terms) {
+        return Err(Breach::Limits(fault));
+    }
+    let slots = slots_of(events);
+    if slots > MAX_SLOT as usize {
+        return Err(Breach::Slots);
+    }
+    if events.len() - slots > MAX_JOBS as usize {
+        return Err(Breach::Arrivals);
+    }
+    let end = slots as u32;
+    if let Some(breach) = first_broken(plan, terms, end, events) {
+        return Err(breach);
+    }
+    match first_broken_task(plan, terms, end, events) {
+        Some(breach) => Err(breach),
+        None => Ok(()),
+    }
+}
