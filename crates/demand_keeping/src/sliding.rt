@@ -8,7 +8,7 @@ ghost use Rattle.demand_keeping.specs.Sliding.{AreFew, IsSliding};
 use crate::windows::{Count, count_of, first_above, is_above, slots_in};
 use slot_types::Event;
 
-/// A window that slides over the events: it begins behind those before `tail`, and ends with the last job seen.
+/// A window that slides over the events: it begins after those before `tail`, and ends with the last job seen.
 #[derive(Clone, Copy)]
 pub(crate) struct Sliding {
     tail: usize,
