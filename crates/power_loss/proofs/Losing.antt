@@ -1,13 +1,20 @@
 -- A read tells what the last write or trim of its page left, in whichever life that was.
-use Rattle.std.proofs.Common.{◌≡◌, ◌⊎◌, ℕ, ◌<◌, List, [], ◌∷◌, Some, refl, ap, sym, ◌∙◌, subst, inl, inr, get_or}
+use Rattle.std.proofs.Common.{◌≡◌, ◌⊎◌, ℕ, ◌*◌, ◌<◌, List, [], ◌∷◌, Some, refl, ap, sym, ◌∙◌, subst, inl, inr, get_or, arith}
 use Rattle.slot_types.specs.declared.pages.PageData.{PageData}
+use Rattle.slot_types.specs.declared.plans.DiePlan.{DiePlan}
+use Rattle.slot_types.specs.declared.plans.Times.{Times}
+use Rattle.plan_rules.specs.Times.{times_of}
+use Rattle.demand_rules.specs.declared.terms.Terms.{Terms}
 use Rattle.slot_types.specs.declared.acts.Act.TheVariants as does
 use Rattle.slot_types.specs.declared.replies.Entry.{Entry}
 use Rattle.slot_types.specs.declared.replies.SlotReply.{SlotReply}
 use Rattle.die_log.specs.Model.Log.{Log}
 use Rattle.die_log.specs.Model.Flash.{contents, contents_after, ran_by}
 use Rattle.die_log.specs.Model.Start.{Start, blank_page}
+use Rattle.die_log.specs.Results.Covered.{AreStocked}
 use Rattle.die_log.specs.Results.Promises.{HasSlot}
+use Rattle.die_log.specs.Results.Supply as timed
+use Rattle.die_log.proofs.Life.Demanding.{full_starts, balances_full}
 use Rattle.die_log.proofs.Legal.Exact.{exact_legal}
 use Rattle.die_log.proofs.Promises.{legal_act}
 use Rattle.die_log.specs.Model.Answers.{IsExact}
@@ -87,3 +94,15 @@ next_during life earlier h u aside le less e past is seen w =
         → ((next : Life) × BeginsNext (up_to past life) earlier next) ⊎ ((next : Life) × BeginsNext life earlier next)
     by_case (inl s) = inl (next_life (up_to past life) earlier (earlier_lives life earlier e past is h) seen less s)
     by_case (inr s) = inr (next_life life earlier h seen less (subst (λ (x : Log). StandsOnPart life.start.plan (contents life.start x) seen) (sym is) s))
+
+-- it is stocked
+
+full_balances : (before : Life) (earlier : List Life) (life : Life) → BeginsNext before earlier life → life.start.accounts.balances ≡ life.start.plan.caps
+full_balances before earlier life b = b.full ∙ ap (λ (p : DiePlan). p.caps) (sym b.lives.2.plan)
+
+pub next_terms : (before : Life) (earlier : List Life) (life : Life) → BeginsNext before earlier life → (terms : Terms) → AreStocked life.start terms
+next_terms before earlier life b terms = full_starts life.start terms (balances_full life.start (full_balances before earlier life b))
+
+pub next_times : (before : Life) (earlier : List Life) (life : Life) → BeginsNext before earlier life → (times : Times) → timed.AreStocked life.start times
+next_times before earlier life b times task lt =
+    omega (arith, ap (λ (xs : List ℕ). (times_of times task).period * get_or xs task 0) (full_balances before earlier life b))

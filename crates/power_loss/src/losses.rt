@@ -7,12 +7,16 @@ ghost use Rattle.slot_types.specs.declared.pages.PageData.{PageData};
 ghost use Rattle.slot_types.specs.declared.plans.DiePlan.{DiePlan};
 ghost use Rattle.slot_types.specs.declared.replies.Entry.{Entry};
 ghost use Rattle.slot_types.specs.declared.replies.SlotReply.{SlotReply};
+ghost use Rattle.slot_types.specs.declared.plans.Times.{Times};
 ghost use Rattle.plan_rules.specs.Bound.{MeetsBound};
+ghost use Rattle.demand_rules.specs.declared.terms.Terms.{Terms};
 ghost use Rattle.die_log.specs.Model.Flash.{Cells, cells, contents, ran_by};
 ghost use Rattle.die_log.specs.Model.Log.{Log};
 ghost use Rattle.die_log.specs.Model.Opening.{IsOpening};
 ghost use Rattle.die_log.specs.Model.Start.{Start, fresh, blank_page};
+ghost use Rattle.die_log.specs.Results.Covered.{AreStocked};
 ghost use Rattle.die_log.specs.Results.Promises.{HasSlot};
+ghost use Rattle.die_log.specs.Results.Supply as timed;
 ghost use Rattle.power_loss.specs.Aside.{part_of, with_cells, AgreeButErases, AreUntrimmed, MaySeeOnPart, StandsOnPart, CanStartBeside, ForEveryUntrimmedLog};
 ghost use Rattle.power_loss.specs.Labels.{Label, Labels, labels, fresh_labels, IsLabelled};
 ghost use Rattle.power_loss.specs.Laws.{MountsAll};
@@ -94,4 +98,13 @@ pub fn losses_of_power_lose_nothing()
         (seen : List (List Label)) → MaySeeInCall life e past aside seen
         → ((next : Life) × BeginsNext (up_to past life) earlier next)
         ⊎ ((next : Life) × BeginsNext life earlier next)) }
+{}
+
+/// Where a life begins so, each balance is its cap: it is stocked for whatever its tasks may ask for. So by the laws of
+/// work with deadlines and bursts, and with times, planned work is in time and refused nothing in it as in the first.
+pub fn next_lives_are_stocked()
+    ensures terms { (before : Life) (earlier : List Life) (life : Life) → BeginsNext before earlier life →
+        (terms : Terms) → AreStocked life.start terms }
+    ensures times { (before : Life) (earlier : List Life) (life : Life) → BeginsNext before earlier life →
+        (times : Times) → timed.AreStocked life.start times }
 {}
