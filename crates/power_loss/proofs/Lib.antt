@@ -17,5 +17,5 @@ pub mod Compacting
 pub mod Starting
 pub mod Aside
 pub mod Losing
-pub mod GoingBack
+pub mod Undoing
 pub mod Again

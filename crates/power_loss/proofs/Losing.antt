@@ -70,7 +70,7 @@ pub next_after : ForUntrimmedLives (λ life earlier aside. (seen : List (List La
     → (next : Life) × BeginsNext life earlier next)
 next_after life earlier h u aside le less seen w =
     next_life life earlier h seen less
-    (stands_after life.start life.first h.1.opens h.1.labelled u.start life.log h.1.exact u.log aside le seen w)
+    (stands_after life.start life.first h.1.opens h.1.labelled u.start life.log h.1.exact u.log aside le less seen w)
 
 -- before its last call they were lives, too
 earlier_lives : (life : Life) (earlier : List Life) (e : Entry) (past : Log) → life.log ≡ e ∷ past → AreLives (life ∷ earlier)
@@ -88,7 +88,7 @@ pub next_during : ForUntrimmedLives (λ life earlier aside. (e : Entry) (past : 
     → ((next : Life) × BeginsNext (up_to past life) earlier next) ⊎ ((next : Life) × BeginsNext life earlier next))
 next_during life earlier h u aside le less e past is seen w =
     by_case (stands_during life.start life.first h.1.opens h.1.labelled u.start e past (subst (IsExact life.start) is h.1.exact)
-    (subst NothingTrimmed is u.log) aside le seen w)
+    (subst NothingTrimmed is u.log) aside le less seen w)
   where
     by_case : StandsOnPart life.start.plan (contents life.start past) seen ⊎ StandsOnPart life.start.plan (contents life.start (e ∷ past)) seen
         → ((next : Life) × BeginsNext (up_to past life) earlier next) ⊎ ((next : Life) × BeginsNext life earlier next)

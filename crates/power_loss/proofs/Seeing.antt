@@ -27,10 +27,10 @@ use Rattle.power_loss.proofs.Steps.{cell}
 
 -- Labels seen, and labels there
 
-contains_at : (xs : List Label) (x : Label) → Contains xs x → (k : ℕ) × (slice_get xs k ≡ Some x)
+pub contains_at : (xs : List Label) (x : Label) → Contains xs x → (k : ℕ) × (slice_get xs k ≡ Some x)
 contains_at xs x h = (h.0, slice_get-get_or xs h.0 x h.1 ∙ ap Some h.2)
 
-at_contains : (xs : List Label) (x : Label) (k : ℕ) → slice_get xs k ≡ Some x → Contains xs x
+pub at_contains : (xs : List Label) (x : Label) (k : ℕ) → slice_get xs k ≡ Some x → Contains xs x
 at_contains xs x k e = (k, slice_get_within xs k x e, get_or_from_slice_get xs k x x e)
 
 -- a label that is seen is one of its block, but for the bytes

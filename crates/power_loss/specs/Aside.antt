@@ -13,7 +13,7 @@ use Rattle.die_log.specs.Model.Answers.{IsExact}
 use Rattle.die_log.specs.Model.Opening.{IsOpening}
 use Rattle.die_log.specs.Model.Start.{Start}
 use Rattle.power_loss.specs.Labels.{Label, Labels, labels_in, CountFrom, IsLabelled}
-use Rattle.power_loss.specs.Recovery.{IsRecoverable, HasUnplaced, IsFreeBlock, AreMountActs, AreSafe, enough_of, cells_of, labels_of, mounted_start, full_accounts}
+use Rattle.power_loss.specs.Recovery.{IsRecoverable, HasUnplaced, IsFreeBlock, GoesBy, AreMountActs, AreSafe, enough_of, cells_of, labels_of, mounted_start, full_accounts}
 use Rattle.power_loss.specs.Seen.{MaySeePlaced}
 
 -- The die's last number is the number of blocks of its plan, which is the number of the part's last block
@@ -93,14 +93,15 @@ pub record MaySeeOnPart (last aside : ℕ) (MaySeeOnDie : List (List Label) → 
 
 -- Mounts
 
--- what stands on the part, by what is seen of it: all of these pages, found by labels alone; and in some block no page is
--- placed
+-- what stands on the part, by what is seen of it: all of these pages, found by labels alone, of all blocks or, where each
+-- shows a page, of all but the one with the greatest number; and in some block no page is placed
 pub record StandsOnPart (plan : DiePlan) (pages : List PageData) (seen : List (List Label)) : Type 0 where
   pub c : Cells
   pub l : Labels
   pub recoverable : IsRecoverable (part_of plan) c pages l (λ page. 0)
   pub unplaced : HasUnplaced c
   pub kept : List (List Label)
+  pub rule : GoesBy (part_of plan) (λ page. 0) seen kept
   pub sees : MaySeePlaced c l.blocks kept
 
 -- After these acts of a mount a block stands aside, wholly free, and a log may start on the others: with full accounts,

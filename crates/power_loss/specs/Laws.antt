@@ -3,7 +3,6 @@ use Rattle.std.specs.Prelude.{◌≡◌, ◌⊎◌, ℕ, ◌<◌, List, ◌∷�
 use Rattle.slot_types.specs.Places.{place_of}
 use Rattle.slot_types.specs.declared.plans.DiePlan.{DiePlan}
 use Rattle.slot_types.specs.declared.acts.Act.{Act}
-use Rattle.slot_types.specs.declared.acts.Act.TheVariants as does
 use Rattle.slot_types.specs.declared.pages.PageData.{PageData}
 use Rattle.slot_types.specs.declared.pages.Place.{Place}
 use Rattle.slot_types.specs.declared.replies.Entry.{Entry}
@@ -17,7 +16,7 @@ use Rattle.die_log.specs.Invariants.TrueAccounts.{AccountsAgree}
 use Rattle.die_log.specs.Model.Opening.{IsOpening}
 use Rattle.power_loss.specs.Labels.{Label, Labels, label_at, labels, labels_after, counts_from, CountFrom, HaveBytes, WasProgrammed, IsLabelled, IsNewest}
 use Rattle.power_loss.specs.Mounted.{mounted_place, mounted_content, mounted_places, mounted_contents}
-use Rattle.power_loss.specs.Recovery.{IsRecoverable, remounted_cells, remounted_labels, IsAbove, MayMount, cells_of, labels_of, AreMountActs, AreIdle, NoneOpen, AreCopies, seen_in_closed, IsSafe, RecoversFrom}
+use Rattle.power_loss.specs.Recovery.{IsRecoverable, remounted_cells, remounted_labels, IsAbove, MayMount, cells_of, labels_of, AreMountActs, AreIdle, IsSafe, RecoversFrom}
 use Rattle.power_loss.specs.Recovery.{mounted_start}
 use Rattle.power_loss.specs.Seen.{MaySeeAfter, MaySeeDuring, MaySeePlaced}
 
@@ -100,19 +99,6 @@ abbrev pub Opens : DiePlan → Cells → List PageData → Labels → From → T
 Opens plan c pages l from = AreIdle c → (a : Accounts)
     → AccountsAgree plan a (λ task. 0) (λ task. 0) 0 (sum_by (free_in plan) c.blocks)
     → IsOpening (mounted_start plan c pages a) × IsLabelled (mounted_start plan c pages a) l
-
--- after copies that began where no block was open, what is seen is enough to go back there
-abbrev pub GoesBack : DiePlan → Cells → List PageData → Labels → From → Type 0
-GoesBack plan c pages l from = AreIdle c → NoneOpen plan c → (acts : List Act) → AreMountActs plan c acts → AreCopies acts
-    → (seen : List (List Label)) → MaySeeAfter (cells_of plan acts c) (labels_of plan pages acts c l) seen
-    → MaySeePlaced c l.blocks (seen_in_closed plan c seen)
-
--- and so it is during one of them
-abbrev pub GoesBackDuring : DiePlan → Cells → List PageData → Labels → From → Type 0
-GoesBackDuring plan c pages l from = AreIdle c → NoneOpen plan c → (page : ℕ) (acts : List Act)
-    → AreMountActs plan c (does.CopyProgram page ∷ acts) → AreCopies acts → (seen : List (List Label))
-    → MaySeeDuring plan (cells_of plan acts c) pages (labels_of plan pages acts c l) (Some (0, does.CopyProgram page)) seen
-    → MaySeePlaced c l.blocks (seen_in_closed plan c seen)
 
 -- where the power goes at a moment of a mount's acts, or during the next one
 abbrev pub RecoversAgain : DiePlan → Cells → List PageData → Labels → From → Type 0

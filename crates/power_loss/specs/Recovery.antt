@@ -1,5 +1,5 @@
 -- What stands on a die that can be recovered, and what a mount makes of it before another log starts.
-use Rattle.std.specs.Prelude.{◌≡◌, ◌⊎◌, ℕ, ◌++◌, ◌+◌, ◌-◌, ◌*◌, ◌/◌, ◌<◌, ◌≤◌, ◌==◌, if◌then◌else◌, List, [], ◌∷◌, Some, None, map, length, sum, sum_by, slice_index_or}
+use Rattle.std.specs.Prelude.{◌≡◌, ◌≢◌, ◌⊎◌, ℕ, ◌++◌, ◌+◌, ◌-◌, ◌*◌, ◌/◌, ◌<◌, ◌≤◌, ◌==◌, if◌then◌else◌, List, [], ◌∷◌, Some, None, map, length, sum, sum_by, slice_index_or, slice_set}
 use Rattle.std.specs.List.{range_with_len}
 use Rattle.slot_types.specs.Places.{place_of}
 use Rattle.slot_types.specs.declared.plans.DiePlan.{DiePlan}
@@ -8,10 +8,11 @@ use Rattle.slot_types.specs.declared.pages.Place.{Place}
 use Rattle.slot_types.specs.declared.acts.Act.{Act}
 use Rattle.slot_types.specs.declared.acts.Act.TheVariants as does
 use Rattle.plan_rules.specs.Accounts.{Accounts, opening_accounts}
-use Rattle.die_log.specs.Model.Flash.{Block, Cells, block_at, block_of_page, free_in, is_closed, valid, cells_after}
+use Rattle.die_log.specs.Model.Flash.{Block, Cells, block_at, block_of_page, free_in, valid, cells_after}
 use Rattle.die_log.specs.Model.Opening.{IsOpening}
 use Rattle.die_log.specs.Model.Start.{Start, blank_page}
 use Rattle.die_log.specs.Invariants.SoundCells.{AreSoundCells, IsClosed}
+use Rattle.power_loss.specs.Mounted.{mounted_place}
 use Rattle.power_loss.specs.Seen.{MaySeePlaced}
 use Rattle.power_loss.specs.Labels.{Label, Labels, label_at, labels_in, labels_after, AreLabelled, CountFrom, HaveBytes, IsLabelled}
 
@@ -90,13 +91,6 @@ IsCopy _ = ⊥
 abbrev pub AreCopies : List Act → Type 0
 AreCopies [] = Unit {0}
 AreCopies (act ∷ earlier) = AreCopies earlier × IsCopy act
-
--- of what is seen, that in the blocks that were closed there
-abbrev pub closed_labels_in : DiePlan → Cells → List (List Label) → ℕ → List Label
-closed_labels_in plan c seen b = if is_closed plan (block_at c b) then labels_in seen b else []
-
-abbrev pub seen_in_closed : DiePlan → Cells → List (List Label) → List (List Label)
-seen_in_closed plan c seen = map (closed_labels_in plan c seen) (range_with_len 0 (length c.blocks))
 
 -- a wholly free block, not in erase
 pub record IsFreeBlock (c : Cells) (b : ℕ) : Type 0 where
@@ -186,6 +180,29 @@ abbrev pub CanRecover : DiePlan → Cells → List PageData → (ℕ → ℕ) �
 CanRecover plan c pages from seen =
     (next : ℕ) → IsAbove c seen from next → CanStart plan (remounted_cells plan c) pages (remounted_labels c seen next)
 
+-- By what a mount goes of what it sees
+
+-- it finds no page in this block
+abbrev pub FindsNoneIn : DiePlan → (ℕ → ℕ) → List (List Label) → ℕ → Type 0
+FindsNoneIn plan from seen b = (page : ℕ) → page < plan.logical → (q : Place) → mounted_place (from page) page seen ≡ Some q → q.block ≢ b
+
+-- the block with the greatest number that is seen
+pub record IsNewestBlock (seen : List (List Label)) (b : ℕ) : Type 0 where
+  pub place : Place
+  pub label : Label
+  pub own : place.block ≡ b
+  pub stands : label_at seen place ≡ Some label
+  pub newest : (other : Place) (x : Label) → label_at seen other ≡ Some x → other.block ≢ b → x.serial < label.serial
+
+-- what is seen of the other blocks
+abbrev pub without_block : ℕ → List (List Label) → List (List Label)
+without_block b seen = slice_set seen b []
+
+-- of all, where it finds no page in some block; else of all but the block with the greatest number, which it undoes
+pub record GoesBy (plan : DiePlan) (from : ℕ → ℕ) (seen kept : List (List Label)) : Type 0 where
+  pub all : (b : ℕ) → b < plan.shape.blocks → FindsNoneIn plan from seen b → kept ≡ seen
+  pub undone : ((b : ℕ) → b < plan.shape.blocks → FindsNoneIn plan from seen b → ⊥) → (b : ℕ) × IsNewestBlock seen b × (kept ≡ without_block b seen)
+
 -- a die that can be recovered, with the same pages, and what a mount may go by of what it sees
 pub record RecoversFrom (plan : DiePlan) (pages : List PageData) (from : ℕ → ℕ) (seen : List (List Label)) : Type 0 where
   pub c : Cells
@@ -193,5 +210,6 @@ pub record RecoversFrom (plan : DiePlan) (pages : List PageData) (from : ℕ →
   pub recoverable : IsRecoverable plan c pages l from
   pub unplaced : HasUnplaced c
   pub kept : List (List Label)
+  pub rule : GoesBy plan from seen kept
   pub sees : MaySeePlaced c l.blocks kept
   pub recovers : CanRecover plan c pages from kept

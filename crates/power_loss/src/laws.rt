@@ -23,7 +23,7 @@ ghost use Rattle.power_loss.specs.Recovery.{IsWorthIt, CanEnd, CanRecover, HasUn
 ghost use Rattle.power_loss.specs.Seen.{MaySeeAfter, MaySeeDuring, MaySeePlaced};
 ghost use Rattle.power_loss.specs.Laws.{ForEveryLabelledLog, ForAllSeen, ForAllSeenDuring, ShowsPages, OfPrograms, MountsAll};
 ghost use Rattle.power_loss.specs.Laws.{MountsPlaced, ForAllRecoverable, Remounts, GoesOn};
-ghost use Rattle.power_loss.specs.Laws.{GoesOnDuring, Opens, GoesBack, GoesBackDuring, RecoversAgain, RecoversAgainDuring};
+ghost use Rattle.power_loss.specs.Laws.{GoesOnDuring, Opens, RecoversAgain, RecoversAgainDuring};
 
 /// A fresh die has no labels, and is labelled. A die that is renewed goes on with those that it has.
 pub fn starts_are_labelled()
@@ -127,16 +127,9 @@ pub fn a_mount_can_end()
         → (b : ℕ) × IsFreeBlock (remounted_cells plan c) b) }
 {}
 
-/// A mount may go back. After copies that began where no block was open and none in erase, what it sees of the blocks
-/// that were closed there shows all of the die as it was there; so it does where the power goes during one of the
-/// copies.
-pub fn a_mount_can_go_back()
-    ensures after { ForAllRecoverable GoesBack }
-    ensures during { ForAllRecoverable GoesBackDuring }
-{}
-
-/// Where the power goes at a safe moment of a mount's acts, or between two such, a mount can recover the die again,
-/// with the same pages. Each moment of the acts by which a mount can end (`CanEnd`) is safe.
+/// Where the power goes at a safe moment of a mount's acts, or between two such, a mount can recover the die again, with
+/// the same pages: by all that it sees, where it finds no page in some block; else by all but what the block with the
+/// greatest number shows, to which it copied last. Each moment of the acts by which a mount can end (`CanEnd`) is safe.
 pub fn a_mount_can_lose_power()
     ensures after { ForAllRecoverable RecoversAgain }
     ensures during { ForAllRecoverable RecoversAgainDuring }

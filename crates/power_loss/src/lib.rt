@@ -18,7 +18,7 @@ mod laws;
 mod losses;
 
 pub use laws::{
-    a_mount_can_end, a_mount_can_go_back, a_mount_can_lose_power, a_mount_ends, a_mount_finds_all,
+    a_mount_can_end, a_mount_can_lose_power, a_mount_ends, a_mount_finds_all,
     a_mount_finds_what_is_placed, a_mount_keeps_all, exact_keeps_labels, labels_are_of_programs,
     labels_show_pages, logs_can_be_recovered, starts_are_labelled, what_can_be_recovered_is_seen,
 };

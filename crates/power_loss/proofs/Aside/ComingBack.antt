@@ -22,7 +22,7 @@ use Rattle.power_loss.specs.Seen.{MaySeeAfter, MaySeeDuring, MaySeePlaced}
 use Rattle.power_loss.proofs.Aside.Lists.{with_length, with_at_aside}
 use Rattle.power_loss.proofs.Aside.Parts.{part_recoverable, part_sees, die_recoverable, die_idle, die_free}
 use Rattle.power_loss.proofs.Aside.Untrimmed.{stay_untrimmed}
-use Rattle.power_loss.proofs.Again.{recovers_again, recovers_again_during}
+use Rattle.power_loss.proofs.Again.{from_here, recovers_again, recovers_again_during}
 use Rattle.power_loss.proofs.Compacting.{can_end}
 use Rattle.power_loss.proofs.FreeBlocks.{has_free_block}
 use Rattle.power_loss.proofs.MountActs.{all_go_on}
@@ -79,12 +79,16 @@ part_bound plan bound less =
 
 -- What stands on the part
 
+again : (plan : DiePlan) (pages : List PageData) (seen : List (List Label)) → RecoversFrom (part_of plan) pages (λ page. 0) seen → StandsOnPart plan pages seen
+again plan pages seen r =
+    record { c = r.c; l = r.l; recoverable = r.recoverable; unplaced = r.unplaced; kept = r.kept; rule = r.rule; sees = r.sees }
+
 stands : (start : Start) (first : Labels) → IsOpening start → IsLabelled start first → AreUntrimmed start.cells first.blocks → (log : Log) → IsExact start log
-    → NothingTrimmed log → (aside : ℕ) → aside ≤ start.plan.shape.blocks → (seen : List (List Label)) → (On : List (List Label) → Type 0)
+    → NothingTrimmed log → (aside : ℕ) → aside ≤ start.plan.shape.blocks → start.plan.shape.blocks < 1024 → (seen : List (List Label)) → (On : List (List Label) → Type 0)
     → MaySeeOnPart start.plan.shape.blocks aside On seen
     → MaySeePlaced (cells start log) (labels start first log).blocks (without_aside start.plan.shape.blocks aside [] seen)
     → StandsOnPart start.plan (contents start log) seen
-stands start first opens labelled untrimmed log exact none aside le seen On w v =
+stands start first opens labelled untrimmed log exact none aside le less seen On w v =
     let plan = start.plan in
     let c : Cells = cells start log in
     let l : Labels = labels start first log in
@@ -100,30 +104,26 @@ stands start first opens labelled untrimmed log exact none aside le seen On w v 
     } in
     let p = part_recoverable plan aside c (contents start log) l le h in
     let own = with_at_aside aside free_block free_block c.blocks (omega (arith, le, h.sound.blocks)) in
-    record {
-      c = part_cells plan.shape.blocks aside c;
-      l = part_labels aside l;
-      recoverable = p;
-      unplaced = free_unplaced (part_of plan) (part_cells plan.shape.blocks aside c) aside p.sound
-          (omega (arith, le, with_length aside free_block c.blocks, h.sound.blocks)) (ap (λ (t : Block). t.filled) own);
-      kept = seen;
-      sees = part_sees plan aside c l seen On le h.sound (h.labelled.blocks ∙ h.sound.blocks) w v;
-    }
+    let p_cells : Cells = part_cells plan.shape.blocks aside c in
+    let unplaced = free_unplaced (part_of plan) p_cells aside p.sound
+    (omega (arith, le, with_length aside free_block c.blocks, h.sound.blocks)) (ap (λ (t : Block). t.filled) own) in
+    again plan (contents start log) seen (from_here (part_of plan) p_cells (contents start log) (part_labels aside l) (λ page. 0)
+    (part_bound plan opens.bound less) p unplaced seen (part_sees plan aside c l seen On le h.sound (h.labelled.blocks ∙ h.sound.blocks) w v))
 
 pub stands_after : (start : Start) (first : Labels) → IsOpening start → IsLabelled start first → AreUntrimmed start.cells first.blocks → (log : Log) → IsExact start log
-    → NothingTrimmed log → (aside : ℕ) → aside ≤ start.plan.shape.blocks → (seen : List (List Label))
+    → NothingTrimmed log → (aside : ℕ) → aside ≤ start.plan.shape.blocks → start.plan.shape.blocks < 1024 → (seen : List (List Label))
     → MaySeeOnPart start.plan.shape.blocks aside (MaySeeAfter (cells start log) (labels start first log)) seen
     → StandsOnPart start.plan (contents start log) seen
-stands_after start first opens labelled untrimmed log exact none aside le seen w =
-    stands start first opens labelled untrimmed log exact none aside le seen (MaySeeAfter (cells start log) (labels start first log)) w
+stands_after start first opens labelled untrimmed log exact none aside le less seen w =
+    stands start first opens labelled untrimmed log exact none aside le less seen (MaySeeAfter (cells start log) (labels start first log)) w
     (log_seen start first opens labelled log exact (without_aside start.plan.shape.blocks aside [] seen) w.die)
 
 pub stands_during : (start : Start) (first : Labels) → IsOpening start → IsLabelled start first → AreUntrimmed start.cells first.blocks → (e : Entry) (past : Log)
-    → IsExact start (e ∷ past) → NothingTrimmed (e ∷ past) → (aside : ℕ) → aside ≤ start.plan.shape.blocks → (seen : List (List Label))
+    → IsExact start (e ∷ past) → NothingTrimmed (e ∷ past) → (aside : ℕ) → aside ≤ start.plan.shape.blocks → start.plan.shape.blocks < 1024 → (seen : List (List Label))
     → MaySeeOnPart start.plan.shape.blocks aside
     (MaySeeDuring start.plan (cells start past) (contents start past) (labels start first past) (ran_by e.reply)) seen
     → StandsOnPart start.plan (contents start past) seen ⊎ StandsOnPart start.plan (contents start (e ∷ past)) seen
-stands_during start first opens labelled untrimmed e past exact none aside le seen w =
+stands_during start first opens labelled untrimmed e past exact none aside le less seen w =
     by_case (placed_during start opens first e past exact (without_aside start.plan.shape.blocks aside [] seen) w.die)
   where
     On : List (List Label) → Type 0
@@ -132,8 +132,8 @@ stands_during start first opens labelled untrimmed e past exact none aside le se
     by_case : MaySeePlaced (cells start past) (labels start first past).blocks (without_aside start.plan.shape.blocks aside [] seen)
         ⊎ MaySeePlaced (cells start (e ∷ past)) (labels start first (e ∷ past)).blocks (without_aside start.plan.shape.blocks aside [] seen)
         → StandsOnPart start.plan (contents start past) seen ⊎ StandsOnPart start.plan (contents start (e ∷ past)) seen
-    by_case (inl v) = inl (stands start first opens labelled untrimmed past exact.0 none.0 aside le seen On w v)
-    by_case (inr v) = inr (stands start first opens labelled untrimmed (e ∷ past) exact none aside le seen On w v)
+    by_case (inl v) = inl (stands start first opens labelled untrimmed past exact.0 none.0 aside le less seen On w v)
+    by_case (inr v) = inr (stands start first opens labelled untrimmed (e ∷ past) exact none aside le less seen On w v)
 
 -- A log starts
 
@@ -186,7 +186,7 @@ starts_beside plan pages seen bound less s next above =
 pub all_stand_after : ForEveryUntrimmedLog (λ start first log aside. (seen : List (List Label)) → MaySeeOnPart start.plan.shape.blocks aside
     (MaySeeAfter (cells start log) (labels start first log)) seen → StandsOnPart start.plan (contents start log) seen)
 all_stand_after start first opens labelled untrimmed log exact none aside le less seen w =
-    stands_after start first opens labelled untrimmed log exact none aside le seen w
+    stands_after start first opens labelled untrimmed log exact none aside le less seen w
 
 pub all_stand_during : ForEveryUntrimmedLog (λ start first log aside. (e : Entry) (past : Log) → log ≡ e ∷ past → (seen : List (List Label))
     → MaySeeOnPart start.plan.shape.blocks aside
@@ -194,13 +194,9 @@ pub all_stand_during : ForEveryUntrimmedLog (λ start first log aside. (e : Entr
     → StandsOnPart start.plan (contents start past) seen ⊎ StandsOnPart start.plan (contents start log) seen)
 all_stand_during start first opens labelled untrimmed log exact none aside le less e past is seen w =
     subst (λ (x : Log). StandsOnPart start.plan (contents start past) seen ⊎ StandsOnPart start.plan (contents start x) seen) (sym is)
-    (stands_during start first opens labelled untrimmed e past (subst (IsExact start) is exact) (subst NothingTrimmed is none) aside le seen w)
+    (stands_during start first opens labelled untrimmed e past (subst (IsExact start) is exact) (subst NothingTrimmed is none) aside le less seen w)
 
 -- Where a mount is cut
-
-again : (plan : DiePlan) (pages : List PageData) (seen : List (List Label)) → RecoversFrom (part_of plan) pages (λ page. 0) seen → StandsOnPart plan pages seen
-again plan pages seen r =
-    record { c = r.c; l = r.l; recoverable = r.recoverable; unplaced = r.unplaced; kept = r.kept; sees = r.sees }
 
 pub cut_after : (plan : DiePlan) (c : Cells) (pages : List PageData) (l : Labels) → MeetsBound plan → plan.shape.blocks < 1024
     → IsRecoverable (part_of plan) c pages l (λ page. 0) → (acts : List Act) → AreMountActs (part_of plan) c acts → IsSafe (part_of plan) c acts
