@@ -1,6 +1,7 @@
 -- A part with one block more than a die's plan. That block stands aside: the die never sees it, and it is wholly free
 -- while the die works. Each mount chooses it anew.
-use Rattle.std.specs.Prelude.{◌≡◌, ℕ, ◌+◌, ◌-◌, ◌*◌, ◌/◌, ◌≤◌, ◌<◌, ◌==◌, if◌then◌else◌, List, [], ◌∷◌, ◌++◌, Option, None, Some, length, map, option_map, sum_by}
+use Rattle.std.specs.Prelude.{◌≡◌, ℕ, ◌+◌, ◌-◌, ◌*◌, ◌/◌, ◌≤◌, ◌<◌, ◌==◌, if◌then◌else◌, List}
+use Rattle.std.specs.Prelude.{[], ◌∷◌, ◌++◌, Option, None, Some, length, map, option_map, sum_by}
 use Rattle.std.specs.Prelude.{slice_index_or, slice_set, take}
 use Rattle.slot_types.specs.declared.plans.DiePlan.{DiePlan}
 use Rattle.slot_types.specs.declared.pages.PageData.{PageData}
@@ -13,7 +14,8 @@ use Rattle.die_log.specs.Model.Answers.{IsExact}
 use Rattle.die_log.specs.Model.Opening.{IsOpening}
 use Rattle.die_log.specs.Model.Start.{Start}
 use Rattle.power_loss.specs.Labels.{Label, Labels, labels_in, CountFrom, IsLabelled}
-use Rattle.power_loss.specs.Recovery.{IsRecoverable, HasUnplaced, IsFreeBlock, GoesBy, AreMountActs, AreSafe, enough_of, cells_of, labels_of, mounted_start, full_accounts}
+use Rattle.power_loss.specs.Recovery.{IsRecoverable, HasUnplaced, IsFreeBlock, GoesBy, AreMountActs, AreSafe}
+use Rattle.power_loss.specs.Recovery.{enough_of, cells_of, labels_of, mounted_start, full_accounts}
 use Rattle.power_loss.specs.Seen.{MaySeePlaced}
 
 -- The die's last number is the number of blocks of its plan, which is the number of the part's last block

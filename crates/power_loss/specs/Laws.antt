@@ -14,9 +14,11 @@ use Rattle.plan_rules.specs.Bound.{MeetsBound}
 use Rattle.plan_rules.specs.Accounts.{Accounts}
 use Rattle.die_log.specs.Invariants.TrueAccounts.{AccountsAgree}
 use Rattle.die_log.specs.Model.Opening.{IsOpening}
-use Rattle.power_loss.specs.Labels.{Label, Labels, label_at, labels, labels_after, counts_from, CountFrom, HaveBytes, WasProgrammed, IsLabelled, IsNewest}
+use Rattle.power_loss.specs.Labels.{Label, Labels, label_at, labels, labels_after, counts_from}
+use Rattle.power_loss.specs.Labels.{CountFrom, HaveBytes, WasProgrammed, IsLabelled, IsNewest}
 use Rattle.power_loss.specs.Mounted.{mounted_place, mounted_content, mounted_places, mounted_contents}
-use Rattle.power_loss.specs.Recovery.{IsRecoverable, remounted_cells, remounted_labels, IsAbove, MayMount, cells_of, labels_of, AreMountActs, AreIdle, IsSafe, RecoversFrom}
+use Rattle.power_loss.specs.Recovery.{IsRecoverable, remounted_cells, remounted_labels, IsAbove, MayMount, cells_of}
+use Rattle.power_loss.specs.Recovery.{labels_of, AreMountActs, AreIdle, IsSafe, RecoversFrom}
 use Rattle.power_loss.specs.Recovery.{mounted_start}
 use Rattle.power_loss.specs.Seen.{MaySeeAfter, MaySeeDuring, MaySeePlaced}
 

@@ -17,10 +17,12 @@ ghost use Rattle.die_log.specs.Model.Start.{Start, fresh, blank_page};
 ghost use Rattle.die_log.specs.Results.Covered.{AreStocked};
 ghost use Rattle.die_log.specs.Results.Promises.{HasSlot};
 ghost use Rattle.die_log.specs.Results.Supply as timed;
-ghost use Rattle.power_loss.specs.Aside.{part_of, with_cells, AgreeButErases, AreUntrimmed, MaySeeOnPart, StandsOnPart, CanStartBeside, ForEveryUntrimmedLog};
+ghost use Rattle.power_loss.specs.Aside.{part_of, with_cells, AgreeButErases, AreUntrimmed};
+ghost use Rattle.power_loss.specs.Aside.{MaySeeOnPart, StandsOnPart, CanStartBeside, ForEveryUntrimmedLog};
 ghost use Rattle.power_loss.specs.Labels.{Label, Labels, labels, fresh_labels, IsLabelled};
 ghost use Rattle.power_loss.specs.Laws.{MountsAll};
-ghost use Rattle.power_loss.specs.Losses.{Life, AreLives, BeginsNext, ForUntrimmedLives, MaySeeAtEnd, MaySeeInCall, up_to, contents_left, first_contents, logs};
+ghost use Rattle.power_loss.specs.Losses.{Life, AreLives, BeginsNext, ForUntrimmedLives, MaySeeAtEnd};
+ghost use Rattle.power_loss.specs.Losses.{MaySeeInCall, up_to, contents_left, first_contents, logs};
 ghost use Rattle.power_loss.specs.Recovery.{IsRecoverable, cells_of, labels_of, AreMountActs, IsSafe, IsAbove, remounted_cells, remounted_labels};
 ghost use Rattle.power_loss.specs.Seen.{MaySeeAfter, MaySeeDuring};
 
