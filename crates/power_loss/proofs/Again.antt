@@ -58,7 +58,7 @@ from_here plan c pages l from bound h u seen w = record {
         (finds_none plan c pages from seen u.b (mounts_it plan bound c pages l from h seen w) h.sound.places u.none));
   };
   sees = w;
-  recovers = recovers_with plan c pages l from bound h u seen w;
+  recovers = recovers_with plan c pages l from bound h seen w;
 }
 
 -- else it undoes the block to which it copied last
@@ -109,7 +109,7 @@ from_back plan c pages l from bound h acts may back seen w = by_unplaced (has_un
             undone = λ nowhere. (one.o, shows_newest plan pages from e le one seen w, refl);
           };
           sees = v;
-          recovers = recovers_with plan one.d pages one.m from bound one.recoverable room (without_block one.o seen) v;
+          recovers = recovers_with plan one.d pages one.m from bound one.recoverable (without_block one.o seen) v;
         }
 
     -- without a copy the block that had no page then has none now

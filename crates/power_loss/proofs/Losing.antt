@@ -49,7 +49,8 @@ reads_last life earlier h s past number page bytes slot ran =
 next_life : (life : Life) (earlier : List Life) → AreLives (life ∷ earlier) → (seen : List (List Label)) → life.start.plan.shape.blocks < 1024
     → StandsOnPart life.start.plan (contents life.start life.log) seen → (next : Life) × BeginsNext life earlier next
 next_life life earlier h seen less s =
-    let k = starts_beside life.start.plan (contents life.start life.log) seen h.1.opens.bound less s s.l.next
+    let k = starts_beside life.start.plan (contents life.start life.log) seen h.1.opens.bound less s s.unplaced.b s.l.next
+    (record { stands = s.unplaced.stands; none = s.unplaced.none })
     (has_above (part_of life.start.plan) (part_bound life.start.plan h.1.opens.bound less) s.c (contents life.start life.log) s.l (λ page. 0) s.recoverable s.kept
     s.sees) in
     let begun : Life = record { start = k.start; first = k.first; log = [] } in (

@@ -16,16 +16,16 @@ use Rattle.die_log.specs.Invariants.SoundCells.{IsClosed, IsUnplaced, AreSoundCe
 use Rattle.die_log.proofs.Cells.Steps.{opens, step_is, step_sound}
 use Rattle.die_log.proofs.Cells.Valid.{unplaced_is}
 use Rattle.die_log.proofs.Legal.Exact.{has_pages, has_slots}
-use Rattle.power_loss.specs.Labels.{Label, Labels, labels_after, Programs}
+use Rattle.power_loss.specs.Labels.{Label, Labels, labels_in, labels_after, Programs}
 use Rattle.power_loss.specs.Laws.{Remounts, GoesOn, GoesOnDuring, ForAllRecoverable}
 use Rattle.power_loss.specs.Recovery.{IsRecoverable, IsAbove, MayMount, cells_of, labels_of, AreMountActs}
 use Rattle.power_loss.specs.Seen.{MaySeePlaced}
 use Rattle.power_loss.proofs.Carrying.{placed_within}
 use Rattle.power_loss.proofs.Counting.{after_below, step_counts}
 use Rattle.power_loss.proofs.Having.{step_has}
-use Rattle.power_loss.proofs.Remounting.{left_stood, remounts, remounted_idle}
-use Rattle.power_loss.proofs.Seeing.{during_placed}
-use Rattle.power_loss.proofs.Steps.{step_labelled}
+use Rattle.power_loss.proofs.Remounting.{free_remounted, remounts, remounted_idle}
+use Rattle.power_loss.proofs.Seeing.{during_placed, contains_at, at_contains}
+use Rattle.power_loss.proofs.Steps.{cell, step_labelled}
 
 -- what is known of an act of a mount
 pub record IsMountAct (plan : DiePlan) (c : Cells) (act : Act) : Type 0 where
@@ -125,12 +125,15 @@ acts_are_seen plan bound c pages l from h act may seen w =
     (λ n b e. (k.erases b (ap (λ (p : ℕ × Act). p.1) (same_Some {A = ℕ × Act} (0, act) (n, does.Erase b) e))).1) w
 
 -- there is a number that it may take as the next
-pub has_above : ForAllRecoverable (λ plan c pages l from. (seen : List (List Label)) → MaySeePlaced c l.blocks seen → IsAbove c seen from l.next)
+pub has_above : ForAllRecoverable (λ plan c pages l from. (seen : List (List Label)) → MaySeePlaced c l.blocks seen → IsAbove seen from l.next)
 has_above plan bound c pages l from h seen w = record {
-  labels = λ q x e. h.labelled.below q x (left_stood c l.blocks seen l.next q x w e);
+  labels = λ q x e.
+      let y = w.remains q.block x (at_contains (labels_in seen q.block) x q.page e) in
+      let k = contains_at (labels_in l.blocks q.block) y.0 y.1 in
+      omega (arith, y.3, h.labelled.below (cell q.block k.0) y.0 k.1);
   counts = h.below;
 }
 
 pub all_remount : ForAllRecoverable Remounts
-all_remount plan bound c pages l from h seen next w above =
-    (remounts plan c pages l from h seen next w above, remounted_idle plan c)
+all_remount plan bound c pages l from h seen erased next w u above =
+    (remounts plan c pages l from h seen erased next w u above, remounted_idle plan erased c, free_remounted plan c erased u)

@@ -40,7 +40,6 @@ fresh_labelled plan = record {
     blocks = length-replicate {A = List Label} plan.shape.blocks [] ∙ sym (length-replicate {A = Block} plan.shape.blocks free_block);
     filled = λ b room. ap length (none_in plan.shape.blocks b) ∙ sym (unfilled plan.shape.blocks b);
     below = λ q x e. absurd (none_at plan.shape.blocks q x e);
-    apart = λ q r x y e f same. absurd (none_at plan.shape.blocks q x e);
     newest = λ p q e. absurd (none-some q (sym (unplaced plan.logical p) ∙ e));
   };
   bytes = λ p q x e f. absurd (none_at plan.shape.blocks q x f);

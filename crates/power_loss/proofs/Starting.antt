@@ -6,7 +6,7 @@ use Rattle.slot_types.specs.declared.pages.PageData.{PageData}
 use Rattle.plan_rules.specs.Bound.{MeetsBound}
 use Rattle.die_log.specs.Model.Flash.{Cells, free_in}
 use Rattle.power_loss.specs.Labels.{Label, Labels}
-use Rattle.power_loss.specs.Recovery.{HasUnplaced, IsFreeBlock, IsRecoverable, remounted_cells, remounted_labels, cells_of, labels_of, AreIdle, CanEnd, CanStart, CanRecover}
+use Rattle.power_loss.specs.Recovery.{IsFreeBlock, IsRecoverable, remounted_cells, remounted_labels, cells_of, labels_of, AreIdle, CanEnd, CanStart, CanRecover}
 use Rattle.power_loss.specs.Seen.{MaySeePlaced}
 use Rattle.power_loss.proofs.Compacting.{can_end}
 use Rattle.power_loss.proofs.MountActs.{all_go_on}
@@ -22,10 +22,8 @@ can_start plan c pages l from bound h idle b free =
     (full_agree plan (sum_by (free_in plan) d.blocks) e.enough) in
     record { acts = e.acts; may = e.may; safe = e.safe; start = _; starts = record { is = refl; opens = s.0; labelled = s.1 } }
 
--- a die on which a block has no placed page
 pub recovers_with : (plan : DiePlan) (c : Cells) (pages : List PageData) (l : Labels) (from : ℕ → ℕ) → MeetsBound plan → IsRecoverable plan c pages l from
-    → HasUnplaced c → (seen : List (List Label)) → MaySeePlaced c l.blocks seen → CanRecover plan c pages from seen
-recovers_with plan c pages l from bound h u seen w next above =
-    let f = free_remounted plan c u in
-    can_start plan (remounted_cells plan c) pages (remounted_labels c seen next) from bound (remounts plan c pages l from h seen next w above)
-    (remounted_idle plan c) f.0 f.1
+    → (seen : List (List Label)) → MaySeePlaced c l.blocks seen → CanRecover plan c pages from seen
+recovers_with plan c pages l from bound h seen w erased next u above =
+    can_start plan (remounted_cells plan erased c) pages (remounted_labels erased c seen next) from bound
+    (remounts plan c pages l from h seen erased next w u above) (remounted_idle plan erased c) erased (free_remounted plan c erased u)

@@ -113,7 +113,6 @@ program_labelled plan page bytes b c d l stands w h = record {
   blocks = length-set l.blocks b _ ∙ (h.blocks ∙ sym w.blocks);
   filled = λ a. pushed_filled plan page bytes b c d l lt w h a (cases_eq a b);
   below = λ q x e. below_by q x (label_cases page bytes b l lt q x e);
-  apart = λ q r x y e f same. apart_by q r x y same (label_cases page bytes b l lt q x e) (label_cases page bytes b l lt r y f);
   newest = λ p q e. newest_by p q (w.moved p q e);
 }
   where
@@ -123,16 +122,6 @@ program_labelled plan page bytes b c d l stands w h = record {
     below_by : (q : Place) (x : Label) → IsNewOr page bytes b l q x → x.serial < l.next + 1
     below_by q x (inl n) = let is : l.next ≡ x.serial = ap (λ (y : Label). y.serial) n.2 in omega arith
     below_by q x (inr o) = omega (arith, h.below q x o)
-
-    apart_by : (q r : Place) (x y : Label) → x.serial ≡ y.serial → IsNewOr page bytes b l q x → IsNewOr page bytes b l r y → q ≡ r
-    apart_by q r x y same (inl m) (inl n) = same_place q r (m.0 ∙ sym n.0) (m.1 ∙ sym n.1)
-    apart_by q r x y same (inl m) (inr o) =
-        let is : l.next ≡ x.serial = ap (λ (z : Label). z.serial) m.2 in
-        absurd (omega (arith, h.below r y o))
-    apart_by q r x y same (inr o) (inl m) =
-        let is : l.next ≡ y.serial = ap (λ (z : Label). z.serial) m.2 in
-        absurd (omega (arith, h.below q x o))
-    apart_by q r x y same (inr o) (inr p) = h.apart q r x y o p same
 
     newest_by : (p : ℕ) (q : Place) → ((p ≡ page) × (q.block ≡ b) × (q.page ≡ (block_at c b).filled)) ⊎ ((p ≢ page) × (place_of c.places p ≡ Some q))
         → IsNewest (labels_after_program page bytes (Some b) l).blocks p q
@@ -168,7 +157,6 @@ stays_labelled plan c d l len same stays h = record {
   blocks = h.blocks ∙ sym len;
   filled = λ a room. h.filled a (omega (arith, same a)) ∙ sym (same a);
   below = h.below;
-  apart = h.apart;
   newest = λ p q e. h.newest p q (stays p q e);
 }
 
@@ -214,7 +202,6 @@ erased_labelled plan b c d l stands none unplaced w h = record {
   blocks = length-set l.blocks b _ ∙ (h.blocks ∙ sym w.blocks);
   filled = λ a. cleared_filled plan b c d l lt none w h a (cases_eq a b);
   below = λ q x e. h.below q x (cleared_cases l.blocks b lt q x e).1;
-  apart = λ q r x y e f same. h.apart q r x y (cleared_cases l.blocks b lt q x e).1 (cleared_cases l.blocks b lt r y f).1 same;
   newest = λ p q e.
       let before : place_of c.places p ≡ Some q = sym (erase_places plan b c d w p) ∙ e in
       let n = h.newest p q before in record {

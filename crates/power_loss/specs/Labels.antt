@@ -109,14 +109,12 @@ pub record IsNewest (blocks : List (List Label)) (page : ℕ) (place : Place) : 
   pub own : label.page ≡ page
   pub newest : (other : Place) (x : Label) → label_at blocks other ≡ Some x → x.page ≡ page → other ≢ place → x.serial < label.serial
 
--- in a block with room each programmed cell has a label (of one that a mount has closed they may be fewer); no two have
--- one number, and each number is below the next; and where a page is placed, its newest label is
+-- in a block with room each programmed cell has a label (of one that a mount has closed they may be fewer, or doubled);
+-- each number is below the next; and where a page is placed, its newest label is
 pub record AreLabelled (plan : DiePlan) (c : Cells) (l : Labels) : Type 0 where
   pub blocks : length l.blocks ≡ length c.blocks
   pub filled : (b : ℕ) → (block_at c b).filled < plan.shape.pages → length (labels_in l.blocks b) ≡ (block_at c b).filled
   pub below : (place : Place) (x : Label) → label_at l.blocks place ≡ Some x → x.serial < l.next
-  pub apart : (place other : Place) (x y : Label) → label_at l.blocks place ≡ Some x → label_at l.blocks other ≡ Some y
-      → x.serial ≡ y.serial → place ≡ other
   pub newest : (page : ℕ) (place : Place) → place_of c.places page ≡ Some place → IsNewest l.blocks page place
 
 -- the cell in which a page is placed has its bytes

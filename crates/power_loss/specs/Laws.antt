@@ -17,7 +17,7 @@ use Rattle.die_log.specs.Model.Opening.{IsOpening}
 use Rattle.power_loss.specs.Labels.{Label, Labels, label_at, labels, labels_after, counts_from}
 use Rattle.power_loss.specs.Labels.{CountFrom, HaveBytes, WasProgrammed, IsLabelled, IsNewest}
 use Rattle.power_loss.specs.Mounted.{mounted_place, mounted_content, mounted_places, mounted_contents}
-use Rattle.power_loss.specs.Recovery.{IsRecoverable, remounted_cells, remounted_labels, IsAbove, MayMount, cells_of}
+use Rattle.power_loss.specs.Recovery.{IsRecoverable, remounted_cells, remounted_labels, IsAbove, IsUnplacedBlock, IsFreeBlock, MayMount, cells_of}
 use Rattle.power_loss.specs.Recovery.{labels_of, AreMountActs, AreIdle, IsSafe, RecoversFrom}
 use Rattle.power_loss.specs.Recovery.{mounted_start}
 use Rattle.power_loss.specs.Seen.{MaySeeAfter, MaySeeDuring, MaySeePlaced}
@@ -80,10 +80,12 @@ ForAllRecoverable Holds =
     (plan : DiePlan) → MeetsBound plan → (c : Cells) (pages : List PageData) (l : Labels) (from : From) → IsRecoverable plan c pages l from
     → Holds plan c pages l from
 
--- a mount erases and closes blocks by what it sees
+-- a mount erases a block, and closes the others, by what it sees
 abbrev pub Remounts : DiePlan → Cells → List PageData → Labels → From → Type 0
-Remounts plan c pages l from = (seen : List (List Label)) (next : ℕ) → MaySeePlaced c l.blocks seen → IsAbove c seen from next
-    → IsRecoverable plan (remounted_cells plan c) pages (remounted_labels c seen next) from × AreIdle (remounted_cells plan c)
+Remounts plan c pages l from = (seen : List (List Label)) (erased next : ℕ) → MaySeePlaced c l.blocks seen → IsUnplacedBlock c erased
+    → IsAbove seen from next
+    → IsRecoverable plan (remounted_cells plan erased c) pages (remounted_labels erased c seen next) from
+    × AreIdle (remounted_cells plan erased c) × IsFreeBlock (remounted_cells plan erased c) erased
 
 -- an act of a mount
 abbrev pub GoesOn : DiePlan → Cells → List PageData → Labels → From → Type 0

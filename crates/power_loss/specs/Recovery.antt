@@ -28,30 +28,35 @@ pub record IsRecoverable (plan : DiePlan) (c : Cells) (pages : List PageData) (l
   pub contents : length pages ≡ plan.logical
   pub blank : (page : ℕ) → place_of c.places page ≡ None → slice_index_or pages page blank_page ≡ blank_page
 
--- A mount first erases each block in which it places no page, since that may have been in erase; and it closes each
--- other one, since the next cell may be torn
+-- A mount first erases one block in which it finds no page. It counts each other one as closed, whatever it looks like:
+-- one that was open, since its next cell may be torn; and one in which it finds no page, since that may have been in erase
 
-abbrev pub remounted_block : DiePlan → Cells → ℕ → Block
-remounted_block plan c b =
+abbrev pub remounted_block : DiePlan → Cells → (erased b : ℕ) → Block
+remounted_block plan c erased b =
     let s = block_at c b in
-    if valid c b == 0
+    if b == erased
     then record { filled = 0; erasing = 0; erases = s.erases + 1 }
     else record { filled = plan.shape.pages; erasing = 0; erases = s.erases }
 
-abbrev pub remounted_cells : DiePlan → Cells → Cells
-remounted_cells plan c = record { blocks = map (remounted_block plan c) (range_with_len 0 (length c.blocks)); places = c.places }
+abbrev pub remounted_cells : DiePlan → (erased : ℕ) → Cells → Cells
+remounted_cells plan erased c = record { blocks = map (remounted_block plan c erased) (range_with_len 0 (length c.blocks)); places = c.places }
 
-abbrev pub remounted_labels_in : Cells → List (List Label) → ℕ → List Label
-remounted_labels_in c seen b = if valid c b == 0 then [] else labels_in seen b
+abbrev pub remounted_labels_in : (erased : ℕ) → List (List Label) → ℕ → List Label
+remounted_labels_in erased seen b = if b == erased then [] else labels_in seen b
 
 -- the labels that are left of those seen, and the number that the mount takes as the next
-abbrev pub remounted_labels : Cells → List (List Label) → ℕ → Labels
-remounted_labels c seen next = record { blocks = map (remounted_labels_in c seen) (range_with_len 0 (length c.blocks)); next = next }
+abbrev pub remounted_labels : (erased : ℕ) → Cells → List (List Label) → ℕ → Labels
+remounted_labels erased c seen next = record { blocks = map (remounted_labels_in erased seen) (range_with_len 0 (length c.blocks)); next = next }
 
--- above all numbers of what is left, and not below those from which labels count
-pub record IsAbove (c : Cells) (seen : List (List Label)) (from : ℕ → ℕ) (next : ℕ) : Type 0 where
-  pub labels : (place : Place) (x : Label) → label_at (remounted_labels c seen next).blocks place ≡ Some x → x.serial < next
+-- above all numbers that are seen, and not below those from which labels count
+pub record IsAbove (seen : List (List Label)) (from : ℕ → ℕ) (next : ℕ) : Type 0 where
+  pub labels : (place : Place) (x : Label) → label_at seen place ≡ Some x → x.serial < next
   pub counts : (page : ℕ) → from page ≤ next
+
+-- a block of the cells in which no page is placed
+pub record IsUnplacedBlock (c : Cells) (b : ℕ) : Type 0 where
+  pub stands : b < length c.blocks
+  pub none : valid c b ≡ 0
 
 -- Then it may copy pages together: it programs a page that is placed, where a page is free, and does slots of the erase
 -- of a closed block in which no page is placed
@@ -176,10 +181,11 @@ pub record CanStart (plan : DiePlan) (c : Cells) (pages : List PageData) (l : La
   pub start : Start
   pub starts : StartsAfter plan c pages l acts start
 
--- it erases and closes by what it sees, and goes on from there
+-- it erases such a block, closes the others, and goes on from there
 abbrev pub CanRecover : DiePlan → Cells → List PageData → (ℕ → ℕ) → List (List Label) → Type 0
 CanRecover plan c pages from seen =
-    (next : ℕ) → IsAbove c seen from next → CanStart plan (remounted_cells plan c) pages (remounted_labels c seen next)
+    (erased next : ℕ) → IsUnplacedBlock c erased → IsAbove seen from next
+    → CanStart plan (remounted_cells plan erased c) pages (remounted_labels erased c seen next)
 
 -- By what a mount goes of what it sees
 

@@ -91,13 +91,13 @@ pub fn what_can_be_recovered_is_seen()
         → MaySeePlaced c l.blocks seen → MountsAll c pages from seen) }
 {}
 
-/// A mount that erases the blocks in which it places no page, and closes the others, leaves a die that can be
-/// recovered, with the same pages at the same places. So does each copy, and each slot of an erase, by which it then
+/// A mount that erases a block in which it finds no page, and counts the others as closed, leaves a die that can be
+/// recovered, with the same pages at the same places, and with a block that is wholly free. So does each copy, and each slot of an erase, by which it then
 /// puts pages together; and where the power goes during one of these, the die can be recovered as it was before, or as
 /// it is after.
 pub fn a_mount_keeps_all()
     ensures above { ForAllRecoverable (λ plan c pages l from. (seen : List (List Label))
-        → MaySeePlaced c l.blocks seen → IsAbove c seen from l.next) }
+        → MaySeePlaced c l.blocks seen → IsAbove seen from l.next) }
     ensures remounts { ForAllRecoverable Remounts }
     ensures goes_on { ForAllRecoverable GoesOn }
     ensures during { ForAllRecoverable GoesOnDuring }
@@ -118,13 +118,11 @@ pub fn a_mount_ends()
         → sum_by (free_in plan) c.blocks ≤ fmax_of plan → (b : ℕ) × IsWorthIt plan c b) }
 {}
 
-/// A mount that has a wholly free block, when it has erased what it erases first, can go on until full accounts share
-/// out the free pages. It has one where the power went while no page was placed in some block.
+/// A mount that has a wholly free block can go on until full accounts share out the free pages. It has one as soon as it
+/// has erased a block in which it finds no page.
 pub fn a_mount_can_end()
-    ensures ends { ForAllRecoverable (λ plan c pages l from. AreIdle c → (b : ℕ) → IsFreeBlock c b
+    ensures { ForAllRecoverable (λ plan c pages l from. AreIdle c → (b : ℕ) → IsFreeBlock c b
         → CanEnd plan c) }
-    ensures free_block { ForAllRecoverable (λ plan c pages l from. HasUnplaced c
-        → (b : ℕ) × IsFreeBlock (remounted_cells plan c) b) }
 {}
 
 /// Where the power goes at a safe moment of a mount's acts, or between two such, a mount can recover the die again, with

@@ -23,7 +23,7 @@ ghost use Rattle.power_loss.specs.Labels.{Label, Labels, labels, fresh_labels, I
 ghost use Rattle.power_loss.specs.Laws.{MountsAll};
 ghost use Rattle.power_loss.specs.Losses.{Life, AreLives, BeginsNext, ForUntrimmedLives, MaySeeAtEnd};
 ghost use Rattle.power_loss.specs.Losses.{MaySeeInCall, up_to, contents_left, first_contents, logs};
-ghost use Rattle.power_loss.specs.Recovery.{IsRecoverable, cells_of, labels_of, AreMountActs, IsSafe, IsAbove, remounted_cells, remounted_labels};
+ghost use Rattle.power_loss.specs.Recovery.{IsRecoverable, cells_of, labels_of, AreMountActs, IsSafe, IsAbove, IsUnplacedBlock, remounted_cells, remounted_labels};
 ghost use Rattle.power_loss.specs.Seen.{MaySeeAfter, MaySeeDuring};
 
 /// A fresh die has no old labels; and where a log trims nothing, a page that is placed nowhere has none after it.
@@ -48,16 +48,18 @@ pub fn a_part_shows_its_die()
         → StandsOnPart start.plan (contents start past) seen ⊎ StandsOnPart start.plan (contents start log) seen) }
 {}
 
-/// A mount needs to know labels alone: by the newest label of each page it finds every place and every content. It can
-/// then go on, by acts at each moment of which the power may go again, until a log may start with full accounts beside
+/// A mount needs to know labels alone: by the newest label of each page it finds every place and every content. It
+/// erases any one block in which it finds no page, and can then go on, by acts at each moment of which the power may go again, until a log may start with full accounts beside
 /// a block that is wholly free.
 pub fn a_mount_starts_a_log()
     ensures found { (plan : DiePlan) (pages : List PageData) (seen : List (List Label)) → MeetsBound plan
         → plan.shape.blocks < 1024 → (s : StandsOnPart plan pages seen)
         → MountsAll s.c pages (λ page. 0) s.kept }
     ensures starts { (plan : DiePlan) (pages : List PageData) (seen : List (List Label)) → MeetsBound plan
-        → plan.shape.blocks < 1024 → (s : StandsOnPart plan pages seen) → (next : ℕ) → IsAbove s.c s.kept (λ page. 0) next
-        → CanStartBeside plan (remounted_cells (part_of plan) s.c) pages (remounted_labels s.c s.kept next) }
+        → plan.shape.blocks < 1024 → (s : StandsOnPart plan pages seen) → (erased next : ℕ)
+        → IsUnplacedBlock s.c erased → IsAbove s.kept (λ page. 0) next
+        → CanStartBeside plan (remounted_cells (part_of plan) erased s.c) pages
+        (remounted_labels erased s.c s.kept next) }
 {}
 
 /// Where the power goes at a safe moment of a mount's acts, or during the next one, what is seen of the part shows all

@@ -17,7 +17,7 @@ use Rattle.die_log.specs.Model.Answers.{IsExact}
 use Rattle.die_log.proofs.Legal.Exact.{has_pages}
 use Rattle.power_loss.specs.Aside.{raised, part_of, part_cells, part_labels, die_cells, die_labels, without_aside, AreUntrimmed, NothingTrimmed, MaySeeOnPart, StandsOnPart, CanStartBeside, ForEveryUntrimmedLog}
 use Rattle.power_loss.specs.Labels.{Label, Labels, labels, IsLabelled}
-use Rattle.power_loss.specs.Recovery.{IsRecoverable, IsFreeBlock, AreIdle, CanEnd, enough_of, RecoversFrom, AreMountActs, IsSafe, cells_of, labels_of, remounted_cells, remounted_labels, IsAbove, mounted_start, full_accounts}
+use Rattle.power_loss.specs.Recovery.{IsRecoverable, IsFreeBlock, IsUnplacedBlock, AreIdle, CanEnd, enough_of, RecoversFrom, AreMountActs, IsSafe, cells_of, labels_of, remounted_cells, remounted_labels, IsAbove, mounted_start, full_accounts}
 use Rattle.power_loss.specs.Seen.{MaySeeAfter, MaySeeDuring, MaySeePlaced}
 use Rattle.power_loss.proofs.Aside.Lists.{with_length, with_at_aside}
 use Rattle.power_loss.proofs.Aside.Parts.{part_recoverable, part_sees, die_recoverable, die_idle, die_free}
@@ -173,13 +173,13 @@ starts plan c pages l bound less h idle b free =
     }
 
 pub starts_beside : (plan : DiePlan) (pages : List PageData) (seen : List (List Label)) → MeetsBound plan → plan.shape.blocks < 1024
-    → (s : StandsOnPart plan pages seen) → (next : ℕ) → IsAbove s.c s.kept (λ page. 0) next
-    → CanStartBeside plan (remounted_cells (part_of plan) s.c) pages (remounted_labels s.c s.kept next)
-starts_beside plan pages seen bound less s next above =
+    → (s : StandsOnPart plan pages seen) → (erased next : ℕ) → IsUnplacedBlock s.c erased → IsAbove s.kept (λ page. 0) next
+    → CanStartBeside plan (remounted_cells (part_of plan) erased s.c) pages (remounted_labels erased s.c s.kept next)
+starts_beside plan pages seen bound less s erased next u above =
     let part = part_of plan in
-    let f = free_remounted part s.c s.unplaced in
-    starts plan (remounted_cells part s.c) pages (remounted_labels s.c s.kept next) bound less
-    (remounts part s.c pages s.l (λ page. 0) s.recoverable s.kept next s.sees above) (remounted_idle part s.c) f.0 f.1
+    starts plan (remounted_cells part erased s.c) pages (remounted_labels erased s.c s.kept next) bound less
+    (remounts part s.c pages s.l (λ page. 0) s.recoverable s.kept erased next s.sees u above) (remounted_idle part erased s.c) erased
+    (free_remounted part s.c erased u)
 
 -- The same, as laws say it
 

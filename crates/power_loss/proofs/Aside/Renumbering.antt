@@ -179,11 +179,6 @@ renumbered_labelled plan other to from c d l m like r next blocks s h = record {
   below = λ place x e.
       let k = label_there to from c d l.blocks m.blocks r place x e in
       omega (arith, h.below (cell (from place.block) place.page) x k.stands, next);
-  apart = λ place o x y e f same.
-      let k = label_there to from c d l.blocks m.blocks r place x e in
-      let n = label_there to from c d l.blocks m.blocks r o y f in
-      let cells = h.apart (cell (from place.block) place.page) (cell (from o.block) o.page) x y k.stands n.stands same in
-      same_place place o (sym k.back ∙ (ap (λ (q : Place). to q.block) cells ∙ n.back)) (ap (λ (q : Place). q.page) cells);
   newest = λ page q e. newest_by page q (lies to from c d l.blocks m.blocks r page q e);
 }
   where

@@ -20,6 +20,7 @@ placed : map (valid (cells start full)) (0 ∷ 1 ∷ 2 ∷ 3 ∷ []) ≡ 2 ∷ 1
 unfolding answer
 placed = refl
 
-none_left : sum_by (free_in plan) (remounted_cells plan (cells start full)).blocks ≡ 0
+-- it finds none to erase: there is no block 4
+none_left : sum_by (free_in plan) (remounted_cells plan 4 (cells start full)).blocks ≡ 0
 unfolding answer
 none_left = refl
