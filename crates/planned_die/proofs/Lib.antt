@@ -1,0 +1,2 @@
+mod Waits
+mod Ending
