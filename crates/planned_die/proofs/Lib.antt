@@ -1,2 +1,10 @@
 mod Waits
 mod Ending
+mod Counting
+mod Own
+mod Cores
+mod Slotting
+mod Lived
+mod NextLife
+mod Beginning
+mod NeverLate

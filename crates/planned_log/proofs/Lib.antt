@@ -1,6 +1,6 @@
 mod Counts
 mod Lefts
-mod Asking
+pub mod Asking
 mod Steps
 pub mod Kept
 pub mod Served
