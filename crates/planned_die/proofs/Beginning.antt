@@ -1,5 +1,5 @@
 -- A die on which nothing was done keeps its plan.
-use Rattle.std.proofs.Common.{◌≡◌, ℕ, List, [], ◌∷◌, refl, sym, subst, arith}
+use Rattle.std.proofs.Common.{◌≡◌, ℕ, ◌+◌, List, [], ◌∷◌, refl, sym, subst, arith}
 use Rattle.slot_types.specs.declared.plans.DiePlan.{DiePlan}
 use Rattle.demand_rules.specs.declared.terms.Terms.{Terms}
 use Rattle.demand_rules.specs.Demand.{PassesDemand}

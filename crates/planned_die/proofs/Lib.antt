@@ -8,3 +8,4 @@ mod Lived
 mod NextLife
 mod Beginning
 mod NeverLate
+mod Asked
