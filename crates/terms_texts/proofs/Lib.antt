@@ -1,0 +1,5 @@
+pub mod TermsLaws
+pub mod TermsFronts
+pub mod StoreLaws
+pub mod ReadFaults
+pub mod OneReading

@@ -1,0 +1,6 @@
+pub mod Keys
+pub mod Refusing
+pub mod Tables
+pub mod TermsText
+pub mod Stores
+pub mod TermsReading
