@@ -3,3 +3,4 @@ pub mod TermsFronts
 pub mod StoreLaws
 pub mod ReadFaults
 pub mod OneReading
+pub mod Written

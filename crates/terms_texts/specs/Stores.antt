@@ -1,5 +1,5 @@
 -- The plans of a store with terms that the numbers of a text make, or why they make none.
-use Rattle.std.specs.Prelude.{◌≡◌, ◌==◌, ℕ, ◌<◌, ◌≤◌, nat_le, List, map, filter, Option, Some, None, Result, Ok, Err}
+use Rattle.std.specs.Prelude.{IsErrAnd, ◌≡◌, ◌==◌, ℕ, ◌<◌, ◌≤◌, nat_le, List, map, filter, Option, Some, None, Result, Ok, Err}
 use Rattle.std.specs.List.{range_with_len, position}
 use Rattle.plan_rules.specs.Bound.{IsShape, MeetsBound}
 use Rattle.slot_types.specs.declared.plans.Shape.{Shape}
@@ -99,3 +99,11 @@ RefusesStore plan (Text cause place) = ⊥
 abbrev pub RefusesText : Result TermsNumbers TermsRefusal → TermsRefusal → Type 0
 RefusesText (Err fault) refusal = refusal ≡ fault
 RefusesText (Ok plan) refusal = RefusesStore plan refusal
+
+-- two answers that say of the same die that it may not be used
+abbrev pub NamesDie : ℕ → TermsRefusal → Type 0
+NamesDie n (Die die fault) = die ≡ n
+NamesDie n _ = ⊥
+
+abbrev pub BlameOneDie : {X : Type 0} → Result X TermsRefusal → Result X TermsRefusal → Type 0
+BlameOneDie one other = (die : ℕ) × IsErrAnd one (NamesDie die) × IsErrAnd other (NamesDie die)
