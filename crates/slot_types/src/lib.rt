@@ -8,6 +8,7 @@ pub mod laws;
 pub mod lent_ops;
 pub mod limits;
 pub mod numbers;
+pub mod op_arena;
 pub mod op_kinds;
 pub mod packed_ops;
 pub mod pages;
@@ -25,6 +26,7 @@ pub use limits::{
     MAX_TASKS, MAX_WORKERS, MIN_BLOCKS, MIN_PAGES, PAGE_BYTES,
 };
 pub use numbers::{JobNo, TaskNo};
+pub use op_arena::OpArena;
 pub use op_kinds::OpKind;
 pub use packed_ops::PackedOps;
 pub use pages::{PageData, Place};

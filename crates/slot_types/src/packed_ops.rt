@@ -37,7 +37,12 @@ impl Model for PackedOps {
 }
 
 /// Adds the kinds and pages of a list of operations, and the bytes of those that write, in room that was made.
-fn push_list(kinds: &mut Vec<OpKind>, pages: &mut Vec<u32>, bytes: &mut Vec<PageData>, ops: &[Op])
+pub(crate) fn push_list(
+    kinds: &mut Vec<OpKind>,
+    pages: &mut Vec<u32>,
+    bytes: &mut Vec<PageData>,
+    ops: &[Op],
+)
     requires room { vec_len kinds.old + length ops.now ≤ vec_capacity kinds.old }
     requires page_room { vec_len pages.old + length ops.now ≤ vec_capacity pages.old }
     requires byte_room { vec_len bytes.old + writes ops.now ≤ vec_capacity bytes.old }
@@ -74,15 +79,16 @@ fn push_bytes(bytes: &mut Vec<PageData>, op: Op) -> Result<(), Refusal>
 }
 
 /// Adds items in room that was made.
-fn append<T: Copy>(list: &mut Vec<T>, more: &[T])
+pub(crate) fn append<T: Copy>(list: &mut Vec<T>, more: &[T])
     requires { vec_len list.old + length more.now ≤ vec_capacity list.old }
-    ensures { list.new.items ≡ list.old.items ++ more.now }
+    ensures items { list.new.items ≡ list.old.items ++ more.now }
+    ensures capacity { vec_capacity list.old ≤ vec_capacity list.new }
 {
     let _ = list.extend_from_slice(more);
 }
 
 /// The bytes from one place to before another.
-fn bytes_between(bytes: &[PageData], from: usize, to: usize) -> &[PageData]
+pub(crate) fn bytes_between(bytes: &[PageData], from: usize, to: usize) -> &[PageData]
     requires rise { from ≤ to }
     requires there { to ≤ length bytes.now }
     ensures { result.now ≡ slice_range bytes.now from to }
@@ -91,7 +97,7 @@ fn bytes_between(bytes: &[PageData], from: usize, to: usize) -> &[PageData]
 }
 
 /// How many of these kinds are writes.
-fn count_writes_in(kinds: &[OpKind]) -> usize
+pub(crate) fn count_writes_in(kinds: &[OpKind]) -> usize
     ensures { result ≡ count_by kind_writes kinds.now }
 {
     kinds.iter().filter(|kind| kind.writes()).count()

@@ -87,13 +87,13 @@ append-requires-3 c =
 pub invariant_of-self-2 : goal.invariant_of-self-2
 invariant_of-self-2 c =
     rw (
-      c.append.ensures,
+      c.append.ensures.items,
       c.push_list.ensures.kinds,
       c.in_ok-reserve.ensures.items,
-      c.append-2.ensures,
+      c.append-2.ensures.items,
       c.push_list.ensures.pages,
       c.in_ok-reserve-2.ensures.items,
-      c.append-3.ensures,
+      c.append-3.ensures.items,
       c.push_list.ensures.bytes,
       c.in_ok-reserve-3.ensures.items,
     ) (packed_in _ _ _ _ (joined _ _ _ _ _ _ _ _ (joined _ _ _ _ _ _ _ _ c.self.invariant (of_list c.ops.inside.list.now)) c.ops.invariant))
@@ -103,13 +103,13 @@ returns-clause-ok c =
     let f = c.self.inside in
     let more = c.ops.inside in
     rw (
-      c.append.ensures,
+      c.append.ensures.items,
       c.push_list.ensures.kinds,
       c.in_ok-reserve.ensures.items,
-      c.append-2.ensures,
+      c.append-2.ensures.items,
       c.push_list.ensures.pages,
       c.in_ok-reserve-2.ensures.items,
-      c.append-3.ensures,
+      c.append-3.ensures.items,
       c.push_list.ensures.bytes,
       c.in_ok-reserve-3.ensures.items,
     ) (packed_are _ _ _ _ (joined _ _ _ _ _ _ _ _ (joined _ _ _ _ _ _ _ _ c.self.invariant (of_list more.list.now)) c.ops.invariant)
