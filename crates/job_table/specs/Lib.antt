@@ -9,3 +9,4 @@ pub mod QueuedKeys
 pub mod SoundTable
 pub mod Heads
 pub mod Entering
+pub mod Reserves

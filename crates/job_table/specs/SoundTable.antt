@@ -33,3 +33,8 @@ pub record IsSoundTable (jobs : List JobRecord) (clock : ℕ) (ended : Bool) (co
     pub few : length jobs ≤ MAX_JOBS
     pub running : ended ≡ false → QueuesAgree jobs clock collecting lines.waiting lines.ready
     pub worst_is : MatchOption worst (NothingDone jobs) (IsWorst jobs)
+
+-- the queues have room for so many jobs more, and no more wait than a table has
+pub record HasQueueRoom (arrivals : ℕ) (lines : Lines) : Type 0 where
+  pub room : arrivals ≤ lines.room
+  pub few : length lines.waiting ≤ MAX_JOBS

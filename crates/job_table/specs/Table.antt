@@ -1,22 +1,28 @@
 -- The jobs and collections of a die by number, and what happens to them.
-use Rattle.std.specs.Prelude.{ℕ, zero, suc, ◌&&◌, ◌==◌, Bool, false, List, [], ◌∷◌, ◌++◌, Option, Some, None, slice_get}
+use Rattle.std.specs.Prelude.{ℕ, zero, suc, ◌&&◌, ◌==◌, Bool, false, List, [], ◌∷◌, ◌++◌, Option, Some, None, slice_get, length}
 use Rattle.std.specs.List.{list_any}
 use Rattle.job_table.specs.Jobs.{JobRecord, is_pending, reads_next}
+use Rattle.job_table.specs.Reserves.{Reserve, no_reserve, reserve_after}
 
--- how many tasks there are, the slot up to which releases were looked at, whether the die has stopped, and the jobs and
--- collections by number
+-- how many tasks there are, the slot up to which releases were looked at, whether the die has stopped, the jobs and
+-- collections by number, and for how many more memory is reserved
 pub record Table : Type 0 where
   pub tasks : ℕ
   pub clock : ℕ
   pub ended : Bool
   pub jobs : List JobRecord
+  pub reserve : Reserve
 
 abbrev pub empty_table : ℕ → Table
-empty_table tasks = record { tasks = tasks; clock = 0; ended = false; jobs = [] }
+empty_table tasks = record { tasks = tasks; clock = 0; ended = false; jobs = []; reserve = no_reserve }
 
--- one more, under the next number
+-- without jobs, at slot 0 again; what is reserved stays
+abbrev pub cleared_table : Table → Table
+cleared_table table = record (empty_table table.tasks) { reserve = table.reserve }
+
+-- one more, under the next number, for which what is reserved is used
 abbrev pub with_job : Table → JobRecord → Table
-with_job table job = record table { jobs = table.jobs ++ job ∷ [] }
+with_job table job = record table { jobs = table.jobs ++ job ∷ []; reserve = reserve_after (length job.ops) table.reserve }
 
 -- the list with the job of one number changed
 abbrev pub changed_at : List JobRecord → ℕ → (JobRecord → JobRecord) → List JobRecord

@@ -14,11 +14,12 @@ use slot_types::{JobHead, JobNo, Waived};
 
 /// A job is over. If it is a collection, its task has no pending one any more.
 pub(crate) fn end_job(jobs: &mut FlatJobs, collecting: &mut Vec<bool>, number: JobNo, stage: Stage)
-    requires number { number < length jobs.old }
-    requires tasks { AreOfTasks jobs.old (length collecting.old.items) }
-    ensures jobs { jobs.new ≡ changed_at jobs.old number (with_stage stage) }
+    requires number { number < length jobs.old.jobs }
+    requires tasks { AreOfTasks jobs.old.jobs (length collecting.old.items) }
+    ensures jobs { jobs.new
+        ≡ record jobs.old { jobs = changed_at jobs.old.jobs number (with_stage stage) } }
     ensures marks { collecting.new.items
-        ≡ marks_after (slice_get jobs.old number) collecting.old.items }
+        ≡ marks_after (slice_get jobs.old.jobs number) collecting.old.items }
 {
     unmark(collecting, &jobs.at(number));
     jobs.set_stage(number, stage);
@@ -46,8 +47,9 @@ pub(crate) fn mark(collecting: &mut Vec<bool>, head: JobHead)
 
 /// Takes waivers back.
 pub(crate) fn take_back(jobs: &mut FlatJobs, waived: &[Waived])
-    requires { AreWaived jobs.old waived.now }
-    ensures { jobs.new ≡ without_waivers jobs.old waived.now }
+    requires { AreWaived jobs.old.jobs waived.now }
+    ensures { jobs.new
+        ≡ record jobs.old { jobs = without_waivers jobs.old.jobs waived.now } }
 {
     for w in waived {
         jobs.set_stage(w.number, Stage::Pending);

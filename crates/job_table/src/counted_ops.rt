@@ -1,10 +1,10 @@
 //! Operations with what was counted of them.
 
-ghost use Rattle.std.specs.Prelude.{◌≡◌, ◌++◌, [], None, Some, length, count_by, find, nat_le, option_map, IfOk, IfErr, OnOk, OnErr};
+ghost use Rattle.std.specs.Prelude.{◌≡◌, ◌-◌, ◌≤◌, ◌++◌, [], None, Some, length, count_by, find, nat_le, option_map, IfOk, IfErr, IsOk, OnOk, OnErr};
 ghost use Rattle.slot_types.specs.Operations.{is_read, page_of, writes};
 ghost use Rattle.slot_types.specs.Refusal.{FailsForMemory};
 
-use slot_types::{LentOps, PackedOps, Refusal};
+use slot_types::{LentOps, OpArena, Refusal};
 use std::marker::Model;
 
 /// The operations of a job, each on a page that is there, and how many of them read and write: so who takes them looks
@@ -58,10 +58,13 @@ impl<'a> CountedOps<'a> {
         }
     }
 
-    /// Adds them to others. Refused with `NoMemory`, none is added.
-    pub(crate) fn add_to(&self, list: &mut PackedOps) -> Result<(), Refusal>
-        ensures ok { OnOk result (list.new ≡ list.old ++ self.now) }
+    /// Adds them to others, in memory that is reserved, as far as it goes. Where that covers them, this isn't refused.
+    /// Refused with `NoMemory`, none is added.
+    pub(crate) fn add_to(&self, list: &mut OpArena) -> Result<(), Refusal>
+        ensures ok { OnOk result (list.new
+            ≡ record { ops = list.old.ops ++ self.now; room = list.old.room - length self.now }) }
         ensures refused { FailsForMemory result }
+        ensures succeeds { length self.now ≤ list.old.room → IsOk result }
         ensures err { OnErr result (list.new ≡ list.old) }
     {
         list.push_all(&self.ops, self.writes)

@@ -1,20 +1,21 @@
 //! The jobs and collections of a table by number, without a list of their own each.
 
 ghost use Rattle.std.specs.Prelude.{◌≡◌, ◌+◌, ◌<◌, ◌≤◌, ◌^◌, ◌∷◌, ◌++◌, [], true, false, Some, length, slice_get, replicate, vec_len, if◌then◌else◌};
-ghost use Rattle.std.specs.Prelude.{vec_capacity, OnOk, IfOk, OnErr};
+ghost use Rattle.std.specs.Prelude.{vec_capacity, IsOk, OnOk, IfOk, OnErr};
 ghost use Rattle.slot_types.specs.Refusal.{FailsForMemory};
 ghost use Rattle.slot_types.specs.declared.limits.TheConstants.{MAX_JOBS, MAX_OPS};
 ghost use Rattle.job_table.specs.Jobs.{JobRecord, with_one_more_slot, with_read, with_stage};
 ghost use Rattle.job_table.specs.Table.{changed_at, work_at, reads_next_at};
 ghost use Rattle.slot_types.specs.Operations.{is_some_write};
 ghost use Rattle.job_table.specs.Entering.{job_of};
+ghost use Rattle.job_table.specs.Reserves.{Covers, no_reserve, reserve_after, reserve_with};
 ghost use Rattle.job_table.specs.Flat.{blank, ops_at, places_lacking, places_unfilled, place_from, with_page, IsRowOf};
 
 use crate::counted_ops::CountedOps;
 use crate::jobs::Job;
 use crate::rows::Row;
 use crate::stages::Stage;
-use slot_types::{JobHead, JobNo, PackedOps, PageData, Refusal};
+use slot_types::{JobHead, JobNo, OpArena, PageData, Refusal};
 use std::alloc::Global;
 use std::marker::Model;
 
@@ -23,7 +24,7 @@ use std::marker::Model;
 #[derive(Drop)]
 pub(crate) struct FlatJobs {
     rows: Vec<Row>,
-    ops: PackedOps,
+    ops: OpArena,
     /// What reads gave, each in a place of its job, and room for the reads of all jobs: so a job that never runs takes
     /// room for its reads, and none of it is touched.
     reads: Vec<PageData>,
@@ -31,22 +32,29 @@ pub(crate) struct FlatJobs {
     placed: u32,
     /// How many reads all jobs have.
     all_reads: u32,
+    /// For how many more jobs memory is reserved.
+    arrivals: u32,
 }
 
 impl Model for FlatJobs {
-    ghost use Rattle.std.specs.Prelude.{List};
-    ghost use Rattle.job_table.specs.Jobs.{JobRecord};
+    ghost use Rattle.job_table.specs.Reserves.{KeptJobs};
 
-    ghost Value = { List JobRecord };
+    ghost Value = { KeptJobs };
 
-    ghost use Rattle.std.specs.Prelude.{vec_capacity};
+    ghost use Rattle.std.specs.Prelude.{vec_len, vec_capacity};
     ghost use Rattle.job_table.specs.Flat.{jobs_at, AreLaid, HaveRoom, HasFewOps};
+    ghost use Rattle.job_table.specs.Reserves.{HasReserve};
 
-    ghost view = { λ j. jobs_at j.ops j.reads.items j.rows.items };
+    ghost view = { λ j. record {
+      jobs = jobs_at j.ops.ops j.reads.items j.rows.items;
+      reserve = record { arrivals = j.arrivals; operations = j.ops.room };
+    } };
 
-    ghost invariant = { λ j. AreLaid j.rows.items j.ops j.reads.items j.placed
-        × HaveRoom j.rows.items j.ops j.reads.items j.all_reads j.placed (vec_capacity j.reads)
-        × HasFewOps j.rows.items j.ops };
+    ghost invariant = { λ j. AreLaid j.rows.items j.ops.ops j.reads.items j.placed
+        × HaveRoom j.rows.items j.ops.ops j.reads.items j.all_reads j.placed (vec_capacity j.reads)
+        × HasFewOps j.rows.items j.ops.ops
+        × HasReserve (record { arrivals = j.arrivals; operations = j.ops.room }) (vec_len j.rows) (vec_capacity j.rows)
+        j.all_reads (vec_capacity j.reads) };
 }
 
 /// Fills so many places, in room that was made.
@@ -98,10 +106,10 @@ fn put_page(reads: &mut Vec<PageData>, place: usize, bytes: PageData)
 }
 
 /// How many writes the next operation of a row is: one or none.
-fn next_writes(row: &Row, ops: &PackedOps) -> u8
-    requires { IsRowOf ops.now row.now }
+fn next_writes(row: &Row, ops: &OpArena) -> u8
+    requires { IsRowOf ops.now.ops row.now }
     ensures { result
-        ≡ (if is_some_write (slice_get (ops_at ops.now row.now) row.now.work) then 1 else 0) }
+        ≡ (if is_some_write (slice_get (ops_at ops.now.ops row.now) row.now.work) then 1 else 0) }
 {
     if row.work >= row.op_count as u32 {
         return 0;
@@ -116,20 +124,21 @@ fn next_writes(row: &Row, ops: &PackedOps) -> u8
 impl FlatJobs {
     /// No job. It takes no memory.
     pub(crate) fn new(alloc: Global) -> FlatJobs
-        ensures { result ≡ [] }
+        ensures { result ≡ record { jobs = []; reserve = no_reserve } }
     {
         FlatJobs {
             rows: Vec::new(alloc),
-            ops: PackedOps::new(alloc),
+            ops: OpArena::new(alloc),
             reads: Vec::new(alloc),
             placed: 0,
             all_reads: 0,
+            arrivals: 0,
         }
     }
 
-    /// Takes all jobs away. The memory stays.
+    /// Takes all jobs away. The memory stays, and so does what is reserved.
     pub(crate) fn clear(&mut self)
-        ensures { self.new ≡ [] }
+        ensures { self.new ≡ record self.old { jobs = [] } }
     {
         self.rows.clear();
         self.ops.clear();
@@ -140,15 +149,29 @@ impl FlatJobs {
 
     /// How many there are.
     pub(crate) fn len(&self) -> u32
-        requires { length self.now < 2 ^ 32 }
-        ensures { result ≡ length self.now }
+        requires { length self.now.jobs < 2 ^ 32 }
+        ensures { result ≡ length self.now.jobs }
     {
         self.rows.len() as u32
     }
 
+    /// For how many more memory is reserved.
+    pub(crate) fn reserved_arrivals(&self) -> u32
+        ensures { result ≡ self.now.reserve.arrivals }
+    {
+        self.arrivals
+    }
+
+    /// For how many operations of these memory is reserved, in all.
+    pub(crate) fn reserved_operations(&self) -> u64
+        ensures { result ≡ self.now.reserve.operations }
+    {
+        self.ops.room() as u64
+    }
+
     /// The one of a number, if there is one.
     pub(crate) fn get(&self, number: JobNo) -> Option<Job<'_>>
-        ensures { slice_get self.now number ≡ result }
+        ensures { slice_get self.now.jobs number ≡ result }
     {
         if number.0 as usize >= self.rows.len() {
             return None;
@@ -158,8 +181,8 @@ impl FlatJobs {
 
     /// The one of a number that is there.
     pub(crate) fn at(&self, number: JobNo) -> Job<'_>
-        requires { number < length self.now }
-        ensures { slice_get self.now number ≡ Some result }
+        requires { number < length self.now.jobs }
+        ensures { slice_get self.now.jobs number ≡ Some result }
     {
         Job {
             ops: &self.ops,
@@ -168,13 +191,40 @@ impl FlatJobs {
         }
     }
 
+    /// Reserves memory for so many more jobs with so many operations in all, if it isn't for as many already. Then this
+    /// isn't refused. Refused with `NoMemory`, nothing changes.
+    pub(crate) fn reserve(&mut self, arrivals: u32, operations: u32) -> Result<(), Refusal>
+        ensures ok { OnOk result (self.new ≡ record self.old {
+          reserve = reserve_with arrivals operations self.old.reserve;
+        }) }
+        ensures refused { FailsForMemory result }
+        ensures succeeds { arrivals ≤ self.old.reserve.arrivals
+            → operations ≤ self.old.reserve.operations → IsOk result }
+        ensures err { OnErr result (self.new ≡ self.old) }
+    {
+        let arrivals = self.arrivals.max(arrivals);
+        let operations = self.ops.room().max(operations as usize);
+        self.rows.reserve(arrivals as usize)?;
+        // Each of the operations may be a read.
+        self.reads
+            .reserve(self.all_reads as usize + operations - self.reads.len())?;
+        self.ops.reserve(operations)?;
+        self.arrivals = arrivals;
+        Ok(())
+    }
+
     /// Adds a job of at most 64 operations that has not begun, or a collection, and answers its number. It takes all
-    /// memory that it will ever need. Refused with `NoMemory`, all stay as they were.
+    /// memory that it will ever need, first of what is reserved: where that covers it, it isn't refused. Refused with
+    /// `NoMemory`, all stay as they were.
     pub(crate) fn push(&mut self, head: &JobHead, ops: &CountedOps) -> Result<u32, Refusal>
-        requires few { length self.old < MAX_JOBS }
+        requires few { length self.old.jobs < MAX_JOBS }
         requires few_ops { length ops.now ≤ MAX_OPS }
-        ensures ok { OnOk result (self.new ≡ self.old ++ job_of head.now ops.now ∷ []) }
-        ensures number { IfOk result (λ number. number ≡ length self.old) }
+        ensures ok { OnOk result (self.new ≡ record {
+          jobs = self.old.jobs ++ job_of head.now ops.now ∷ [];
+          reserve = reserve_after (length ops.now) self.old.reserve;
+        }) }
+        ensures succeeds { Covers self.old.reserve (length ops.now) → IsOk result }
+        ensures number { IfOk result (λ number. number ≡ length self.old.jobs) }
         ensures refused { FailsForMemory result }
         ensures err { OnErr result (self.new ≡ self.old) }
     {
@@ -207,6 +257,7 @@ impl FlatJobs {
         let number = self.rows.len() as u32;
         self.rows.push_reserved(row);
         self.all_reads = all_reads as u32;
+        self.arrivals = self.arrivals.saturating_sub(1);
         Ok(number)
     }
 
@@ -218,10 +269,11 @@ impl FlatJobs {
 
     /// It took one more slot, which wasn't a read of a job.
     pub(crate) fn carry(&mut self, number: JobNo)
-        requires there { number < length self.old }
-        requires reads { reads_next_at self.old number ≡ false }
-        requires room { work_at self.old number + 1 < 2 ^ 32 }
-        ensures { self.new ≡ changed_at self.old number with_one_more_slot }
+        requires there { number < length self.old.jobs }
+        requires reads { reads_next_at self.old.jobs number ≡ false }
+        requires room { work_at self.old.jobs number + 1 < 2 ^ 32 }
+        ensures { self.new
+            ≡ record self.old { jobs = changed_at self.old.jobs number with_one_more_slot } }
     {
         let row = &mut self.rows[number.0 as usize];
         row.writes_done += next_writes(row, &self.ops);
@@ -230,11 +282,13 @@ impl FlatJobs {
 
     /// It took one more slot, in which its read gave these bytes.
     pub(crate) fn carry_read(&mut self, number: JobNo, bytes: PageData)
-        requires there { number < length self.old }
-        requires reads { reads_next_at self.old number ≡ true }
-        requires room { work_at self.old number + 1 < 2 ^ 32 }
-        ensures { self.new ≡ changed_at self.old number (λ job.
-            with_read bytes (with_one_more_slot job)) }
+        requires there { number < length self.old.jobs }
+        requires reads { reads_next_at self.old.jobs number ≡ true }
+        requires room { work_at self.old.jobs number + 1 < 2 ^ 32 }
+        ensures { self.new ≡ record self.old {
+          jobs = changed_at self.old.jobs number (λ job.
+              with_read bytes (with_one_more_slot job));
+        } }
     {
         let row = &mut self.rows[number.0 as usize];
         give_places(row, &mut self.reads, &mut self.placed);
@@ -246,8 +300,9 @@ impl FlatJobs {
 
     /// It stands otherwise from now on.
     pub(crate) fn set_stage(&mut self, number: JobNo, stage: Stage)
-        requires { number < length self.old }
-        ensures { self.new ≡ changed_at self.old number (with_stage stage) }
+        requires { number < length self.old.jobs }
+        ensures { self.new
+            ≡ record self.old { jobs = changed_at self.old.jobs number (with_stage stage) } }
     {
         let row = &mut self.rows[number.0 as usize];
         row.stage = stage;

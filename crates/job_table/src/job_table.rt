@@ -1,15 +1,16 @@
 //! The jobs and collections of a die by number.
 
-ghost use Rattle.std.specs.Prelude.{◌≡◌, ◌<◌, ◌≤◌, ◌+◌, ◌^◌, ◌==◌, List, true, false, length, slice_get, OnOk, IfOk, OnErr, IfSome};
+ghost use Rattle.std.specs.Prelude.{◌≡◌, ◌<◌, ◌≤◌, ◌+◌, ◌^◌, ◌==◌, List, true, false, length, slice_get, IsOk, OnOk, IfOk, OnErr, IfSome};
 ghost use Rattle.std.specs.Prelude.{IfNone, IsTrue, ◌↔◌};
 ghost use Rattle.slot_types.specs.Refusal.{FailsForMemory};
 ghost use Rattle.job_table.specs.Jobs.{JobRecord, with_one_more_slot, with_read, with_stage};
-ghost use Rattle.job_table.specs.Table.{empty_table, with_job, with_change, work_at, reads_next_at, is_collecting};
+ghost use Rattle.job_table.specs.Table.{empty_table, cleared_table, with_job, with_change, work_at, reads_next_at, is_collecting};
 ghost use Rattle.job_table.specs.Waivers.{AreWaived, WerePending, jobs_after_waivers, stopped_table};
 ghost use Rattle.job_table.specs.Entering.{MayEnter, job_of};
 ghost use Rattle.job_table.specs.Heads.{WereHeads, with_waived};
 ghost use Rattle.job_table.specs.Order.{IsHead, IsNextReleased, NothingReady, NothingWaiting};
 ghost use Rattle.job_table.specs.Worst.{IsWorst, NothingDone, lateness_at};
+ghost use Rattle.job_table.specs.Reserves.{Covers, reserve_with};
 
 use crate::changes::{end_job, mark, take_back};
 use crate::counted_ops::CountedOps;
@@ -42,13 +43,20 @@ pub struct JobTable {
 impl Model for JobTable {
     ghost use Rattle.std.specs.Prelude.{length};
     ghost use Rattle.job_table.specs.Table.{Table};
-    ghost use Rattle.job_table.specs.SoundTable.{IsSoundTable};
+    ghost use Rattle.job_table.specs.SoundTable.{IsSoundTable, HasQueueRoom};
 
     ghost Value = { Table };
 
-    ghost view = { λ t. record { tasks = length t.collecting.items; clock = t.clock; ended = t.ended; jobs = t.jobs } };
+    ghost view = { λ t. record {
+      tasks = length t.collecting.items;
+      clock = t.clock;
+      ended = t.ended;
+      jobs = t.jobs.jobs;
+      reserve = t.jobs.reserve;
+    } };
 
-    ghost invariant = { λ t. IsSoundTable t.jobs t.clock t.ended t.collecting.items t.queues t.worst };
+    ghost invariant = { λ t. IsSoundTable t.jobs.jobs t.clock t.ended t.collecting.items t.queues t.worst
+        × HasQueueRoom t.jobs.reserve.arrivals t.queues };
 }
 
 impl JobTable {
@@ -68,9 +76,10 @@ impl JobTable {
         })
     }
 
-    /// Takes all jobs and collections away, at slot 0 again. The table keeps its memory for those that come.
+    /// Takes all jobs and collections away, at slot 0 again. The table keeps its memory for those that come, and what is
+    /// reserved.
     pub fn clear(&mut self)
-        ensures { self.new ≡ empty_table self.old.tasks }
+        ensures { self.new ≡ cleared_table self.old }
     {
         self.jobs.clear();
         self.queues.clear();
@@ -161,10 +170,39 @@ impl JobTable {
         }
     }
 
+    /// Reserves memory for so many more jobs and collections with so many operations in all, if it isn't for as many
+    /// already. Then this isn't refused. Refused with `NoMemory`, nothing changes.
+    pub fn reserve(&mut self, arrivals: u32, operations: u32) -> Result<(), Refusal>
+        ensures ok { OnOk result (self.new ≡ record self.old {
+          reserve = reserve_with arrivals operations self.old.reserve;
+        }) }
+        ensures refused { FailsForMemory result }
+        ensures succeeds { arrivals ≤ self.old.reserve.arrivals
+            → operations ≤ self.old.reserve.operations → IsOk result }
+        ensures err { OnErr result (self.new ≡ self.old) }
+    {
+        self.queues.reserve(arrivals)?;
+        self.jobs.reserve(arrivals, operations)
+    }
+
+    /// For how many more jobs and collections memory is reserved.
+    pub fn reserved_arrivals(&self) -> u32
+        ensures { result ≡ self.now.reserve.arrivals }
+    {
+        self.jobs.reserved_arrivals()
+    }
+
+    /// For how many operations of these memory is reserved, in all.
+    pub fn reserved_operations(&self) -> u64
+        ensures { result ≡ self.now.reserve.operations }
+    {
+        self.jobs.reserved_operations()
+    }
+
     /// Accepts a job of these operations, or a collection, under the next number, to run from its release on. There are
     /// fewer than `MAX_JOBS`; a job has at most `MAX_OPS` operations; a collection has none, and its task is one of the
-    /// table's and has no pending one. All memory that it will ever need is taken here: refused with `NoMemory`, the
-    /// table stays as it was.
+    /// table's and has no pending one. All memory that it will ever need is taken here, first of what is reserved: where
+    /// that covers it, this isn't refused. Refused with `NoMemory`, the table stays as it was.
     pub fn add(&mut self, head: JobHead, ops: &CountedOps) -> Result<JobNo, Refusal>
         requires running { self.old.ended ≡ false }
         requires few { length self.old.jobs < MAX_JOBS }
@@ -173,9 +211,10 @@ impl JobTable {
         ensures ok { OnOk result (self.new ≡ with_job self.old (job_of head ops.now)) }
         ensures number { IfOk result (λ number. number ≡ length self.old.jobs) }
         ensures refused { FailsForMemory result }
+        ensures succeeds { Covers self.old.reserve (length ops.now) → IsOk result }
         ensures err { OnErr result (self.new ≡ self.old) }
     {
-        self.queues.reserve()?;
+        self.queues.reserve(1)?;
         let number = self.jobs.push(&head, ops)?;
         let JobHead { release, due, .. } = head;
         self.queues.enter(self.clock, number, release, due);

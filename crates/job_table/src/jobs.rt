@@ -5,14 +5,14 @@ ghost use Rattle.job_table.specs.Jobs.{is_read, is_pending, lateness_of, complet
 
 use crate::rows::Row;
 use crate::stages::Stage;
-use slot_types::{Op, PackedOps, PageData, TaskNo};
+use slot_types::{Op, OpArena, PageData, TaskNo};
 use std::marker::Model;
 
 /// A job, or a collection: what it was accepted with, how many slots it took so far, and how it stands. It is lent by a
 /// table, and has nothing of its own.
 #[derive(Drop)]
 pub struct Job<'a> {
-    pub(crate) ops: &'a PackedOps,
+    pub(crate) ops: &'a OpArena,
     pub(crate) reads: &'a [PageData],
     pub(crate) row: &'a Row,
 }
@@ -24,9 +24,9 @@ impl<'a> Model for Job<'a> {
 
     ghost use Rattle.job_table.specs.Flat.{job_at, IsRowIn};
 
-    ghost view = { λ j. job_at j.ops.now j.reads.now j.row.now };
+    ghost view = { λ j. job_at j.ops.now.ops j.reads.now j.row.now };
 
-    ghost invariant = { λ j. IsRowIn j.ops.now j.reads.now j.row.now };
+    ghost invariant = { λ j. IsRowIn j.ops.now.ops j.reads.now j.row.now };
 }
 
 impl<'a> Job<'a> {

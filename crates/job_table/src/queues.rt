@@ -1,6 +1,6 @@
 //! Who waits for a release, and who is released, by deadline.
 
-ghost use Rattle.std.specs.Prelude.{◌≡◌, ◌<◌, ◌≤◌, ◌^◌, [], length, nat_lt, if◌then◌else◌, Contains, option_map, OnOk};
+ghost use Rattle.std.specs.Prelude.{◌≡◌, ◌+◌, ◌<◌, ◌≤◌, ◌^◌, [], length, nat_lt, if◌then◌else◌, Contains, option_map, IsOk, OnOk};
 ghost use Rattle.slot_types.specs.Refusal.{FailsForMemory};
 ghost use Rattle.due_queue.specs.Queue.{beyond, with_key, first_of, rest_of, IsRising};
 ghost use Rattle.due_queue.specs.Keys.{is_due_before, is_released_before};
@@ -50,22 +50,26 @@ impl Queues {
     pub(crate) fn clear(&mut self)
         ensures waiting { self.new.waiting ≡ [] }
         ensures ready { self.new.ready ≡ [] }
+        ensures room { self.old.room ≤ self.new.room }
     {
         self.waiting.clear();
         self.ready.clear();
     }
 
-    /// Makes room for one more job.
-    pub(crate) fn reserve(&mut self) -> Result<(), Refusal>
+    /// Makes room for so many more jobs, and never less than there was. Where there is that room already, this isn't
+    /// refused.
+    pub(crate) fn reserve(&mut self, count: u32) -> Result<(), Refusal>
         requires { length self.old.waiting < 2 ^ 32 }
-        ensures ok { OnOk result (0 < self.new.room) }
+        ensures ok { OnOk result (count ≤ self.new.room) }
         ensures refused { FailsForMemory result }
+        ensures succeeds { count ≤ self.old.room → IsOk result }
+        ensures room { self.old.room ≤ self.new.room }
         ensures waiting { self.new.waiting ≡ self.old.waiting }
         ensures ready { self.new.ready ≡ self.old.ready }
     {
         let waiting = self.waiting.len();
-        self.ready.reserve(waiting + 1)?;
-        self.waiting.reserve(1)
+        self.ready.reserve(waiting + count as usize)?;
+        self.waiting.reserve(count as usize)
     }
 
     /// A job comes into the queue that its release puts it in.
@@ -81,6 +85,7 @@ impl Queues {
         ensures ready { self.new.ready
             ≡ (if nat_lt clock release then self.old.ready else with_key is_due_before
             (record { due = due; number = number }) self.old.ready) }
+        ensures room { self.old.room ≤ self.new.room + 1 }
     {
         if clock < release {
             self.wait(WaitKey { release, number });
@@ -95,6 +100,7 @@ impl Queues {
         requires absent { ¬ Contains self.old.waiting key }
         ensures waiting { self.new.waiting ≡ with_key is_released_before key self.old.waiting }
         ensures ready { self.new.ready ≡ self.old.ready }
+        ensures taken { self.old.room ≤ self.new.room + 1 }
     {
         self.waiting.insert(key);
     }
@@ -105,16 +111,18 @@ impl Queues {
         requires absent { ¬ Contains self.old.ready key }
         ensures waiting { self.new.waiting ≡ self.old.waiting }
         ensures ready { self.new.ready ≡ with_key is_due_before key self.old.ready }
+        ensures taken { self.old.room ≤ self.new.room + 1 }
     {
         self.ready.insert(key);
     }
 
     /// Puts all that are released by `now` into the queue of those.
     pub(crate) fn release_by(&mut self, jobs: &FlatJobs, now: u32)
-        requires { AreQueued jobs.now now self.old.waiting self.old.ready }
-        ensures queued { AreQueued jobs.now now self.new.waiting self.new.ready }
+        requires { AreQueued jobs.now.jobs now self.old.waiting self.old.ready }
+        ensures queued { AreQueued jobs.now.jobs now self.new.waiting self.new.ready }
         ensures later { AreLater now self.new.waiting }
         ensures fewer { length self.new.waiting ≤ length self.old.waiting }
+        ensures room { self.old.room ≤ self.new.room }
     {
         while let Some(key) = self.waiting.pop_released(now) {
             let number = key.number;
@@ -154,6 +162,7 @@ impl Queues {
     pub(crate) fn drop_first(&mut self)
         ensures waiting { self.new.waiting ≡ self.old.waiting }
         ensures ready { self.new.ready ≡ rest_of self.old.ready }
+        ensures room { self.old.room ≤ self.new.room }
         ensures rising { IsRising is_due_before self.old.ready }
     {
         let _ = self.ready.pop_first();

@@ -9,10 +9,10 @@ use slot_types::JobNo;
 
 /// The worst, where one has just been done and the others' worst is known.
 pub(crate) fn worse_of(jobs: &FlatJobs, worst: Option<u32>, number: u32) -> u32
-    requires done { IsDoneAt jobs.now number }
-    requires others { MatchOption worst (NothingDoneBeside jobs.now number)
-        (IsWorstBeside jobs.now number) }
-    ensures { IsWorst jobs.now result }
+    requires done { IsDoneAt jobs.now.jobs number }
+    requires others { MatchOption worst (NothingDoneBeside jobs.now.jobs number)
+        (IsWorstBeside jobs.now.jobs number) }
+    ensures { IsWorst jobs.now.jobs result }
 {
     match worst {
         Some(other) => {

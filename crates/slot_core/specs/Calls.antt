@@ -1,5 +1,5 @@
 -- How a call of a die ends: what it is answered, what it leaves, and what the device has had of it.
-use Rattle.std.specs.Prelude.{◌≡◌, ◌≢◌, ◌⊎◌, ℕ, ◌-◌, Bool, true, false, Option, None, IsSome, Result, Ok, Err}
+use Rattle.std.specs.Prelude.{◌≡◌, ◌≢◌, ◌⊎◌, ℕ, ◌-◌, ◌<◌, ◌≤◌, length, Bool, true, false, Option, None, IsSome, Result, Ok, Err}
 use Rattle.slot_types.specs.declared.events.Event.{Event}
 use Rattle.slot_types.specs.declared.events.Event.TheVariants as events
 use Rattle.slot_types.specs.declared.refusals.Refusal.{Refusal}
@@ -11,15 +11,23 @@ use Rattle.die_log.specs.Model.Log.{Log}
 use Rattle.die_log.specs.Model.Answers.{answer, IsAccepted}
 use Rattle.die_log.specs.Model.NeededCalls.{needed_call}
 use Rattle.die_log.specs.Model.Start.{Start}
-use Rattle.slot_core.specs.Core.{Core, with_entry}
+use Rattle.slot_core.specs.Core.{Core, Reserved, with_entry}
 use Rattle.slot_core.specs.Needs.{UsesDevice}
 
 -- Ways to end
 
--- an answered slot uses up one of the reserved ones, if there is one
-abbrev pub reserved_after : Reply → ℕ → ℕ
-reserved_after (Slot s) reserved = reserved - 1
-reserved_after _ reserved = reserved
+-- the memory that an event takes is reserved: a slot; an arrival, and each operation of the job
+abbrev pub IsCovered : Event → Reserved → Type 0
+IsCovered events.Slot reserved = 0 < reserved.slots
+IsCovered (events.Submit task release due ops) reserved = (0 < reserved.arrivals) × (length ops ≤ reserved.operations)
+IsCovered (events.Collect task release due) reserved = 0 < reserved.arrivals
+
+-- an accepted event uses that up, or as much of it as was reserved
+abbrev pub reserved_after : Event → Reserved → Reserved
+reserved_after events.Slot reserved = record reserved { slots = reserved.slots - 1 }
+reserved_after (events.Submit task release due ops) reserved =
+    record reserved { arrivals = reserved.arrivals - 1; operations = reserved.operations - length ops }
+reserved_after (events.Collect task release due) reserved = record reserved { arrivals = reserved.arrivals - 1 }
 
 -- the log accepts the event: its own answer is the next entry, and the die runs on
 pub record IsAnswered {N : Type 0} (caller : ℕ) (event : Event) (reply : Reply) (before after : Core N) : Type 0 where
@@ -28,7 +36,7 @@ pub record IsAnswered {N : Type 0} (caller : ℕ) (event : Event) (reply : Reply
   pub accepted : IsAccepted reply
   pub logged : after.log ≡ with_entry caller event reply before.log
   pub runs : after.stopped ≡ false
-  pub used : after.reserved ≡ reserved_after reply before.reserved
+  pub used : after.reserved ≡ reserved_after event before.reserved
 
 -- the log refuses the event, and nothing changes
 pub record IsRefusedByLog {N : Type 0} (event : Event) (refusal : Refusal) (before after : Core N) : Type 0 where
@@ -36,15 +44,15 @@ pub record IsRefusedByLog {N : Type 0} (event : Event) (refusal : Refusal) (befo
   pub answered : answer before.start before.log event ≡ Refused refusal
   pub unchanged : after ≡ before
 
--- the log accepts the event, but memory is refused, to a slot only where none is reserved; and nothing changes
+-- the log accepts the event, but memory is refused, which wasn't reserved for it; and nothing changes
 pub record FindsNoMemory {N : Type 0} (event : Event) (refusal : Refusal) (before after : Core N) : Type 0 where
   pub ran : before.stopped ≡ false
   pub accepted : IsAccepted (answer before.start before.log event)
   pub refusal_is : refusal ≡ NoMemory
-  pub unreserved : event ≡ events.Slot → before.reserved ≡ 0
+  pub uncovered : ¬ IsCovered event before.reserved
   pub unchanged : after ≡ before
 
--- the log accepts the slot, but the device fails, which stops the die; log and reserved slots stay
+-- the log accepts the slot, but the device fails, which stops the die; the log stays, and what is reserved
 pub record FindsFault {N : Type 0} (event : Event) (refusal : Refusal) (before after : Core N) : Type 0 where
   pub ran : before.stopped ≡ false
   pub slot : event ≡ events.Slot
@@ -93,10 +101,14 @@ reply_as reply (Err refusal) = Err refusal
 
 -- What follows
 
--- a job or collection is entered: the log's own answer is its next entry, and nothing else changes
+-- a job or collection is entered: the log's own answer is its next entry, it uses up what was reserved for it, and
+-- nothing else changes
 pub record HasEntered {N : Type 0} (caller : ℕ) (event : Event) (number : ℕ) (before after : Core N) : Type 0 where
   pub answered : answer before.start before.log event ≡ Taken number
-  pub logged : after ≡ record before { log = with_entry caller event (Taken number) before.log }
+  pub logged : after ≡ record before {
+    reserved = reserved_after event before.reserved;
+    log = with_entry caller event (Taken number) before.log;
+  }
 
 -- the log's own refusal; or the log accepts the event, and memory is refused
 abbrev pub RefusedBy : Start → Log → Event → Refusal → Type 0

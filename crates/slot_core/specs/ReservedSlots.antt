@@ -1,5 +1,5 @@
--- Room that a die keeps beforehand, so that its slots take no memory.
-use Rattle.std.specs.Prelude.{ℕ, ◌≤◌, ◌&&◌, Bool, List, count_by}
+-- Room that a die keeps beforehand, so that its slots take no memory, and neither does what arrives while that is reserved.
+use Rattle.std.specs.Prelude.{ℕ, ◌+◌, ◌≤◌, ◌&&◌, Bool, List, count_by}
 use Rattle.job_table.specs.Jobs.{JobRecord, is_pending}
 
 -- a collection that is neither done nor waived
@@ -9,7 +9,8 @@ is_open job = job.collects && is_pending job.stage
 abbrev pub open_collections : List JobRecord → ℕ
 open_collections jobs = count_by is_open jobs
 
--- the log has room for the reserved slots, and for a waiver of each collection that is neither done nor waived
-pub record HasReservedRoom (reserved : ℕ) (jobs : List JobRecord) (room waiver_room : ℕ) : Type 0 where
-  pub slots : reserved ≤ room
-  pub waivers : open_collections jobs ≤ waiver_room
+-- the log has room for the reserved slots and arrivals, and for a waiver of each collection that is neither done nor
+-- waived, or may arrive
+pub record HasReservedRoom (slots arrivals : ℕ) (jobs : List JobRecord) (room waiver_room : ℕ) : Type 0 where
+  pub entries : slots + arrivals ≤ room
+  pub waivers : open_collections jobs + arrivals ≤ waiver_room

@@ -8,6 +8,7 @@ use Rattle.job_table.specs.Jobs.{JobRecord}
 use Rattle.job_table.specs.Entering.{job_of}
 use Rattle.job_table.specs.Flat.{jobs_at}
 use Rattle.job_table.proofs.Laying.{IsBegun, laid_push, room_push, jobs_pushed}
+use Rattle.job_table.specs.Reserves.{KeptJobs}
 use Rattle.job_table.proofs.flat_jobs.FlatJobs.push.Goals as goal
 
 pub invariant_of-self-2 : goal.invariant_of-self-2
@@ -28,7 +29,7 @@ invariant_of-self-2 c =
       writes_done = 0;
       collects = c.args.head.now.collects;
     } in
-    let begun : IsBegun row c.self.inside.ops c.args.ops.now = record {
+    let begun : IsBegun row c.self.inside.ops.ops c.args.ops.now = record {
       first_op_is = c.len.ensures;
       op_count_is = c.len-2.ensures;
       op_count_few = omega (arith, c.requires.few_ops, c.len-2.ensures);
@@ -44,8 +45,8 @@ invariant_of-self-2 c =
     let len = c.in_ok-reserve-2.ensures.len in
     let before = c.len-3.ensures in
     rw (c.push_reserved.ensures.items, c.in_ok-reserve.ensures.items, c.in_ok-add_to.ensures.ok, c.in_ok-reserve-2.ensures.items) (
-      laid_push c.self.inside.rows.items c.self.inside.ops c.args.ops.now c.self.inside.reads.items c.self.inside.placed row begun c.self.invariant.0,
-      room_push c.self.inside.rows.items c.self.inside.ops c.args.ops.now c.self.inside.reads.items c.self.inside.all_reads
+      laid_push c.self.inside.rows.items c.self.inside.ops.ops c.args.ops.now c.self.inside.reads.items c.self.inside.placed row begun c.self.invariant.0,
+      room_push c.self.inside.rows.items c.self.inside.ops.ops c.args.ops.now c.self.inside.reads.items c.self.inside.all_reads
           (c.self.inside.all_reads + c.reads.result) c.self.inside.placed (vec_capacity c.self.inside.reads) (vec_capacity c.reserve-2.new.self) row begun (omega arith)
           (omega arith)
           c.self.invariant.1,
@@ -55,7 +56,7 @@ invariant_of-self-2 c =
             arith,
             few,
             few_more,
-            length-append c.self.inside.ops c.args.ops.now,
+            length-append c.self.inside.ops.ops c.args.ops.now,
             length-append c.self.inside.rows.items (row ∷ []),
           ),
     )
@@ -78,7 +79,7 @@ returns-clause-ok c =
       writes_done = 0;
       collects = c.args.head.now.collects;
     } in
-    let begun : IsBegun row c.self.inside.ops c.args.ops.now = record {
+    let begun : IsBegun row c.self.inside.ops.ops c.args.ops.now = record {
       first_op_is = c.len.ensures;
       op_count_is = c.len-2.ensures;
       op_count_few = omega (arith, c.requires.few_ops, c.len-2.ensures);
@@ -92,11 +93,11 @@ returns-clause-ok c =
     ap (jobs_at c.add_to.new.list c.reserve-2.new.self.items) (c.push_reserved.ensures.items
     ∙ ap (λ (l : List Row). l ++ row ∷ []) c.in_ok-reserve.ensures.items)
     ∙ ap (λ (l : List Op). jobs_at l c.reserve-2.new.self.items (c.self.inside.rows.items ++ row ∷ [])) c.in_ok-add_to.ensures.ok
-    ∙ ap (λ (l : List PageData). jobs_at (c.self.inside.ops ++ c.args.ops.now) l (c.self.inside.rows.items ++ row ∷ []))
+    ∙ ap (λ (l : List PageData). jobs_at (c.self.inside.ops.ops ++ c.args.ops.now) l (c.self.inside.rows.items ++ row ∷ []))
     c.in_ok-reserve-2.ensures.items
-    ∙ jobs_pushed c.self.inside.rows.items c.self.inside.ops c.args.ops.now c.self.inside.reads.items c.self.inside.placed row begun c.self.invariant.0
+    ∙ jobs_pushed c.self.inside.rows.items c.self.inside.ops.ops c.args.ops.now c.self.inside.reads.items c.self.inside.placed row begun c.self.invariant.0
     ∙ ap (λ (l : List JobRecord). l
-    ++ job_of c.args.head.now c.args.ops.now ∷ []) c.self.view_is
+    ++ job_of c.args.head.now c.args.ops.now ∷ []) (ap (λ (k : KeptJobs). k.jobs) c.self.view_is)
 
 pub invariant_of-self : goal.invariant_of-self
 invariant_of-self c = grind (arith, common_steps)

@@ -17,24 +17,24 @@ invariant_of-self-2 c =
     let may = subst (λ (t : Table). MayEnter t c.args.head c.args.ops.now) (sym c.self.view_is) c.requires.collection in
     let waiting = rw (c.in_ok-number.ensures.number, c.in_ok-reserve.ensures.waiting) at c.enter.ensures.waiting in
     let ready = rw (c.in_ok-number.ensures.number, c.in_ok-reserve.ensures.ready) at c.enter.ensures.ready in
-    let r = c.self.invariant.running runs in
+    let r = c.self.invariant.0.running runs in
     rw (c.in_ok-number.ensures.ok, c.mark.ensures)
-    (entered_sound c.self.inside.jobs c.args.head c.args.ops.now c.self.inside.clock c.self.inside.ended c.self.inside.collecting.items
+    (entered_sound c.self.inside.jobs.jobs c.args.head c.args.ops.now c.self.inside.clock c.self.inside.ended c.self.inside.collecting.items
     c.self.inside.queues c.enter.new.self c.self.inside.worst runs few may
-    (has_entered c.self.inside.jobs (job_of c.args.head c.args.ops.now) c.self.inside.clock c.self.inside.queues.waiting
+    (has_entered c.self.inside.jobs.jobs (job_of c.args.head c.args.ops.now) c.self.inside.clock c.self.inside.queues.waiting
     c.enter.new.self.waiting c.self.inside.queues.ready c.enter.new.self.ready refl waiting ready r.queued r.later)
-    c.self.invariant)
+    c.self.invariant.0)
 
 pub enter-requires-clause-not_waiting : goal.enter-requires-clause-not_waiting
 enter-requires-clause-not_waiting c =
     let runs = subst (λ (t : Table). t.ended ≡ false) (sym c.self.view_is) c.requires.running in
-    let r = c.self.invariant.running runs in
+    let r = c.self.invariant.0.running runs in
     rw (c.in_ok-reserve.ensures.waiting, c.in_ok-number.ensures.number)
-    (not_waiting c.self.inside.jobs c.self.inside.clock c.self.inside.queues.waiting c.self.inside.queues.ready c.args.head.release r.queued)
+    (not_waiting c.self.inside.jobs.jobs c.self.inside.clock c.self.inside.queues.waiting c.self.inside.queues.ready c.args.head.release r.queued)
 
 pub enter-requires-clause-not_ready : goal.enter-requires-clause-not_ready
 enter-requires-clause-not_ready c =
     let runs = subst (λ (t : Table). t.ended ≡ false) (sym c.self.view_is) c.requires.running in
-    let r = c.self.invariant.running runs in
+    let r = c.self.invariant.0.running runs in
     rw (c.in_ok-reserve.ensures.ready, c.in_ok-number.ensures.number)
-    (not_ready c.self.inside.jobs c.self.inside.clock c.self.inside.queues.waiting c.self.inside.queues.ready c.args.head.due r.queued)
+    (not_ready c.self.inside.jobs.jobs c.self.inside.clock c.self.inside.queues.waiting c.self.inside.queues.ready c.args.head.due r.queued)

@@ -11,15 +11,15 @@ use Rattle.job_table.proofs.job_table.JobTable.carry_read.Goals as goal
 pub carry_read-requires-clause-there : goal.carry_read-requires-clause-there
 carry_read-requires-clause-there c =
     let seen = subst (λ (t : Table). IsHead t c.args.number) (sym c.self.view_is) c.requires.head in
-    slice_get_within c.self.inside.jobs c.args.number seen.head seen.is_at
+    slice_get_within c.self.inside.jobs.jobs c.args.number seen.head seen.is_at
 
 pub invariant_of-self : goal.invariant_of-self
 invariant_of-self c =
     let seen = subst (λ (t : Table). IsHead t c.args.number) (sym c.self.view_is) c.requires.head in
     rw c.carry_read.ensures
-    (quiet_sound c.self.inside.jobs c.args.number (λ (job : JobRecord). with_read c.args.bytes (with_one_more_slot job)) seen.head c.self.inside.clock
+    (quiet_sound c.self.inside.jobs.jobs c.args.number (λ (job : JobRecord). with_read c.args.bytes (with_one_more_slot job)) seen.head c.self.inside.clock
     c.self.inside.ended c.self.inside.collecting.items c.self.inside.queues c.self.inside.worst
-    (read_quiet c.args.bytes) seen.is_at (ready_pending c.self.inside.clock seen.head seen.ready) c.self.invariant)
+    (read_quiet c.args.bytes) seen.is_at (ready_pending c.self.inside.clock seen.head seen.ready) c.self.invariant.0)
 
 pub returns-clause-carried : goal.returns-clause-carried
 returns-clause-carried c = viewed _ _ _ _ _ (λ (job : JobRecord). with_read c.args.bytes (with_one_more_slot job)) c.self.view_is refl

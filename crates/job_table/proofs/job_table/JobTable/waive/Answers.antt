@@ -10,7 +10,7 @@ use Rattle.job_table.proofs.job_table.JobTable.waive.Goals as goal
 
 pub invariant_of-self : goal.invariant_of-self
 invariant_of-self c =
-    let table : Table = record { tasks = 0; clock = c.self.inside.clock; ended = c.self.inside.ended; jobs = c.self.inside.jobs } in
+    let table : Table = record { tasks = 0; clock = c.self.inside.clock; ended = c.self.inside.ended; jobs = c.self.inside.jobs.jobs; reserve = c.self.inside.jobs.reserve } in
     let seen = subst (λ (t : Table). IsHead t c.args.number) (sym c.self.view_is) c.requires.head in
     let head : IsHead table c.args.number = record { head = seen.head; is_at = seen.is_at; ready = seen.ready; first = seen.first } in
     let runs = subst (λ (t : Table). t.ended ≡ false) (sym c.self.view_is) c.requires.running in
@@ -18,6 +18,6 @@ invariant_of-self c =
     rw (c.end_job.ensures.jobs, c.end_job.ensures.marks)
     (over_sound table c.args.number stage c.self.inside.ended c.self.inside.collecting.items c.self.inside.queues c.drop_first.new.self
     c.self.inside.worst c.self.inside.worst
-    runs head refl c.drop_first.ensures.rising c.drop_first.ensures.waiting c.drop_first.ensures.ready c.self.invariant
+    runs head refl c.drop_first.ensures.rising c.drop_first.ensures.waiting c.drop_first.ensures.ready c.self.invariant.0
     (undone_worst table.jobs c.args.number (with_stage stage) c.self.inside.worst
-    (λ job at_n. (head_undone table c.args.number head job at_n, refl)) c.self.invariant.worst_is))
+    (λ job at_n. (head_undone table c.args.number head job at_n, refl)) c.self.invariant.0.worst_is))

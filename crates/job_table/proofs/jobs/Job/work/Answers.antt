@@ -6,4 +6,4 @@ use Rattle.job_table.proofs.jobs.Job.work.Goals as goal
 pub returns-clause-reads : goal.returns-clause-reads
 returns-clause-reads c =
     subst (λ (j : JobRecord). length j.reads ≡ count_by is_read (take j.work j.ops)) c.self.view_is
-    (reads_count c.self.inside.ops.now c.self.inside.reads.now c.self.inside.row.now c.self.invariant)
+    (reads_count c.self.inside.ops.now.ops c.self.inside.reads.now c.self.inside.row.now c.self.invariant)

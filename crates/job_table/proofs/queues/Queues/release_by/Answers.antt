@@ -5,10 +5,10 @@ use Rattle.job_table.proofs.queues.Queues.release_by.Goals as goal
 
 pub loop-key-preserved : goal.loop-key-preserved
 loop-key-preserved c =
-    let step = release_step c.args.jobs.now c.args.now c.loop-key.self-inside.waiting.keys c.pop_released.new.self.keys
+    let step = release_step c.args.jobs.now.jobs c.args.now c.loop-key.self-inside.waiting.keys c.pop_released.new.self.keys
     c.loop-key.self-inside.ready.keys c.loop-key.self-inside.ready.spare c.insert.new.self.spare
     c.in-Some.key c.at.result c.due-due.result
-    c.in-Some.ensures.first c.in-Some.ensures.rest (sym (get_or_from_slice_get c.args.jobs.now c.in-Some.key.number c.at.result c.at.result
+    c.in-Some.ensures.first c.in-Some.ensures.rest (sym (get_or_from_slice_get c.args.jobs.now.jobs c.in-Some.key.number c.at.result c.at.result
     c.at.ensures)) c.due-due.ensures c.insert.ensures.spare c.loop-key.invariant.roomy c.loop-key.invariant.queued in
     rw c.insert.ensures.keys (record {
       roomy = step.roomy;
