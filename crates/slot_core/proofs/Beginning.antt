@@ -77,23 +77,25 @@ pub record LeavesRest {N : Type 0} (v w : State N) : Type 0 where
   pub plan : w.accounts.plan ≡ v.accounts.plan
   pub failed : w.failed ≡ v.failed
   pub device : w.device ≡ v.device
+  pub places : w.places ≡ v.places
 
 pub begin_leaves : {N : Type 0} (blocks_of : N → List device.Block) (v w : State N) (r : JobRecord) (o : Option ℕ)
     → BeginsAs blocks_of v r o w → LeavesRest v w
 begin_leaves {N = N} blocks_of v w r o h = by_fresh (is_fresh r) o h
   where
-    same : (u : State N) → w ≡ u → u.accounts.plan ≡ v.accounts.plan → u.failed ≡ v.failed → u.device ≡ v.device → LeavesRest v w
-    same u is a b c = record {
+    same : (u : State N) → w ≡ u → u.accounts.plan ≡ v.accounts.plan → u.failed ≡ v.failed → u.device ≡ v.device → u.places ≡ v.places → LeavesRest v w
+    same u is a b c d = record {
       plan = ap (λ (x : State N). x.accounts.plan) is ∙ a;
       failed = ap (λ (x : State N). x.failed) is
           ∙ b;
       device = ap (λ (x : State N). x.device) is ∙ c;
+      places = ap (λ (x : State N). x.places) is ∙ d;
     }
 
     by_fresh : (b : Bool) (o : Option ℕ) → BeginsBy blocks_of v r.task b o w → LeavesRest v w
-    by_fresh true (Some given) h = same (record v { accounts = moves.accounts_after_waiver v.accounts r.task }) h.moved refl refl refl
-    by_fresh true None h = same _ h.1.moved refl refl refl
-    by_fresh false o h = same v h.1 refl refl refl
+    by_fresh true (Some given) h = same (record v { accounts = moves.accounts_after_waiver v.accounts r.task }) h.moved refl refl refl refl
+    by_fresh true None h = same _ h.1.moved refl refl refl refl
+    by_fresh false o h = same v h.1 refl refl refl refl
 
 -- the waiver of a head
 pub record IsHeadWaiver {N : Type 0} (v : State N) (r : JobRecord) (given : ℕ) (w : State N) : Type 0 where

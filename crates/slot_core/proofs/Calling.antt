@@ -1,7 +1,7 @@
 -- How a call of a die ends, and what follows of it.
 use Rattle.std.proofs.Common.{◌≡◌, ◌≢◌, ◌⊎◌, ◌↔◌, inl, inr, ℕ, zero, suc, ◌+◌, ◌<◌, Bool, true, false, List, [], ◌∷◌, Option, Some, None, Ok, Err, refl, ap, sym}
 use Rattle.std.proofs.Common.{◌∙◌, subst, arith, IfOk, IfErr}
-use Rattle.std.specs.Prelude.{IsSome}
+use Rattle.std.specs.Prelude.{IsSome, IsOk}
 use Rattle.std.specs.declared.result.Result.{Result}
 use Rattle.std.specs.List.{AllByRecursion}
 use Rattle.std.proofs.lemmas.Bool.{true≢false}
@@ -21,7 +21,7 @@ use Rattle.die_log.specs.Model.Start.{Start}
 use Rattle.slot_core.specs.Core.{Core, with_entry}
 use Rattle.slot_core.specs.Needs.{MakesCall, UsesDevice}
 use Rattle.slot_core.specs.Calls.{IsAnswered, IsRefusedByLog, FindsNoMemory, FindsFault, IsStopped, RefusesCall, EndsCall, IsCall}
-use Rattle.slot_core.specs.Calls.{call_for, reply_as, reserved_after, HasEntered, RefusedBy, MayRefuse}
+use Rattle.slot_core.specs.Calls.{call_for, reply_as, reserved_after, IsCovered, HasEntered, RefusedBy, MayRefuse}
 
 pub err_is : {T : Type 0} (r s : Refusal) → ◌≡◌ {A = Result T Refusal} (Err r) (Err s) → r ≡ s
 err_is r s e = cc
@@ -118,9 +118,9 @@ same_core : {N : Type 0} (a b : Core N) → a.start ≡ b.start → a.device ≡
     → a ≡ b
 same_core a b s d t r l = rw s (rw d (rw t (rw r (rw l refl))))
 
-pub none_left : (n : ℕ) → (0 < n → ⊥) → n ≡ 0
-none_left zero h = refl
-none_left (suc n) h = absurd (h (omega arith))
+pub err_uncovered : {C : Type 0} (r : Result ℕ Refusal) → (C → IsOk r) → IfErr r (λ _. ¬ C)
+err_uncovered (Ok number) h = tt
+err_uncovered (Err refusal) h = λ covered. let well = h covered in absurd cc
 
 -- The ways
 
@@ -141,9 +141,9 @@ module _ {N : Type 0} (ends : N → NandCall → Bool → N → Type 0) (failure
       (inl (record { ran = runs; answered = is; unchanged = same }))
 
   pub memory_refused : (r : Refusal) → before.stopped ≡ false → IsAccepted (answer before.start before.log event)
-      → (event ≡ Slot → before.reserved ≡ 0) → r ≡ NoMemory → after ≡ before → Ends (Err r)
-  memory_refused r runs accepted unreserved is same = unchanged r (λ fault. absurd cc) same
-      (inr (inl (record { ran = runs; accepted = accepted; refusal_is = is; unreserved = unreserved; unchanged = same })))
+      → ¬ IsCovered event before.reserved → r ≡ NoMemory → after ≡ before → Ends (Err r)
+  memory_refused r runs accepted uncovered is same = unchanged r (λ fault. absurd cc) same
+      (inr (inl (record { ran = runs; accepted = accepted; refusal_is = is; uncovered = uncovered; unchanged = same })))
 
   pub stopped_refused : before.stopped ≡ true → after ≡ before → Ends (Err DieStopped)
   stopped_refused stops same = unchanged DieStopped (λ fault. absurd cc) same
@@ -174,7 +174,10 @@ module _ {N : Type 0} (ends : N → NandCall → Bool → N → Type 0) (failure
   pub has_entered : (number : ℕ) → IsArrival event → Ends (Ok (Taken number)) → HasEntered caller event number before after
   has_entered number arrives call = record {
     answered = call.ended.answered;
-    logged = same_core after (record before { log = with_entry caller event (Taken number) before.log }) call.start_stays
+    logged = same_core after (record before {
+      reserved = reserved_after event before.reserved;
+      log = with_entry caller event (Taken number) before.log;
+    }) call.start_stays
         (subst (λ (o : Option NandCall). UsesDevice ends failures never o (Ok (Taken number)) before.device after.device)
         (arrival_calls event before.start before.log arrives) call.device).made
         (call.ended.runs ∙ sym call.ended.ran) call.ended.used call.ended.logged;

@@ -62,6 +62,7 @@ keeps_submit start log present t f caller task release due ops k none = record {
   ended_is = k.ended_is;
   jobs_are = ap (λ js. js ++ new_job task release due ops ∷ []) k.jobs_are
       ∙ sym (records-submit start log caller task release due ops k.exact some);
+  places_are = (flash-submit start log caller task release due ops f k.exact (k.flash refl)).places_are;
   flash = λ alive. flash-submit start log caller task release due ops f k.exact (k.flash alive);
 }
   where
@@ -82,6 +83,7 @@ keeps_collect start log present t f caller task release due k none = record {
   ended_is = k.ended_is;
   jobs_are = ap (λ js. js ++ new_collection task release due ∷ []) k.jobs_are
       ∙ sym (records-collect start log caller task release due k.exact (has_slots start.plan k.bound.bound));
+  places_are = (flash-collect start log caller task release due f k.exact (k.flash refl)).places_are;
   flash = λ alive. flash-collect start log caller task release due f k.exact (k.flash alive);
 }
 
@@ -101,6 +103,7 @@ keeps_start blocks_of plan nand log t v start bound unused none table_is volume_
       clock_by = omega arith;
       ended_is = refl;
       jobs_are = refl;
+      places_are = (fresh_flash plan).places_are;
       flash = λ alive. subst (λ (bs : List device.Block). IsFlashOf (fresh plan) [] (record (fresh_state plan) { blocks = bs })) (sym unused)
           (fresh_flash plan);
     }))))

@@ -10,8 +10,8 @@ use Rattle.slot_types.specs.declared.replies.Reply.{Reply}
 use Rattle.slot_types.specs.declared.replies.Reply.TheVariants.{Refused, Taken, Slot as Answered}
 use Rattle.flash_die.specs.declared.nand.NandCall.{NandCall}
 use Rattle.die_log.specs.Model.Log.{Log}
-use Rattle.die_log.specs.Model.Answers.{answer, with_answer}
-use Rattle.slot_core.specs.Core.{Core}
+use Rattle.die_log.specs.Model.Answers.{answer, with_answer, IsAccepted}
+use Rattle.slot_core.specs.Core.{Core, Reserved}
 use Rattle.slot_core.specs.Calls.{reserved_after, RefusesCall, EndsCall, IsCall, IsByChance, AreAlike}
 use Rattle.slot_core.specs.Runs.{IsRun, IsDecided, result_of}
 use Rattle.slot_core.proofs.Running.{accepted_result, entered}
@@ -25,16 +25,23 @@ abbrev log_by : Bool → ℕ → Event → Reply → Log → Log
 log_by true caller event reply log = log
 log_by false caller event reply log = with_answer caller event reply log
 
-abbrev reserved_by : Bool → Reply → ℕ → ℕ
-reserved_by true reply reserved = reserved
-reserved_by false reply reserved = reserved_after reply reserved
+abbrev reserved_by : Bool → Event → Reply → Reserved → Reserved
+reserved_by true event reply reserved = reserved
+reserved_by false event (Refused refusal) reserved = reserved
+reserved_by false event _ reserved = reserved_after event reserved
+
+accepted_uses : (event : Event) (reply : Reply) (reserved : Reserved) → IsAccepted reply
+    → reserved_by false event reply reserved ≡ reserved_after event reserved
+accepted_uses event (Taken number) reserved h = refl
+accepted_uses event (Answered said) reserved h = refl
+accepted_uses event (Refused refusal) reserved h = absurd h
 
 -- so a call ends that doesn't end by chance
 record IsReported {N : Type 0} (caller : ℕ) (event : Event) (result : Result Reply Refusal) (before after : Core N) : Type 0 where
   result_is : result ≡ answered_by before.stopped (answer before.start before.log event)
   stopped_is : after.stopped ≡ before.stopped
   log_is : after.log ≡ log_by before.stopped caller event (answer before.start before.log event) before.log
-  reserved_is : after.reserved ≡ reserved_by before.stopped (answer before.start before.log event) before.reserved
+  reserved_is : after.reserved ≡ reserved_by before.stopped event (answer before.start before.log event) before.reserved
 
 decided : {N : Type 0} (caller : ℕ) (event : Event) (result : Result Reply Refusal) (before after : Core N)
     → EndsCall caller event result before after → IsByChance result ⊎ IsReported caller event result before after
@@ -42,7 +49,7 @@ decided {N} caller event (Ok reply) before after a = inr (record {
   result_is = rw (a.ran, a.answered) (sym (accepted_result reply a.accepted));
   stopped_is = a.runs ∙ sym a.ran;
   log_is = rw (a.ran, a.answered) (a.logged ∙ entered caller event reply before.log a.accepted);
-  reserved_is = rw (a.ran, a.answered) a.used;
+  reserved_is = rw (a.ran, a.answered) (a.used ∙ sym (accepted_uses event reply before.reserved a.accepted));
 })
 decided {N} caller event (Err refusal) before after ended = by ended
   where

@@ -2,7 +2,7 @@
 use Rattle.std.proofs.Common.{◌≡◌, ℕ, Bool, [], length, List, Option, Some, arith, refl, sym, subst, ap, ◌∙◌}
 use Rattle.std.specs.Prelude.{Contains, false, position}
 use Rattle.std.proofs.Common.{None, ◌∷◌, map}
-use Rattle.job_table.specs.Table.{Table, empty_table}
+use Rattle.job_table.specs.Table.{Table, cleared_table}
 use Rattle.flash_volume.specs.declared.collection.Collection.{Collection}
 use Rattle.flash_die.specs.Flash as device
 use Rattle.flash_volume.specs.State.{State}
@@ -40,16 +40,17 @@ renewed_flash start log f bound exact quiet k = record {
 -- the fields of a die that is renewed: its table and its log are empty, and its flash stays
 pub keeps_renewed : (start : Start) (log : Log) (present : ℕ) (t : Table) (f : FlashState) → AgreeWithLog start log present t false f
     → IsQuiet start log → CanBeErased (renewed_start start log)
-    → AgreeWithLog (renewed_start start log) [] 0 (empty_table (length start.plan.caps)) false f
+    → AgreeWithLog (renewed_start start log) [] 0 (cleared_table t) false f
 keeps_renewed start log present t f k quiet left = record {
   exact = tt;
   bound = renewed_opens start log k.bound k.exact quiet;
   left = left;
   now_is = refl;
-  tasks_are = refl;
+  tasks_are = k.tasks_are;
   clock_by = omega arith;
   ended_is = refl;
   jobs_are = refl;
+  places_are = (k.flash refl).places_are;
   flash = λ alive. renewed_flash start log f k.bound k.exact quiet (k.flash refl);
 }
 
@@ -57,12 +58,12 @@ keeps_renewed start log present t f k quiet left = record {
 pub renewed_kept : {N : Type 0} (blocks_of : N → List device.Block) (start made : Start) (log after : Log) (present : ℕ) (t u : Table)
     (v : State N) → AgreeWithLog (over v.accounts.plan start) log present t v.failed (flash_of blocks_of v) → v.failed ≡ false
     → IsQuiet (over v.accounts.plan start) log → CanBeErased (renewed_start (over v.accounts.plan start) log)
-    → made ≡ renewed_start (over v.accounts.plan start) log → u ≡ empty_table (length v.accounts.plan.caps) → after ≡ []
+    → made ≡ renewed_start (over v.accounts.plan start) log → u ≡ cleared_table t → after ≡ []
     → AgreeWithLog (over v.accounts.plan made) after 0 u v.failed (flash_of blocks_of v)
 renewed_kept blocks_of start made log after present t u v k alive quiet left made_is table_is after_is =
     let s : Start = over v.accounts.plan start in
     rw made_is (rw table_is (rw after_is (
-    subst (λ (b : Bool). AgreeWithLog (renewed_start s log) [] 0 (empty_table (length v.accounts.plan.caps)) b (flash_of blocks_of v)) (sym alive)
+    subst (λ (b : Bool). AgreeWithLog (renewed_start s log) [] 0 (cleared_table t) b (flash_of blocks_of v)) (sym alive)
     (keeps_renewed s log present t (flash_of blocks_of v)
     (subst (λ (b : Bool). AgreeWithLog s log present t b (flash_of blocks_of v)) alive k) quiet left))))
 

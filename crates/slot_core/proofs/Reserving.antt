@@ -12,8 +12,8 @@ use Rattle.plan_rules.specs.Bound.{MeetsBound}
 use Rattle.slot_types.specs.declared.acts.Act.{Act}
 use Rattle.slot_types.specs.declared.acts.Act.TheVariants as does
 use Rattle.job_table.specs.declared.stages.Stage.TheVariants.{Done, Waived as Gone}
-use Rattle.job_table.specs.Jobs.{JobRecord, new_job, is_pending, with_one_more_slot, with_stage}
-use Rattle.job_table.specs.Table.{Table, changed_at}
+use Rattle.job_table.specs.Jobs.{JobRecord, new_job, new_collection, is_pending, with_one_more_slot, with_stage}
+use Rattle.job_table.specs.Table.{Table, with_job, changed_at}
 use Rattle.die_log.specs.Model.Log.{Log, Job, jobs, acts, waived_collections, is_waived}
 use Rattle.die_log.specs.Model.Work.{is_done}
 use Rattle.die_log.specs.Model.Answers.{IsExact}
@@ -90,6 +90,10 @@ turn_opens_nothing t n turn completion =
     subst (λ (x : Table). open_collections x.jobs ≤ open_collections t.jobs) (sym (turn_change t n turn completion))
     (open_changed t.jobs n (turned turn completion) (turned_open turn completion))
 
+pub step_keeps_reserve : (t : Table) (n : ℕ) (turn : HeadStep) (completion : ℕ)
+    → (table_after_step t n turn completion).reserve.arrivals ≡ t.reserve.arrivals
+step_keeps_reserve t n turn completion = ap (λ (x : Table). x.reserve.arrivals) (turn_change t n turn completion)
+
 -- A collection is waived
 
 pub waiver_closes : (js : List JobRecord) (n given : ℕ) (r : JobRecord) → slice_get js n ≡ Some r → is_open r ≡ true
@@ -103,6 +107,13 @@ pub open_job : (js : List JobRecord) (task release due : ℕ) (ops : List Op) �
 open_job [] task release due ops = refl
 open_job (r ∷ js) task release due ops = open_more r (js ++ new_job task release due ops ∷ [])
     ∙ ap (λ n. one_if r + n) (open_job js task release due ops) ∙ sym (open_more r js)
+
+pub open_one_more : (js : List JobRecord) (r : JobRecord) → open_collections (js ++ r ∷ []) ≤ open_collections js + 1
+open_one_more [] r = omega (arith, open_more r [], one_at_most (is_open r)) where
+  one_at_most : (b : Bool) → cond b 1 0 ≤ 1
+  one_at_most true = omega arith
+  one_at_most false = omega arith
+open_one_more (x ∷ js) r = omega (arith, open_more x js, open_more x (js ++ r ∷ []), open_one_more js r)
 
 -- At most one collection a task
 
@@ -140,10 +151,20 @@ few_open start log js bound exact is =
     (subst (λ (n : ℕ). n ≤ length start.plan.caps) (sym (open_tasks start log (jobs log))) (few_pending start log bound exact))
 
 -- so there is room for a waiver of each, where there is for one a task
-pub collect_room : (r : Result ℕ Refusal) (start : Start) (log : Log) (t u : Table) (before after : ℕ) → IsOpening start → IsExact start log
-    → u.jobs ≡ job_records start log → t.tasks ≡ length start.plan.caps → OnOk r (t.tasks ≤ after) → OnErr r (u ≡ t)
-    → open_collections t.jobs ≤ before → before ≤ after → open_collections u.jobs ≤ after
-collect_room (Ok number) start log t u before after bound exact jobs_are tasks_are made stays had more = omega
-    (arith, few_open start log u.jobs bound exact jobs_are, tasks_are, made)
-collect_room (Err refusal) start log t u before after bound exact jobs_are tasks_are made stays had more = omega
-    (arith, ap (λ (x : Table). open_collections x.jobs) stays, had, more)
+-- or memory for one of those reserved is used
+pub collect_room : (r : Result ℕ Refusal) (start : Start) (log : Log) (t u : Table) (task release due before after : ℕ) → IsOpening start
+    → IsExact start log → u.jobs ≡ job_records start log → t.tasks ≡ length start.plan.caps
+    → OnOk r (t.reserve.arrivals ≡ 0 → t.tasks ≤ after) → OnOk r (u ≡ with_job t (new_collection task release due)) → OnErr r (u ≡ t)
+    → open_collections t.jobs + t.reserve.arrivals ≤ before → before ≤ after → open_collections u.jobs + u.reserve.arrivals ≤ after
+collect_room (Ok number) start log t u task release due before after bound exact jobs_are tasks_are made entered stays had more =
+    by_reserve t.reserve.arrivals refl
+  where
+    left : u.reserve.arrivals ≡ t.reserve.arrivals - 1
+    left = ap (λ (x : Table). x.reserve.arrivals) entered
+
+    by_reserve : (n : ℕ) → t.reserve.arrivals ≡ n → open_collections u.jobs + u.reserve.arrivals ≤ after
+    by_reserve zero none = omega (arith, few_open start log u.jobs bound exact jobs_are, tasks_are, made none, none, left)
+    by_reserve (suc n) some =
+        omega (arith, had, more, some, left, ap (λ (x : Table). open_collections x.jobs) entered, open_one_more t.jobs (new_collection task release due))
+collect_room (Err refusal) start log t u task release due before after bound exact jobs_are tasks_are made entered stays had more = omega
+    (arith, ap (λ (x : Table). open_collections x.jobs) stays, ap (λ (x : Table). x.reserve.arrivals) stays, had, more)

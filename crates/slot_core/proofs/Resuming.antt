@@ -285,5 +285,6 @@ keeps_resumed blocks_of plan c nand failures log t v start fits left none table_
       clock_by = omega arith;
       ended_is = refl;
       jobs_are = refl;
+      places_are = (resumed_flash blocks_of plan c nand failures left).places_are;
       flash = λ alive. resumed_flash blocks_of plan c nand failures left;
     }))))

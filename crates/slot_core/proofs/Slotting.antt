@@ -115,6 +115,7 @@ slot_starts start blocks_of log present t v k alive few =
       clock_by = omega arith;
       ended_is = kept.ended_is;
       jobs_are = kept.jobs_are;
+      places_are = kept.places_are;
       flash = kept.flash;
     }
 
@@ -147,6 +148,7 @@ slot_idles start log present ws t f caller s nothing = (
       clock_by = omega (arith, s.table.clock_is, s.slot.now_is);
       ended_is = s.table.running;
       jobs_are = s.table.jobs_are ∙ sym (records-idle start log caller ws);
+      places_are = (flash-idle start log caller (now log) ws f s.flash s.running).places_are;
       flash = λ alive. flash-idle start log caller (now log) ws f s.flash s.running;
     }
 
@@ -391,6 +393,7 @@ slot_acts start blocks_of log present caller ws t n v w turn h k = (kept, replie
       jobs_are = ap (λ (js : List JobRecord). changed_at js h.job.number (turned turn (present + 1))) h.table.jobs_are
           ∙ records-act (over v.accounts.plan start) log caller ws h.job turn.act turn.last (turned turn (present + 1)) job.both.0.numbered job.own_at
           (turned_is start blocks_of log present caller ws t n v w turn h k);
+      places_are = (k.flash (now log) (if turn.last then Some h.job.number else None)).places_are;
       flash = λ alive. k.flash (now log) (if turn.last then Some h.job.number else None);
     }
 

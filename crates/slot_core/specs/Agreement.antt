@@ -5,12 +5,13 @@ use Rattle.plan_rules.specs.Bound.{MeetsBound}
 use Rattle.job_table.specs.Table.{Table}
 use Rattle.die_log.specs.Model.Log.{Log, now}
 use Rattle.die_log.specs.Model.Answers.{IsExact}
+use Rattle.die_log.specs.Model.Flash.{cells}
 use Rattle.slot_core.specs.Records.{job_records}
 use Rattle.slot_core.specs.Device.{FlashState, IsFlashOf}
 use Rattle.die_log.specs.Model.Start.{Start}
 use Rattle.die_log.specs.Model.Opening.{IsOpening, CanBeErased}
 
--- the log is exact, the table is read off it, and so is the flash until a fault
+-- The log is exact, and the table is read off it; so is the flash until a fault, and after that where each page lies.
 pub record AgreeWithLog (start : Start) (log : Log) (present : ℕ) (table : Table) (failed : Bool) (f : FlashState) : Type 0 where
   pub exact : IsExact start log
   pub bound : IsOpening start
@@ -20,4 +21,5 @@ pub record AgreeWithLog (start : Start) (log : Log) (present : ℕ) (table : Tab
   pub clock_by : table.clock ≤ present
   pub ended_is : table.ended ≡ failed
   pub jobs_are : table.jobs ≡ job_records start log
+  pub places_are : f.places ≡ (cells start log).places
   pub flash : failed ≡ false → IsFlashOf start log f

@@ -53,6 +53,6 @@ pub record MayBeRenewed {N : Type 0} (core : Core N) : Type 0 where
   pub quiet : IsQuiet core.start core.log
   pub unworn : CanBeErased (renewed_start core.start core.log)
 
--- The log starts anew at what stood after it. The device, the pages, the accounts and the reserved slots stay.
+-- The log starts anew at what stood after it. The device, the pages, the accounts and what is reserved stay.
 abbrev pub renewed_core : {N : Type 0} → Core N → Core N
 renewed_core core = record core { start = renewed_start core.start core.log; log = [] }

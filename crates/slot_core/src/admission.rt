@@ -1,12 +1,13 @@
 //! Jobs and collections that arrive at a die.
 
-ghost use Rattle.std.specs.Prelude.{◌≡◌, ◌∷◌, ◌+◌, ◌^◌, ◌<◌, ◌≤◌, true, false, length, IfOk, OnOk, OnErr};
+ghost use Rattle.std.specs.Prelude.{◌≡◌, ◌∷◌, ◌+◌, ◌^◌, ◌<◌, ◌≤◌, true, false, length, IsOk, IfOk, OnOk, OnErr};
 ghost use Rattle.std.specs.Prelude.{[], if◌then◌else◌};
 ghost use Rattle.std.specs.Result.{result_err};
 ghost use Rattle.slot_types.specs.Refusal.{FailsForMemory};
 ghost use Rattle.slot_types.specs.declared.replies.Reply.{Reply};
 ghost use Rattle.job_table.specs.Table.{with_job};
 ghost use Rattle.job_table.specs.Entering.{MayEnter, job_of};
+ghost use Rattle.job_table.specs.Reserves.{Covers};
 ghost use Rattle.slot_core.specs.Entering.{arrival_deed};
 ghost use Rattle.die_log.specs.Model.Work.{is_collecting as collecting};
 ghost use Rattle.die_log.specs.Model.Answers.{refusal_of};
@@ -40,19 +41,20 @@ fn waivers_with(collects: bool, table: &JobTable) -> usize
     if collects { table.tasks() } else { 0 }
 }
 
-/// Enters an accepted job or collection into the table and the log, or finds no memory and changes neither.
+/// Enters an accepted job or collection into the table and the log, or finds no memory and changes neither. There stays
+/// room in the log for so many slots, and for what else is reserved.
 fn enter(
     table: &mut JobTable,
     events: &mut EventLog,
     caller: u32,
     head: JobHead,
     ops: &CountedOps,
-    reserved: u32,
+    slots: u32,
 ) -> Result<JobNo, Refusal>
     requires running { table.old.ended ≡ false }
     requires few { length table.old.jobs < MAX_JOBS }
     requires few_events { length events.old.notes + 1 < 2 ^ 32 }
-    requires reserved { reserved ≤ events.old.room }
+    requires reserved { slots + table.old.reserve.arrivals ≤ events.old.room }
     requires few_ops { length ops.now ≤ MAX_OPS }
     requires collection { MayEnter table.old head ops.now }
     ensures table { OnOk result (table.new ≡ with_job table.old (job_of head ops.now)) }
@@ -65,13 +67,21 @@ fn enter(
     ensures table_stays { OnErr result (table.new ≡ table.old) }
     ensures log_stays { OnErr result (events.new.notes ≡ events.old.notes) }
     ensures marked { events.new.marked ≡ events.old.marked }
-    ensures reserved { reserved ≤ events.new.room }
-    ensures waiver_room { OnOk result (
-        (if head.collects then table.old.tasks else 0) ≤ events.new.waiver_room) }
+    ensures reserved { slots + table.new.reserve.arrivals ≤ events.new.room }
+    ensures succeeds { Covers table.old.reserve (length ops.now) → IsOk result }
+    ensures waiver_room { OnOk result (table.old.reserve.arrivals ≡ 0
+        → (if head.collects then table.old.tasks else 0) ≤ events.new.waiver_room) }
     ensures waiver_room_stays { events.old.waiver_room ≤ events.new.waiver_room }
 {
     let collects = head.collects;
-    events.reserve(reserved as usize + 1, waivers_with(collects, table))?;
+    let arrivals = table.reserved_arrivals();
+    // With a reserved arrival its entry and its waiver are.
+    let waivers = if arrivals == 0 {
+        waivers_with(collects, table)
+    } else {
+        0
+    };
+    events.reserve(slots as usize + arrivals.max(1) as usize, waivers)?;
     let number = table.add(head, ops)?;
     events.push_reserved(caller, deed_of_arrival(collects, number), &[]);
     Ok(number)

@@ -1,6 +1,6 @@
 //! A die.
 
-ghost use Rattle.std.specs.Prelude.{◌≡◌, ◌↔◌, ◌≤◌, ◌⊎◌, [], false, length, max, IsOk, IfOk, IfErr, OnOk, OnErr};
+ghost use Rattle.std.specs.Prelude.{◌≡◌, ◌↔◌, ◌≤◌, ◌⊎◌, [], false, length, IsOk, IfOk, IfErr, OnOk, OnErr};
 ghost use Rattle.std.specs.Box.{box_value};
 ghost use Rattle.slot_types.specs.Refusal.{FailsForMemory};
 ghost use Rattle.slot_types.specs.Shapes.{IsShape};
@@ -9,6 +9,7 @@ ghost use Rattle.flash_die.specs.Flash.{IsFresh};
 ghost use Rattle.event_log.specs.RecordCounts.{record_count};
 ghost use Rattle.die_log.specs.Model.Log.{now};
 ghost use Rattle.die_log.specs.Model.Start.{fresh};
+ghost use Rattle.slot_core.specs.Core.{nothing_reserved, with_slots, with_arrivals};
 
 use event_log::EventLog;
 use flash_die::Nand;
@@ -22,8 +23,8 @@ use std::marker::Model;
 
 /// One die: its flash, its jobs and collections, and the log of the calls that it accepted.
 ///
-/// Contracts see where its log starts (with its plan), its device, whether a fault has stopped it, for how many slots
-/// memory is reserved, and its log.
+/// Contracts see where its log starts (with its plan), its device, whether a fault has stopped it, for how many slots,
+/// arrivals and operations memory is reserved, and its log.
 #[derive(Drop)]
 pub struct DieCore<N: Nand> {
     /// The pages and the accounts of free pages, on the device.
@@ -35,7 +36,8 @@ pub struct DieCore<N: Nand> {
     pub(crate) events: EventLog,
     /// The present slot.
     pub(crate) present: u32,
-    /// For how many slots there is room in the log, beside what jobs and collections take.
+    /// For how many slots there is room in the log, beside that for jobs and collections: for how many of these memory is
+    /// reserved, the table knows.
     pub(crate) reserved: u32,
     /// Where its log started, which only clauses read.
     pub(crate) start: LogStart,
@@ -55,13 +57,17 @@ impl<N: Nand> Model for DieCore<N> {
       start = over c.volume.accounts.plan c.start;
       device = c.volume.device;
       stopped = c.volume.failed;
-      reserved = c.reserved;
+      reserved = record {
+        slots = c.reserved;
+        arrivals = c.table.reserve.arrivals;
+        operations = c.table.reserve.operations;
+      };
       log = log_of c.table c.events.notes;
     } };
 
     ghost invariant = { λ c.
         SaysLog (over c.volume.accounts.plan c.start) c.present c.table c.events.notes c.volume.failed (flash_of N.blocks c.volume)
-        × HasReservedRoom c.reserved c.table.jobs c.events.room c.events.waiver_room
+        × HasReservedRoom c.reserved c.table.reserve.arrivals c.table.jobs c.events.room c.events.waiver_room
         × MarksWorst c.table.jobs c.events.marked };
 }
 
@@ -77,7 +83,7 @@ impl<N: Nand> DieCore<N> {
               start = fresh plan;
               device = nand;
               stopped = false;
-              reserved = 0;
+              reserved = nothing_reserved;
               log = [];
             }) }
         ensures bad_shape { (result ≡ Err Refusal.BadShape)
@@ -114,7 +120,7 @@ impl<N: Nand> DieCore<N> {
               start = fresh plan;
               device = nand;
               stopped = false;
-              reserved = 0;
+              reserved = nothing_reserved;
               log = [];
             }) }
         ensures bad_shape { (result ≡ Err Refusal.BadShape)
@@ -138,22 +144,56 @@ impl<N: Nand> DieCore<N> {
     ///
     /// The only refusal is `NoMemory`, where nothing changes; so many as are reserved already are never refused.
     pub fn reserve(&mut self, slots: u32) -> Result<(), Refusal>
-        ensures ok { OnOk result (self.new
-            ≡ record self.old { reserved = max self.old.reserved slots }) }
+        ensures ok { OnOk result (self.new ≡ with_slots slots self.old) }
         ensures refused { FailsForMemory result }
-        ensures succeeds { slots ≤ self.old.reserved → IsOk result }
+        ensures succeeds { slots ≤ self.old.reserved.slots → IsOk result }
         ensures unchanged { OnErr result (self.new ≡ self.old) }
     {
-        self.events.reserve(slots as usize, 0)?;
+        let arrivals = self.table.reserved_arrivals() as usize;
+        self.events.reserve(slots as usize + arrivals, 0)?;
         self.reserved = self.reserved.max(slots);
         Ok(())
     }
 
+    /// Takes the memory for this many later jobs and collections, with so many operations in all: as long as that
+    /// suffices, none of them is refused with `NoMemory`, and none takes memory. Each one that is accepted uses one of
+    /// them up, with as many operations as it has, and nothing else does. Slots are [reserved](DieCore::reserve) apart.
+    ///
+    /// The only refusal is `NoMemory`, where nothing changes; so many of both as are reserved already are never refused.
+    pub fn reserve_arrivals(&mut self, arrivals: u32, operations: u32) -> Result<(), Refusal>
+        ensures ok { OnOk result (self.new ≡ with_arrivals arrivals operations self.old) }
+        ensures refused { FailsForMemory result }
+        ensures succeeds { arrivals ≤ self.old.reserved.arrivals
+            → operations ≤ self.old.reserved.operations → IsOk result }
+        ensures unchanged { OnErr result (self.new ≡ self.old) }
+    {
+        if arrivals > self.table.reserved_arrivals() {
+            let waivers = self.table.tasks() + arrivals as usize;
+            self.events
+                .reserve(self.reserved as usize + arrivals as usize, waivers)?;
+        }
+        self.table.reserve(arrivals, operations)
+    }
+
     /// For how many slots memory is reserved.
     pub fn reserved(&self) -> u32
-        ensures { result ≡ self.now.reserved }
+        ensures { result ≡ self.now.reserved.slots }
     {
         self.reserved
+    }
+
+    /// For how many jobs and collections that come later memory is reserved.
+    pub fn reserved_arrivals(&self) -> u32
+        ensures { result ≡ self.now.reserved.arrivals }
+    {
+        self.table.reserved_arrivals()
+    }
+
+    /// For how many operations of these memory is reserved, in all.
+    pub fn reserved_operations(&self) -> u64
+        ensures { result ≡ self.now.reserved.operations }
+    {
+        self.table.reserved_operations()
     }
 
     /// What the die is planned for.

@@ -1,6 +1,6 @@
 //! The step of a slot's head: a collection begins, and then the head does its act.
 
-ghost use Rattle.std.specs.Prelude.{◌≡◌, ◌+◌, ◌<◌, true, false, None, Some, length, is_ok, IfOk};
+ghost use Rattle.std.specs.Prelude.{◌≡◌, ◌+◌, ◌<◌, true, false, None, Some, length, is_ok, IfOk, OnErr};
 ghost use Rattle.flash_die.specs.Flash.{block_at};
 ghost use Rattle.flash_volume.specs.declared.collection.Collection.{Collection};
 ghost use Rattle.flash_volume.specs.Running.{running_of};
@@ -40,6 +40,7 @@ pub(crate) fn take_step<N: Nand>(volume: &mut Volume<N>, job: &Job) -> Result<He
     ensures did { IfOk result (λ turn. DidHeadStep N.blocks volume.old job.now turn volume.new) }
     ensures plan { volume.new.accounts.plan ≡ volume.old.accounts.plan }
     ensures fails { FailsWithDevice N.failures N.never_fails result volume.old volume.new }
+    ensures stays { OnErr result (volume.new.places ≡ volume.old.places) }
     ensures makes { HeadStepMakes N.ends N.blocks volume.old job.now (is_ok result) volume.new }
 {
     if job.collects() {
@@ -57,6 +58,7 @@ fn operate_next<N: Nand>(volume: &mut Volume<N>, job: &Job) -> Result<HeadStep, 
     ensures did { IfOk result (λ turn. DidHeadStep N.blocks volume.old job.now turn volume.new) }
     ensures plan { volume.new.accounts.plan ≡ volume.old.accounts.plan }
     ensures fails { FailsWithDevice N.failures N.never_fails result volume.old volume.new }
+    ensures stays { OnErr result (volume.new.places ≡ volume.old.places) }
     ensures makes { HeadStepMakes N.ends N.blocks volume.old job.now (is_ok result) volume.new }
 {
     let Some(op) = job.next_op() else {
@@ -81,6 +83,7 @@ fn collect<N: Nand>(volume: &mut Volume<N>, task: TaskNo) -> Result<HeadStep, Re
     ensures did { IfOk result (λ turn. DidCollect N.blocks volume.old task turn volume.new) }
     ensures plan { volume.new.accounts.plan ≡ volume.old.accounts.plan }
     ensures fails { FailsWithDevice N.failures N.never_fails result volume.old volume.new }
+    ensures stays { OnErr result (volume.new.places ≡ volume.old.places) }
     ensures makes { (c : Collection) → running_of volume.old.running task ≡ Some c
         → EndsStep N.ends N.blocks volume.old c (is_ok result) volume.new }
 {

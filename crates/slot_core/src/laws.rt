@@ -11,7 +11,7 @@ ghost use Rattle.plan_rules.specs.Bound.{MeetsBound};
 ghost use Rattle.die_log.specs.Model.Log.{Log, job_at};
 ghost use Rattle.die_log.specs.Model.Start.{Start, fresh};
 ghost use Rattle.slot_core.specs.Calls.{IsCall, IsByChance, AreAlike};
-ghost use Rattle.slot_core.specs.Core.{Core};
+ghost use Rattle.slot_core.specs.Core.{Core, nothing_reserved};
 ghost use Rattle.slot_core.specs.Outcomes.{outcome_at, reads_given, head_at};
 ghost use Rattle.slot_core.specs.Runs.{IsRun, IsDecided};
 ghost use Rattle.slot_core.specs.declared.outcomes.Outcome.{Outcome};
@@ -75,9 +75,9 @@ pub fn telling_a_job_has_one_answer()
 pub fn making_a_die_in_a_box_has_one_answer<N: Nand>()
     ensures { (plan : DiePlan) (nand : N) (one other : Result (Core N) Refusal) →
         IfOk one (λ core. core
-        ≡ record { start = fresh plan; device = nand; stopped = false; reserved = 0; log = [] }) →
+        ≡ record { start = fresh plan; device = nand; stopped = false; reserved = nothing_reserved; log = [] }) →
         IfOk other (λ core. core
-        ≡ record { start = fresh plan; device = nand; stopped = false; reserved = 0; log = [] }) →
+        ≡ record { start = fresh plan; device = nand; stopped = false; reserved = nothing_reserved; log = [] }) →
         ((one ≡ Err Refusal.BadShape) ↔ ¬ (IsShape plan.shape × (N.shape_of nand ≡ plan.shape))) →
         ((other ≡ Err Refusal.BadShape)
         ↔ ¬ (IsShape plan.shape × (N.shape_of nand ≡ plan.shape))) →

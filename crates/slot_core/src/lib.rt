@@ -17,6 +17,7 @@ pub mod notes;
 pub mod operations;
 pub mod outcomes;
 pub mod overdues;
+pub mod places;
 pub mod renewal_laws;
 pub mod renewals;
 pub mod resumptions;

@@ -24,6 +24,7 @@ pub(crate) fn operate<N: Nand>(volume: &mut Volume<N>, task: TaskNo, op: Op) -> 
         ≡ flash_after_op (flash_of N.blocks volume.old) task op) }
     ensures plan { volume.new.accounts.plan ≡ volume.old.accounts.plan }
     ensures fails { FailsWithDevice N.failures N.never_fails result volume.old volume.new }
+    ensures stays { OnErr result (volume.new.places ≡ volume.old.places) }
     ensures made { IsOnlyCall N.ends (op_call N.blocks volume.old op) (is_ok result)
         volume.old.device volume.new.device }
     ensures needs { OnErr result (IsSome (op_call N.blocks volume.old op)) }

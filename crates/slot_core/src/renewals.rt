@@ -61,8 +61,8 @@ fn next_in(table: &mut JobTable, present: u32) -> Option<JobNo>
 
 impl<N: Nand> DieCore<N> {
     /// Starts the log anew at a quiet moment, one at which all that was accepted is done or was waived: `now` is 0
-    /// again, and numbers begin at 0. The device, the pages, the accounts, the erases of the blocks and the reserved
-    /// slots stay. It takes no memory, and keeps that of the log so far; it looks at no page.
+    /// again, and numbers begin at 0. The device, the pages, the accounts, the erases of the blocks and what is
+    /// reserved stay. It takes no memory, and keeps that of the log so far; it looks at no page.
     ///
     /// Refused with the first cause that stands, as [`RenewalRefusal`] lists them; nothing changes then.
     pub fn renew(&mut self) -> Result<(), RenewalRefusal>

@@ -6,6 +6,7 @@ ghost use Rattle.flash_volume.specs.Checkpoints.{IsAsLeft};
 ghost use Rattle.die_log.specs.Model.Start.{Start};
 ghost use Rattle.die_log.specs.Model.Opening.{renewed_start};
 ghost use Rattle.slot_core.specs.Renewals.{MayBeRenewed};
+ghost use Rattle.slot_core.specs.Core.{nothing_reserved};
 ghost use Rattle.slot_core.specs.Resumptions.{checkpoint_of, resumed_start, RefusesCheckpoint, RefusesResume};
 
 use crate::die_core::DieCore;
@@ -129,7 +130,7 @@ impl<N: Nand> DieCore<N> {
           start = resumed_start plan checkpoint.now (N.blocks device);
           device = device;
           stopped = false;
-          reserved = 0;
+          reserved = nothing_reserved;
           log = [];
         }) }
         ensures fits { OnOk result (Fits plan checkpoint.now) }

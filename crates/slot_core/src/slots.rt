@@ -56,9 +56,11 @@ fn choose<N: Nand>(
         × NothingReady table.new) }
     ensures closed { open_collections table.new.jobs + length said.new
         ≤ open_collections table.old.jobs + length said.old }
+    ensures reserve { table.new.reserve ≡ table.old.reserve }
     ensures plan { volume.new.accounts.plan ≡ volume.old.accounts.plan }
     ensures alive { volume.new.failed ≡ false }
     ensures device { volume.new.device ≡ volume.old.device }
+    ensures places { volume.new.places ≡ volume.old.places }
 {
     loop {
         let Some(number) = table.head(present) else {
@@ -97,7 +99,8 @@ fn carry_out<N: Nand>(
     requires few { present < MAX_SLOT }
     requires clock { table.old.clock ≤ present }
     requires entry { 0 < events.old.room }
-    requires waivers { open_collections table.old.jobs ≤ events.old.waiver_room }
+    requires waivers { open_collections table.old.jobs + table.old.reserve.arrivals
+        ≤ events.old.waiver_room }
     requires kept { AgreeWithLog (over volume.old.accounts.plan from.0) from.1 present table.old
         volume.old.failed (flash_of N.blocks volume.old) }
     requires unfilled { reply.old ≡ idle_reply present [] }
@@ -120,7 +123,9 @@ fn carry_out<N: Nand>(
         present table.new
         volume.new.failed (flash_of N.blocks volume.new)) }
     ensures room { events.old.room ≤ events.new.room + 1 }
-    ensures waiver_room { open_collections table.new.jobs ≤ events.new.waiver_room }
+    ensures waiver_room { open_collections table.new.jobs + table.new.reserve.arrivals
+        ≤ events.new.waiver_room }
+    ensures reserve { table.new.reserve ≡ table.old.reserve }
     ensures room_stays { OnErr result (events.new.room ≡ events.old.room) }
     ensures marked { MarksWorst table.new.jobs events.new.marked }
     ensures calls { MakesCall N.ends N.failures
@@ -180,7 +185,9 @@ impl<N: Nand> DieCore<N> {
         if self.present >= MAX_SLOT {
             return Err(Refusal::ClockEnd);
         }
-        match self.events.reserve(1, 0) {
+        // What is reserved for arrivals stays theirs.
+        let kept = self.table.reserved_arrivals() as usize;
+        match self.events.reserve(self.reserved.max(1) as usize + kept, 0) {
             Ok(()) => {}
             Err(refusal) => return Err(refusal),
         }

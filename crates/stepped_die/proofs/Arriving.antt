@@ -205,6 +205,9 @@ module _ (start : Start) (past : Log) (caller : ℕ) (event : Event) (number : �
   needed_same : needed_call start later ≡ needed_call start past
   needed_same = ap (λ (r : Reply). call_by start past (ran_by r)) answer_same
 
+  next_same : next_slot start later ≡ next_slot start past
+  next_same = ap (λ (r : Reply). next_by start past (ran_by r)) answer_same
+
 -- Arrivals
 
 abbrev number_of : Reply → ℕ
@@ -242,11 +245,12 @@ taken_is start past event number e = taken_answer start past event (subst IsAcce
 alike_self : (a : Accounts) → Alike a a
 alike_self a = record { plan = refl; spare = refl; len = refl; owned = λ task. refl }
 
--- the next slot is answered as it was, and needs the call that it needed
+-- the next slot is answered as it was, needs the call that it needed, and does what it did
 pub arrival_leaves : (start : Start) (past : Log) (caller : ℕ) (event : Event) (number : ℕ) → IsOpening start → IsExact start past
     → answer start past event ≡ Taken number → WaitsAfter (now past) event
     → (answer start (with_entry caller event (Taken number) past) events.Slot ≡ answer start past events.Slot)
     × (needed_call start (with_entry caller event (Taken number) past) ≡ needed_call start past)
+    × (next_slot start (with_entry caller event (Taken number) past) ≡ next_slot start past)
 arrival_leaves start past caller (events.Submit task release due ops) number opens exact taken beyond =
     let is = taken_is start past (events.Submit task release due ops) number taken in
     let stands = none_stands (refusals start past (events.Submit task release due ops)) is.0 in
@@ -258,6 +262,7 @@ arrival_leaves start past caller (events.Submit task release due ops) number ope
     (enough _ (writes ops) stands.1.1.1.1.1.1.1.0) in (
       answer_same start past caller (events.Submit task release due ops) number j refl waits unbegun alike,
       needed_same start past caller (events.Submit task release due ops) number j refl waits unbegun alike,
+      next_same start past caller (events.Submit task release due ops) number j refl waits unbegun alike,
     )
 arrival_leaves start past caller (events.Collect task release due) number opens exact taken beyond =
     let is = taken_is start past (events.Collect task release due) number taken in
@@ -268,5 +273,6 @@ arrival_leaves start past caller (events.Collect task release due) number opens 
     let alike = alike_self (accounts start past) in (
       answer_same start past caller (events.Collect task release due) number j refl waits unbegun alike,
       needed_same start past caller (events.Collect task release due) number j refl waits unbegun alike,
+      next_same start past caller (events.Collect task release due) number j refl waits unbegun alike,
     )
 arrival_leaves start past caller events.Slot number opens exact taken beyond = absurd beyond

@@ -10,7 +10,6 @@ use Rattle.slot_types.specs.declared.refusals.Refusal.TheVariants.{DieStopped}
 use Rattle.slot_types.specs.declared.replies.SlotReply.{SlotReply}
 use Rattle.slot_types.specs.declared.replies.Reply.TheVariants as replies
 use Rattle.flash_die.specs.declared.nand.NandCall.{NandCall}
-use Rattle.flash_die.specs.Faulty.{Faulty, EndsAsReported}
 use Rattle.die_log.specs.Model.Log.{now}
 use Rattle.die_log.specs.Model.Answers.{answer, reply_if_accepted}
 use Rattle.die_log.specs.Model.NeededCalls.{needed_call}
@@ -32,16 +31,13 @@ use Rattle.stepped_die.specs.DeviceCalls.{DoesWell, reported_by}
 use Rattle.stepped_die.proofs.Arriving.{arrival_leaves}
 
 abbrev pub Mirror : Type 0
-Mirror = Faulty MirrorNand
-
-abbrev pub mirror_ends : MirrorNand → NandCall → Bool → MirrorNand → Type 0
-mirror_ends d call well e = DoesWell d.memory call well e.memory
+Mirror = MirrorNand
 
 abbrev pub ends : Mirror → NandCall → Bool → Mirror → Type 0
-ends = EndsAsReported mirror_ends
+ends d call well e = DoesWell d.memory call well e.memory
 
 abbrev pub failures : Mirror → ℕ
-failures f = 0 + f.failed
+failures f = 0
 
 -- Refusals
 
@@ -56,20 +52,15 @@ refused_for_fault before after begun r runs h (inl own) = absurd (not_refused _ 
     accepts : answer before.start before.log events.Slot ≡ reply_if_accepted before.start before.log events.Slot
     accepts = accepted_answer before.start before.log events.Slot
         (slot_unrefused before.start before.log (now before.log) refl h.few)
-refused_for_fault before after begun r runs h (inr (inl memory)) = absurd (omega (arith, h.reserved, memory.unreserved refl))
+refused_for_fault before after begun r runs h (inr (inl memory)) = absurd (memory.uncovered h.reserved)
 refused_for_fault before after begun r runs h (inr (inr (inl fault))) = fault
 refused_for_fault before after begun r runs h (inr (inr (inr stopped))) = absurd (true≢false (sym stopped.was_stopped ∙ runs))
 
--- a mirror that passes its calls on has no fault
-no_fault : (needed : Option NandCall) (before after : Mirror) → before.armed ≡ false → MadeAndFailed ends needed before after → ⊥
-no_fault needed before after passes m = true≢false (sym ((m.ended.free passes).inner.ends_well))
-
--- so a slot that has begun is carried out
-pub not_refused_here : (before after : Core Mirror) (begun : Begun) (r : Refusal) → before.stopped ≡ false → before.device.armed ≡ false
-    → IsPresent before begun → IsCall ends failures false begun.caller events.Slot (Err r) before after → ⊥
-not_refused_here before after begun r runs passes h call =
-    no_fault (needed_call before.start before.log) before.device after.device passes
-    (call.device.failed (ap Err (refused_for_fault before after begun r runs h call.ended).refusal_is))
+-- A mirror has no fault. So a slot that has begun is carried out
+pub not_refused_here : (before after : Core Mirror) (begun : Begun) (r : Refusal) → before.stopped ≡ false
+    → IsPresent before begun → IsCall ends failures true begun.caller events.Slot (Err r) before after → ⊥
+not_refused_here before after begun r runs h call =
+    call.device.never refl (ap Err (refused_for_fault before after begun r runs h call.ended).refusal_is)
 
 -- Arrivals
 
@@ -80,7 +71,7 @@ present_stays : (before : Core Mirror) (caller : ℕ) (event : Event) (number : 
     → KeepsPromises before.start before.log → HasEntered caller event number before after → WaitsAfter (now before.log) event
     → IsPresent before begun → IsPresent after begun
 present_stays before caller event number begun after keeps taken beyond h =
-    let same = (arrival_leaves before.start before.log caller event number keeps.opens keeps.exact taken.answered beyond).1 in
+    let same = (arrival_leaves before.start before.log caller event number keeps.opens keeps.exact taken.answered beyond).1.1 in
     subst (λ (c : Core Mirror). IsPresent c begun) (sym taken.logged) (record {
       slot_is = h.slot_is;
       few = h.few;
@@ -101,7 +92,6 @@ pub arrival_keeps : (die : Stepped) (caller : ℕ) (event : Event) (number : ℕ
     → IsStepped die → KeepsPromises die.core.start die.core.log → HasEntered caller event number die.core after
     → IfSome die.begun (λ b. WaitsAfter b.slot event) → IsStepped (record die { core = after })
 arrival_keeps die caller event number after h keeps taken beyond = record {
-  passes = λ runs. ap (λ (c : Core Mirror). c.device.armed) taken.logged ∙ h.passes (sym stopped ∙ runs);
   none = λ stops. h.none (sym stopped ∙ stops);
   present = begun_stays die.begun die.core caller event number after keeps taken beyond h.present;
 }
@@ -125,20 +115,20 @@ none_held before begun release held is h e =
 -- whether it was accepted or not
 answer_keeps : (core : Core Mirror) (begun : Option Begun) (caller : ℕ) (event : Event) (after : Core Mirror) (r : Result ℕ Refusal)
     → IsStepped (record { core = core; begun = begun }) → KeepsPromises core.start core.log → IsArrival event
-    → IsCall ends failures false caller event (reply_as replies.Taken r) core after
+    → IsCall ends failures true caller event (reply_as replies.Taken r) core after
     → IfSome begun (λ b. WaitsAfter b.slot event) → IsStepped (record { core = after; begun = begun })
 answer_keeps core begun caller event after (Ok number) h keeps arrives call beyond =
     arrival_keeps (record { core = core; begun = begun }) caller event number after h keeps
-    (has_entered ends failures false caller event core after number arrives call) beyond
+    (has_entered ends failures true caller event core after number arrives call) beyond
 answer_keeps core begun caller event after (Err refusal) h keeps arrives call beyond =
     subst (λ (c : Core Mirror). IsStepped (record { core = c; begun = begun }))
-    (sym (arrival_stays ends failures false caller event core after refusal arrives call)) h
+    (sym (arrival_stays ends failures true caller event core after refusal arrives call)) h
 
 -- of either kind, where no slot holds it back
 pub arrived_keeps : (before : Stepped) (core : Core Mirror) (begun : Option Begun) (release caller : ℕ) (event : Event) (after : Core Mirror)
     (r : Result ℕ Refusal) (held : Bool) → begun ≡ before.begun → IsStepped (record { core = core; begun = begun })
     → KeepsPromises core.start core.log → IsArrival event → ((slot : ℕ) → slot < release → WaitsAfter slot event)
-    → IsCall ends failures false caller event (reply_as replies.Taken r) core after
+    → IsCall ends failures true caller event (reply_as replies.Taken r) core after
     → (HoldsBack release before.begun → held ≡ true) → held ≡ false → IsStepped (record { core = after; begun = begun })
 arrived_keeps before core begun release caller event after r held is h keeps arrives beyond call holds free =
     answer_keeps core begun caller event after r h keeps arrives call
@@ -165,14 +155,14 @@ stepped_answer (Err refusal) = Err (refuses.Die refusal)
 
 -- and one that runs answers none as a stopped one does
 pub answered_running : (caller : ℕ) (event : Event) (before after : Core Mirror) (r : Result ℕ Refusal) → before.stopped ≡ false
-    → IsCall ends failures false caller event (reply_as replies.Taken r) before after
+    → IsCall ends failures true caller event (reply_as replies.Taken r) before after
     → (stepped_answer r ≡ Err (refuses.Die DieStopped)) ↔ (before.stopped ≡ true)
 answered_running caller event before after (Ok number) runs call = (
   (λ is. absurd cc),
   (λ stops. absurd (true≢false (sym stops ∙ runs))),
 )
 answered_running caller event before after (Err refusal) runs call = (
-  (λ is. absurd (stopped_only ends failures false caller event before after refusal runs (die_is _ _ is) call)),
+  (λ is. absurd (stopped_only ends failures true caller event before after refusal runs (die_is _ _ is) call)),
   (λ stops. absurd (true≢false (sym stops ∙ runs))),
 )
 

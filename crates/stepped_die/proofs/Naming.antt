@@ -18,7 +18,6 @@ use Rattle.die_checkpoint.specs.declared.checkpoint.Checkpoint.{Checkpoint}
 use Rattle.die_checkpoint.specs.Counts.{counts_at, no_counts}
 use Rattle.die_checkpoint.specs.Fits.{Fits}
 use Rattle.flash_die.specs.Flash.{Block, IsNextCell, blank, free_block, block_at, cell_at, blocks_after_program}
-use Rattle.flash_die.specs.Faulty.{Faulty, unarmed_device}
 use Rattle.flash_die.specs.Memory.{Memory, block_of, cells_up_to, left_memory}
 use Rattle.flash_die.proofs.Fresh.{zero_at}
 use Rattle.flash_volume.specs.Cells.{content_at, contents}
@@ -312,20 +311,20 @@ goes_on_named start log c blocks names goes_on is =
 -- On a device
 
 -- the cells of a mirror
-abbrev pub cells_in : Faulty MirrorNand → List Block
-cells_in device = device.inner.memory.blocks
+abbrev pub cells_in : MirrorNand → List Block
+cells_in device = device.memory.blocks
 
 -- the names, as they were asked of the die's own device
-pub names_asked : (asked device : Faulty MirrorNand) (places lie : List (Option Place)) (names : List PageData)
+pub names_asked : (asked device : MirrorNand) (places lie : List (Option Place)) (names : List PageData)
     → names ≡ contents (cells_in asked) places → asked ≡ device → places ≡ lie → names ≡ contents (cells_in device) lie
 names_asked asked device places lie names are same lies =
-    are ∙ ap (λ (d : Faulty MirrorNand). contents (cells_in d) places) same ∙ ap (contents (cells_in device)) lies
+    are ∙ ap (λ (d : MirrorNand). contents (cells_in d) places) same ∙ ap (contents (cells_in device)) lies
 
 -- the pages of a mirror that was left with these names
-pub left_named : (plan : DiePlan) (c : Checkpoint) (names : List PageData) (device : Faulty MirrorNand) (mirror : MirrorNand) → Fits plan c
-    → device ≡ unarmed_device mirror → mirror.memory ≡ memory_left plan.shape c names
+pub left_named : (plan : DiePlan) (c : Checkpoint) (names : List PageData) (device : MirrorNand) (mirror : MirrorNand) → Fits plan c
+    → device ≡ mirror → mirror.memory ≡ memory_left plan.shape c names
     → contents (cells_in device) c.places ≡ pages_named c.places names
 left_named plan c names device mirror fits new left =
-    ap (λ (d : Faulty MirrorNand). contents (cells_in d) c.places) new
+    ap (λ (d : MirrorNand). contents (cells_in d) c.places) new
     ∙ ap (λ (m : Memory). contents m.blocks c.places) left
     ∙ contents_named plan c names fits

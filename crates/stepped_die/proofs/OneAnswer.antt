@@ -122,7 +122,10 @@ module _ (caller release : ℕ) (event : Event) (before : Stepped) (arrives : Is
         ap Ok same,
         same_die left right
             (a.taken.logged
-            ∙ (ap (λ (number : ℕ). record before.core { log = with_entry caller event (Taken number) before.core.log }) same ∙ sym b.taken.logged))
+            ∙ (ap (λ (number : ℕ). record before.core {
+              reserved = reserved_after event before.core.reserved;
+              log = with_entry caller event (Taken number) before.core.log;
+            }) same ∙ sym b.taken.logged))
             (a.begun ∙ sym b.begun),
       )
 
@@ -143,7 +146,7 @@ refuses_beginning : (before : Stepped) (d : StepRefusal) → RefusesBeginning be
     → ((d ≡ refuses.Die DieStopped) × (before.core.stopped ≡ true))
     ⊎ ((d ≡ refuses.Begun) × (before.core.stopped ≡ false) × IsSome before.begun)
     ⊎ ((d ≡ refuses.Die ClockEnd) × (before.core.stopped ≡ false) × (MAX_SLOT ≤ now before.core.log))
-    ⊎ ((d ≡ refuses.Die NoMemory) × (before.core.reserved ≡ 0))
+    ⊎ ((d ≡ refuses.Die NoMemory) × (before.core.reserved.slots ≡ 0))
 refuses_beginning before (refuses.Die DieStopped) h = inl (refl, h)
 refuses_beginning before refuses.Begun h = inr (inl (refl, h.0, h.1))
 refuses_beginning before (refuses.Die ClockEnd) h = inr (inr (inl (refl, h.0, h.1)))
@@ -165,7 +168,7 @@ module _ (caller : ℕ) (before : Stepped) where
   abbrev AgreeBegun : Result Begun StepRefusal → Result Begun StepRefusal → Stepped → Stepped → Type 0
   AgreeBegun one other left right =
       ((one ≡ other) × (left ≡ right))
-      ⊎ ((before.core.reserved ≡ 0) × ((one ≡ Err (refuses.Die NoMemory)) ⊎ (other ≡ Err (refuses.Die NoMemory))))
+      ⊎ ((before.core.reserved.slots ≡ 0) × ((one ≡ Err (refuses.Die NoMemory)) ⊎ (other ≡ Err (refuses.Die NoMemory))))
 
   turned_begun : (one other : Result Begun StepRefusal) (left right : Stepped) → AgreeBegun other one right left → AgreeBegun one other left right
   turned_begun one other left right (inl same) = inl (sym same.0, sym same.1)
@@ -191,7 +194,7 @@ module _ (caller : ℕ) (before : Stepped) where
       by : ((d ≡ refuses.Die DieStopped) × (before.core.stopped ≡ true))
           ⊎ ((d ≡ refuses.Begun) × (before.core.stopped ≡ false) × IsSome before.begun)
           ⊎ ((d ≡ refuses.Die ClockEnd) × (before.core.stopped ≡ false) × (MAX_SLOT ≤ now before.core.log))
-          ⊎ ((d ≡ refuses.Die NoMemory) × (before.core.reserved ≡ 0)) → AgreeBegun (Err d) other left right
+          ⊎ ((d ≡ refuses.Die NoMemory) × (before.core.reserved.slots ≡ 0)) → AgreeBegun (Err d) other left right
       by (inl (is, stops)) = alike (b.stopped.1 stops ∙ sym (ap Err is))
       by (inr (inl (is, runs, some))) = alike ((b.twice runs).1 some ∙ sym (ap Err is))
       by (inr (inr (inl (is, runs, last)))) = alike (at_end (Err d) other left right runs last a b (ap Err is) ∙ sym (ap Err is))
@@ -208,10 +211,7 @@ module _ (caller : ℕ) (before : Stepped) where
       (x.runs_next ∙ sym y.runs_next) in
       inl (
         ap Ok same,
-        x.begins ∙ (ap (λ (begun : Begun). record {
-          core = record before.core { reserved = max before.core.reserved 1 };
-          begun = Some begun;
-        }) same ∙ sym y.begins),
+        x.begins ∙ (ap (λ (begun : Begun). record { core = with_slots 1 before.core; begun = Some begun }) same ∙ sym y.begins),
       )
 
 -- The end of a slot
@@ -242,11 +242,10 @@ one_change None before left right a b = a ∙ sym b
 one_change (Some (calls.Read place bytes)) before left right a b = a.0 ∙ sym b.0
 one_change (Some (calls.Program place bytes)) before left right a b = a ∙ sym b
 one_change (Some (calls.Erase block last)) before left right a b = a.0 ∙ sym b.0
+one_change (Some (calls.Trim page)) before left right a b = a ∙ sym b
 
-same_device : (before left right : Mirror) → left ≡ record before { inner = left.inner } → right ≡ record before { inner = right.inner }
-    → left.inner.memory ≡ right.inner.memory → left ≡ right
-same_device before left right a b memory =
-    a ∙ ((λ i. record before { inner = record { memory = memory i } }) ∙ sym b)
+same_device : (left right : Mirror) → left.memory ≡ right.memory → left ≡ right
+same_device left right memory = λ i. record { memory = memory i }
 
 module _ (ok : Bool) (bytes : PageData) (before : Stepped) where
   -- two slots that were carried out
@@ -260,7 +259,7 @@ module _ (ok : Bool) (bytes : PageData) (before : Stepped) where
       (subst (λ (begun : Begun). Changes (mirror_of before.core) begun.call (mirror_of left.core)) slot a.called) b.called in (
         same_die left right
             (same_core left.core right.core (a.start_stays ∙ sym b.start_stays)
-            (same_device before.core.device left.core.device right.core.device a.passed_on b.passed_on memory)
+            (same_device left.core.device right.core.device memory)
             (a.carried.runs ∙ sym b.carried.runs) (a.carried.used ∙ sym b.carried.used)
             (a.carried.logged ∙ (λ i. with_entry (slot i).caller events.Slot (Slot (reply i)) before.core.log) ∙ sym b.carried.logged))
             (a.idle ∙ sym b.idle),
@@ -268,10 +267,7 @@ module _ (ok : Bool) (bytes : PageData) (before : Stepped) where
       )
 
   both_failed : (left right : Stepped) → HasFailed ok bytes before left → HasFailed ok bytes before right → left ≡ right
-  both_failed left right a b = same_die left right
-      (same_core left.core right.core (a.start_stays ∙ sym b.start_stays) (a.let_fail ∙ sym b.let_fail) (a.stops ∙ sym b.stops)
-      (a.reserve_stays ∙ sym b.reserve_stays) (a.log_stays ∙ sym b.log_stays))
-      (a.idle ∙ sym b.idle)
+  both_failed left right a b = a.stops ∙ sym b.stops
 
   not_both_ways : (reply : SlotReply) (left right : Stepped) → HasEnded ok bytes reply before left → HasFailed ok bytes before right → ⊥
   not_both_ways reply left right a b = b.undone (subst (λ (begun : Begun). IsDone begun.call ok bytes)

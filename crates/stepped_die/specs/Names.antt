@@ -6,11 +6,11 @@ use Rattle.slot_types.specs.declared.pages.Place.{Place}
 use Rattle.slot_types.specs.declared.plans.DiePlan.{DiePlan}
 use Rattle.slot_types.specs.declared.plans.Shape.{Shape}
 use Rattle.slot_types.specs.Places.{place_of, owner_of}
-use Rattle.flash_die.specs.Faulty.{unarmed_device}
 use Rattle.flash_die.specs.Flash.{Block, blank}
 use Rattle.flash_die.specs.Memory.{Memory}
 use Rattle.die_checkpoint.specs.declared.checkpoint.Checkpoint.{Checkpoint}
 use Rattle.die_checkpoint.specs.Counts.{counts_at}
+use Rattle.slot_core.specs.Core.{nothing_reserved}
 use Rattle.slot_core.specs.Resumptions.{start_with, RefusesCheckpoint}
 use Rattle.stepped_die.specs.declared.refusals.StepCheckpointRefusal.{StepCheckpointRefusal}
 use Rattle.stepped_die.specs.declared.refusals.StepCheckpointRefusal.TheVariants as steps
@@ -61,9 +61,9 @@ memory_left shape c names = record { shape = shape; blocks = map (block_left c n
 -- a die that goes on from a checkpoint, with the pages of these names
 pub record GoesOn (plan : DiePlan) (c : Checkpoint) (names : List PageData) (die : Stepped) : Type 0 where
   pub start : die.core.start ≡ start_with plan c (pages_named c.places names)
-  pub device : die.core.device ≡ unarmed_device (record { memory = memory_left plan.shape c names })
+  pub device : die.core.device ≡ record { memory = memory_left plan.shape c names }
   pub runs : die.core.stopped ≡ false
-  pub reserves : die.core.reserved ≡ 0
+  pub reserves : die.core.reserved ≡ nothing_reserved
   pub log : die.core.log ≡ []
   pub idle : die.begun ≡ None
 

@@ -1,5 +1,5 @@
 -- What beginning and ending a slot does, and why a call is refused.
-use Rattle.std.specs.Prelude.{◌≡◌, ◌≤◌, ◌+◌, ℕ, Bool, true, false, Option, Some, None, [], IfSome, IsSome, max, ⊤}
+use Rattle.std.specs.Prelude.{◌≡◌, ◌≤◌, ℕ, Bool, true, false, Option, Some, None, [], IfSome, IsSome, ⊤}
 use Rattle.slot_types.specs.declared.plans.DiePlan.{DiePlan}
 use Rattle.slot_types.specs.declared.pages.PageData.{PageData}
 use Rattle.slot_types.specs.declared.events.Event.{Event}
@@ -11,12 +11,11 @@ use Rattle.plan_rules.specs.Bound.{MeetsBound}
 use Rattle.slot_types.specs.declared.events.Event.TheVariants as events
 use Rattle.slot_types.specs.declared.replies.Reply.TheVariants.{Slot}
 use Rattle.slot_types.specs.declared.replies.SlotReply.{SlotReply}
-use Rattle.flash_die.specs.Faulty.{unarmed_device}
 use Rattle.flash_die.specs.Memory.{fresh_memory}
 use Rattle.die_log.specs.Model.Log.{now}
-use Rattle.die_log.specs.Model.NeededCalls.{needed_call}
 use Rattle.die_log.specs.Model.Start.{fresh}
 use Rattle.slot_core.specs.Calls.{IsAnswered, RefusesCall}
+use Rattle.slot_core.specs.Core.{nothing_reserved, with_slots}
 use Rattle.slot_core.specs.NextSlot.{next_slot}
 use Rattle.slot_core.specs.Renewals.{RefusesRenewal}
 use Rattle.stepped_die.specs.declared.calls.Begun.{Begun}
@@ -30,9 +29,9 @@ use Rattle.stepped_die.specs.DeviceCalls.{IsDone, Changes, reported_by}
 -- a die on which nothing was done
 pub record IsNew (plan : DiePlan) (die : Stepped) : Type 0 where
   pub start : die.core.start ≡ fresh plan
-  pub device : die.core.device ≡ unarmed_device (record { memory = fresh_memory plan.shape })
+  pub device : die.core.device ≡ record { memory = fresh_memory plan.shape }
   pub runs : die.core.stopped ≡ false
-  pub reserves : die.core.reserved ≡ 0
+  pub reserves : die.core.reserved ≡ nothing_reserved
   pub log : die.core.log ≡ []
   pub idle : die.begun ≡ None
 
@@ -43,7 +42,7 @@ RefusesNewDie plan BadPlan = IsShape plan.shape × ¬ MeetsBound plan
 RefusesNewDie plan NoMemory = ⊤
 RefusesNewDie plan _ = ⊥
 
--- A slot has begun: it is the log's present one, and what is reported is the one call that it needs, and for whom.
+-- A slot has begun: it is the log's present one, and what is reported is what it needs, and for whom.
 -- Memory is reserved for it, and nothing else has changed: it isn't in the log.
 pub record HasBegun (caller : ℕ) (begun : Begun) (before after : Stepped) : Type 0 where
   pub runs : before.core.stopped ≡ false
@@ -51,38 +50,27 @@ pub record HasBegun (caller : ℕ) (begun : Begun) (before after : Stepped) : Ty
   pub caller_is : begun.caller ≡ caller
   pub slot_is : begun.slot ≡ now before.core.log
   pub runs_next : begun.runs ≡ (next_slot before.core.start before.core.log).ran
-  pub said : begun.call ≡ reported_by (mirror_of before.core) (needed_call before.core.start before.core.log)
-  pub begins : after ≡ record {
-    core = record before.core {
-      reserved = max before.core.reserved 1;
-    };
-    begun = Some begun;
-  }
+  pub said : begun.call ≡ reported_by (mirror_of before.core) (next_slot before.core.start before.core.log)
+  pub begins : after ≡ record { core = with_slots 1 before.core; begun = Some begun }
 
--- A slot has ended: the device did what it was asked, and the slot is the log's next entry. The mirror has had that
--- call, and no other; nothing else of the device changes.
+-- A slot has ended: the driver did what it was asked, and the slot is the log's next entry. The mirror has had that call, and
+-- no other.
 pub record HasEnded (ok : Bool) (bytes : PageData) (reply : SlotReply) (before after : Stepped) : Type 0 where
   pub begun : Begun
   pub held : before.begun ≡ Some begun
   pub done : IsDone begun.call ok bytes
   pub carried : IsAnswered begun.caller events.Slot (Slot reply) before.core after.core
   pub called : Changes (mirror_of before.core) begun.call (mirror_of after.core)
-  pub passed_on : after.core.device ≡ record before.core.device { inner = after.core.device.inner }
   pub start_stays : after.core.start ≡ before.core.start
   pub idle : after.begun ≡ None
 
--- A slot has failed: the device didn't do what it was asked, or a read gave other bytes than its cell was programmed
--- with. The die is stopped, its log is that before the slot, and the mirror has had no call.
+-- A slot has failed: the driver didn't do what it was asked, or a read gave other bytes than its cell was programmed with. The
+-- die is stopped, and nothing else of it changes: its log is that before the slot, and the mirror has had no call.
 pub record HasFailed (ok : Bool) (bytes : PageData) (before after : Stepped) : Type 0 where
   pub begun : Begun
   pub held : before.begun ≡ Some begun
   pub undone : ¬ IsDone begun.call ok bytes
-  pub stops : after.core.stopped ≡ true
-  pub log_stays : after.core.log ≡ before.core.log
-  pub start_stays : after.core.start ≡ before.core.start
-  pub reserve_stays : after.core.reserved ≡ before.core.reserved
-  pub let_fail : after.core.device ≡ record before.core.device { armed = true; failed = before.core.device.failed + 1 }
-  pub idle : after.begun ≡ None
+  pub stops : after ≡ record { core = record before.core { stopped = true }; begun = None }
 
 -- a slot has begun that isn't below the release
 abbrev pub HoldsBack : ℕ → Option Begun → Type 0
@@ -106,5 +94,5 @@ abbrev pub RefusesBeginning : Stepped → StepRefusal → Type 0
 RefusesBeginning die (refuses.Die DieStopped) = die.core.stopped ≡ true
 RefusesBeginning die refuses.Begun = (die.core.stopped ≡ false) × IsSome die.begun
 RefusesBeginning die (refuses.Die ClockEnd) = (die.core.stopped ≡ false) × (MAX_SLOT ≤ now die.core.log)
-RefusesBeginning die (refuses.Die NoMemory) = (die.core.stopped ≡ false) × (die.core.reserved ≡ 0)
+RefusesBeginning die (refuses.Die NoMemory) = (die.core.stopped ≡ false) × (die.core.reserved.slots ≡ 0)
 RefusesBeginning die _ = ⊥

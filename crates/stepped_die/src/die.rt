@@ -1,6 +1,6 @@
 //! A die whose slots are begun and ended.
 
-ghost use Rattle.std.specs.Prelude.{◌≡◌, ◌≢◌, ◌⊎◌, ◌↔◌, ◌≤◌, [], true, false, None, Some, max, IsSome, IfOk, IfErr, OnOk, OnErr};
+ghost use Rattle.std.specs.Prelude.{◌≡◌, ◌≢◌, ◌⊎◌, ◌↔◌, ◌≤◌, [], true, false, None, IsSome, IsOk, IfOk, IfErr, OnOk, OnErr};
 ghost use Rattle.slot_types.specs.declared.refusals.Refusal.{Refusal};
 ghost use Rattle.slot_types.specs.declared.events.Event.TheVariants as events;
 ghost use Rattle.slot_types.specs.declared.limits.TheConstants.{MAX_SLOT};
@@ -11,14 +11,15 @@ ghost use Rattle.slot_core.specs.Calls.{HasEntered};
 ghost use Rattle.slot_core.specs.WithinSlot.{idle_reply};
 ghost use Rattle.slot_core.specs.Renewals.{MayBeRenewed, renewed_core};
 ghost use Rattle.stepped_die.specs.Steps.{HoldsBack};
-ghost use Rattle.stepped_die.specs.DeviceCalls.{IsDone, reported_by};
+ghost use Rattle.slot_core.specs.Core.{with_slots, with_arrivals};
+ghost use Rattle.stepped_die.specs.DeviceCalls.{IsDone, call_reported, reported_by};
 
 use crate::calls::{Begun, Call};
 use crate::mirror::MirrorNand;
 use crate::refusals::{StepRefusal, StepRenewalRefusal};
-use flash_die::{FaultNand, NandCall};
+use flash_die::NandCall;
 use plan_rules::bound;
-use slot_core::{DieCore, NextAct, RenewalRefusal};
+use slot_core::{DieCore, NextAct, NextSlot, RenewalRefusal};
 use slot_types::{DiePlan, JobNo, Op, PageData, Refusal, SlotReply, TaskNo};
 use std::alloc::Global;
 use std::marker::Model;
@@ -29,7 +30,7 @@ use std::marker::Model;
 /// Contracts see the die, and the slot that has begun.
 #[derive(Drop)]
 pub struct SteppedDie {
-    pub(crate) core: DieCore<FaultNand<MirrorNand>>,
+    pub(crate) core: DieCore<MirrorNand>,
     pub(crate) begun: Option<Begun>,
 }
 
@@ -59,7 +60,7 @@ impl SteppedDie {
         bound(&plan)?;
         let mirror = MirrorNand::new(alloc, plan.shape)?;
         Ok(SteppedDie {
-            core: DieCore::new(alloc, plan, FaultNand::new(mirror))?,
+            core: DieCore::new(alloc, plan, mirror)?,
             begun: None,
         })
     }
@@ -155,7 +156,7 @@ impl SteppedDie {
         }
     }
 
-    /// Begins the present slot, and answers the one call of the device that it needs, and for whom. Nothing is entered
+    /// Begins the present slot, and answers the one call of the device that it needs, or the page that it trims, and for whom. Nothing is entered
     /// into the log; memory is reserved for the slot, so that its end needs none.
     ///
     /// Refused, where nothing changes, with `DieStopped` where a fault has stopped the die; `Begun` where a slot has
@@ -187,17 +188,17 @@ impl SteppedDie {
             Ok(()) => {}
             Err(refusal) => return Err(StepRefusal::Die(refusal)),
         }
-        let call = reported_by(self.core.device(), next.call);
+        let call = reported_by(self.core.device(), &next);
         self.begun = Some(begun_by(caller, slot, call, next.ran));
         Ok(begun_by(caller, slot, call, next.ran))
     }
 
-    /// Ends the slot that has begun: whether the device did what it was asked, and the bytes that it read, if it read a
-    /// cell. A read that gave other bytes than its cell was programmed with is a fault. What the slot did goes into a
+    /// Ends the slot that has begun: whether the driver did what it was asked, and the bytes that were read, if a cell
+    /// was. A read that gave other bytes than its cell was programmed with is a fault. What the slot did goes into a
     /// reply as [`new_reply`](slot_core::new_reply) makes it; where the slot is refused the reply is of no use any more.
     ///
     /// Refused with `DieStopped` where a fault has stopped the die, and `NotBegun` where no slot has begun; these
-    /// change nothing. `DeviceFault` where the device failed, or a read gave other bytes: the die is stopped from then
+    /// change nothing. `DeviceFault` where it wasn't done, or a read gave other bytes: the die is stopped from then
     /// on, and its log stays, without this slot and its waivers. There is no other refusal, out of memory neither.
     pub fn end(
         &mut self,
@@ -233,28 +234,34 @@ impl SteppedDie {
                 Err(_) => unreachable!(),
             }
         } else {
-            self.core.fail_next();
-            match self.core.fill_slot(begun.caller, reply) {
-                Ok(()) => unreachable!(),
-                Err(_) => {
-                    self.begun = None;
-                    Err(StepRefusal::Die(Refusal::DeviceFault))
-                }
-            }
+            self.core.stop();
+            self.begun = None;
+            Err(StepRefusal::Die(Refusal::DeviceFault))
         }
     }
 
     /// Takes the memory for this many later slots, as [`DieCore::reserve`]. A slot that has begun is the first of them.
     pub fn reserve(&mut self, slots: u32) -> Result<(), Refusal>
-        ensures ok { OnOk result (self.new ≡ record self.old {
-          core = record self.old.core {
-            reserved = max self.old.core.reserved slots;
-          };
-        }) }
+        ensures ok { OnOk result (self.new
+            ≡ record self.old { core = with_slots slots self.old.core }) }
         ensures refused { FailsForMemory result }
+        ensures succeeds { slots ≤ self.old.core.reserved.slots → IsOk result }
         ensures unchanged { OnErr result (self.new ≡ self.old) }
     {
         self.core.reserve(slots)
+    }
+
+    /// Takes the memory for this many later jobs and collections with so many operations in all, as
+    /// [`DieCore::reserve_arrivals`].
+    pub fn reserve_arrivals(&mut self, arrivals: u32, operations: u32) -> Result<(), Refusal>
+        ensures ok { OnOk result (self.new
+            ≡ record self.old { core = with_arrivals arrivals operations self.old.core }) }
+        ensures refused { FailsForMemory result }
+        ensures succeeds { arrivals ≤ self.old.core.reserved.arrivals
+            → operations ≤ self.old.core.reserved.operations → IsOk result }
+        ensures unchanged { OnErr result (self.new ≡ self.old) }
+    {
+        self.core.reserve_arrivals(arrivals, operations)
     }
 
     /// Starts the log anew at a quiet moment, as [`DieCore::renew`]. `DieStopped` where a fault has stopped the die;
@@ -280,26 +287,36 @@ impl SteppedDie {
     }
 
     /// The die, for questions. They are answered by the log, in which a slot that has begun, or has failed, isn't.
-    pub fn core(&self) -> &DieCore<FaultNand<MirrorNand>>
+    pub fn core(&self) -> &DieCore<MirrorNand>
         ensures { result.now ≡ self.now.core }
     {
         &self.core
     }
 }
 
+/// What a driver is asked to do in a slot.
+fn reported_by(device: &MirrorNand, next: &NextSlot) -> Option<Call>
+    ensures { result ≡ reported_by device.now.memory next.now }
+{
+    match next.ran {
+        Some((_, NextAct::Trim { page })) => Some(Call::Trim { page }),
+        _ => call_reported(device, next.call),
+    }
+}
+
 /// What a driver is reported of the call that a slot needs.
-fn reported_by(device: &FaultNand<MirrorNand>, call: Option<NandCall>) -> Option<Call>
-    ensures { result ≡ reported_by device.now.inner.memory call }
+fn call_reported(device: &MirrorNand, call: Option<NandCall>) -> Option<Call>
+    ensures { result ≡ call_reported device.now.memory call }
 {
     match call {
         None => None,
         Some(NandCall::Read(place)) => {
-            let bytes = device.inner().cell(place);
+            let bytes = device.cell(place);
             Some(Call::Read { place, bytes })
         }
         Some(NandCall::Program(place, bytes)) => Some(Call::Program { place, bytes }),
         Some(NandCall::EraseSlot(block)) => {
-            let last = device.inner().ends_erase(block);
+            let last = device.ends_erase(block);
             Some(Call::Erase { block, last })
         }
     }
@@ -317,7 +334,7 @@ fn begun_by(caller: u32, slot: u32, call: Option<Call>, runs: Option<(JobNo, Nex
     }
 }
 
-/// Whether the device did what it was asked, and a read gave the bytes that the cell was programmed with.
+/// Whether the driver did what it was asked, and a read gave the bytes that the cell was programmed with.
 fn is_done(call: Option<Call>, ok: bool, bytes: PageData) -> bool
     ensures { (result ≡ true) ↔ IsDone call ok bytes }
 {

@@ -15,7 +15,6 @@ use crate::die::SteppedDie;
 use crate::mirror::MirrorNand;
 use crate::refusals::StepCheckpointRefusal;
 use die_checkpoint::{Checkpoint, CheckpointFault};
-use flash_die::FaultNand;
 use slot_core::{CheckpointRefusal, DieCore, RenewalRefusal, ResumeRefusal};
 use slot_types::{DiePlan, Items, PageData, Place, Refusal};
 use std::alloc::Global;
@@ -31,18 +30,18 @@ pub struct NamedCheckpoint {
 /// By logical page the name of what its cell was programmed with; blank where it lies nowhere.
 fn names_of(
     alloc: Global,
-    device: &FaultNand<MirrorNand>,
+    device: &MirrorNand,
     places: &[Option<Place>],
 ) -> Result<Items<PageData>, Refusal>
     ensures names { IfOk result (λ names.
-        names ≡ volume.contents device.now.inner.memory.blocks places.now) }
+        names ≡ volume.contents device.now.memory.blocks places.now) }
     ensures refused { FailsForMemory result }
 {
     let mut names = Items::new(alloc);
     for place in places {
         names.push(match *place {
             None => PageData::BLANK,
-            Some(place) => device.inner().cell(place),
+            Some(place) => device.cell(place),
         })?;
     }
     Ok(names)
@@ -110,7 +109,7 @@ impl SteppedDie {
             Ok(mirror) => mirror,
             Err(_) => return Err(CheckpointFault::NoMemory),
         };
-        match DieCore::resume(alloc, plan, FaultNand::new(mirror), checkpoint) {
+        match DieCore::resume(alloc, plan, mirror, checkpoint) {
             Ok(core) => Ok(SteppedDie { core, begun: None }),
             Err(no) => match no.refusal {
                 ResumeRefusal::Unfit { fault } => Err(fault),

@@ -4,6 +4,7 @@ use Rattle.slot_types.specs.declared.plans.DiePlan.{DiePlan}
 use Rattle.slot_types.specs.declared.replies.SlotReply.{SlotReply}
 use Rattle.slot_types.specs.declared.replies.Waived.{Waived}
 use Rattle.job_table.specs.Jobs.{JobRecord}
+use Rattle.job_table.specs.Reserves.{Reserve}
 use Rattle.job_table.specs.Waivers.{AreWaived, WerePending, jobs_after_waivers}
 use Rattle.die_log.specs.Model.Answers.{answer}
 use Rattle.slot_core.specs.Device.{flash_of}
@@ -16,7 +17,7 @@ use Rattle.slot_core.proofs.Noting.{turn_reported}
 use Rattle.job_table.specs.Table.{Table, work_of}
 use Rattle.slot_core.specs.Records.{job_records}
 use Rattle.slot_core.specs.ReservedSlots.{open_collections}
-use Rattle.slot_core.proofs.Reserving.{turn_opens_nothing}
+use Rattle.slot_core.proofs.Reserving.{turn_opens_nothing, step_keeps_reserve}
 use Rattle.event_log.specs.Slots.{carried_in}
 use Rattle.slot_core.proofs.Marks.{marks_chosen, marks_step, last_alone, slots_reported}
 use Rattle.slot_core.proofs.Turning.{head_fits, work_fits}
@@ -208,6 +209,7 @@ returns-in_default-clause-waiver_room g c =
       arith,
       c.requires.1.1.1.1.1.1.1.0,
       c.in_default.ensures.closed,
+      ap (λ (r : Reserve). r.arrivals) c.in_default.ensures.reserve,
       c.push_idle.ensures.waiver_room,
       ap
           (λ (ws : List Waived). length ws) c.as_slice.ensures,
@@ -231,6 +233,9 @@ returns-in-Ok-clause-waiver_room g c =
       arith,
       c.requires.1.1.1.1.1.1.1.0,
       c.in-Some.ensures.closed,
+      ap (λ (r : Reserve). r.arrivals) c.in-Some.ensures.reserve,
+      ap (λ (t : Table). t.reserve.arrivals) c.note_step-is_worst.ensures.table,
+      step_keeps_reserve c.choose.new.table c.in-Some.number c.in-Ok.turn (c.args.present + 1),
       c.log_step.ensures.waiver_room,
       ap (λ (ws : List Waived). length ws) c.as_slice-in-Ok.ensures,
       ap (λ (r : SlotReply). length r.waived) c.requires.1.1.1.1.1.1.1.1.1.0,
@@ -248,7 +253,13 @@ returns-in-Err-clause-waiver_room g c =
     (sym c.as_slice-in-Err.ensures)) in
     let same : c.stop.new.self.jobs ≡ c.args.table.now.jobs = taken_back
     ∙ (ap (λ (p : DiePlan). job_records (over p g.from.0) g.from.1) c.in-Some.ensures.plan ∙ sym c.requires.1.1.1.1.1.1.1.1.0.jobs_are) in
-    omega (arith, c.requires.1.1.1.1.1.1.1.0, ap (λ (js : List JobRecord). open_collections js) same)
+    omega (
+      arith,
+      c.requires.1.1.1.1.1.1.1.0,
+      ap (λ (js : List JobRecord). open_collections js) same,
+      ap (λ (r : Reserve). r.arrivals) c.in-Some.ensures.reserve,
+      ap (λ (t : Table). t.reserve.arrivals) c.stop.ensures.stopped,
+    )
 
 -- The mark
 

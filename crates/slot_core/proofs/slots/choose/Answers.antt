@@ -13,6 +13,8 @@ loop-number-init g c = record {
   plan = refl;
   alive = c.requires.1.0;
   device = refl;
+  places = refl;
+  reserve = refl;
 }
 
 pub head-requires-clause-running : goal.head-requires-clause-running
@@ -33,6 +35,12 @@ returns-in_default-clause-plan g c = c.loop-number.invariant.plan
 
 pub returns-in_default-clause-alive : goal.returns-in_default-clause-alive
 returns-in_default-clause-alive g c = c.loop-number.invariant.alive
+
+pub returns-in_default-clause-places : goal.returns-in_default-clause-places
+returns-in_default-clause-places g c = c.loop-number.invariant.places
+
+pub returns-in_default-clause-reserve : goal.returns-in_default-clause-reserve
+returns-in_default-clause-reserve g c = ap (λ (t : Table). t.reserve) c.head.ensures.clock ∙ c.loop-number.invariant.reserve
 
 pub returns-in_default-clause-device : goal.returns-in_default-clause-device
 returns-in_default-clause-device g c = c.loop-number.invariant.device
@@ -65,6 +73,13 @@ returns-in-None-waived-clause-plan g c = (begin_leaves g.N.Nand.blocks c.loop-nu
 pub returns-in-None-waived-clause-alive : goal.returns-in-None-waived-clause-alive
 returns-in-None-waived-clause-alive g c = (begin_leaves g.N.Nand.blocks c.loop-number.volume c.begin-waived.new.volume c.in-Some-job.job _
     c.begin-waived.ensures).failed ∙ c.loop-number.invariant.alive
+
+pub returns-in-None-waived-clause-places : goal.returns-in-None-waived-clause-places
+returns-in-None-waived-clause-places g c = (begin_leaves g.N.Nand.blocks c.loop-number.volume c.begin-waived.new.volume c.in-Some-job.job _
+    c.begin-waived.ensures).places ∙ c.loop-number.invariant.places
+
+pub returns-in-None-waived-clause-reserve : goal.returns-in-None-waived-clause-reserve
+returns-in-None-waived-clause-reserve g c = ap (λ (t : Table). t.reserve) c.head.ensures.clock ∙ c.loop-number.invariant.reserve
 
 pub returns-in-None-waived-clause-device : goal.returns-in-None-waived-clause-device
 returns-in-None-waived-clause-device g c = (begin_leaves g.N.Nand.blocks c.loop-number.volume c.begin-waived.new.volume c.in-Some-job.job _
@@ -116,6 +131,9 @@ loop-number-preserved g c = record {
       ∙ c.loop-number.invariant.alive;
   device = (begin_leaves g.N.Nand.blocks c.loop-number.volume c.begin-waived.new.volume c.in-Some-job.job _ c.begin-waived.ensures).device
       ∙ c.loop-number.invariant.device;
+  places = (begin_leaves g.N.Nand.blocks c.loop-number.volume c.begin-waived.new.volume c.in-Some-job.job _ c.begin-waived.ensures).places
+      ∙ c.loop-number.invariant.places;
+  reserve = ap (λ (t : Table). t.reserve) c.waive.ensures ∙ (ap (λ (t : Table). t.reserve) c.head.ensures.clock ∙ c.loop-number.invariant.reserve);
 }
 
 pub returns-in_default-clause-closed : goal.returns-in_default-clause-closed

@@ -13,6 +13,8 @@ invariant-loop-number g l = record {
   plan : l.volume.accounts.plan ≡ l.fn.volume.accounts.plan;
   alive : l.volume.failed ≡ false;
   device : l.volume.device ≡ l.fn.volume.device;
+  places : l.volume.places ≡ l.fn.volume.places;
+  reserve : l.table.reserve ≡ l.fn.table.reserve;
 }
 
 abbrev pub decreases-loop-number : goal.decreases-loop-number

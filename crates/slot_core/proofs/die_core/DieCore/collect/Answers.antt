@@ -1,11 +1,12 @@
-use Rattle.std.proofs.Common.{◌≡◌, refl, None, false, length, arith, sym, ◌∙◌, ap, rules}
-use Rattle.std.specs.Prelude.{IfOk}
+use Rattle.std.proofs.Common.{◌≡◌, subst, refl, None, false, length, arith, sym, ◌∙◌, ap, rules}
+use Rattle.std.specs.Prelude.{◌<◌, IfOk, IsOk}
 use Rattle.slot_types.specs.declared.events.Event.TheVariants.{Collect}
 use Rattle.slot_types.specs.declared.replies.Reply.TheVariants.{Taken}
 use Rattle.die_log.specs.Model.Answers.{answer, refusal_of}
 use Rattle.die_log.proofs.Legality.{refused_answer}
 use Rattle.slot_core.specs.Core.{Core}
-use Rattle.slot_core.proofs.Calling.{stopped_refused, log_refused, memory_refused, entered, of_result}
+use Rattle.slot_core.specs.Calls.{IsCovered}
+use Rattle.slot_core.proofs.Calling.{err_uncovered, stopped_refused, log_refused, memory_refused, entered, of_result}
 use Rattle.slot_core.proofs.Keeping.{collecting_is, may_collect, collect_answered, collect_accepts, if_ok_both, if_err_both}
 use Rattle.slot_core.specs.TableLog.{log_of}
 use Rattle.slot_core.proofs.Reserving.{collect_room}
@@ -56,12 +57,12 @@ invariant_of-self g c =
     c.enter.ensures.table_stays c.enter.ensures.log_stays in (
       entered,
       record {
-        slots = c.enter.ensures.reserved;
+        entries = c.enter.ensures.reserved;
         waivers = collect_room c.enter.result (over c.self.inside.volume.accounts.plan c.self.inside.start)
-            (log_of c.enter.new.table c.enter.new.events.notes) c.self.inside.table c.enter.new.table
+            (log_of c.enter.new.table c.enter.new.events.notes) c.self.inside.table c.enter.new.table c.args.task c.args.release c.args.due
             c.self.inside.events.waiver_room c.enter.new.events.waiver_room entered.kept.bound entered.kept.exact
             entered.kept.jobs_are c.self.invariant.0.kept.tasks_are
-            c.enter.ensures.waiver_room c.enter.ensures.table_stays c.self.invariant.1.waivers
+            c.enter.ensures.waiver_room (rw c.none.ensures at c.enter.ensures.table) c.enter.ensures.table_stays c.self.invariant.1.waivers
             c.enter.ensures.waiver_room_stays;
       },
       marks_collect c.enter.result c.self.inside.table c.enter.new.table c.args.task c.args.release c.args.due
@@ -82,6 +83,11 @@ returns g c =
     (Collect c.args.task c.args.release c.args.due) ≡ Taken number) =
     rw (← c.self.view_is) (collect_answered _ _ c.self.inside.table c.args.task c.args.release c.args.due c.enter.result
     (rw (← c.self.view_is) at none) c.self.invariant.0.kept.jobs_are c.enter.ensures.number) in
+    let covers : IsCovered (Collect c.args.task c.args.release c.args.due) c.args.self.now.reserved → IsOk c.enter.result = λ some.
+    c.enter.ensures.succeeds (record {
+      arrival = subst (λ (d : Core g.row.N.Denot). 0 < d.reserved.arrivals) (sym c.self.view_is) some;
+      operations = omega (arith, ap length c.none.ensures);
+    }) in
     let stays = if_err_both c.enter.result (λ _. c.enter.new.table ≡ c.self.inside.table)
     (λ _. c.enter.new.events.notes ≡ c.self.inside.events.notes)
     (λ _. (c.enter.new.table ≡ c.self.inside.table) × (c.enter.new.events.notes ≡ c.self.inside.events.notes))
@@ -95,7 +101,8 @@ returns g c =
     (λ number is says. entered g.N.Nand.ends g.N.Nand.failures g.N.Nand.never_fails c.args.caller
     (Collect c.args.task c.args.release c.args.due) c.args.self.now _ number tt runs
     (record { answered = is; logged = rw (says, ← c.self.view_is) refl })))
-    (if_err_both c.enter.result _ _ _ c.enter.ensures.refused stays
-    (λ refusal is same. memory_refused g.N.Nand.ends g.N.Nand.failures g.N.Nand.never_fails c.args.caller
-    (Collect c.args.task c.args.release c.args.due) c.args.self.now _ refusal runs (collect_accepts _ _ _ _ _ none) (λ slot. absurd cc) is
-    (rw (same.0, same.1, ← c.self.view_is) refl)))
+    (if_err_both c.enter.result _ _ _ c.enter.ensures.refused
+    (if_err_both c.enter.result _ _ _ stays (err_uncovered c.enter.result covers) (λ refusal same uncovered. (same, uncovered)))
+    (λ refusal is both. memory_refused g.N.Nand.ends g.N.Nand.failures g.N.Nand.never_fails c.args.caller
+    (Collect c.args.task c.args.release c.args.due) c.args.self.now _ refusal runs (collect_accepts _ _ _ _ _ none) both.1 is
+    (rw (both.0.0, both.0.1, ← c.self.view_is) refl)))

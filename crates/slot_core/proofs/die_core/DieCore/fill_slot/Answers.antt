@@ -1,7 +1,7 @@
 use Rattle.std.proofs.Common.{sym, ◌∙◌, inl, inr, refl, rules, arith}
 use Rattle.slot_types.specs.declared.events.Event.TheVariants.{Slot}
 use Rattle.slot_types.specs.declared.replies.Reply.TheVariants.{Slot as Answered}
-use Rattle.slot_core.proofs.Calling.{stopped_refused, log_refused, memory_refused, used, none_left}
+use Rattle.slot_core.proofs.Calling.{stopped_refused, log_refused, memory_refused, used}
 use Rattle.slot_core.proofs.Slotting.{slot_refused, slot_accepts}
 use Rattle.slot_core.proofs.die_core.DieCore.fill_slot.Goals as goal
 
@@ -21,8 +21,8 @@ returns-in-Err g c =
     rw (← c.self.view_is) (memory_refused g.N.Nand.ends g.N.Nand.failures g.N.Nand.never_fails c.args.caller Slot _ _ _
     (sym c.failed.ensures ∙ c.if-failed.false)
     (slot_accepts _ _ c.self.inside.present c.self.invariant.0.kept.now_is c.if-self-ge-MAX_SLOT.false)
-    (λ slot. none_left c.self.inside.reserved (λ some. let well = c.in-Err.ensures.succeeds (omega (arith, some, c.self.invariant.1.slots)) (omega arith) in
-    absurd cc)) c.in-Err.ensures.refused (search rules))
+    (λ some. let well = c.in-Err.ensures.succeeds (omega (arith, some, c.self.invariant.1.entries)) (omega arith) in absurd cc)
+    c.in-Err.ensures.refused (search rules))
 
 pub returns-in-Err-carry_out : goal.returns-in-Err-carry_out
 returns-in-Err-carry_out g c =

@@ -24,7 +24,14 @@ invariant_of-result g c =
             (c.in_ok-table.ensures.ok ∙ ap empty_table c.len.ensures) c.in_ok-volume.ensures.ok c.fresh-start.ensures;
         fits = rw c.new-3.ensures tt;
       },
-      record { slots = omega arith; waivers = omega (arith, ap (λ (t : Table). open_collections t.jobs) c.in_ok-table.ensures.ok) },
+      record {
+        entries = omega (arith, ap (λ (t : Table). t.reserve.arrivals) c.in_ok-table.ensures.ok);
+        waivers = omega (
+          arith,
+          ap (λ (t : Table). t.reserve.arrivals) c.in_ok-table.ensures.ok,
+          ap (λ (t : Table). open_collections t.jobs) c.in_ok-table.ensures.ok,
+        );
+      },
       rw (c.in_ok-table.ensures.ok, c.new-3.ensures) marks_none,
     )
 

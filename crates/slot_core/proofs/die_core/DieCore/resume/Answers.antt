@@ -18,6 +18,13 @@ invariant_of-result g c =
             (c.in-Ok-new.ensures.ok ∙ ap empty_table c.len.ensures) c.in-Ok-resume.ensures.ok c.start_by-start.ensures;
         fits = rw c.new-in-Ok-resume.ensures tt;
       },
-      record { slots = omega arith; waivers = omega (arith, ap (λ (t : Table). open_collections t.jobs) c.in-Ok-new.ensures.ok) },
+      record {
+        entries = omega (arith, ap (λ (t : Table). t.reserve.arrivals) c.in-Ok-new.ensures.ok);
+        waivers = omega (
+          arith,
+          ap (λ (t : Table). t.reserve.arrivals) c.in-Ok-new.ensures.ok,
+          ap (λ (t : Table). open_collections t.jobs) c.in-Ok-new.ensures.ok,
+        );
+      },
       rw (c.in-Ok-new.ensures.ok, c.new-in-Ok-resume.ensures) marks_none,
     )

@@ -1,5 +1,5 @@
 use Rattle.std.proofs.Common.{◌≡◌, refl, false, sym, subst, ◌∙◌, ap, arith}
-use Rattle.job_table.specs.Table.{Table, empty_table}
+use Rattle.job_table.specs.Table.{Table}
 use Rattle.die_log.specs.Model.Opening.{IsQuiet, CanBeErased, renewed_start}
 use Rattle.slot_core.specs.Core.{Core}
 use Rattle.slot_core.specs.TableLog.{log_of}
@@ -18,10 +18,19 @@ invariant_of-self g c =
             (subst (λ (d : Core g.row.N.Denot). d.stopped ≡ false) (sym c.self.view_is) c.requires.may.runs)
             (subst (λ (d : Core g.row.N.Denot). IsQuiet d.start d.log) (sym c.self.view_is) c.requires.may.quiet)
             (subst (λ (d : Core g.row.N.Denot). CanBeErased (renewed_start d.start d.log)) (sym c.self.view_is) c.requires.may.unworn)
-            c.start_of-start.ensures (c.clear.ensures ∙ ap empty_table c.self.invariant.0.kept.tasks_are)
+            c.start_of-start.ensures c.clear.ensures
             (rw c.clear-2.ensures.events refl);
         fits = rw c.clear-2.ensures.events tt;
       },
-      record { slots = omega (arith, c.self.invariant.1.slots, c.clear-2.ensures.room); waivers = omega (arith, ap (λ (t : Table). open_collections t.jobs) c.clear.ensures) },
+      record {
+        entries = omega (arith, c.self.invariant.1.entries, c.clear-2.ensures.room, ap (λ (t : Table). t.reserve.arrivals) c.clear.ensures);
+        waivers = omega (
+          arith,
+          c.self.invariant.1.waivers,
+          c.clear-2.ensures.waiver_room,
+          ap (λ (t : Table). t.reserve.arrivals) c.clear.ensures,
+          ap (λ (t : Table). open_collections t.jobs) c.clear.ensures,
+        );
+      },
       rw (c.clear.ensures, c.clear-2.ensures.marked) marks_none,
     )

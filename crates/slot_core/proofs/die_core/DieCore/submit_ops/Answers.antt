@@ -1,7 +1,9 @@
-use Rattle.std.proofs.Common.{◌≡◌, true≢false, refl, sym, ◌∙◌, ap, None, arith, rules}
+use Rattle.std.proofs.Common.{◌≡◌, List, length, subst, true≢false, refl, sym, ◌∙◌, ap, None, arith, rules}
 use Rattle.std.proofs.lemmas.Grind.{common_steps}
 use Rattle.slot_types.specs.declared.events.Event.TheVariants.{Submit}
+use Rattle.slot_types.specs.declared.events.Op.{Op}
 use Rattle.slot_types.specs.Operations.{writes}
+use Rattle.slot_core.specs.Calls.{IsCovered}
 use Rattle.die_log.specs.Model.Answers.{refusal_of}
 use Rattle.die_log.proofs.Legality.{refused_answer}
 use Rattle.slot_core.specs.Core.{Core}
@@ -36,7 +38,13 @@ returns-in-Err-enter g c =
     memory_refused g.N.Nand.ends g.N.Nand.failures g.N.Nand.never_fails c.args.caller
     (Submit c.args.task c.args.release c.args.due c.args.ops.now) c.args.self.now _ c.in-Err-enter.refusal
     (rw (← c.self.view_is) (sym c.failed.ensures ∙ c.if-failed.false))
-    (submit_accepts _ _ _ _ _ _ (sym c.in-Ok.ensures.refusal)) (λ slot. absurd cc) c.in-Err-enter.ensures.refused (search rules)
+    (submit_accepts _ _ _ _ _ _ (sym c.in-Ok.ensures.refusal)) (λ covered.
+    let there = subst (λ (d : Core g.row.N.Denot). IsCovered (Submit c.args.task c.args.release c.args.due c.args.ops.now) d.reserved)
+    (sym c.self.view_is) covered in
+    let well = c.in-Err-enter.ensures.succeeds (record {
+      arrival = there.0;
+      operations = omega (arith, there.1, ap (λ (ops : List Op). length ops) c.in-Ok.ensures.ops);
+    }) in absurd cc) c.in-Err-enter.ensures.refused (search rules)
 
 pub invariant_of-self-in-Ok-enter : goal.invariant_of-self-in-Ok-enter
 invariant_of-self-in-Ok-enter g c =
@@ -61,12 +69,13 @@ invariant_of-self-in-Ok-enter g c =
         fits = says.1;
       },
       record {
-        slots = c.in-Ok-enter.ensures.reserved;
+        entries = c.in-Ok-enter.ensures.reserved;
         waivers = omega (
           arith,
           c.self.invariant.1.waivers,
           c.in-Ok-enter.ensures.waiver_room_stays,
           ap (λ (t : Table). open_collections t.jobs) table,
+          ap (λ (t : Table). t.reserve.arrivals) table,
           open_job f.table.jobs c.args.task c.args.release c.args.due c.args.ops.now,
         );
       },
