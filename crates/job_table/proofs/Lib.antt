@@ -14,3 +14,4 @@ pub mod Entered
 pub mod Reading
 pub mod Laying
 pub mod Beyond
+pub mod Kept

@@ -8,7 +8,7 @@ use Rattle.job_table.specs.Flat.{blank}
 use Rattle.job_table.specs.Flat.{ops_at, places_lacking, places_unfilled, place_from}
 use Rattle.job_table.proofs.Reading.{read_of, next_few}
 use Rattle.job_table.proofs.Laying.{few_set, job_there, row_reading, row_room, made, read_room, laid_read, room_read, jobs_read}
-use Rattle.job_table.specs.Reserves.{KeptJobs}
+use Rattle.job_table.proofs.Kept.{jobs_of, jobs_become}
 use Rattle.job_table.proofs.flat_jobs.FlatJobs.carry_read.Goals as goal
 
 pub give_places-requires-clause-filled : goal.give_places-requires-clause-filled
@@ -24,7 +24,7 @@ give_places-requires-clause-few c =
     let f = c.self.inside in
     let row : Row = c.index_mut-row.result.now in
     let reading = row_reading f.rows.items f.ops.ops f.reads.items c.args.self.now.jobs c.number.inside.0
-    c.args.number row (ap (λ (k : KeptJobs). k.jobs) c.self.view_is) c.number.view_is c.requires.there c.index_mut-row.ensures.value c.requires.reads in
+    c.args.number row (jobs_of c.self.view_is) c.number.view_is c.requires.there c.index_mut-row.ensures.value c.requires.reads in
     let room = row_room f.rows.items f.ops.ops f.reads.items f.all_reads f.placed (vec_capacity f.reads) c.number.inside.0 row reading.there
     c.self.invariant.1 in
     let few : c.self.inside.all_reads < 2 ^ 32 = search rules in
@@ -35,7 +35,7 @@ overflow_add-row c =
     let f = c.self.inside in
     let row : Row = c.index_mut-row.result.now in
     let reading = row_reading f.rows.items f.ops.ops f.reads.items c.args.self.now.jobs c.number.inside.0
-    c.args.number row (ap (λ (k : KeptJobs). k.jobs) c.self.view_is) c.number.view_is c.requires.there c.index_mut-row.ensures.value c.requires.reads in
+    c.args.number row (jobs_of c.self.view_is) c.number.view_is c.requires.there c.index_mut-row.ensures.value c.requires.reads in
     let fits = (c.self.invariant.0.each c.number.inside.0 row reading.there).fits in
     let few = (next_few is_read f.ops.ops row row.reads_done true fits (read_of (slice_get (ops_at f.ops.ops row) row.work) ∙ reading.next)
     fits.reads_done_is).1 in
@@ -46,9 +46,9 @@ overflow_add-row-2 c =
     let f = c.self.inside in
     let row : Row = c.index_mut-row.result.now in
     let reading = row_reading f.rows.items f.ops.ops f.reads.items c.args.self.now.jobs c.number.inside.0
-    c.args.number row (ap (λ (k : KeptJobs). k.jobs) c.self.view_is) c.number.view_is c.requires.there c.index_mut-row.ensures.value c.requires.reads in
+    c.args.number row (jobs_of c.self.view_is) c.number.view_is c.requires.there c.index_mut-row.ensures.value c.requires.reads in
     let work = ap work_of (job_there f.rows.items f.ops.ops f.reads.items c.args.self.now.jobs c.number.inside.0
-    c.args.number (Some row) (ap (λ (k : KeptJobs). k.jobs) c.self.view_is) c.number.view_is reading.there) in
+    c.args.number (Some row) (jobs_of c.self.view_is) c.number.view_is reading.there) in
     let room = c.requires.room in
     rw c.give_places.ensures.row (omega arith)
 
@@ -57,7 +57,7 @@ put_page-requires-clause-there c =
     let f = c.self.inside in
     let row : Row = c.index_mut-row.result.now in
     let reading = row_reading f.rows.items f.ops.ops f.reads.items c.args.self.now.jobs c.number.inside.0
-    c.args.number row (ap (λ (k : KeptJobs). k.jobs) c.self.view_is) c.number.view_is c.requires.there c.index_mut-row.ensures.value c.requires.reads in
+    c.args.number row (jobs_of c.self.view_is) c.number.view_is c.requires.there c.index_mut-row.ensures.value c.requires.reads in
     let whole : vec_len f.reads ≡ length f.reads.items = search rules in
     let count : ℕ = places_unfilled f.placed (vec_len f.reads) row in
     let more : List PageData = replicate count blank in
@@ -75,7 +75,7 @@ put_page-requires-clause-room c =
     let f = c.self.inside in
     let row : Row = c.index_mut-row.result.now in
     let reading = row_reading f.rows.items f.ops.ops f.reads.items c.args.self.now.jobs c.number.inside.0
-    c.args.number row (ap (λ (k : KeptJobs). k.jobs) c.self.view_is) c.number.view_is c.requires.there c.index_mut-row.ensures.value c.requires.reads in
+    c.args.number row (jobs_of c.self.view_is) c.number.view_is c.requires.there c.index_mut-row.ensures.value c.requires.reads in
     let whole : vec_len f.reads ≡ length f.reads.items = search rules in
     let count : ℕ = places_unfilled f.placed (vec_len f.reads) row in
     let more : List PageData = replicate count blank in
@@ -92,7 +92,7 @@ invariant_of-self c =
     let f = c.self.inside in
     let row : Row = c.index_mut-row.result.now in
     let reading = row_reading f.rows.items f.ops.ops f.reads.items c.args.self.now.jobs c.number.inside.0
-    c.args.number row (ap (λ (k : KeptJobs). k.jobs) c.self.view_is) c.number.view_is c.requires.there c.index_mut-row.ensures.value c.requires.reads in
+    c.args.number row (jobs_of c.self.view_is) c.number.view_is c.requires.there c.index_mut-row.ensures.value c.requires.reads in
     let whole : vec_len f.reads ≡ length f.reads.items = search rules in
     let count : ℕ = places_unfilled f.placed (vec_len f.reads) row in
     let more : List PageData = replicate count blank in
@@ -113,6 +113,7 @@ invariant_of-self c =
       room_read f.rows.items f.ops.ops f.reads.items more f.all_reads f.placed (vec_capacity f.reads) c.number.inside.0 row from c.args.bytes
           reading c.self.invariant.0 made c.self.invariant.1,
       few_set f.rows.items f.ops.ops c.number.inside.0 _ c.self.invariant.2,
+      record { for_rows = c.self.invariant.3.for_rows; for_reads = c.self.invariant.3.for_reads },
     )
 
 pub returns : goal.returns
@@ -120,7 +121,7 @@ returns c =
     let f = c.self.inside in
     let row : Row = c.index_mut-row.result.now in
     let reading = row_reading f.rows.items f.ops.ops f.reads.items c.args.self.now.jobs c.number.inside.0
-    c.args.number row (ap (λ (k : KeptJobs). k.jobs) c.self.view_is) c.number.view_is c.requires.there c.index_mut-row.ensures.value c.requires.reads in
+    c.args.number row (jobs_of c.self.view_is) c.number.view_is c.requires.there c.index_mut-row.ensures.value c.requires.reads in
     let whole : vec_len f.reads ≡ length f.reads.items = search rules in
     let count : ℕ = places_unfilled f.placed (vec_len f.reads) row in
     let more : List PageData = replicate count blank in
@@ -129,7 +130,7 @@ returns c =
     (omega (arith, whole, filled)) (length-replicate count blank) c.self.invariant.0 in
     let from : ℕ = place_from f.placed row in
     rw (c.put_page.ensures.pages, c.give_places.ensures.row, c.give_places.ensures.places)
-    (jobs_read f.rows.items f.ops.ops f.reads.items more f.placed (f.placed + places_lacking row) c.number.inside.0 row from c.args.bytes
+    (jobs_become _ _ _ _ c.self.view_is (jobs_read f.rows.items f.ops.ops f.reads.items more f.placed (f.placed + places_lacking row) c.number.inside.0 row from c.args.bytes
     reading c.self.invariant.0 made
-    ∙ ap (λ (l : List JobRecord). changed_at l c.number.inside.0 (λ (job : JobRecord). with_read c.args.bytes (with_one_more_slot job))) (ap (λ (k : KeptJobs). k.jobs) c.self.view_is)
-    ∙ ap (λ (n : ℕ). changed_at c.args.self.now.jobs n (λ (job : JobRecord). with_read c.args.bytes (with_one_more_slot job))) c.number.view_is)
+    ∙ ap (λ (l : List JobRecord). changed_at l c.number.inside.0 (λ (job : JobRecord). with_read c.args.bytes (with_one_more_slot job))) (jobs_of c.self.view_is)
+    ∙ ap (λ (n : ℕ). changed_at c.args.self.now.jobs n (λ (job : JobRecord). with_read c.args.bytes (with_one_more_slot job))) c.number.view_is))

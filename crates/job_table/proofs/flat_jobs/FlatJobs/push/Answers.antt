@@ -1,14 +1,14 @@
-use Rattle.std.proofs.Common.{length-append, ◌+◌, ◌∷◌, ◌++◌, [], List, vec_capacity, arith, refl, ap, ◌∙◌}
+use Rattle.std.proofs.Common.{◌≡◌, length, vec_len, rules, length-append, ◌+◌, ◌∷◌, ◌++◌, [], List, vec_capacity, arith, refl, ap, ◌∙◌}
+use Rattle.std.proofs.lemmas.List.Sums.{count_by-le-length}
 use Rattle.std.proofs.lemmas.Grind.{common_steps}
 use Rattle.slot_types.specs.declared.events.Op.{Op}
 use Rattle.slot_types.specs.declared.pages.PageData.{PageData}
 use Rattle.job_table.specs.declared.rows.Row.{Row}
 use Rattle.job_table.specs.declared.stages.Stage.TheVariants as stages
-use Rattle.job_table.specs.Jobs.{JobRecord}
+use Rattle.job_table.specs.Jobs.{JobRecord, is_read}
 use Rattle.job_table.specs.Entering.{job_of}
-use Rattle.job_table.specs.Flat.{jobs_at}
 use Rattle.job_table.proofs.Laying.{IsBegun, laid_push, room_push, jobs_pushed}
-use Rattle.job_table.specs.Reserves.{KeptJobs}
+use Rattle.job_table.specs.Reserves.{KeptJobs, reserve_after}
 use Rattle.job_table.proofs.flat_jobs.FlatJobs.push.Goals as goal
 
 pub invariant_of-self-2 : goal.invariant_of-self-2
@@ -44,6 +44,9 @@ invariant_of-self-2 c =
     let room = c.in_ok-reserve-2.ensures.ok in
     let len = c.in_ok-reserve-2.ensures.len in
     let before = c.len-3.ensures in
+    let whole : vec_len c.self.inside.reads ≡ length c.self.inside.reads.items = search rules in
+    let filled = c.self.invariant.1.filled in
+    let placed = c.self.invariant.1.places in
     rw (c.push_reserved.ensures.items, c.in_ok-reserve.ensures.items, c.in_ok-add_to.ensures.ok, c.in_ok-reserve-2.ensures.items) (
       laid_push c.self.inside.rows.items c.self.inside.ops.ops c.args.ops.now c.self.inside.reads.items c.self.inside.placed row begun c.self.invariant.0,
       room_push c.self.inside.rows.items c.self.inside.ops.ops c.args.ops.now c.self.inside.reads.items c.self.inside.all_reads
@@ -59,6 +62,31 @@ invariant_of-self-2 c =
             length-append c.self.inside.ops.ops c.args.ops.now,
             length-append c.self.inside.rows.items (row ∷ []),
           ),
+      record {
+        for_rows = omega (
+            arith,
+            c.push_reserved.ensures.len,
+            c.push_reserved.ensures.capacity,
+            c.in_ok-reserve.ensures.len,
+            c.in_ok-reserve.ensures.ok,
+            c.in_ok-reserve.ensures.capacity,
+            c.saturating_sub-self-inside.ensures,
+            c.self.invariant.3.for_rows,
+        );
+        for_reads = omega (
+            arith,
+            count,
+            room,
+            len,
+            before,
+            whole,
+            filled,
+            placed,
+            c.in_ok-reserve-2.ensures.capacity,
+            c.self.invariant.3.for_reads,
+            count_by-le-length is_read c.args.ops.now,
+        );
+      },
     )
 
 pub returns-clause-ok : goal.returns-clause-ok
@@ -90,14 +118,22 @@ returns-clause-ok c =
       writes_done_is = refl;
       work_is = refl;
     } in
-    ap (jobs_at c.add_to.new.list c.reserve-2.new.self.items) (c.push_reserved.ensures.items
-    ∙ ap (λ (l : List Row). l ++ row ∷ []) c.in_ok-reserve.ensures.items)
-    ∙ ap (λ (l : List Op). jobs_at l c.reserve-2.new.self.items (c.self.inside.rows.items ++ row ∷ [])) c.in_ok-add_to.ensures.ok
-    ∙ ap (λ (l : List PageData). jobs_at (c.self.inside.ops.ops ++ c.args.ops.now) l (c.self.inside.rows.items ++ row ∷ []))
-    c.in_ok-reserve-2.ensures.items
-    ∙ jobs_pushed c.self.inside.rows.items c.self.inside.ops.ops c.args.ops.now c.self.inside.reads.items c.self.inside.placed row begun c.self.invariant.0
-    ∙ ap (λ (l : List JobRecord). l
-    ++ job_of c.args.head.now c.args.ops.now ∷ []) (ap (λ (k : KeptJobs). k.jobs) c.self.view_is)
+    let made : List JobRecord → KeptJobs = λ jobs. record {
+      jobs = jobs;
+      reserve = reserve_after (length c.args.ops.now) (record { arrivals = c.self.inside.arrivals; operations = c.self.inside.ops.room });
+    } in
+    let grown : KeptJobs → KeptJobs = λ kept. record {
+      jobs = kept.jobs ++ job_of c.args.head.now c.args.ops.now ∷ [];
+      reserve = reserve_after (length c.args.ops.now) kept.reserve;
+    } in
+    rw (
+      c.push_reserved.ensures.items,
+      c.in_ok-reserve.ensures.items,
+      c.in_ok-add_to.ensures.ok,
+      c.in_ok-reserve-2.ensures.items,
+      c.saturating_sub-self-inside.ensures,
+    ) (ap made (jobs_pushed c.self.inside.rows.items c.self.inside.ops.ops c.args.ops.now c.self.inside.reads.items c.self.inside.placed row begun c.self.invariant.0)
+    ∙ ap grown c.self.view_is)
 
 pub invariant_of-self : goal.invariant_of-self
 invariant_of-self c = grind (arith, common_steps)

@@ -4,14 +4,14 @@ use Rattle.job_table.specs.Jobs.{JobRecord, with_stage}
 use Rattle.job_table.specs.Table.{changed_at}
 use Rattle.job_table.specs.Flat.{IsRowOf}
 use Rattle.job_table.proofs.Laying.{few_set, row_read, laid_kept, room_kept, jobs_set}
-use Rattle.job_table.specs.Reserves.{KeptJobs}
+use Rattle.job_table.proofs.Kept.{jobs_of, jobs_become}
 use Rattle.job_table.proofs.flat_jobs.FlatJobs.set_stage.Goals as goal
 
 pub invariant_of-self : goal.invariant_of-self
 invariant_of-self c =
     let row : Row = c.index_mut-row.result.now in
     let at_n = row_read c.self.inside.rows.items c.self.inside.ops.ops c.self.inside.reads.items c.args.self.now.jobs c.number.inside.0 c.args.number
-    row (ap (λ (k : KeptJobs). k.jobs) c.self.view_is) c.number.view_is c.requires c.index_mut-row.ensures.value in
+    row (jobs_of c.self.view_is) c.number.view_is c.requires c.index_mut-row.ensures.value in
     let old = (c.self.invariant.0.each c.number.inside.0 row at_n).fits in
     let fits : IsRowOf c.self.inside.ops.ops (record row { stage = c.args.stage }) = record {
       ops_there = old.ops_there;
@@ -26,14 +26,15 @@ invariant_of-self c =
       room_kept c.self.inside.rows.items c.self.inside.ops.ops c.self.inside.reads.items c.self.inside.all_reads c.self.inside.placed
           (vec_capacity c.self.inside.reads) c.number.inside.0 row _ at_n refl c.self.invariant.1,
       few_set c.self.inside.rows.items c.self.inside.ops.ops c.number.inside.0 _ c.self.invariant.2,
+      record { for_rows = c.self.invariant.3.for_rows; for_reads = c.self.invariant.3.for_reads },
     )
 
 pub returns : goal.returns
 returns c =
     let row : Row = c.index_mut-row.result.now in
     let at_n = row_read c.self.inside.rows.items c.self.inside.ops.ops c.self.inside.reads.items c.args.self.now.jobs c.number.inside.0 c.args.number
-    row (ap (λ (k : KeptJobs). k.jobs) c.self.view_is) c.number.view_is c.requires c.index_mut-row.ensures.value in
-    jobs_set c.self.inside.rows.items c.self.inside.ops.ops c.self.inside.reads.items c.number.inside.0 row
+    row (jobs_of c.self.view_is) c.number.view_is c.requires c.index_mut-row.ensures.value in
+    jobs_become _ _ _ _ c.self.view_is (jobs_set c.self.inside.rows.items c.self.inside.ops.ops c.self.inside.reads.items c.number.inside.0 row
     (record row { stage = c.args.stage }) (with_stage c.args.stage) at_n refl
-    ∙ ap (λ (l : List JobRecord). changed_at l c.number.inside.0 (with_stage c.args.stage)) (ap (λ (k : KeptJobs). k.jobs) c.self.view_is)
-    ∙ ap (λ (n : ℕ). changed_at c.args.self.now.jobs n (with_stage c.args.stage)) c.number.view_is
+    ∙ ap (λ (l : List JobRecord). changed_at l c.number.inside.0 (with_stage c.args.stage)) (jobs_of c.self.view_is)
+    ∙ ap (λ (n : ℕ). changed_at c.args.self.now.jobs n (with_stage c.args.stage)) c.number.view_is)

@@ -1,4 +1,4 @@
-use Rattle.std.proofs.Common.{◌≡◌, ◌<◌, false, length, refl, sym, subst}
+use Rattle.std.proofs.Common.{◌≡◌, ◌<◌, false, length, refl, sym, subst, arith}
 use Rattle.slot_types.specs.declared.limits.TheConstants.{MAX_JOBS}
 use Rattle.job_table.specs.Table.{Table}
 use Rattle.job_table.specs.Entering.{MayEnter, job_of}
@@ -18,12 +18,17 @@ invariant_of-self-2 c =
     let waiting = rw (c.in_ok-number.ensures.number, c.in_ok-reserve.ensures.waiting) at c.enter.ensures.waiting in
     let ready = rw (c.in_ok-number.ensures.number, c.in_ok-reserve.ensures.ready) at c.enter.ensures.ready in
     let r = c.self.invariant.0.running runs in
-    rw (c.in_ok-number.ensures.ok, c.mark.ensures)
-    (entered_sound c.self.inside.jobs.jobs c.args.head c.args.ops.now c.self.inside.clock c.self.inside.ended c.self.inside.collecting.items
+    let sound = entered_sound c.self.inside.jobs.jobs c.args.head c.args.ops.now c.self.inside.clock c.self.inside.ended c.self.inside.collecting.items
     c.self.inside.queues c.enter.new.self c.self.inside.worst runs few may
     (has_entered c.self.inside.jobs.jobs (job_of c.args.head c.args.ops.now) c.self.inside.clock c.self.inside.queues.waiting
     c.enter.new.self.waiting c.self.inside.queues.ready c.enter.new.self.ready refl waiting ready r.queued r.later)
-    c.self.invariant.0)
+    c.self.invariant.0 in
+    let waiting_few = (sound.running runs).few_wait in
+    let all_few = sound.few in
+    rw (c.in_ok-number.ensures.ok, c.mark.ensures) (sound, record {
+      room = omega (arith, c.enter.ensures.room, c.in_ok-reserve.ensures.room, c.self.invariant.1.room);
+      few = omega (arith, waiting_few, all_few);
+    })
 
 pub enter-requires-clause-not_waiting : goal.enter-requires-clause-not_waiting
 enter-requires-clause-not_waiting c =

@@ -19,10 +19,11 @@ invariant_of-self c =
     rw c.carry.ensures
     (quiet_sound c.self.inside.jobs.jobs c.args.number with_one_more_slot seen.head c.self.inside.clock c.self.inside.ended c.self.inside.collecting.items
     c.self.inside.queues c.self.inside.worst
-    carried_quiet seen.is_at (ready_pending c.self.inside.clock seen.head seen.ready) c.self.invariant.0)
+    carried_quiet seen.is_at (ready_pending c.self.inside.clock seen.head seen.ready) c.self.invariant.0, c.self.invariant.1)
 
 pub returns-clause-carried : goal.returns-clause-carried
-returns-clause-carried c = viewed _ _ _ _ _ with_one_more_slot c.self.view_is refl c.carry.ensures
+returns-clause-carried c =
+    rw c.carry.ensures (viewed _ _ _ c.args.number c.args.number with_one_more_slot c.self.view_is refl refl)
 
 pub returns-clause-head : goal.returns-clause-head
 returns-clause-head c =

@@ -19,11 +19,11 @@ invariant_of-self c =
     rw c.carry_read.ensures
     (quiet_sound c.self.inside.jobs.jobs c.args.number (λ (job : JobRecord). with_read c.args.bytes (with_one_more_slot job)) seen.head c.self.inside.clock
     c.self.inside.ended c.self.inside.collecting.items c.self.inside.queues c.self.inside.worst
-    (read_quiet c.args.bytes) seen.is_at (ready_pending c.self.inside.clock seen.head seen.ready) c.self.invariant.0)
+    (read_quiet c.args.bytes) seen.is_at (ready_pending c.self.inside.clock seen.head seen.ready) c.self.invariant.0, c.self.invariant.1)
 
 pub returns-clause-carried : goal.returns-clause-carried
-returns-clause-carried c = viewed _ _ _ _ _ (λ (job : JobRecord). with_read c.args.bytes (with_one_more_slot job)) c.self.view_is refl
-    c.carry_read.ensures
+returns-clause-carried c =
+    rw c.carry_read.ensures (viewed _ _ _ c.args.number c.args.number (λ (job : JobRecord). with_read c.args.bytes (with_one_more_slot job)) c.self.view_is refl refl)
 
 pub returns-clause-head : goal.returns-clause-head
 returns-clause-head c =

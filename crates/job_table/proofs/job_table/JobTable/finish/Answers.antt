@@ -1,4 +1,4 @@
-use Rattle.std.proofs.Common.{◌≡◌, false, refl, sym, subst, Some}
+use Rattle.std.proofs.Common.{◌≡◌, false, refl, sym, subst, arith, Some}
 use Rattle.job_table.specs.declared.stages.Stage.{Stage}
 use Rattle.job_table.specs.declared.stages.Stage.TheVariants as stages
 use Rattle.job_table.specs.Jobs.{with_stage}
@@ -35,4 +35,8 @@ invariant_of-self c =
     rw (c.end_job.ensures.jobs, c.end_job.ensures.marks)
     (over_sound table c.args.number (stages.Done c.args.completion c.args.given) c.self.inside.ended c.self.inside.collecting.items
     c.self.inside.queues c.drop_first.new.self c.self.inside.worst (Some c.worse_of.result)
-    runs head refl c.drop_first.ensures.rising c.drop_first.ensures.waiting c.drop_first.ensures.ready c.self.invariant.0 worst)
+    runs head refl c.drop_first.ensures.rising c.drop_first.ensures.waiting c.drop_first.ensures.ready c.self.invariant.0 worst,
+    record {
+      room = omega (arith, c.drop_first.ensures.room, c.self.invariant.1.room);
+      few = rw c.drop_first.ensures.waiting c.self.invariant.1.few;
+    })

@@ -1,4 +1,4 @@
-use Rattle.std.proofs.Common.{◌≡◌, false, refl, sym, subst}
+use Rattle.std.proofs.Common.{◌≡◌, false, refl, sym, subst, arith}
 use Rattle.job_table.specs.declared.stages.Stage.{Stage}
 use Rattle.job_table.specs.declared.stages.Stage.TheVariants as stages
 use Rattle.job_table.specs.Jobs.{with_stage}
@@ -20,4 +20,8 @@ invariant_of-self c =
     c.self.inside.worst c.self.inside.worst
     runs head refl c.drop_first.ensures.rising c.drop_first.ensures.waiting c.drop_first.ensures.ready c.self.invariant.0
     (undone_worst table.jobs c.args.number (with_stage stage) c.self.inside.worst
-    (λ job at_n. (head_undone table c.args.number head job at_n, refl)) c.self.invariant.0.worst_is))
+    (λ job at_n. (head_undone table c.args.number head job at_n, refl)) c.self.invariant.0.worst_is),
+    record {
+      room = omega (arith, c.drop_first.ensures.room, c.self.invariant.1.room);
+      few = rw c.drop_first.ensures.waiting c.self.invariant.1.few;
+    })

@@ -15,6 +15,7 @@ loop-key-preserved c =
       queued = step.queued;
       fewer = let h = step.fewer in let g =
           c.loop-key.invariant.fewer in omega arith;
+      room = omega (arith, step.fewer, c.loop-key.invariant.room, c.in-Some.ensures.spare, c.insert.ensures.spare);
     })
 
 pub returns-clause-later : goal.returns-clause-later

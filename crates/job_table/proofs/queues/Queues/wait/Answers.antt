@@ -1,5 +1,7 @@
-use Rattle.std.proofs.Common.{◌<◌, Contains, sym, subst}
+use Rattle.std.proofs.Common.{◌<◌, Contains, length, arith, sym, subst, ap}
 use Rattle.job_table.specs.QueuedKeys.{Lines}
+use Rattle.due_queue.specs.Keys.{is_released_before}
+use Rattle.due_queue.proofs.Inserted.{length-inserted}
 use Rattle.job_table.proofs.Roomy.{wait_roomy}
 use Rattle.job_table.proofs.queues.Queues.wait.Goals as goal
 
@@ -10,3 +12,9 @@ invariant_of-self c =
     (subst (λ (l : Lines). 0 < l.room) (sym c.self.view_is) c.requires.room)
     (subst (λ (l : Lines). Contains l.waiting c.args.key → ⊥) (sym c.self.view_is) c.requires.absent)
     c.self.invariant)
+
+pub returns-clause-taken : goal.returns-clause-taken
+returns-clause-taken c =
+    let before = ap (λ (l : Lines). l.room) c.self.view_is in
+    let longer = ap length c.insert.ensures.keys in
+    omega (arith, before, longer, length-inserted is_released_before c.args.key c.self.inside.waiting.keys, c.insert.ensures.spare)
