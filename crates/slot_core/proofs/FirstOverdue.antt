@@ -111,18 +111,13 @@ unwaived_none (j ∷ js) = ap (λ (l : List Job). j ∷ l) (unwaived_none js)
 module _ (start : Start) (log : Log) (present : ℕ) (kept : Table) (failed : Bool) (f : FlashState) (t : Table)
     (k : AgreeWithLog start log present kept failed f) (is : t ≡ record kept { clock = present }) where
   abbrev here : Table
-  here = record { tasks = kept.tasks; clock = now log; ended = kept.ended; jobs = job_records start log }
+  here = record kept { clock = now log; jobs = job_records start log }
 
-  here_is : table_at kept.tasks kept.ended start log [] ≡ here
-  here_is = ap (λ (ws : List Waived). record {
-    tasks = kept.tasks;
-    clock = now log;
-    ended = kept.ended;
-    jobs = map (record_with start log ws) (jobs log);
-  }) (append-nil (waived_collections log))
+  here_is : table_at kept start log [] ≡ here
+  here_is = ap (λ (ws : List Waived). record kept { clock = now log; jobs = map (record_with start log ws) (jobs log) }) (append-nil (waived_collections log))
 
   at_present : t ≡ here
-  at_present = is ∙ (λ i. record { tasks = kept.tasks; clock = k.now_is i; ended = kept.ended; jobs = k.jobs_are i })
+  at_present = is ∙ (λ i. record kept { clock = k.now_is i; jobs = k.jobs_are i })
 
   unwaived : least (without_waived [] (ready start.plan log)) ≡ least (ready start.plan log)
   unwaived = ap least (unwaived_none (ready start.plan log))
@@ -136,13 +131,13 @@ module _ (start : Start) (log : Log) (present : ℕ) (kept : Table) (failed : Bo
       let numbered = (stands_well start k.bound log k.exact).0.numbered in
       let j = slice_get-mapped (record_with start log (waived_collections log)) (jobs log) n h.head h.is_at in
       let least_is : least (ready start.plan log) ≡ Some j.0 = sym unwaived
-      ∙ head_least start log [] kept.tasks n kept.ended j.0 numbered j.1 (subst (λ (u : Table). table.IsHead u n) (sym here_is) h) in
+      ∙ head_least start log [] kept n j.0 numbered j.1 (subst (λ (u : Table). table.IsHead u n) (sym here_is) h) in
       let at : slice_get t.jobs n ≡ Some h.head = ap (λ (u : Table). slice_get u.jobs n) at_present ∙ h.is_at in
       told present (now log) n j.0 (least (ready start.plan log)) (slice_get t.jobs n) h.head k.now_is at
       (ap (λ (r : JobRecord). r.due) j.2) (omega (arith, number_at 0 (jobs log) n j.0 numbered j.1)) least_is ∙ sym due_least
 
   pub nothing_overdue : table.NothingReady t → None ≡ overdue_of start.plan log
   nothing_overdue none =
-      let least_is = sym unwaived ∙ nothing_least start log [] kept.tasks kept.ended
+      let least_is = sym unwaived ∙ nothing_least start log [] kept
       (subst table.NothingReady (at_present ∙ sym here_is) none) in
       sym (due_least ∙ ap (λ (o : Option Job). option_map (as_overdue (now log)) (if_some_due (now log) o)) least_is)

@@ -136,20 +136,15 @@ least_none : (xs : List Job) → least xs ≡ None → AllByRecursion (λ (i : J
 least_none [] e = tt
 least_none (x ∷ xs) e = absurd cc
 
-abbrev pub table_at : ℕ → Bool → Start → Log → List Waived → Table
-table_at tasks ended start past ws = record {
-  tasks = tasks;
-  clock = now past;
-  ended = ended;
-  jobs = map
-      (record_with start past (waived_collections past ++ ws)) (jobs past);
-}
+-- a table like this one, as the log has it with these waivers
+abbrev pub table_at : Table → Start → Log → List Waived → Table
+table_at like start past ws = record like { clock = now past; jobs = map (record_with start past (waived_collections past ++ ws)) (jobs past) }
 
 -- the head of the table is the least of those that stay
-pub head_least : (start : Start) (past : Log) (ws : List Waived) (tasks n : ℕ) (ended : Bool) (j : Job) → AreNumbered 0 (jobs past)
+pub head_least : (start : Start) (past : Log) (ws : List Waived) (like : Table) (n : ℕ) (j : Job) → AreNumbered 0 (jobs past)
     → slice_get (jobs past) n ≡ Some j
-    → table.IsHead (table_at tasks ended start past ws) n → least (without_waived ws (ready start.plan past)) ≡ Some j
-head_least start past ws tasks n ended j numbered at h = rw (unwaived_is start.plan past ws)
+    → table.IsHead (table_at like start past ws) n → least (without_waived ws (ready start.plan past)) ≡ Some j
+head_least start past ws like n j numbered at h = rw (unwaived_is start.plan past ws)
     (by_least (least (filter (stays start.plan past ws) (jobs past))) refl)
   where
     t : Job → Bool
@@ -198,9 +193,9 @@ none_kept t [] h = refl
 none_kept t (x ∷ js) h = rw (h 0 x refl) (none_kept t js (λ n j e. h (suc n) j e))
 
 -- where no record is ready, nobody stays
-pub nothing_least : (start : Start) (past : Log) (ws : List Waived) (tasks : ℕ) (ended : Bool)
-    → table.NothingReady (table_at tasks ended start past ws) → least (without_waived ws (ready start.plan past)) ≡ None
-nothing_least start past ws tasks ended h =
+pub nothing_least : (start : Start) (past : Log) (ws : List Waived) (like : Table)
+    → table.NothingReady (table_at like start past ws) → least (without_waived ws (ready start.plan past)) ≡ None
+nothing_least start past ws like h =
     ap least (unwaived_is start.plan past ws
     ∙ none_kept (stays start.plan past ws) (jobs past) (λ n j e. sym (ready_is start past ws j)
     ∙ h n (record_with start past (waived_collections past ++ ws) j) (slice_get-map (record_with start past (waived_collections past ++ ws)) (jobs past) n j e)))

@@ -220,7 +220,7 @@ idle_next start log present ws t f s nothing =
     ∙ ap (λ (c : Choice). replies.Slot (slot_reply start log c.waived c.head)) chosen)
   where
     chosen : choice start log ≡ record { waived = ws; head = None }
-    chosen = ends start log ws f.tokens s.goes_on (nothing_least start log ws (length start.plan.caps) false
+    chosen = ends start log ws f.tokens s.goes_on (nothing_least start log ws t
         (subst table.NothingReady (table_is start log ws t s.table) nothing))
 
 -- what is next is also the needed call

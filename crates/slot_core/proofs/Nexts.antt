@@ -28,13 +28,13 @@ unwaived_none : (js : List Job) → without_waived [] js ≡ js
 unwaived_none [] = refl
 unwaived_none (j ∷ js) = ap (λ (l : List Job). j ∷ l) (unwaived_none js)
 
-module _ (start : Start) (past : Log) (tasks : ℕ) (ended : Bool) where
+module _ (start : Start) (past : Log) (like : Table) where
   -- the table of a log at its present slot
   abbrev here : Table
-  here = record { tasks = tasks; clock = now past; ended = ended; jobs = job_records start past }
+  here = record like { clock = now past; jobs = job_records start past }
 
-  here_is : table_at tasks ended start past [] ≡ here
-  here_is = ap (λ (ws : List Waived). record { tasks = tasks; clock = now past; ended = ended; jobs = map (record_with start past ws) (jobs past) })
+  here_is : table_at like start past [] ≡ here
+  here_is = ap (λ (ws : List Waived). record like { clock = now past; jobs = map (record_with start past ws) (jobs past) })
       (append-nil (waived_collections past))
 
   least_of : least (without_waived [] (ready start.plan past)) ≡ least (ready start.plan past)
@@ -46,7 +46,7 @@ module _ (start : Start) (past : Log) (tasks : ℕ) (ended : Bool) where
       record {
         job = f.0;
         number_is = omega (arith, number_at 0 (jobs past) n f.0 numbered f.1);
-        next = inl (sym least_of ∙ head_least start past [] tasks n ended f.0 numbered f.1
+        next = inl (sym least_of ∙ head_least start past [] like n f.0 numbered f.1
             (subst (λ (t : Table). table.IsHead t n) (sym here_is) h));
       }
 
@@ -62,7 +62,7 @@ module _ (start : Start) (past : Log) (tasks : ℕ) (ended : Bool) where
         job = f.0;
         number_is = number;
         next = inr (
-          sym least_of ∙ nothing_least start past [] tasks ended (subst table.NothingReady (sym here_is) nothing),
+          sym least_of ∙ nothing_least start past [] like (subst table.NothingReady (sym here_is) nothing),
           record {
             stands = (n, slice_get_within (jobs past) n f.0 f.1, get_or_from_slice_get (jobs past) n f.0 f.0 f.1);
             coming = sym (waiting_is f.0) ∙ (ap (table.is_waiting (now past)) f.2 ∙ h.waits);
@@ -100,8 +100,8 @@ module _ (start : Start) (past : Log) (tasks : ℕ) (ended : Bool) where
 
 module _ (start : Start) (log : Log) (present : ℕ) (kept : Table) (failed : Bool) (f : FlashState) (t : Table)
     (k : AgreeWithLog start log present kept failed f) (is : t ≡ record kept { clock = present }) where
-  at_present : t ≡ here start log kept.tasks kept.ended
-  at_present = is ∙ (λ i. record { tasks = kept.tasks; clock = k.now_is i; ended = kept.ended; jobs = k.jobs_are i })
+  at_present : t ≡ here start log kept
+  at_present = is ∙ (λ i. record kept { clock = k.now_is i; jobs = k.jobs_are i })
 
   numbered : AreNumbered 0 (jobs log)
   numbered = (stands_well start k.bound log k.exact).0.numbered
@@ -109,12 +109,12 @@ module _ (start : Start) (log : Log) (present : ℕ) (kept : Table) (failed : Bo
   pub next_reported : (o : Option ℕ) → IfSome o (λ n. table.IsHead t n ⊎ (table.NothingReady t × table.IsNextReleased t n))
       → IfSome o (IsNextCarried start.plan log)
   next_reported None h = tt
-  next_reported (Some n) (inl head) = head_next start log kept.tasks kept.ended n numbered
+  next_reported (Some n) (inl head) = head_next start log kept n numbered
       (subst (λ (u : Table). table.IsHead u n) at_present head)
-  next_reported (Some n) (inr (nothing, later)) = released_next start log kept.tasks kept.ended n numbered
+  next_reported (Some n) (inr (nothing, later)) = released_next start log kept n numbered
       (subst table.NothingReady at_present nothing) (subst (λ (u : Table). table.IsNextReleased u n) at_present later)
 
   pub quiet_reported : (o : Option ℕ) → IfNone o (table.NothingReady t × table.NothingWaiting t) → IfNone o (IsQuiet start log)
   quiet_reported (Some n) h = tt
-  quiet_reported None (nothing, none) = quiet_by start log kept.tasks kept.ended (subst table.NothingReady at_present nothing)
+  quiet_reported None (nothing, none) = quiet_by start log kept (subst table.NothingReady at_present nothing)
       (subst table.NothingWaiting at_present none)

@@ -4,7 +4,9 @@ use Rattle.std.proofs.Common.{sym, ◌∙◌, subst, length, map, filter, count_
 use Rattle.std.proofs.lemmas.Bool.{true≢false}
 use Rattle.std.proofs.lemmas.List.Sums.{sum_by-cons}
 use Rattle.std.proofs.lemmas.Option.{none-some, same_Some}
-use Rattle.std.specs.Prelude.{Result, Ok, Err, OnOk, OnErr}
+use Rattle.std.proofs.lemmas.Bool.Decides.{nat_tests}
+use Rattle.std.specs.Prelude.{Result, Ok, Err, OnOk, OnErr, max, nat_lt, ◌<◌}
+use Rattle.std.proofs.Common.{◌⊎◌, inl, inr}
 use Rattle.slot_types.specs.declared.plans.DiePlan.{DiePlan}
 use Rattle.slot_types.specs.declared.refusals.Refusal.{Refusal}
 use Rattle.slot_types.specs.declared.events.Op.{Op}
@@ -13,13 +15,18 @@ use Rattle.slot_types.specs.declared.acts.Act.{Act}
 use Rattle.slot_types.specs.declared.acts.Act.TheVariants as does
 use Rattle.job_table.specs.declared.stages.Stage.TheVariants.{Done, Waived as Gone}
 use Rattle.job_table.specs.Jobs.{JobRecord, new_job, new_collection, is_pending, with_one_more_slot, with_stage}
+use Rattle.job_table.specs.Reserves.{Reserve, reserve_with}
 use Rattle.job_table.specs.Table.{Table, with_job, changed_at}
 use Rattle.die_log.specs.Model.Log.{Log, Job, jobs, acts, waived_collections, is_waived}
 use Rattle.die_log.specs.Model.Work.{is_done}
 use Rattle.die_log.specs.Model.Answers.{IsExact}
 use Rattle.die_log.specs.Invariants.TrueAccounts.{is_pending as pending}
 use Rattle.slot_core.specs.Records.{record_with, job_records}
-use Rattle.slot_core.specs.ReservedSlots.{is_open, open_collections}
+use Rattle.event_log.specs.Notes.{Note}
+use Rattle.slot_core.specs.Agreement.{AgreeWithLog}
+use Rattle.slot_core.specs.Device.{FlashState}
+use Rattle.slot_core.specs.TableLog.{SaysLog}
+use Rattle.slot_core.specs.ReservedSlots.{is_open, open_collections, HasReservedRoom}
 use Rattle.slot_core.specs.declared.head_step.HeadStep.{HeadStep}
 use Rattle.slot_core.specs.HeadSteps.{after_read, table_after_step}
 use Rattle.slot_core.proofs.Slotting.{turned, turn_change}
@@ -114,6 +121,81 @@ open_one_more [] r = omega (arith, open_more r [], one_at_most (is_open r)) wher
   one_at_most true = omega arith
   one_at_most false = omega arith
 open_one_more (x ∷ js) r = omega (arith, open_more x js, open_more x (js ++ r ∷ []), open_one_more js r)
+
+-- a collection uses up what was reserved for one
+pub collect_uses : (t u : Table) (task release due : ℕ) → u ≡ with_job t (new_collection task release due)
+    → u.reserve ≡ record t.reserve { arrivals = t.reserve.arrivals - 1 }
+collect_uses t u task release due h =
+    ap (λ (x : Table). x.reserve) h
+    ∙ ap (λ (n : ℕ). record t.reserve { arrivals = t.reserve.arrivals - 1; operations = n }) (takes_none t.reserve.operations)
+  where
+    takes_none : (n : ℕ) → n - 0 ≡ n
+    takes_none n = omega arith
+
+-- More is reserved
+
+pub reserved_says : {A : Type 0} (r : Result A Refusal) (start : Start) (present : ℕ) (t u : Table) (x : Reserve) (notes : List Note) (failed : Bool)
+    (f : FlashState) → OnOk r (u ≡ record t { reserve = x }) → OnErr r (u ≡ t) → SaysLog start present t notes failed f
+    → SaysLog start present u notes failed f
+reserved_says (Ok a) start present t u x notes failed f made stays says =
+    subst (λ (y : Table). SaysLog start present y notes failed f) (sym made)
+    (record { kept = record {
+      exact = says.kept.exact;
+      bound = says.kept.bound;
+      left = says.kept.left;
+      now_is = says.kept.now_is;
+      tasks_are = says.kept.tasks_are;
+      clock_by = says.kept.clock_by;
+      ended_is = says.kept.ended_is;
+      jobs_are = says.kept.jobs_are;
+      places_are = says.kept.places_are;
+      flash = says.kept.flash;
+    }; fits = says.fits })
+reserved_says (Err e) start present t u x notes failed f made stays says =
+    subst (λ (y : Table). SaysLog start present y notes failed f) (sym stays) says
+
+pub reserved_jobs : {A : Type 0} (r : Result A Refusal) (t u : Table) (x : Reserve) → OnOk r (u ≡ record t { reserve = x }) → OnErr r (u ≡ t)
+    → u.jobs ≡ t.jobs
+reserved_jobs (Ok a) t u x made stays = ap (λ (y : Table). y.jobs) made
+reserved_jobs (Err e) t u x made stays = ap (λ (y : Table). y.jobs) stays
+
+more_reserved : {A : Type 0} (r : Result A Refusal) (t u : Table) (arrivals operations : ℕ)
+    → OnOk r (u ≡ record t { reserve = reserve_with arrivals operations t.reserve }) → OnErr r (u ≡ t)
+    → (u.reserve.arrivals ≡ max t.reserve.arrivals arrivals) ⊎ (u.reserve.arrivals ≡ t.reserve.arrivals)
+more_reserved (Ok a) t u arrivals operations made stays = inl (ap (λ (y : Table). y.reserve.arrivals) made)
+more_reserved (Err e) t u arrivals operations made stays = inr (ap (λ (y : Table). y.reserve.arrivals) stays)
+
+lt_of : (m n : ℕ) → nat_lt m n ≡ true → m < n
+lt_of m n h = grind (arith, nat_tests)
+
+not_lt_of : (m n : ℕ) → nat_lt m n ≡ false → n ≤ m
+not_lt_of m n h = grind (arith, nat_tests)
+
+pub arrivals_room : {A : Type 0} (r : Result A Refusal) (t u : Table) (slots arrivals operations room waiver_room before : ℕ)
+    → OnOk r (u ≡ record t { reserve = reserve_with arrivals operations t.reserve }) → OnErr r (u ≡ t)
+    → slots + max t.reserve.arrivals arrivals ≤ room
+    → cond (nat_lt t.reserve.arrivals arrivals) (t.tasks + arrivals) 0 ≤ waiver_room
+    → open_collections t.jobs + t.reserve.arrivals ≤ before → before ≤ waiver_room → open_collections t.jobs ≤ t.tasks
+    → HasReservedRoom slots u.reserve.arrivals u.jobs room waiver_room
+arrivals_room r t u slots arrivals operations room waiver_room before made stays roomy waived had more few =
+    subst (λ (js : List JobRecord). HasReservedRoom slots u.reserve.arrivals js room waiver_room) (sym (reserved_jobs r t u _ made stays)) (record {
+      entries = by_entries (more_reserved r t u arrivals operations made stays);
+      waivers = by_waivers (nat_lt t.reserve.arrivals arrivals) refl (more_reserved r t u arrivals operations made stays);
+    })
+  where
+    by_entries : (u.reserve.arrivals ≡ max t.reserve.arrivals arrivals) ⊎ (u.reserve.arrivals ≡ t.reserve.arrivals)
+        → slots + u.reserve.arrivals ≤ room
+    by_entries (inl is) = omega (arith, is, roomy)
+    by_entries (inr is) = omega (arith, is, roomy)
+
+    by_waivers : (b : Bool) → nat_lt t.reserve.arrivals arrivals ≡ b
+        → (u.reserve.arrivals ≡ max t.reserve.arrivals arrivals) ⊎ (u.reserve.arrivals ≡ t.reserve.arrivals)
+        → open_collections t.jobs + u.reserve.arrivals ≤ waiver_room
+    by_waivers true e (inl is) =
+        let below : t.reserve.arrivals < arrivals = lt_of t.reserve.arrivals arrivals e in
+        omega (arith, is, few, below, subst (λ (b : Bool). cond b (t.tasks + arrivals) 0 ≤ waiver_room) e waived)
+    by_waivers false e (inl is) = omega (arith, is, had, more, not_lt_of t.reserve.arrivals arrivals e)
+    by_waivers b e (inr is) = omega (arith, is, had, more)
 
 -- At most one collection a task
 

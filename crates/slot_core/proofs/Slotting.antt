@@ -132,7 +132,7 @@ slot_idles start log present ws t f caller s nothing = (
 )
   where
     chosen : choice start log ≡ record { waived = ws; head = None }
-    chosen = ends start log ws f.tokens s.goes_on (nothing_least start log ws (length start.plan.caps) false
+    chosen = ends start log ws f.tokens s.goes_on (nothing_least start log ws t
         (subst table.NothingReady (table_is start log ws t s.table) nothing))
 
     replied : reply_if_accepted start log events.Slot ≡ replies.Slot (idle_reply (now log) ws)

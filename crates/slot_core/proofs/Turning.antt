@@ -54,13 +54,13 @@ pub record IsHeadJob (start : Start) (log : Log) (ws : List Waived) (t : Table) 
   pub pending_if : j.collects ≡ true → is_pending start.plan (λ k. acts k log) (is_waived log) j ≡ true
   pub least_is : least (without_waived ws (ready start.plan log)) ≡ Some j
 
-same_table : (t u : Table) → t.tasks ≡ u.tasks → t.clock ≡ u.clock → t.ended ≡ u.ended → t.jobs ≡ u.jobs → t ≡ u
-same_table t u a b c d = rw a (rw b (rw c (rw d refl)))
+same_table : (t : Table) (clock : ℕ) (jobs : List JobRecord) → t.clock ≡ clock → t.jobs ≡ jobs → t ≡ record t { clock = clock; jobs = jobs }
+same_table t clock jobs a b = λ i. record t { clock = a i; jobs = b i }
 
 -- the table within a slot is read off the log
 pub table_is : (start : Start) (log : Log) (ws : List Waived) (t : Table) → IsWaivedTable start log ws t → t
-    ≡ table_at (length start.plan.caps) false start log ws
-table_is start log ws t w = same_table t (table_at (length start.plan.caps) false start log ws) w.tasks_are w.clock_is w.running w.jobs_are
+    ≡ table_at t start log ws
+table_is start log ws t w = same_table t _ _ w.clock_is w.jobs_are
 
 head_job_by : (start : Start) (log : Log) (present : ℕ) (ws : List Waived) (t : Table) (n : ℕ) (j : Job) → IsSlot start log present
     → IsWaivedTable start log ws t → (h : table.IsHead t n)
@@ -77,7 +77,7 @@ head_job_by start log present ws t n j s w h at record_is = record {
   undone = waiting_undone start.plan log j parts.0;
   limits = (keeps_limits start log s.exact).each j stands;
   pending_if = λ collects. is_pending_if start.plan log j parts.0 collects;
-  least_is = head_least start log ws (length start.plan.caps) n false j both.0.numbered at
+  least_is = head_least start log ws t n j both.0.numbered at
       (subst (λ (u : Table). table.IsHead u n) (table_is start log ws t w) h);
 }
   where

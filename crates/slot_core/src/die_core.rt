@@ -1,6 +1,6 @@
 //! A die.
 
-ghost use Rattle.std.specs.Prelude.{◌≡◌, ◌↔◌, ◌≤◌, ◌⊎◌, [], false, length, IsOk, IfOk, IfErr, OnOk, OnErr};
+ghost use Rattle.std.specs.Prelude.{◌≡◌, ◌↔◌, ◌≤◌, ◌⊎◌, ◌+◌, [], false, length, nat_lt, if◌then◌else◌, IsOk, IfOk, IfErr, OnOk, OnErr};
 ghost use Rattle.std.specs.Box.{box_value};
 ghost use Rattle.slot_types.specs.Refusal.{FailsForMemory};
 ghost use Rattle.slot_types.specs.Shapes.{IsShape};
@@ -69,6 +69,21 @@ impl<N: Nand> Model for DieCore<N> {
         SaysLog (over c.volume.accounts.plan c.start) c.present c.table c.events.notes c.volume.failed (flash_of N.blocks c.volume)
         × HasReservedRoom c.reserved c.table.reserve.arrivals c.table.jobs c.events.room c.events.waiver_room
         × MarksWorst c.table.jobs c.events.marked };
+}
+
+/// For how many waivers there has to be room so that so many more arrivals are reserved, if they aren't: each may be a
+/// collection, and a task has one at most that is neither done nor waived.
+fn waivers_ahead(table: &JobTable, arrivals: u32) -> usize
+    requires few { table.now.tasks ≤ 16 }
+    ensures { result
+        ≡ (if nat_lt table.now.reserve.arrivals arrivals then table.now.tasks + arrivals
+        else 0) }
+{
+    if table.reserved_arrivals() < arrivals {
+        table.tasks() + arrivals as usize
+    } else {
+        0
+    }
 }
 
 impl<N: Nand> DieCore<N> {
@@ -167,11 +182,10 @@ impl<N: Nand> DieCore<N> {
             → operations ≤ self.old.reserved.operations → IsOk result }
         ensures unchanged { OnErr result (self.new ≡ self.old) }
     {
-        if arrivals > self.table.reserved_arrivals() {
-            let waivers = self.table.tasks() + arrivals as usize;
-            self.events
-                .reserve(self.reserved as usize + arrivals as usize, waivers)?;
-        }
+        let most = self.table.reserved_arrivals().max(arrivals);
+        let waivers = waivers_ahead(&self.table, arrivals);
+        self.events
+            .reserve(self.reserved as usize + most as usize, waivers)?;
         self.table.reserve(arrivals, operations)
     }
 

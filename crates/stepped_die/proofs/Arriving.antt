@@ -29,6 +29,7 @@ use Rattle.die_log.specs.Model.Answers.{Choice, choice, choice_among, choice_by_
 use Rattle.die_log.specs.Model.Answers.{reply_if_accepted, refusals, refusal_of, is_running, is_collected, is_block, goes_before, victim, block_for}
 use Rattle.die_log.specs.Model.Answers.{act_for, act_of_op, collect_act, buffer_after, reply_with, slot_reply, IsExact, IsAccepted}
 use Rattle.die_log.specs.Model.NeededCalls.{call_by, needed_call}
+use Rattle.slot_core.specs.NextSlot.{next_by, next_slot}
 use Rattle.die_log.specs.Model.Opening.{IsOpening}
 use Rattle.die_log.proofs.Collecting.{no_acts}
 use Rattle.die_log.proofs.Legal.Exact.{stands_well}

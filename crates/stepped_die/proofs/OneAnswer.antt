@@ -1,6 +1,6 @@
 -- A call of a die has one answer, and leaves one die, unless memory is refused to it.
 use Rattle.std.proofs.Common.{◌≡◌, ◌≤◌, ◌⊎◌, ◌↔◌, ℕ, Bool, true, false, Option, Some, None, Ok, Err, refl, sym, ap, subst, ◌∙◌, inl, inr}
-use Rattle.std.specs.Prelude.{Result, IfOk, IfErr, IsSome, OnErr, OnOk, max}
+use Rattle.std.specs.Prelude.{Result, IfOk, IfErr, IsSome, OnErr, OnOk}
 use Rattle.std.proofs.lemmas.Bool.{true≢false}
 use Rattle.slot_types.specs.Arrivals.{IsArrival}
 use Rattle.slot_types.specs.declared.events.Event.{Event}
@@ -16,7 +16,8 @@ use Rattle.die_log.specs.Model.Answers.{answer}
 use Rattle.die_log.specs.Model.Log.{now}
 use Rattle.flash_die.specs.Memory.{Memory}
 use Rattle.slot_core.specs.Calls.{HasEntered, RefusesCall}
-use Rattle.slot_core.specs.Core.{Core, with_entry}
+use Rattle.slot_core.specs.Core.{Core, with_entry, with_slots}
+use Rattle.slot_core.specs.Calls.{reserved_after}
 use Rattle.stepped_die.specs.declared.calls.Begun.{Begun}
 use Rattle.stepped_die.specs.declared.calls.Call.{Call}
 use Rattle.stepped_die.specs.declared.calls.Call.TheVariants as calls

@@ -5,6 +5,7 @@ use Rattle.slot_types.specs.declared.refusals.Refusal.TheVariants.{NoMemory, Bad
 use Rattle.slot_types.specs.Shapes.{IsShape}
 use Rattle.plan_rules.specs.Bound.{MeetsBound}
 use Rattle.die_log.specs.Model.Start.{fresh}
+use Rattle.slot_core.specs.Core.{nothing_reserved}
 use Rattle.slot_core.proofs.laws.making_a_die_in_a_box_has_one_answer.Goals as goal
 
 one_or_memory : {A : Type 0} (made : A) (Shaped Planned : Type 0) (one other : Result A Refusal) → IfOk one (λ a. a ≡ made)

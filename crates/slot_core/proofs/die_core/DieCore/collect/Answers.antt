@@ -9,7 +9,9 @@ use Rattle.slot_core.specs.Calls.{IsCovered}
 use Rattle.slot_core.proofs.Calling.{err_uncovered, stopped_refused, log_refused, memory_refused, entered, of_result}
 use Rattle.slot_core.proofs.Keeping.{collecting_is, may_collect, collect_answered, collect_accepts, if_ok_both, if_err_both}
 use Rattle.slot_core.specs.TableLog.{log_of}
-use Rattle.slot_core.proofs.Reserving.{collect_room}
+use Rattle.job_table.specs.Jobs.{new_collection}
+use Rattle.job_table.specs.Table.{with_job}
+use Rattle.slot_core.proofs.Reserving.{collect_room, collect_uses}
 use Rattle.slot_core.proofs.Telling.{collect_enters, collect_logged, few_reported}
 use Rattle.slot_core.proofs.Marks.{marks_collect}
 use Rattle.slot_core.proofs.die_core.DieCore.collect.Goals as goal
@@ -95,12 +97,18 @@ returns g c =
     of_result g.N.Nand.ends g.N.Nand.failures g.N.Nand.never_fails c.args.caller (Collect c.args.task c.args.release c.args.due)
     c.args.self.now _ c.enter.result
     (if_ok_both c.enter.result _ _ _ answered
+    (if_ok_both c.enter.result _ (λ _. c.enter.new.table
+    ≡ with_job c.self.inside.table (new_collection c.args.task c.args.release c.args.due)) _
     (collect_logged c.self.inside.table c.enter.new.table c.self.inside.events.notes c.enter.new.events.notes
     c.args.caller c.args.task c.args.release c.args.due c.enter.result
     c.self.invariant.0.fits (rw c.none.ensures at c.enter.ensures.table) c.enter.ensures.number c.enter.ensures.logged)
-    (λ number is says. entered g.N.Nand.ends g.N.Nand.failures g.N.Nand.never_fails c.args.caller
+    (rw c.none.ensures at c.enter.ensures.table) (λ number says table. (says, table)))
+    (λ number is both. entered g.N.Nand.ends g.N.Nand.failures g.N.Nand.never_fails c.args.caller
     (Collect c.args.task c.args.release c.args.due) c.args.self.now _ number tt runs
-    (record { answered = is; logged = rw (says, ← c.self.view_is) refl })))
+    (record {
+      answered = is;
+      logged = rw (both.0, collect_uses c.self.inside.table c.enter.new.table c.args.task c.args.release c.args.due both.1, ← c.self.view_is) refl;
+    })))
     (if_err_both c.enter.result _ _ _ c.enter.ensures.refused
     (if_err_both c.enter.result _ _ _ stays (err_uncovered c.enter.result covers) (λ refusal same uncovered. (same, uncovered)))
     (λ refusal is both. memory_refused g.N.Nand.ends g.N.Nand.failures g.N.Nand.never_fails c.args.caller

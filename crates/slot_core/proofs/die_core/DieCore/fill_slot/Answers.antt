@@ -1,4 +1,5 @@
-use Rattle.std.proofs.Common.{sym, ◌∙◌, inl, inr, refl, rules, arith}
+use Rattle.job_table.specs.Reserves.{Reserve}
+use Rattle.std.proofs.Common.{ap, sym, ◌∙◌, inl, inr, refl, rules, arith}
 use Rattle.slot_types.specs.declared.events.Event.TheVariants.{Slot}
 use Rattle.slot_types.specs.declared.replies.Reply.TheVariants.{Slot as Answered}
 use Rattle.slot_core.proofs.Calling.{stopped_refused, log_refused, memory_refused, used}
@@ -34,7 +35,8 @@ returns-in-Err-carry_out g c =
         refusal_is = c.in-Err-carry_out.ensures.fails.by_fault.fault;
         stops = search rules;
         log_stays = search rules;
-        reserve_stays = refl;
+        reserve_stays = ap (λ (r : Reserve). record { slots = c.self.inside.reserved; arrivals = r.arrivals; operations = r.operations })
+            c.carry_out.ensures.reserve;
       })));
       start_stays = search rules;
       device = rw (← c.reserve.ensures.events) (used g.N.Nand.ends g.N.Nand.failures g.N.Nand.never_fails _

@@ -120,7 +120,7 @@ returns-in-Ok-enter g c =
     (Submit c.args.task c.args.release c.args.due c.args.ops.now) c.args.self.now _ c.in-Ok-enter.number tt (rw (← c.self.view_is) alive) (record {
       answered = rw (← c.self.view_is)
           (submit_taken _ _ f.table _ _ _ _ _ none c.self.invariant.0.kept.jobs_are c.in-Ok-enter.ensures.number);
-      logged = rw (says.0, made, ← c.self.view_is) refl;
+      logged = rw (says.0, made, ap (λ (t : Table). t.reserve) table, ← c.self.view_is) refl;
     })
 
 pub invariant_of-self : goal.invariant_of-self
