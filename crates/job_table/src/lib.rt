@@ -7,6 +7,8 @@ mod flat_jobs;
 pub mod job_table;
 pub mod jobs;
 pub mod laws;
+#[cfg(test)]
+mod memory;
 mod queues;
 mod rows;
 pub mod stages;

@@ -5,11 +5,13 @@ ghost use Rattle.std.specs.Prelude.{◌≡◌, slice_get, option_map};
 use crate::counted_ops::CountedOps;
 use crate::job_table::JobTable;
 use crate::jobs::Job;
+use crate::memory::is_scarce;
 use crate::stages::Stage;
 use slot_types::{
     JobHead, JobNo, LentOps, MAX_JOBS, MAX_OPS, Op, PageData, Refusal, TaskNo, Waived,
 };
 use std::alloc::Global;
+use std::env::Env;
 use std::test::Fail;
 
 fn head_of(collects: bool, task: TaskNo, release: u32, due: u32) -> JobHead
@@ -174,6 +176,10 @@ enum Step<'a> {
     Gave(u32, &'a [u32]),
     /// So many places for what reads give have been filled.
     Places(usize),
+    /// Memory is reserved for so many more jobs and collections, and for so many operations of these in all.
+    Reserved(u32, u64),
+    /// All jobs are taken away.
+    Clears,
 }
 
 /// Whether a step that only looks at job 0 is as it says.
@@ -219,6 +225,13 @@ fn goes(table: &mut JobTable, step: &Step) -> bool {
             (table.clock() == *clock) & (table.is_empty() == *is_empty) & (table.ended() == *ended)
         }
         Step::Places(count) => table.place_count() == *count,
+        Step::Reserved(arrivals, operations) => {
+            (table.reserved_arrivals() == *arrivals) & (table.reserved_operations() == *operations)
+        }
+        Step::Clears => {
+            table.clear();
+            table.is_empty()
+        }
         Step::Gave(number, slots) => match table.job(JobNo(*number)) {
             Some(job) => gave(&job, *slots),
             None => false,
@@ -243,6 +256,39 @@ fn play(table: &mut JobTable, steps: &[Step]) -> Option<usize> {
         }
     }
     None
+}
+
+/// A new table of two tasks with memory reserved for so many jobs and collections, and so many operations of these.
+fn reserved_once(alloc: Global, arrivals: u32, operations: u32) -> Result<JobTable, Refusal> {
+    let mut table = JobTable::new(alloc, 2)?;
+    table.reserve(arrivals, operations)?;
+    Ok(table)
+}
+
+/// The same. Where memory is scarce and is refused for it, another one is made.
+fn reserved<R: Env>(
+    rt: &R,
+    alloc: Global,
+    arrivals: u32,
+    operations: u32,
+) -> Result<JobTable, Refusal> {
+    match reserved_once(alloc, arrivals, operations) {
+        Err(Refusal::NoMemory) if is_scarce(rt) => reserved_once(alloc, arrivals, operations),
+        made => made,
+    }
+}
+
+/// The place of the first step that goes otherwise than it says, on such a table. No step is made again: what is
+/// reserved is to take no memory.
+fn first_wrong_of_reserved<R: Env>(
+    rt: &R,
+    alloc: Global,
+    arrivals: u32,
+    operations: u32,
+    steps: &[Step],
+) -> Result<Option<usize>, Refusal> {
+    let mut table = reserved(rt, alloc, arrivals, operations)?;
+    Ok(play(&mut table, steps))
 }
 
 const R0: Op = Op::Read(0);
@@ -358,5 +404,49 @@ fn jobs_that_read_by_turns_keep_their_bytes_apart(rt: HostRuntime) -> Result<(),
         Step::Gave(2, &[0, 4]),
     ];
     assert_eq!(rt; first_wrong(rt.alloc(), 1, STEPS)?, None);
+    Ok(())
+}
+
+#[test]
+fn reserved_arrivals_take_no_memory(rt: HostRuntime) -> Result<(), Fail> {
+    const STEPS: &[Step] = &[
+        Step::Reserved(4, 6),
+        Step::Accepts(0, 9, &[R0, R1, R2], 0),
+        Step::Reserved(3, 3),
+        Step::Collects(1, Some(1)),
+        Step::Reserved(2, 3),
+        // Job 2 waits for its release.
+        Step::Accepts(5, 9, &[Op::Write(3, PageData::BLANK)], 2),
+        Step::Reserved(1, 2),
+        Step::Carries(0, &[0, 0, 0, 1]),
+        Step::Accepts(0, 9, &[R0, R1], 3),
+        Step::Reserved(0, 0),
+        Step::Carries(4, &[3, 2, 3, 99]),
+        Step::Gave(0, &[0, 1, 2]),
+        Step::Gave(3, &[4, 6]),
+    ];
+    assert_eq!(rt;
+        first_wrong_of_reserved(&rt, rt.alloc(), 4, 6, STEPS)?,
+        None
+    );
+    Ok(())
+}
+
+#[test]
+fn a_cleared_table_keeps_what_is_reserved(rt: HostRuntime) -> Result<(), Fail> {
+    const STEPS: &[Step] = &[
+        Step::Accepts(0, 9, &[R0, R1], 0),
+        Step::Reserved(1, 2),
+        Step::Clears,
+        Step::Reserved(1, 2),
+        Step::Accepts(0, 9, &[R0, R1], 0),
+        Step::Reserved(0, 0),
+        Step::Carries(0, &[0, 0, 99]),
+        Step::Gave(0, &[0, 1]),
+    ];
+    assert_eq!(rt;
+        first_wrong_of_reserved(&rt, rt.alloc(), 2, 4, STEPS)?,
+        None
+    );
     Ok(())
 }

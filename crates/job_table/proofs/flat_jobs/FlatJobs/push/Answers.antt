@@ -1,8 +1,6 @@
 use Rattle.std.proofs.Common.{◌≡◌, length, vec_len, rules, length-append, ◌+◌, ◌∷◌, ◌++◌, [], List, vec_capacity, arith, refl, ap, ◌∙◌}
 use Rattle.std.proofs.lemmas.List.Sums.{count_by-le-length}
 use Rattle.std.proofs.lemmas.Grind.{common_steps}
-use Rattle.slot_types.specs.declared.events.Op.{Op}
-use Rattle.slot_types.specs.declared.pages.PageData.{PageData}
 use Rattle.job_table.specs.declared.rows.Row.{Row}
 use Rattle.job_table.specs.declared.stages.Stage.TheVariants as stages
 use Rattle.job_table.specs.Jobs.{JobRecord, is_read}
@@ -64,27 +62,27 @@ invariant_of-self-2 c =
           ),
       record {
         for_rows = omega (
-            arith,
-            c.push_reserved.ensures.len,
-            c.push_reserved.ensures.capacity,
-            c.in_ok-reserve.ensures.len,
-            c.in_ok-reserve.ensures.ok,
-            c.in_ok-reserve.ensures.capacity,
-            c.saturating_sub-self-inside.ensures,
-            c.self.invariant.3.for_rows,
+          arith,
+          c.push_reserved.ensures.len,
+          c.push_reserved.ensures.capacity,
+          c.in_ok-reserve.ensures.len,
+          c.in_ok-reserve.ensures.ok,
+          c.in_ok-reserve.ensures.capacity,
+          c.saturating_sub-self-inside.ensures,
+          c.self.invariant.3.for_rows,
         );
         for_reads = omega (
-            arith,
-            count,
-            room,
-            len,
-            before,
-            whole,
-            filled,
-            placed,
-            c.in_ok-reserve-2.ensures.capacity,
-            c.self.invariant.3.for_reads,
-            count_by-le-length is_read c.args.ops.now,
+          arith,
+          count,
+          room,
+          len,
+          before,
+          whole,
+          filled,
+          placed,
+          c.in_ok-reserve-2.ensures.capacity,
+          c.self.invariant.3.for_reads,
+          count_by-le-length is_read c.args.ops.now,
         );
       },
     )

@@ -25,10 +25,13 @@ invariant_of-self-2 c =
     c.self.invariant.0 in
     let waiting_few = (sound.running runs).few_wait in
     let all_few = sound.few in
-    rw (c.in_ok-number.ensures.ok, c.mark.ensures) (sound, record {
-      room = omega (arith, c.enter.ensures.room, c.in_ok-reserve.ensures.room, c.self.invariant.1.room);
-      few = omega (arith, waiting_few, all_few);
-    })
+    rw (c.in_ok-number.ensures.ok, c.mark.ensures) (
+      sound,
+      record {
+        room = omega (arith, c.enter.ensures.room, c.in_ok-reserve.ensures.room, c.self.invariant.1.room);
+        few = omega (arith, waiting_few, all_few);
+      },
+    )
 
 pub enter-requires-clause-not_waiting : goal.enter-requires-clause-not_waiting
 enter-requires-clause-not_waiting c =

@@ -16,10 +16,12 @@ carry-requires-clause-there c =
 pub invariant_of-self : goal.invariant_of-self
 invariant_of-self c =
     let seen = subst (λ (t : Table). IsHead t c.args.number) (sym c.self.view_is) c.requires.head in
-    rw c.carry.ensures
-    (quiet_sound c.self.inside.jobs.jobs c.args.number with_one_more_slot seen.head c.self.inside.clock c.self.inside.ended c.self.inside.collecting.items
-    c.self.inside.queues c.self.inside.worst
-    carried_quiet seen.is_at (ready_pending c.self.inside.clock seen.head seen.ready) c.self.invariant.0, c.self.invariant.1)
+    rw c.carry.ensures (
+      quiet_sound c.self.inside.jobs.jobs c.args.number with_one_more_slot seen.head c.self.inside.clock c.self.inside.ended c.self.inside.collecting.items
+          c.self.inside.queues c.self.inside.worst
+          carried_quiet seen.is_at (ready_pending c.self.inside.clock seen.head seen.ready) c.self.invariant.0,
+      c.self.invariant.1,
+    )
 
 pub returns-clause-carried : goal.returns-clause-carried
 returns-clause-carried c =

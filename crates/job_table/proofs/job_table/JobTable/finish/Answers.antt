@@ -32,11 +32,12 @@ invariant_of-self c =
     let head : IsHead table c.args.number = record { head = seen.head; is_at = seen.is_at; ready = seen.ready; first = seen.first } in
     let runs = subst (λ (t : Table). t.ended ≡ false) (sym c.self.view_is) c.requires.running in
     let worst = rw c.end_job.ensures.jobs at c.worse_of.ensures in
-    rw (c.end_job.ensures.jobs, c.end_job.ensures.marks)
-    (over_sound table c.args.number (stages.Done c.args.completion c.args.given) c.self.inside.ended c.self.inside.collecting.items
-    c.self.inside.queues c.drop_first.new.self c.self.inside.worst (Some c.worse_of.result)
-    runs head refl c.drop_first.ensures.rising c.drop_first.ensures.waiting c.drop_first.ensures.ready c.self.invariant.0 worst,
-    record {
-      room = omega (arith, c.drop_first.ensures.room, c.self.invariant.1.room);
-      few = rw c.drop_first.ensures.waiting c.self.invariant.1.few;
-    })
+    rw (c.end_job.ensures.jobs, c.end_job.ensures.marks) (
+      over_sound table c.args.number (stages.Done c.args.completion c.args.given) c.self.inside.ended c.self.inside.collecting.items
+          c.self.inside.queues c.drop_first.new.self c.self.inside.worst (Some c.worse_of.result)
+          runs head refl c.drop_first.ensures.rising c.drop_first.ensures.waiting c.drop_first.ensures.ready c.self.invariant.0 worst,
+      record {
+        room = omega (arith, c.drop_first.ensures.room, c.self.invariant.1.room);
+        few = rw c.drop_first.ensures.waiting c.self.invariant.1.few;
+      },
+    )

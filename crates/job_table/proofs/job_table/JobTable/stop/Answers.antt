@@ -9,13 +9,14 @@ pub invariant_of-self : goal.invariant_of-self
 invariant_of-self c =
     let waived = subst (λ (t : Table). AreWaived t.jobs c.args.waived.now) (sym c.self.view_is) c.requires in
     rw c.take_back.ensures (
-    record {
-      few = rw length-without_waivers c.self.invariant.0.few;
-      running = λ e. absurd cc;
-      worst_is = without_worst c.self.inside.jobs.jobs c.args.waived.now c.self.inside.worst
-          (undone-waived c.self.inside.jobs.jobs c.args.waived.now waived) c.self.invariant.0.worst_is;
-    },
-    c.self.invariant.1)
+      record {
+        few = rw length-without_waivers c.self.invariant.0.few;
+        running = λ e. absurd cc;
+        worst_is = without_worst c.self.inside.jobs.jobs c.args.waived.now c.self.inside.worst
+            (undone-waived c.self.inside.jobs.jobs c.args.waived.now waived) c.self.invariant.0.worst_is;
+      },
+      c.self.invariant.1,
+    )
 
 pub returns-clause-as_before : goal.returns-clause-as_before
 returns-clause-as_before c = λ jobs were old_is.

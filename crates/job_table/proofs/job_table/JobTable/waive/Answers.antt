@@ -15,13 +15,14 @@ invariant_of-self c =
     let head : IsHead table c.args.number = record { head = seen.head; is_at = seen.is_at; ready = seen.ready; first = seen.first } in
     let runs = subst (λ (t : Table). t.ended ≡ false) (sym c.self.view_is) c.requires.running in
     let stage : Stage = stages.Waived c.args.given in
-    rw (c.end_job.ensures.jobs, c.end_job.ensures.marks)
-    (over_sound table c.args.number stage c.self.inside.ended c.self.inside.collecting.items c.self.inside.queues c.drop_first.new.self
-    c.self.inside.worst c.self.inside.worst
-    runs head refl c.drop_first.ensures.rising c.drop_first.ensures.waiting c.drop_first.ensures.ready c.self.invariant.0
-    (undone_worst table.jobs c.args.number (with_stage stage) c.self.inside.worst
-    (λ job at_n. (head_undone table c.args.number head job at_n, refl)) c.self.invariant.0.worst_is),
-    record {
-      room = omega (arith, c.drop_first.ensures.room, c.self.invariant.1.room);
-      few = rw c.drop_first.ensures.waiting c.self.invariant.1.few;
-    })
+    rw (c.end_job.ensures.jobs, c.end_job.ensures.marks) (
+      over_sound table c.args.number stage c.self.inside.ended c.self.inside.collecting.items c.self.inside.queues c.drop_first.new.self
+          c.self.inside.worst c.self.inside.worst
+          runs head refl c.drop_first.ensures.rising c.drop_first.ensures.waiting c.drop_first.ensures.ready c.self.invariant.0
+          (undone_worst table.jobs c.args.number (with_stage stage) c.self.inside.worst
+          (λ job at_n. (head_undone table c.args.number head job at_n, refl)) c.self.invariant.0.worst_is),
+      record {
+        room = omega (arith, c.drop_first.ensures.room, c.self.invariant.1.room);
+        few = rw c.drop_first.ensures.waiting c.self.invariant.1.few;
+      },
+    )
