@@ -1,19 +1,15 @@
 -- The notes of a log from one of them on, the oldest first.
-use Rattle.std.proofs.Common.{◌≡◌, ℕ, zero, suc, ◌+◌, ◌-◌, ◌<◌, ◌≤◌, ◌==◌, true, false, List, [], ◌∷◌, ◌++◌, refl, ap, sym, ◌∙◌, subst}
+use Rattle.std.proofs.Common.{◌≡◌, ℕ, zero, suc, ◌+◌, ◌-◌, ◌<◌, ◌≤◌, ◌==◌, true, List, [], ◌∷◌, ◌++◌, refl, ap, sym, ◌∙◌, subst}
 use Rattle.std.proofs.Common.{length, map, take, drop, get_or, reverse, append-nil, arith}
 use Rattle.std.specs.Prelude.{replicate}
-use Rattle.std.proofs.lemmas.Bool.Decides.{nat_tests}
 use Rattle.std.proofs.lemmas.List.{reverse-append, reverse-reverse, length-reverse}
 use Rattle.std.proofs.lemmas.List.Elements.{filter_map-append}
-use Rattle.slot_types.specs.declared.replies.Waived.{Waived}
 use Rattle.event_log.specs.declared.deeds.Deed.{Deed}
-use Rattle.event_log.specs.declared.runs.Run.{Run}
 use Rattle.event_log.specs.declared.waivers.Waiver.{Waiver}
-use Rattle.event_log.specs.Spread.{spread, AreSome}
-use Rattle.event_log.specs.Waivers.{waiver_of, waived_in, waived_at}
+use Rattle.event_log.specs.Waivers.{waived_in, waived_at}
 use Rattle.event_log.specs.Notes.{Note, notes_of}
 use Rattle.event_log.specs.SoundLog.{AreBefore, AreFrom, AreInOrder, notes_in}
-use Rattle.event_log.specs.NotesFrom.{notes_on, IsSoundRest, items_left, IsSomeLeft, first_count}
+use Rattle.event_log.specs.NotesFrom.{notes_on}
 use Rattle.event_log.proofs.Pushing.{before_later, none_before, another_later, the_same}
 
 -- Items of runs

@@ -1,4 +1,3 @@
-use Rattle.std.proofs.Common.{◌∙◌, ap, sym}
 use Rattle.event_log.proofs.Reading.{notes_from}
 use Rattle.event_log.proofs.event_log.EventLog.notes_from.Goals as goal
 

@@ -1,5 +1,3 @@
-use Rattle.std.proofs.Common.{◌∙◌, ap, sym}
-use Rattle.event_log.specs.NotesFrom.{notes_on}
 use Rattle.event_log.proofs.Reading.{first_note}
 use Rattle.event_log.proofs.notes_from.NotesFrom.pop.Goals as goal
 
