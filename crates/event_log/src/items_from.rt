@@ -1,6 +1,6 @@
 //! The items of runs in order, from one of them on.
 
-ghost use Rattle.std.specs.Prelude.{◌≡◌, ◌∷◌, [], drop, IfSome, IfNone};
+ghost use Rattle.std.specs.Prelude.{◌≡◌, ◌∷◌, [], drop, IfNone, MatchOption};
 ghost use Rattle.event_log.specs.Spread.{spread, AreSome};
 ghost use Rattle.event_log.specs.NotesFrom.{first_count};
 
@@ -52,8 +52,8 @@ impl<'a, T> ItemsFrom<'a, T> {
 impl<'a, T: Copy> ItemsFrom<'a, T> {
     /// Takes the first item away, if there is one.
     pub(crate) fn pop(&mut self) -> Option<T>
-        ensures some { IfSome result (λ item. self.old ≡ item ∷ self.new) }
-        ensures none { IfNone result ((self.old ≡ []) × (self.new ≡ [])) }
+        ensures items { MatchOption result (self.old ≡ []) (λ item. self.old ≡ item ∷ self.new) }
+        ensures none_left { IfNone result (self.new ≡ []) }
     {
         let (first, later) = self.runs.split_first()?;
         self.left -= 1;

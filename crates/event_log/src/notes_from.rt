@@ -1,6 +1,6 @@
 //! The notes of a log in order, from one of them on.
 
-ghost use Rattle.std.specs.Prelude.{◌≡◌, ◌∷◌, [], IfSome, IfNone};
+ghost use Rattle.std.specs.Prelude.{◌≡◌, ◌∷◌, [], IfNone, MatchOption};
 ghost use Rattle.event_log.specs.NotesFrom.{notes_on, IsSoundRest};
 
 use crate::deeds::Deed;
@@ -61,9 +61,9 @@ impl<'a> NotesFrom<'a> {
 
     /// Takes the first note away, if there is one.
     pub fn pop(&mut self) -> Option<NoteParts<'a>>
-        ensures some { IfSome result (λ note. self.old
+        ensures notes { MatchOption result (self.old ≡ []) (λ note. self.old
             ≡ record { caller = note.caller; deed = note.deed; waived = note.waived } ∷ self.new) }
-        ensures none { IfNone result ((self.old ≡ []) × (self.new ≡ [])) }
+        ensures none_left { IfNone result (self.new ≡ []) }
     {
         let deed = self.deeds.pop()?;
         let caller = self.callers.pop()?;
