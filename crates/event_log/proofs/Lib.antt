@@ -4,3 +4,4 @@ pub mod Growing
 pub mod Counting
 pub mod Carrying
 pub mod Marking
+pub mod Reading

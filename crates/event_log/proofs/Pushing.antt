@@ -16,21 +16,21 @@ use Rattle.event_log.specs.Waivers.{waived_in, waived_at}
 use Rattle.event_log.specs.Notes.{Note, is_none, notes_of, waives_newest}
 use Rattle.event_log.specs.NoteRecords.{is_idle, alike_deeds, goes_on, has_same_caller, new_records, records, is_some_number}
 use Rattle.event_log.specs.NoteRecords.{stands_alone, newest_stands_alone}
-use Rattle.event_log.specs.SoundLog.{AreBefore, notes_in}
+use Rattle.event_log.specs.SoundLog.{AreBefore, AreFrom, AreInOrder, notes_in}
 
 -- The waivers of an event
 
 another : (k n : ℕ) → n < k → (n == k) ≡ false
 another k n h = grind (arith, nat_tests)
 
-another_later : (k n : ℕ) → k < n → (n == k) ≡ false
+pub another_later : (k n : ℕ) → k < n → (n == k) ≡ false
 another_later k n h = grind (arith, nat_tests)
 
-the_same : (n : ℕ) → (n == n) ≡ true
+pub the_same : (n : ℕ) → (n == n) ≡ true
 the_same n = grind (arith, nat_tests)
 
 -- those of earlier events are of no later one
-none_before : (k : ℕ) (waivers : List Waiver) → AreBefore k waivers → waived_at k waivers ≡ []
+pub none_before : (k : ℕ) (waivers : List Waiver) → AreBefore k waivers → waived_at k waivers ≡ []
 none_before k [] h = refl
 none_before k (w ∷ ws) h = rw (another k w.event h.0) (none_before k ws h.1)
 
@@ -63,6 +63,24 @@ pub before_push : (n : ℕ) (waivers : List Waiver) (ws : List Waived) → AreBe
     → AreBefore (n + 1) (waivers ++ map (waiver_of n) ws)
 before_push n [] ws b = before_noted n ws
 before_push n (w ∷ rest) ws b = (omega (arith, b.0), before_push n rest ws b.1)
+
+from_now : (n : ℕ) (ws : List Waived) → AreFrom n (map (waiver_of n) ws)
+from_now n [] = tt
+from_now n (w ∷ ws) = (omega arith, from_now n ws)
+
+now_in_order : (n : ℕ) (ws : List Waived) → AreInOrder (map (waiver_of n) ws)
+now_in_order n [] = tt
+now_in_order n (w ∷ ws) = (from_now n ws, now_in_order n ws)
+
+from_push : (k n : ℕ) (waivers : List Waiver) (ws : List Waived) → k < n → AreFrom k waivers → AreFrom k (waivers ++ map (waiver_of n) ws)
+from_push k n [] [] h f = tt
+from_push k n [] (w ∷ ws) h f = (omega arith, from_push k n [] ws h tt)
+from_push k n (w ∷ rest) ws h f = (f.0, from_push k n rest ws h f.1)
+
+pub in_order-push : (n : ℕ) (waivers : List Waiver) (ws : List Waived) → AreBefore n waivers → AreInOrder waivers
+    → AreInOrder (waivers ++ map (waiver_of n) ws)
+in_order-push n [] ws b o = now_in_order n ws
+in_order-push n (w ∷ rest) ws b o = (from_push w.event n rest ws b.0 o.0, in_order-push n rest ws b.1 o.1)
 
 -- The events
 

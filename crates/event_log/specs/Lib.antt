@@ -4,6 +4,7 @@ pub mod NoteRecords
 pub mod Spread
 pub mod Slots
 pub mod SoundLog
+pub mod NotesFrom
 pub mod Entries
 pub mod GrownTable
 pub mod RecordCounts

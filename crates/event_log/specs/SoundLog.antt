@@ -1,5 +1,5 @@
 -- What is always true of the parts of a log.
-use Rattle.std.specs.Prelude.{◌≡◌, ℕ, ◌+◌, ◌<◌, ◌≤◌, ◌^◌, Bool, true, List, Some, length, reverse, take}
+use Rattle.std.specs.Prelude.{◌≡◌, ℕ, ◌+◌, ◌<◌, ◌≤◌, ◌^◌, Bool, true, List, [], ◌∷◌, Some, length, reverse, take}
 use Rattle.std.specs.List.{AllByRecursion, filter_map}
 use Rattle.event_log.specs.declared.deeds.Deed.{Deed}
 use Rattle.event_log.specs.declared.waivers.Waiver.{Waiver}
@@ -12,15 +12,26 @@ use Rattle.event_log.specs.NoteRecords.{caller_runs, records, stands_alone}
 abbrev pub AreBefore : ℕ → List Waiver → Type 0
 AreBefore place waivers = AllByRecursion (λ w. w.event < place) waivers
 
+-- the waivers are of events at this place or after it
+abbrev pub AreFrom : ℕ → List Waiver → Type 0
+AreFrom place waivers = AllByRecursion (λ w. place ≤ w.event) waivers
+
+-- the waivers stand in the order of their events
+abbrev pub AreInOrder : List Waiver → Type 0
+AreInOrder [] = Unit {0}
+AreInOrder (w ∷ ws) = AreFrom w.event ws × AreInOrder ws
+
 abbrev pub notes_in : List Deed → List ℕ → List Waiver → List Note
 notes_in deeds callers waivers = notes_of (reverse deeds) (reverse callers) waivers
 
--- each event has its caller, no waiver is of a later event, each run of like events is kept once, and so is each run of one caller
+-- each event has its caller, no waiver is of a later event, waivers stand in order, each run of like events is kept once,
+-- and so is each run of one caller
 pub record IsSoundLog (deeds : List Deed) (callers : List ℕ) (waivers : List Waiver) (len kept callers_kept : ℕ) (waives : Bool) : Type 0 where
   pub len_is : len ≡ length deeds
   pub few : len < 2 ^ 32
   pub callers_are : length callers ≡ length deeds
   pub before : AreBefore len waivers
+  pub ordered : AreInOrder waivers
   pub kept_is : kept ≡ records (notes_in deeds callers waivers)
   pub callers_kept_is : callers_kept ≡ caller_runs (notes_in deeds callers waivers)
   pub waives_is : waives ≡ waives_newest (notes_in deeds callers waivers)

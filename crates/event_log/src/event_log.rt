@@ -1,6 +1,6 @@
 //! The log of a die, in parts.
 
-ghost use Rattle.std.specs.Prelude.{◌≡◌, ◌+◌, ◌<◌, ◌≤◌, ◌∷◌, ◌^◌, [], true, length, take, IsOk, OnOk, OnErr};
+ghost use Rattle.std.specs.Prelude.{◌≡◌, ◌+◌, ◌<◌, ◌≤◌, ◌∷◌, ◌^◌, [], true, length, take, drop, reverse, IsOk, OnOk, OnErr};
 ghost use Rattle.slot_types.specs.Refusal.{FailsForMemory};
 ghost use Rattle.event_log.specs.Spread.{last_of};
 ghost use Rattle.event_log.specs.Notes.{Note};
@@ -8,8 +8,10 @@ ghost use Rattle.event_log.specs.Slots.{carried_in};
 ghost use Rattle.event_log.specs.NoteRecords.{goes_on, records, is_some_number, newest_stands_alone};
 
 use crate::deeds::Deed;
+use crate::notes_from::NotesFrom;
 use crate::runs::{Run, Runs};
 use crate::slots_back::SlotsBack;
+use crate::waived_of::parted_at;
 use crate::waivers::{Waiver, note_waivers};
 use slot_types::{Refusal, Waived};
 use std::alloc::Global;
@@ -131,6 +133,20 @@ impl EventLog {
         ensures len { length result ≡ self.now.marked }
     {
         SlotsBack::new(self.deeds.before_mark())
+    }
+
+    /// The notes of the events from this place on, counted from 0, to be taken one by one, the oldest first: none where
+    /// there are no more events. It takes a step for each record and waiver before it, and no memory.
+    pub fn notes_from(&self, from: u32) -> NotesFrom<'_>
+        ensures { result ≡ drop from (reverse self.now.notes) }
+    {
+        let (_, waivers) = parted_at(self.waivers.as_slice(), from);
+        NotesFrom::new(
+            self.deeds.items_from(from),
+            self.callers.items_from(from),
+            waivers,
+            from,
+        )
     }
 
     /// Makes room for at least so many more events, and for so many more waivers with them, and never less than there

@@ -1,10 +1,11 @@
 //! A list in which equal neighbours are kept once, with their count.
 
-ghost use Rattle.std.specs.Prelude.{◌≡◌, ◌+◌, ◌<◌, ◌≤◌, ◌∷◌, ◌++◌, ◌^◌, [], true, length, take, IsOk, OnOk, OnErr, Some};
+ghost use Rattle.std.specs.Prelude.{◌≡◌, ◌+◌, ◌<◌, ◌≤◌, ◌∷◌, ◌++◌, ◌^◌, [], true, length, take, drop, IsOk, OnOk, OnErr, Some};
 ghost use Rattle.slot_types.specs.Refusal.{FailsForMemory};
 ghost use Rattle.event_log.specs.Spread.{spread, last_of, AreSome};
 ghost use Rattle.event_log.specs.NoteRecords.{new_records};
 
+use crate::items_from::ItemsFrom;
 use slot_types::Refusal;
 use std::alloc::Global;
 use std::marker::Model;
@@ -112,6 +113,13 @@ impl<T> Runs<T> {
         ensures some { AreSome result.now }
     {
         &self.runs.as_slice()[..self.marked]
+    }
+
+    /// The items from this place on, in order. It takes a step for each run before it.
+    pub(crate) fn items_from(&self, place: u32) -> ItemsFrom<'_, T>
+        ensures { result ≡ drop place self.now.items }
+    {
+        ItemsFrom::new(self.runs.as_slice(), place)
     }
 }
 

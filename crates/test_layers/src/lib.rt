@@ -13,6 +13,8 @@ mod ledgers;
 #[cfg(test)]
 mod lists;
 #[cfg(test)]
+mod log_readings;
+#[cfg(test)]
 mod logs;
 #[cfg(test)]
 mod maps;

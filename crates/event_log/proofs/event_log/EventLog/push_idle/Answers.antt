@@ -90,6 +90,7 @@ invariant_of-self c =
               c.self.invariant.0.callers_are,
             ));
         before = before_later c.self.inside.len (c.self.inside.len + 1) c.self.inside.waivers.items (omega arith) c.self.invariant.0.before;
+        ordered = c.self.invariant.0.ordered;
         kept_is = rw (
           c.push_reserved.ensures.items,
           c.push_reserved-then-goes_on.ensures.items,

@@ -2,7 +2,7 @@ use Rattle.std.proofs.Common.{◌+◌, ◌∷◌, [], ap, sym, ◌∙◌, length
 use Rattle.event_log.specs.Notes.{Events}
 use Rattle.event_log.specs.SoundLog.{notes_in}
 use Rattle.event_log.specs.NoteRecords.{caller_runs, new_records}
-use Rattle.event_log.proofs.Pushing.{notes_push, records_push, caller_is, goes_on_same, length_of, before_push, is_none_is, same_some}
+use Rattle.event_log.proofs.Pushing.{notes_push, records_push, caller_is, goes_on_same, length_of, before_push, in_order-push, is_none_is, same_some}
 use Rattle.event_log.proofs.Marking.{goes_on_unmarked, some_caller, slots-push, still_marked}
 use Rattle.event_log.proofs.event_log.EventLog.push_reserved.Goals as goal
 
@@ -87,6 +87,8 @@ invariant_of-self c =
             ));
         before = rw c.note_waivers.ensures.noted (before_push c.self.inside.len c.self.inside.waivers.items c.args.waived.now
             c.self.invariant.0.before);
+        ordered = rw c.note_waivers.ensures.noted (in_order-push c.self.inside.len c.self.inside.waivers.items c.args.waived.now
+            c.self.invariant.0.before c.self.invariant.0.ordered);
         kept_is = rw (
           c.push_reserved.ensures.items,
           c.push_reserved-2.ensures.items,
