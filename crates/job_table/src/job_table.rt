@@ -89,6 +89,19 @@ impl JobTable {
         self.ended = false;
     }
 
+    /// Takes all jobs and collections away, as [`clear`](JobTable::clear), and gives their memory back, that which is
+    /// reserved too.
+    pub fn give_back(&mut self, alloc: Global)
+        ensures { self.new ≡ empty_table self.old.tasks }
+    {
+        self.jobs = FlatJobs::new(alloc);
+        self.queues = Queues::new(alloc);
+        self.collecting.fill(false);
+        self.worst = None;
+        self.clock = 0;
+        self.ended = false;
+    }
+
     /// How many jobs and collections there are. The next one has this number.
     pub fn len(&self) -> u32
         ensures len { result ≡ length self.now.jobs }

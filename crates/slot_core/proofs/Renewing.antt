@@ -2,7 +2,8 @@
 use Rattle.std.proofs.Common.{◌≡◌, ℕ, Bool, [], length, List, Option, Some, arith, refl, sym, subst, ap, ◌∙◌}
 use Rattle.std.specs.Prelude.{Contains, false, position}
 use Rattle.std.proofs.Common.{None, ◌∷◌, map}
-use Rattle.job_table.specs.Table.{Table, cleared_table}
+use Rattle.job_table.specs.Reserves.{Reserve}
+use Rattle.job_table.specs.Table.{Table, empty_table}
 use Rattle.flash_volume.specs.declared.collection.Collection.{Collection}
 use Rattle.flash_die.specs.Flash as device
 use Rattle.flash_volume.specs.State.{State}
@@ -37,11 +38,15 @@ renewed_flash start log f bound exact quiet k = record {
   };
 }
 
+-- an empty table of as many tasks, with memory for so much
+abbrev pub emptied : Table → Reserve → Table
+emptied t kept = record (empty_table t.tasks) { reserve = kept }
+
 -- the fields of a die that is renewed: its table and its log are empty, and its flash stays
-pub keeps_renewed : (start : Start) (log : Log) (present : ℕ) (t : Table) (f : FlashState) → AgreeWithLog start log present t false f
+pub keeps_renewed : (start : Start) (log : Log) (present : ℕ) (t : Table) (kept : Reserve) (f : FlashState) → AgreeWithLog start log present t false f
     → IsQuiet start log → CanBeErased (renewed_start start log)
-    → AgreeWithLog (renewed_start start log) [] 0 (cleared_table t) false f
-keeps_renewed start log present t f k quiet left = record {
+    → AgreeWithLog (renewed_start start log) [] 0 (emptied t kept) false f
+keeps_renewed start log present t kept f k quiet left = record {
   exact = tt;
   bound = renewed_opens start log k.bound k.exact quiet;
   left = left;
@@ -55,16 +60,16 @@ keeps_renewed start log present t f k quiet left = record {
 }
 
 -- so it is where the note of the start, the table and the log are made
-pub renewed_kept : {N : Type 0} (blocks_of : N → List device.Block) (start made : Start) (log after : Log) (present : ℕ) (t u : Table)
+pub renewed_kept : {N : Type 0} (blocks_of : N → List device.Block) (start made : Start) (log after : Log) (present : ℕ) (t u : Table) (kept : Reserve)
     (v : State N) → AgreeWithLog (over v.accounts.plan start) log present t v.failed (flash_of blocks_of v) → v.failed ≡ false
     → IsQuiet (over v.accounts.plan start) log → CanBeErased (renewed_start (over v.accounts.plan start) log)
-    → made ≡ renewed_start (over v.accounts.plan start) log → u ≡ cleared_table t → after ≡ []
+    → made ≡ renewed_start (over v.accounts.plan start) log → u ≡ emptied t kept → after ≡ []
     → AgreeWithLog (over v.accounts.plan made) after 0 u v.failed (flash_of blocks_of v)
-renewed_kept blocks_of start made log after present t u v k alive quiet left made_is table_is after_is =
+renewed_kept blocks_of start made log after present t u kept v k alive quiet left made_is table_is after_is =
     let s : Start = over v.accounts.plan start in
     rw made_is (rw table_is (rw after_is (
-    subst (λ (b : Bool). AgreeWithLog (renewed_start s log) [] 0 (cleared_table t) b (flash_of blocks_of v)) (sym alive)
-    (keeps_renewed s log present t (flash_of blocks_of v)
+    subst (λ (b : Bool). AgreeWithLog (renewed_start s log) [] 0 (emptied t kept) b (flash_of blocks_of v)) (sym alive)
+    (keeps_renewed s log present t kept (flash_of blocks_of v)
     (subst (λ (b : Bool). AgreeWithLog s log present t b (flash_of blocks_of v)) alive k) quiet left))))
 
 -- Erases

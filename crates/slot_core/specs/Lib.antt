@@ -4,6 +4,7 @@ pub mod Device
 pub mod Agreement
 pub mod TableLog
 pub mod ReservedSlots
+pub mod Readings
 pub mod MarkedWorst
 pub mod Renewals
 pub mod Resumptions

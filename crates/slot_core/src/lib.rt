@@ -18,6 +18,7 @@ pub mod operations;
 pub mod outcomes;
 pub mod overdues;
 pub mod places;
+pub mod readings;
 pub mod renewal_laws;
 pub mod renewals;
 pub mod resumptions;

@@ -4,6 +4,7 @@ ghost use Rattle.std.specs.Prelude.{◌≡◌, ◌≤◌, ◌⊎◌, false, OnOk
 ghost use Rattle.job_table.specs.Order.{IsHead, IsNextReleased, NothingReady, NothingWaiting};
 ghost use Rattle.die_log.specs.Model.Start.{Start};
 ghost use Rattle.die_log.specs.Model.Opening.{IsQuiet};
+ghost use Rattle.slot_core.specs.Core.{nothing_reserved};
 ghost use Rattle.slot_core.specs.Renewals.{IsNextCarried, MayBeRenewed, RefusesRenewal, renewed_core};
 
 use crate::die_core::DieCore;
@@ -13,6 +14,7 @@ use flash_volume::Volume;
 use job_table::JobTable;
 use log_start::LogStart;
 use slot_types::{JobNo, MAX_SLOT};
+use std::alloc::Global;
 
 /// Why a die isn't renewed, in the order in which the causes are looked at.
 #[derive(Clone, Copy, PartialEq, Eq, Debug, Drop)]
@@ -76,6 +78,20 @@ impl<N: Nand> DieCore<N> {
         Ok(())
     }
 
+    /// As [`renew`](DieCore::renew), and gives back the memory of the log so far, that which is reserved too.
+    pub fn renew_giving_back(&mut self, alloc: Global) -> Result<(), RenewalRefusal>
+        ensures ok { OnOk result (self.new ≡ record (renewed_core self.old) {
+          reserved = nothing_reserved;
+        }) }
+        ensures may { OnOk result (MayBeRenewed self.old) }
+        ensures refused { IfErr result (RefusesRenewal self.old) }
+        ensures unchanged { OnErr result (self.new ≡ self.old) }
+    {
+        self.may_renew()?;
+        self.start_small(alloc);
+        Ok(())
+    }
+
     /// Whether the die may be renewed, and else why not: what [`renew`](DieCore::renew) would answer now. Nothing that a
     /// caller sees changes; the queue of released jobs is brought up to the present slot.
     pub fn may_renew(&mut self) -> Result<(), RenewalRefusal>
@@ -103,6 +119,19 @@ impl<N: Nand> DieCore<N> {
         ensures quiet { IfNone result (IsQuiet self.old.start self.old.log) }
     {
         next_in(&mut self.table, self.present)
+    }
+
+    /// Puts an empty table and an empty log in place of the old ones.
+    fn start_small(&mut self, alloc: Global)
+        requires may { MayBeRenewed self.old }
+        ensures { self.new ≡ record (renewed_core self.old) { reserved = nothing_reserved } }
+    {
+        let start = start_of(&self.volume, &self.table, &self.events, &self.start);
+        self.table.give_back(alloc);
+        self.events = EventLog::new(alloc);
+        self.start = start;
+        self.present = 0;
+        self.reserved = 0;
     }
 
     /// Clears the table and the log.

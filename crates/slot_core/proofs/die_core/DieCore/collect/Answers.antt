@@ -4,7 +4,7 @@ use Rattle.slot_types.specs.declared.events.Event.TheVariants.{Collect}
 use Rattle.slot_types.specs.declared.replies.Reply.TheVariants.{Taken}
 use Rattle.die_log.specs.Model.Answers.{answer, refusal_of}
 use Rattle.die_log.proofs.Legality.{refused_answer}
-use Rattle.slot_core.specs.Core.{Core}
+use Rattle.slot_core.specs.Core.{Core, with_entry}
 use Rattle.slot_core.specs.Calls.{IsCovered}
 use Rattle.slot_core.proofs.Calling.{err_uncovered, stopped_refused, log_refused, memory_refused, entered, of_result}
 use Rattle.slot_core.proofs.Keeping.{collecting_is, may_collect, collect_answered, collect_accepts, if_ok_both, if_err_both}
@@ -98,7 +98,11 @@ returns g c =
     c.args.self.now _ c.enter.result
     (if_ok_both c.enter.result _ _ _ answered
     (if_ok_both c.enter.result _ (λ _. c.enter.new.table
-    ≡ with_job c.self.inside.table (new_collection c.args.task c.args.release c.args.due)) _
+    ≡ with_job c.self.inside.table (new_collection c.args.task c.args.release c.args.due))
+    (λ number. (log_of c.enter.new.table c.enter.new.events.notes
+    ≡ with_entry c.args.caller (Collect c.args.task c.args.release c.args.due) (Taken number)
+    (log_of c.self.inside.table c.self.inside.events.notes))
+    × (c.enter.new.table ≡ with_job c.self.inside.table (new_collection c.args.task c.args.release c.args.due)))
     (collect_logged c.self.inside.table c.enter.new.table c.self.inside.events.notes c.enter.new.events.notes
     c.args.caller c.args.task c.args.release c.args.due c.enter.result
     c.self.invariant.0.fits (rw c.none.ensures at c.enter.ensures.table) c.enter.ensures.number c.enter.ensures.logged)
@@ -110,7 +114,9 @@ returns g c =
       logged = rw (both.0, collect_uses c.self.inside.table c.enter.new.table c.args.task c.args.release c.args.due both.1, ← c.self.view_is) refl;
     })))
     (if_err_both c.enter.result _ _ _ c.enter.ensures.refused
-    (if_err_both c.enter.result _ _ _ stays (err_uncovered c.enter.result covers) (λ refusal same uncovered. (same, uncovered)))
+    (if_err_both c.enter.result _ _ (λ _. ((c.enter.new.table ≡ c.self.inside.table) × (c.enter.new.events.notes ≡ c.self.inside.events.notes))
+    × ¬ IsCovered (Collect c.args.task c.args.release c.args.due) c.args.self.now.reserved)
+    stays (err_uncovered c.enter.result covers) (λ refusal same uncovered. (same, uncovered)))
     (λ refusal is both. memory_refused g.N.Nand.ends g.N.Nand.failures g.N.Nand.never_fails c.args.caller
     (Collect c.args.task c.args.release c.args.due) c.args.self.now _ refusal runs (collect_accepts _ _ _ _ _ none) both.1 is
     (rw (both.0.0, both.0.1, ← c.self.view_is) refl)))

@@ -13,7 +13,7 @@ invariant_of-self g c =
     let f = c.self.inside in (
       record {
         kept = renewed_kept g.N.Nand.blocks f.start c.start_of-start.result (log_of f.table f.events.notes)
-            (log_of c.clear.new.self c.clear-2.new.self.notes) _ f.table c.clear.new.self f.volume
+            (log_of c.clear.new.self c.clear-2.new.self.notes) _ f.table c.clear.new.self f.table.reserve f.volume
             c.self.invariant.0.kept
             (subst (λ (d : Core g.row.N.Denot). d.stopped ≡ false) (sym c.self.view_is) c.requires.may.runs)
             (subst (λ (d : Core g.row.N.Denot). IsQuiet d.start d.log) (sym c.self.view_is) c.requires.may.quiet)

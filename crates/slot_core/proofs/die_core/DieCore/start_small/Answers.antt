@@ -1,0 +1,35 @@
+use Rattle.std.proofs.Common.{◌≡◌, refl, false, sym, subst, ◌∙◌, ap, arith}
+use Rattle.job_table.specs.Reserves.{no_reserve}
+use Rattle.job_table.specs.Table.{Table}
+use Rattle.die_log.specs.Model.Opening.{IsQuiet, CanBeErased, renewed_start}
+use Rattle.slot_core.specs.Core.{Core}
+use Rattle.slot_core.specs.TableLog.{log_of}
+use Rattle.slot_core.specs.ReservedSlots.{open_collections}
+use Rattle.slot_core.proofs.Renewing.{renewed_kept}
+use Rattle.slot_core.proofs.Marks.{marks_none}
+use Rattle.slot_core.proofs.die_core.DieCore.start_small.Goals as goal
+
+pub invariant_of-self : goal.invariant_of-self
+invariant_of-self g c =
+    let f = c.self.inside in (
+      record {
+        kept = renewed_kept g.N.Nand.blocks f.start c.start_of-start.result (log_of f.table f.events.notes)
+            (log_of c.give_back.new.self c.new.result.notes) _ f.table c.give_back.new.self no_reserve f.volume
+            c.self.invariant.0.kept
+            (subst (λ (d : Core g.row.N.Denot). d.stopped ≡ false) (sym c.self.view_is) c.requires.may.runs)
+            (subst (λ (d : Core g.row.N.Denot). IsQuiet d.start d.log) (sym c.self.view_is) c.requires.may.quiet)
+            (subst (λ (d : Core g.row.N.Denot). CanBeErased (renewed_start d.start d.log)) (sym c.self.view_is) c.requires.may.unworn)
+            c.start_of-start.ensures c.give_back.ensures
+            (rw c.new.ensures refl);
+        fits = rw c.new.ensures tt;
+      },
+      record {
+        entries = omega (arith, ap (λ (t : Table). t.reserve.arrivals) c.give_back.ensures);
+        waivers = omega (
+          arith,
+          ap (λ (t : Table). t.reserve.arrivals) c.give_back.ensures,
+          ap (λ (t : Table). open_collections t.jobs) c.give_back.ensures,
+        );
+      },
+      rw (c.give_back.ensures, c.new.ensures) marks_none,
+    )
