@@ -1,7 +1,7 @@
 //! The arguments of both programs, as clap reads them, and the version of both.
 #![tactic(auto)]
 
-pub mod arguments;
+mod arguments;
 
 pub use arguments::{defaulted, flag, needed, option, plan_file, required, script_file, slots};
 

@@ -2,10 +2,10 @@
 #![tactic(auto)]
 
 mod collecting;
-pub mod keeping;
-pub mod planning;
+mod keeping;
+mod planning;
 mod sliding;
-pub mod windows;
+mod windows;
 
 pub use keeping::{Breach, keeps_demand_plan};
 pub use planning::{CollectionRule, JobRule};

@@ -3,13 +3,13 @@
 #![tactic(auto)]
 
 mod amounts;
-pub mod demands;
+mod demands;
 mod intervals;
-pub mod laws;
-pub mod limits;
-pub mod plans;
-pub mod supplies;
-pub mod terms;
+mod laws;
+mod limits;
+mod plans;
+mod supplies;
+mod terms;
 
 pub use demands::{DemandFault, DemandLoad, demand_test};
 pub use laws::{demand_fits_windows, passing_plans_pass};

@@ -3,8 +3,8 @@
 
 mod accounts;
 mod blocks;
-pub mod checkpoint;
-pub mod fault;
+mod checkpoint;
+mod fault;
 mod fits;
 pub mod laws;
 mod pages;

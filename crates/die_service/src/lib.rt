@@ -17,23 +17,23 @@
 //! for the die's turn, and nothing is claimed of how long.
 #![tactic(auto)]
 
-pub mod batches;
+mod batches;
 pub mod book;
-pub mod closing;
+mod closing;
 mod courses;
-pub mod die;
+mod die;
 mod drivers;
-pub mod ends;
-pub mod feeds;
-pub mod gate;
+mod ends;
+mod feeds;
+mod gate;
 pub mod laws;
 mod opening;
-pub mod promised;
+mod promised;
 pub mod queries;
-pub mod refused;
-pub mod renewing;
-pub mod runs;
-pub mod store;
+mod refused;
+mod renewing;
+mod runs;
+mod store;
 mod turns;
 mod work;
 mod workers;

@@ -1,8 +1,8 @@
 //! Queues of waiting jobs in memory reserved beforehand: by deadline, and by release.
 #![tactic(auto)]
 
-pub mod job_queue;
-pub mod keys;
+mod job_queue;
+mod keys;
 pub mod laws;
 mod pair_heap;
 

@@ -1,14 +1,14 @@
 //! The log of a die as small records: what was done, without the bytes that the jobs keep.
 #![tactic(auto)]
 
-pub mod deeds;
-pub mod event_log;
+mod deeds;
+mod event_log;
 mod items_from;
 pub mod laws;
-pub mod notes_from;
-pub mod runs;
-pub mod slots_back;
-pub mod waived_of;
+mod notes_from;
+mod runs;
+mod slots_back;
+mod waived_of;
 mod waivers;
 
 pub use deeds::Deed;

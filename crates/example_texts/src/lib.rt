@@ -3,8 +3,8 @@
 #![tactic(auto)]
 
 pub mod built_in;
-pub mod timed;
-pub mod two_dies;
+mod timed;
+mod two_dies;
 
 pub use built_in::{PLAN, REPORT, SCRIPT, SLOTS};
 pub use timed::TIMED;

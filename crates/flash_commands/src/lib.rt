@@ -1,19 +1,19 @@
 //! The commands of the program: what its words mean, and what each of them prints.
 #![tactic(auto)]
 
-pub mod acts;
+mod acts;
 pub mod audits;
-pub mod command_line;
-pub mod commands;
-pub mod faults;
+mod command_line;
+mod commands;
+mod faults;
 pub mod figures;
-pub mod files;
-pub mod heard;
-pub mod hints;
+mod files;
+mod heard;
+mod hints;
 pub mod laws;
-pub mod progress;
-pub mod record_lines;
-pub mod run_numbers;
+mod progress;
+mod record_lines;
+mod run_numbers;
 pub mod syntax;
 
 pub use acts::{act, carry_out};

@@ -1,11 +1,11 @@
 //! Flash devices: what one does, one in memory, one that fails after some calls, and one that fails once it is armed.
 #![tactic(auto)]
 
-pub mod fault;
-pub mod fuse;
+mod fault;
+mod fuse;
 pub mod laws;
-pub mod memory;
-pub mod nand;
+mod memory;
+mod nand;
 
 pub use fault::FaultNand;
 pub use fuse::FuseNand;

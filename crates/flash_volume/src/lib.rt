@@ -4,16 +4,16 @@
 mod array;
 mod candidates;
 mod collecting;
-pub mod collection;
+mod collection;
 mod faults;
 mod fills;
 mod free_blocks;
 pub mod laws;
-pub mod next_calls;
+mod next_calls;
 mod placed_pages;
 mod resumed;
 mod tables;
-pub mod volume;
+mod volume;
 
 pub use collection::{Began, CollectStep, Collected, Collection, Copied};
 pub use volume::Volume;

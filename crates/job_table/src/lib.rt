@@ -2,16 +2,16 @@
 #![tactic(auto)]
 
 mod changes;
-pub mod counted_ops;
+mod counted_ops;
 mod flat_jobs;
-pub mod job_table;
-pub mod jobs;
+mod job_table;
+mod jobs;
 pub mod laws;
 #[cfg(test)]
 mod memory;
 mod queues;
 mod rows;
-pub mod stages;
+mod stages;
 #[cfg(test)]
 mod tests;
 #[cfg(test)]

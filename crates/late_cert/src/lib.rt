@@ -9,14 +9,14 @@
 //! certificate whether it holds. The laws say why the two agree wherever each slot carried the least key.
 #![tactic(auto)]
 
-pub mod busy_intervals;
-pub mod carried;
-pub mod certificates;
-pub mod checks;
+mod busy_intervals;
+mod carried;
+mod certificates;
+mod checks;
 pub mod laws;
 mod lookups;
-pub mod rows;
-pub mod verdicts;
+mod rows;
+mod verdicts;
 
 pub use busy_intervals::build;
 pub use carried::Carried;

@@ -1,7 +1,7 @@
 //! The accounts of a die's free pages: which of them are promised, to whom, and which are spare.
 #![tactic(auto)]
 
-pub mod accounts;
+mod accounts;
 pub mod laws;
 mod resumed;
 

@@ -1,30 +1,30 @@
 //! One die: its jobs and collections, its flash, and its log.
 #![tactic(auto)]
 
-pub mod admission;
-pub mod certificates;
-pub mod devices;
-pub mod die_core;
-pub mod events;
-pub mod faults;
+mod admission;
+mod certificates;
+mod devices;
+mod die_core;
+mod events;
+mod faults;
 pub mod head_step;
 mod head_steps;
-pub mod job_records;
+mod job_records;
 pub mod laws;
-pub mod next_calls;
-pub mod next_slot;
-pub mod notes;
-pub mod operations;
-pub mod outcomes;
-pub mod overdues;
-pub mod places;
-pub mod readings;
+mod next_calls;
+mod next_slot;
+mod notes;
+mod operations;
+mod outcomes;
+mod overdues;
+mod places;
+mod readings;
 pub mod renewal_laws;
-pub mod renewals;
-pub mod resumptions;
-pub mod runs;
-pub mod slot_note;
-pub mod slots;
+mod renewals;
+mod resumptions;
+mod runs;
+mod slot_note;
+mod slots;
 
 pub use die_core::DieCore;
 pub use events::{EventHead, ReplyNote};

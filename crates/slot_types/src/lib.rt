@@ -1,21 +1,21 @@
 //! The plain data that every crate of the store speaks of: plans, jobs, events, replies, refusals.
 #![tactic(auto)]
 
-pub mod acts;
-pub mod events;
-pub mod items;
+mod acts;
+mod events;
+mod items;
 pub mod laws;
-pub mod lent_ops;
-pub mod limits;
-pub mod numbers;
-pub mod op_arena;
-pub mod op_kinds;
-pub mod packed_ops;
-pub mod pages;
-pub mod plans;
-pub mod refusals;
-pub mod replies;
-pub mod short_items;
+mod lent_ops;
+mod limits;
+mod numbers;
+mod op_arena;
+mod op_kinds;
+mod packed_ops;
+mod pages;
+mod plans;
+mod refusals;
+mod replies;
+mod short_items;
 
 pub use acts::Act;
 pub use events::{Event, JobHead, Op, OpList};

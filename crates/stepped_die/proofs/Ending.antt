@@ -15,8 +15,8 @@ use Rattle.die_log.specs.Model.Answers.{answer, reply_if_accepted}
 use Rattle.die_log.specs.Model.NeededCalls.{needed_call}
 use Rattle.die_log.specs.Results.Promises.{KeepsPromises}
 use Rattle.die_log.proofs.Legality.{accepted_answer}
-use Rattle.slot_core.specs.Calls.{HasEntered, FindsFault, RefusesCall, IsCall, reply_as}
-use Rattle.slot_core.specs.Core.{Core}
+use Rattle.slot_core.specs.Calls.{reserved_after, HasEntered, FindsFault, RefusesCall, IsCall, reply_as}
+use Rattle.slot_core.specs.Core.{Core, Reserved}
 use Rattle.slot_core.specs.Needs.{MadeAndFailed}
 use Rattle.slot_core.proofs.Calling.{has_entered, arrival_stays, stopped_only}
 use Rattle.slot_core.proofs.Slotting.{slot_unrefused}
@@ -67,16 +67,23 @@ not_refused_here before after begun r runs h call =
 die_is : {T : Type 0} (r s : Refusal) → ◌≡◌ {A = Result T StepRefusal} (Err (refuses.Die r)) (Err (refuses.Die s)) → r ≡ s
 die_is r s e = cc
 
+-- what arrives later takes nothing of what is reserved for slots
+slots_stay : (event : Event) (reserved : Reserved) (present : ℕ) → WaitsAfter present event
+    → (reserved_after event reserved).slots ≡ reserved.slots
+slots_stay (events.Submit task release due ops) reserved present h = refl
+slots_stay (events.Collect task release due) reserved present h = refl
+slots_stay events.Slot reserved present h = absurd h
+
 present_stays : (before : Core Mirror) (caller : ℕ) (event : Event) (number : ℕ) (begun : Begun) (after : Core Mirror)
     → KeepsPromises before.start before.log → HasEntered caller event number before after → WaitsAfter (now before.log) event
     → IsPresent before begun → IsPresent after begun
 present_stays before caller event number begun after keeps taken beyond h =
-    let same = (arrival_leaves before.start before.log caller event number keeps.opens keeps.exact taken.answered beyond).1.1 in
+    let same = (arrival_leaves before.start before.log caller event number keeps.opens keeps.exact taken.answered beyond).2 in
     subst (λ (c : Core Mirror). IsPresent c begun) (sym taken.logged) (record {
       slot_is = h.slot_is;
       few = h.few;
       call_is = h.call_is ∙ ap (reported_by (mirror_of before)) (sym same);
-      reserved = h.reserved;
+      reserved = subst (λ (n : ℕ). 0 < n) (sym (slots_stay event before.reserved (now before.log) beyond)) h.reserved;
     })
 
 begun_stays : (o : Option Begun) (before : Core Mirror) (caller : ℕ) (event : Event) (number : ℕ) (after : Core Mirror)

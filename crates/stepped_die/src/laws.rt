@@ -95,7 +95,7 @@ pub fn beginning_a_slot_has_one_answer()
         OnErr one (left ≡ before) → OnErr other (right ≡ before) →
         IfErr one (RefusesBeginning before) → IfErr other (RefusesBeginning before) →
         ((one ≡ other) × (left ≡ right))
-        ⊎ ((before.core.reserved ≡ 0)
+        ⊎ ((before.core.reserved.slots ≡ 0)
         × ((one ≡ Err (StepRefusal.Die Refusal.NoMemory))
         ⊎ (other ≡ Err (StepRefusal.Die Refusal.NoMemory)))) }
 {}

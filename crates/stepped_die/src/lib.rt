@@ -2,12 +2,12 @@
 //! driver does it, and `end` takes what the device answered. A slot whose call failed is not in the log.
 #![tactic(auto)]
 
-pub mod calls;
-pub mod die;
-pub mod laws;
-pub mod mirror;
-pub mod refusals;
-pub mod resumptions;
+mod calls;
+mod die;
+mod laws;
+mod mirror;
+mod refusals;
+mod resumptions;
 
 pub use calls::{Begun, Call};
 pub use die::SteppedDie;

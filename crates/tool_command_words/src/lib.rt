@@ -1,10 +1,10 @@
 //! The words of `flashplan`: its commands and their options as clap reads them, and what they ask for.
 #![tactic(auto)]
 
-pub mod asked;
+mod asked;
 mod commands;
 mod number_faults;
-pub mod reading;
+mod reading;
 mod syntax;
 mod values;
 mod word_faults;

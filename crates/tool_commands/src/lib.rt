@@ -1,7 +1,7 @@
 //! The commands of `flashplan`: what each prints of the files that it names, and its status.
 #![tactic(auto)]
 
-pub mod acts;
+mod acts;
 pub mod arriving;
 pub mod checkpoint_acts;
 pub mod comparing;
@@ -10,7 +10,7 @@ pub mod explaining;
 pub mod fitting;
 pub mod keeping;
 pub mod listed_acts;
-pub mod requests;
+mod requests;
 pub mod runs;
 
 pub use acts::act;

@@ -4,6 +4,6 @@
 pub mod laws;
 mod lists;
 mod ties;
-pub mod victims;
+mod victims;
 
 pub use victims::Victims;

@@ -6,5 +6,5 @@ returns c = record {
   answer = λ start past caller event number opens exact taken beyond.
       (arrival_leaves start past caller event number opens exact taken beyond).0;
   call = λ start past caller event number opens exact taken beyond.
-      (arrival_leaves start past caller event number opens exact taken beyond).1.0;
+      (arrival_leaves start past caller event number opens exact taken beyond).1;
 }
