@@ -3,4 +3,3 @@ pub mod Calls
 pub mod Memory
 pub mod MemoryView
 pub mod Fuse
-pub mod Faulty

@@ -14,7 +14,6 @@ ghost use Rattle.flash_die.specs.Flash.{block_at, cell_at, blocks_after_program,
 ghost use Rattle.flash_die.specs.Calls.{FailsByFault, AreOneButForFault};
 ghost use Rattle.flash_die.specs.declared.nand.NandCall.{NandCall};
 ghost use Rattle.flash_die.specs.Fuse.{Fuse, EndsAsFused};
-ghost use Rattle.flash_die.specs.Faulty.{Faulty, EndsAsReported};
 ghost use Rattle.flash_die.specs.Memory.{AreLeftSo, Memory, fresh_memory, left_memory};
 
 use crate::nand::Nand;
@@ -112,13 +111,4 @@ pub fn a_fuse_burns_in_one_way<N: Nand>()
         EndsAsFused N.ends before call one left → EndsAsFused N.ends before call other right →
         (left.left ≡ right.left) × (left.failed ≡ right.failed)
         × (before.left ≡ 0 → (one ≡ other) × (left.inner ≡ right.inner)) }
-{}
-
-/// A device that fails once it is armed (`FaultNand`) ends each call that it doesn't pass on in one way. Left open is
-/// how the device ends a call that is passed on to it.
-pub fn an_armed_device_fails_in_one_way<N: Nand>()
-    ensures { (before left right : Faulty N) (call : NandCall) (one other : Bool) →
-        EndsAsReported N.ends before call one left → EndsAsReported N.ends before call other right →
-        (left.armed ≡ before.armed) × (right.armed ≡ before.armed)
-        × (before.armed ≡ true → (one ≡ false) × (other ≡ false) × (left ≡ right)) }
 {}
