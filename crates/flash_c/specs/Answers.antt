@@ -39,5 +39,5 @@ pub record SaysUnbegun (die : Stepped) (code : ℕ) : Type 0 where
 pub record SaysReply (ok : Bool) (bytes : PageData) (before after : Stepped) (said : FlashReply) (room waived : List FlashWaived) : Type 0 where
   pub reply : SlotReply
   pub ended : HasEnded ok bytes reply before after
-  pub said_is : said ≡ reply_of reply
+  pub said_is : said ≡ reply_of ended.begun.caller reply
   pub waived_is : waived ≡ array_with waived_of room reply.waived

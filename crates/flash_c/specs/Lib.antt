@@ -4,6 +4,7 @@ pub mod Counts
 pub mod Names
 pub mod Plans
 pub mod Slots
+pub mod Entries
 pub mod Lists
 pub mod Conversions
 pub mod Texts

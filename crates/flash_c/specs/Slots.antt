@@ -34,14 +34,16 @@ abbrev pub shown_of : Option (ℕ × Act) → Shown
 shown_of None = record { act = 0; page = 0; name = no_name }
 shown_of (Some ran) = act_shown ran.1
 
-abbrev pub reply_of : SlotReply → FlashReply
-reply_of reply = let did = shown_of reply.ran in record {
+-- what a slot did that this caller began
+abbrev pub reply_of : ℕ → SlotReply → FlashReply
+reply_of caller reply = let did = shown_of reply.ran in record {
   slot = reply.slot;
   act = did.act;
   job = job_in reply.ran;
   page = did.page;
   finished = flag (is_some reply.finished);
   waived = count_of (length reply.waived);
+  caller = caller;
   name = did.name;
 }
 
@@ -81,7 +83,7 @@ abbrev pub next_page : Option (ℕ × NextAct) → ℕ
 next_page None = no_page
 next_page (Some runs) = act_page runs.1
 
--- what the device is asked: its kind, the cell or block, and the name
+-- what the driver is asked: its kind, the cell or block, and the name
 abbrev pub call_by : ℕ → ℕ → ℕ → ℕ → Option Call → FlashCall
 call_by slot act job logical None = record { kind = 0; block = 0; page = 0; last = 0; slot = slot; act = act; job = job; logical = logical; name = no_name }
 call_by slot act job logical (Some (calls.Read place bytes)) = record {
@@ -111,6 +113,18 @@ call_by slot act job logical (Some (calls.Erase block last)) = record {
   block = block;
   page = 0;
   last = flag last;
+  slot = slot;
+  act = act;
+  job = job;
+  logical = logical;
+  name = no_name;
+}
+
+call_by slot act job logical (Some (calls.Trim trimmed)) = record {
+  kind = 4;
+  block = 0;
+  page = 0;
+  last = 0;
   slot = slot;
   act = act;
   job = job;

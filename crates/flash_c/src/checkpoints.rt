@@ -32,7 +32,7 @@ use stepped_die::SteppedDie;
 /// The block of a page that lies nowhere.
 const NOWHERE: u32 = u32::MAX;
 
-fn place_of(place: Option<Place>) -> FlashPlace
+pub(crate) fn place_of(place: Option<Place>) -> FlashPlace
     ensures { result ≡ place_of place }
 {
     match place {

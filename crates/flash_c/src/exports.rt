@@ -1,9 +1,10 @@
 //! What C does with a die.
 
-ghost use Rattle.std.specs.Prelude.{◌≡◌, ◌≢◌, ◌⊎◌, ◌<◌, ◌==◌, None, Some, IsSome, IfSome, IfOk, IfErr, OnErr, true, false, max};
+ghost use Rattle.std.specs.Prelude.{◌≡◌, ◌≢◌, ◌⊎◌, ◌<◌, ◌==◌, None, Some, IsSome, IfSome, IfOk, IfErr, OnErr, true, false, ◌≤◌};
 ghost use Rattle.std.specs.List.{list_all};
 ghost use Rattle.slot_types.specs.declared.events.Event.TheVariants as events;
 ghost use Rattle.slot_core.specs.Calls.{HasEntered};
+ghost use Rattle.slot_core.specs.Core.{nothing_reserved, with_slots, with_arrivals};
 ghost use Rattle.slot_core.specs.Renewals.{MayBeRenewed, renewed_core};
 ghost use Rattle.stepped_die.specs.Stepped.{Stepped};
 ghost use Rattle.stepped_die.specs.Steps.{IsNew, HasBegun, HasFailed, RefusesArrival};
@@ -24,7 +25,7 @@ use crate::plans::plan_in;
 use crate::shapes::{
     FlashCall, FlashName, FlashOp, FlashPlan, FlashReply, FlashTask, FlashWaived, FlashWhy,
 };
-use crate::slots::{call_of, reply_of};
+use crate::slots::{call_of, caller_of, reply_of};
 use crate::times::may_be_used;
 use slot_core::new_reply;
 use slot_types::{JobNo, Op, TaskNo};
@@ -207,7 +208,7 @@ pub extern "C" fn flash_begin(
     ensures begun { result ≡ 0 → IfSome die.new.value (λ after. IfSome after.begun (λ begun.
         HasBegun caller begun held after × (call.new ≡ call_of begun))) }
     ensures cause { result ≢ 0 → SaysUnbegun held result }
-    ensures memory { 0 < held.core.reserved → result ≢ 1 }
+    ensures memory { 0 < held.core.reserved.slots → result ≢ 1 }
     ensures refused { result ≢ 0 → die.new.value ≡ Some held }
     ensures silent { result ≢ 0 → call.new ≡ call.old }
 {
@@ -248,12 +249,13 @@ pub extern "C" fn flash_end(
     let bytes = page_in(name);
     let mut said = new_reply(alloc);
     let mut boxed = take(alloc, die);
+    let caller = caller_of(boxed.begun());
     let ended = boxed.end(ok == 1, bytes, &mut said);
     put(die, boxed);
     match ended {
         Ok(()) => {
             put_waived(waived, said.waived.as_slice());
-            *reply = reply_of(&said);
+            *reply = reply_of(caller, &said);
             OK
         }
         Err(refusal) => of_step(refusal),
@@ -266,11 +268,9 @@ pub extern "C" fn flash_reserve(alloc: Global, die: &mut Handle, slots: u32) -> 
     ghost held: { Stepped }
     requires full { die.old.value ≡ Some held }
     ensures full { IsSome die.new.value }
-    ensures reserved { result ≡ 0 → IfSome die.new.value (λ after. after ≡ record held {
-      core = record held.core {
-        reserved = max held.core.reserved slots;
-      };
-    }) }
+    ensures reserved { result ≡ 0
+        → IfSome die.new.value (λ after. after ≡ record held { core = with_slots slots held.core }) }
+    ensures succeeds { slots ≤ held.core.reserved.slots → result ≡ 0 }
     ensures refused { result ≢ 0 → (result ≡ 1) × (die.new.value ≡ Some held) }
 {
     let mut boxed = take(alloc, die);
@@ -279,6 +279,58 @@ pub extern "C" fn flash_reserve(alloc: Global, die: &mut Handle, slots: u32) -> 
     match reserved {
         Ok(()) => OK,
         Err(refusal) => of_refusal(refusal),
+    }
+}
+
+/// Takes the memory for this many later jobs and collections, with so many operations in all.
+#[unsafe(no_mangle)]
+pub extern "C" fn flash_reserve_jobs(
+    alloc: Global,
+    die: &mut Handle,
+    jobs: u32,
+    operations: u32,
+) -> u32
+    ghost held: { Stepped }
+    requires full { die.old.value ≡ Some held }
+    ensures full { IsSome die.new.value }
+    ensures reserved { result ≡ 0 → IfSome die.new.value (λ after.
+        after ≡ record held { core = with_arrivals jobs operations held.core }) }
+    ensures succeeds { jobs ≤ held.core.reserved.arrivals
+        → operations ≤ held.core.reserved.operations → result ≡ 0 }
+    ensures refused { result ≢ 0 → (result ≡ 1) × (die.new.value ≡ Some held) }
+{
+    let mut boxed = take(alloc, die);
+    let reserved = boxed.reserve_arrivals(jobs, operations);
+    put(die, boxed);
+    match reserved {
+        Ok(()) => OK,
+        Err(refusal) => of_refusal(refusal),
+    }
+}
+
+/// Starts the log anew at a quiet moment, and gives back the memory of the log so far, that which is reserved too.
+#[unsafe(no_mangle)]
+pub extern "C" fn flash_renew_giving_back(alloc: Global, die: &mut Handle, why: &mut FlashWhy) -> u32
+    ghost held: { Stepped }
+    requires full { die.old.value ≡ Some held }
+    ensures full { IsSome die.new.value }
+    ensures renewed { result ≡ 0 → IfSome die.new.value (λ after. after ≡ record held {
+      core = record (renewed_core held.core) { reserved = nothing_reserved };
+    }) }
+    ensures may { result ≡ 0 → MayBeRenewed held.core }
+    ensures well { result ≡ 0 → why.new ≡ why.old }
+    ensures cause { result ≢ 0 → SaysUnrenewed held result why.new }
+    ensures refused { result ≢ 0 → die.new.value ≡ Some held }
+{
+    let mut boxed = take(alloc, die);
+    let renewed = boxed.renew_giving_back(alloc);
+    put(die, boxed);
+    match renewed {
+        Ok(()) => OK,
+        Err(refusal) => {
+            *why = renewal_why(refusal);
+            of_renewal(refusal)
+        }
     }
 }
 

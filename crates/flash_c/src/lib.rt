@@ -6,6 +6,7 @@ pub mod audits;
 pub mod checkpoints;
 pub mod codes;
 mod counts;
+pub mod entries;
 pub mod exports;
 pub mod handles;
 mod lists;

@@ -9,14 +9,22 @@ ghost use Rattle.stepped_die.specs.Stepped.{Stepped};
 ghost use Rattle.flash_c.specs.Counts.{count_of};
 ghost use Rattle.flash_c.specs.Lists.{array_with};
 ghost use Rattle.flash_c.specs.Names.{name_of};
+ghost use Rattle.slot_types.specs.Places.{place_of as place_in_log};
+ghost use Rattle.die_log.specs.Model.Flash.{cells};
+ghost use Rattle.flash_c.specs.Checkpoints.{place_of};
 ghost use Rattle.flash_c.specs.Conversions as says;
+ghost use Rattle.flash_c.specs.Entries.{SaysCaller};
 
+use crate::checkpoints::place_of;
 use crate::codes::{NOTHING_DONE, OK, of_refusal};
 use crate::counts::count_of;
+use crate::entries::caller_of_job;
 use crate::handles::{Handle, put, take};
 use crate::lists::{put_jobs, put_names, put_rows};
 use crate::said::{certificate_of, job_of, outcome_of, worst_of};
-use crate::shapes::{FlashCertificate, FlashJob, FlashName, FlashOutcome, FlashRow, FlashWorst};
+use crate::shapes::{
+    FlashCertificate, FlashJob, FlashName, FlashOutcome, FlashPlace, FlashRow, FlashWorst,
+};
 use slot_core::Outcome;
 use slot_types::JobNo;
 use std::alloc::Global;
@@ -63,27 +71,52 @@ pub extern "C" fn flash_records(alloc: Global, die: &mut Handle) -> u64
     records
 }
 
-/// What a job or a collection was accepted with.
+/// What a job or a collection was accepted with. To find who submitted it takes a step for each entry up to that one.
 #[unsafe(no_mangle)]
 pub extern "C" fn flash_job(alloc: Global, die: &mut Handle, number: u32, job: &mut FlashJob) -> u32
     ghost held: { Stepped }
     requires full { die.old.value ≡ Some held }
     ensures same { die.new.value ≡ Some held }
     ensures said { result ≡ 0 → IsSomeAnd (head_at held.core.log number) (λ head.
-        job.new ≡ says.job_of head) }
+        job.new ≡ says.job_of job.new.caller head) }
+    ensures caller { result ≡ 0 → SaysCaller held.core.log number job.new.caller }
     ensures unknown { result ≢ 0 → (result ≡ 17) × (job_at held.core.log number ≡ None)
         × (job.new ≡ job.old) }
 {
     let boxed = take(alloc, die);
     let said = boxed.core().job(JobNo(number));
+    let mut notes = boxed.core().notes_from(0);
+    let caller = caller_of_job(&mut notes, number);
     put(die, boxed);
     match said {
         Ok(head) => {
-            *job = job_of(head);
+            *job = job_of(caller, head);
             OK
         }
         Err(refusal) => of_refusal(refusal),
     }
+}
+
+/// The cell in which a logical page lies, of a die that is stopped, too; a page that the die doesn't have lies nowhere.
+#[unsafe(no_mangle)]
+pub extern "C" fn flash_place(
+    alloc: Global,
+    die: &mut Handle,
+    page: u32,
+    place: &mut FlashPlace,
+) -> u32
+    ghost held: { Stepped }
+    requires full { die.old.value ≡ Some held }
+    ensures same { die.new.value ≡ Some held }
+    ensures place { place.new
+        ≡ place_of (place_in_log (cells held.core.start held.core.log).places page) }
+    ensures well { result ≡ 0 }
+{
+    let boxed = take(alloc, die);
+    let found = boxed.core().place(page);
+    put(die, boxed);
+    *place = place_of(found);
+    OK
 }
 
 /// What became of a job or a collection; what its reads gave goes into `reads`, as far as there is room.

@@ -57,7 +57,7 @@ pub struct FlashWhy {
     pub second: u32,
 }
 
-/// What the device is to do: 0 nothing, 1 read, 2 program, 3 one slot of an erase.
+/// What the driver is to do: 0 nothing, 1 read, 2 program, 3 one slot of an erase, 4 note a trim.
 #[repr(C)]
 #[derive(Clone, Copy, Drop)]
 pub struct FlashCall {
@@ -90,6 +90,8 @@ pub struct FlashReply {
     pub finished: u32,
     /// How many collections were waived.
     pub waived: u32,
+    /// Who began the slot.
+    pub caller: u32,
     pub name: FlashName,
 }
 
@@ -101,6 +103,22 @@ pub struct FlashWaived {
     pub given: u32,
 }
 
+/// An entry of the log. `what`: 0 a job was accepted, 1 a collection was; a slot in which 2 nothing was carried, 3 a job did an
+/// operation, 4 its last one, a collection 5 read a page, 6 programmed it, 7 did a slot of its erase, 8 the last one.
+#[repr(C)]
+#[derive(Clone, Copy, Drop)]
+pub struct FlashEntry {
+    pub what: u32,
+    /// Who called.
+    pub caller: u32,
+    /// The job or collection; 0 where nothing was carried.
+    pub job: u32,
+    /// Which of the job's operations it was, from 0; the logical page that was copied; the block that was erased; else 0.
+    pub at: u32,
+    /// How many collections were waived in the slot.
+    pub waived: u32,
+}
+
 /// What a job or a collection was accepted with.
 #[repr(C)]
 #[derive(Clone, Copy, Drop)]
@@ -110,6 +128,8 @@ pub struct FlashJob {
     pub task: u32,
     pub release: u32,
     pub due: u32,
+    /// Who submitted it.
+    pub caller: u32,
 }
 
 /// What became of a job or collection: 0 waits, 1 done, 2 waived.

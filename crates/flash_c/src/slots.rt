@@ -1,6 +1,6 @@
 //! Calls of the device and replies as C has them.
 
-ghost use Rattle.std.specs.Prelude.{◌≡◌};
+ghost use Rattle.std.specs.Prelude.{◌≡◌, IfSome};
 ghost use Rattle.flash_c.specs.Slots.{act_shown, job_in, shown_of, reply_of, waived_of, next_act, next_job, next_page, call_of};
 
 use crate::counts::{count_of, flag};
@@ -65,8 +65,8 @@ pub(crate) fn waived_of(waived: Waived) -> FlashWaived
     }
 }
 
-pub(crate) fn reply_of(reply: &SlotReply) -> FlashReply
-    ensures { result ≡ reply_of reply.now }
+pub(crate) fn reply_of(caller: u32, reply: &SlotReply) -> FlashReply
+    ensures { result ≡ reply_of caller reply.now }
 {
     let did = shown_of(reply.ran);
     FlashReply {
@@ -76,7 +76,18 @@ pub(crate) fn reply_of(reply: &SlotReply) -> FlashReply
         page: did.page,
         finished: flag(reply.finished.is_some()),
         waived: count_of(reply.waived.len()),
+        caller,
         name: did.name,
+    }
+}
+
+/// Who began a slot, or 0 where none has begun.
+pub(crate) fn caller_of(begun: Option<Begun>) -> u32
+    ensures { IfSome begun (λ begun. result ≡ begun.caller) }
+{
+    match begun {
+        Some(begun) => begun.caller,
+        None => 0,
     }
 }
 
@@ -198,5 +209,6 @@ pub(crate) fn call_of(begun: Begun) -> FlashCall
         Some(Call::Erase { block, last }) => {
             made(slot, act, job, logical, 3, block, 0, flag(last), NO_NAME)
         }
+        Some(Call::Trim { .. }) => made(slot, act, job, logical, 4, 0, 0, 0, NO_NAME),
     }
 }

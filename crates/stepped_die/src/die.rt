@@ -11,7 +11,7 @@ ghost use Rattle.slot_core.specs.Calls.{HasEntered};
 ghost use Rattle.slot_core.specs.WithinSlot.{idle_reply};
 ghost use Rattle.slot_core.specs.Renewals.{MayBeRenewed, renewed_core};
 ghost use Rattle.stepped_die.specs.Steps.{HoldsBack};
-ghost use Rattle.slot_core.specs.Core.{with_slots, with_arrivals};
+ghost use Rattle.slot_core.specs.Core.{nothing_reserved, with_slots, with_arrivals};
 ghost use Rattle.stepped_die.specs.DeviceCalls.{IsDone, call_reported, reported_by};
 
 use crate::calls::{Begun, Call};
@@ -284,6 +284,35 @@ impl SteppedDie {
             Ok(()) => Ok(()),
             Err(refusal) => Err(StepRenewalRefusal::Die(refusal)),
         }
+    }
+
+    /// As [`renew`](SteppedDie::renew), and gives back the memory of the log so far, that which is reserved too.
+    pub fn renew_giving_back(&mut self, alloc: Global) -> Result<(), StepRenewalRefusal>
+        ensures begun { self.old.core.stopped ≡ false
+            → ((result ≡ Err StepRenewalRefusal.Begun) ↔ IsSome self.old.begun) }
+        ensures ok { OnOk result ((self.new ≡ record self.old {
+          core = record (renewed_core self.old.core) { reserved = nothing_reserved };
+        }) × MayBeRenewed self.old.core) }
+        ensures cause { IfErr result (RefusesRenewing self.old) }
+        ensures unchanged { OnErr result (self.new ≡ self.old) }
+    {
+        if self.core.is_stopped() {
+            return Err(StepRenewalRefusal::Die(RenewalRefusal::DieStopped));
+        }
+        if self.begun.is_some() {
+            return Err(StepRenewalRefusal::Begun);
+        }
+        match self.core.renew_giving_back(alloc) {
+            Ok(()) => Ok(()),
+            Err(refusal) => Err(StepRenewalRefusal::Die(refusal)),
+        }
+    }
+
+    /// The slot that has begun, if one has.
+    pub fn begun(&self) -> Option<Begun>
+        ensures { result ≡ self.now.begun }
+    {
+        self.begun
     }
 
     /// The die, for questions. They are answered by the log, in which a slot that has begun, or has failed, isn't.
