@@ -33,7 +33,7 @@ abbrev pub call_reported : Memory → Option NandCall → Option Call
 call_reported device None = None
 call_reported device (Some call) = Some (reported_of device call)
 
--- a slot that trims a page needs no call of the device, and its driver is told of the page
+-- a slot that trims a page needs no call of the device, and the page is what its driver is asked to note
 abbrev pub reported_for : Memory → Option (ℕ × NextAct) → Option NandCall → Option Call
 reported_for device (Some (job, acts.Trim page)) call = Some (calls.Trim page)
 reported_for device _ call = call_reported device call

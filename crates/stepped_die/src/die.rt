@@ -264,6 +264,23 @@ impl SteppedDie {
         self.core.reserve_arrivals(arrivals, operations)
     }
 
+    /// Whether neither a fault has stopped the die nor a slot has begun, and else why the log isn't started anew.
+    fn may_renew(&self) -> Result<(), StepRenewalRefusal>
+        ensures runs { OnOk result (self.now.core.stopped ≡ false) }
+        ensures idle { OnOk result (self.now.begun ≡ None) }
+        ensures begun { self.now.core.stopped ≡ false
+            → ((result ≡ Err StepRenewalRefusal.Begun) ↔ IsSome self.now.begun) }
+        ensures cause { IfErr result (RefusesRenewing self.now) }
+    {
+        if self.core.is_stopped() {
+            return Err(StepRenewalRefusal::Die(RenewalRefusal::DieStopped));
+        }
+        if self.begun.is_some() {
+            return Err(StepRenewalRefusal::Begun);
+        }
+        Ok(())
+    }
+
     /// Starts the log anew at a quiet moment, as [`DieCore::renew`]. `DieStopped` where a fault has stopped the die;
     /// else `Begun` where a slot has begun. Every refusal changes nothing.
     pub fn renew(&mut self) -> Result<(), StepRenewalRefusal>
@@ -274,12 +291,7 @@ impl SteppedDie {
         ensures cause { IfErr result (RefusesRenewing self.old) }
         ensures unchanged { OnErr result (self.new ≡ self.old) }
     {
-        if self.core.is_stopped() {
-            return Err(StepRenewalRefusal::Die(RenewalRefusal::DieStopped));
-        }
-        if self.begun.is_some() {
-            return Err(StepRenewalRefusal::Begun);
-        }
+        self.may_renew()?;
         match self.core.renew() {
             Ok(()) => Ok(()),
             Err(refusal) => Err(StepRenewalRefusal::Die(refusal)),
@@ -296,12 +308,7 @@ impl SteppedDie {
         ensures cause { IfErr result (RefusesRenewing self.old) }
         ensures unchanged { OnErr result (self.new ≡ self.old) }
     {
-        if self.core.is_stopped() {
-            return Err(StepRenewalRefusal::Die(RenewalRefusal::DieStopped));
-        }
-        if self.begun.is_some() {
-            return Err(StepRenewalRefusal::Begun);
-        }
+        self.may_renew()?;
         match self.core.renew_giving_back(alloc) {
             Ok(()) => Ok(()),
             Err(refusal) => Err(StepRenewalRefusal::Die(refusal)),
