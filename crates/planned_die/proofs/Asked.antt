@@ -1,13 +1,12 @@
 -- What a die answers an ask, by what it remembers, is what its lives say.
-use Rattle.std.proofs.Common.{◌≡◌, ℕ, ◌+◌, ◌-◌, ◌<◌, ◌≤◌, Bool, List, [], ◌∷◌, ◌++◌, length, take, filter, refl, ap, sym, ◌∙◌, arith, Option, None}
+use Rattle.std.proofs.Common.{◌≡◌, ℕ, ◌+◌, ◌-◌, ◌≤◌, Bool, List, [], ◌∷◌, ◌++◌, length, take, filter, ap, ◌∙◌, arith, Option}
 use Rattle.std.specs.Prelude.{All}
 use Rattle.std.proofs.lemmas.List.{take-append-le, take_all, length_push}
 use Rattle.std.proofs.lemmas.List.Elements.{All-push, All-filter}
 use Rattle.slot_types.specs.declared.events.Op.{Op}
 use Rattle.slot_types.specs.declared.plans.DiePlan.{DiePlan}
-use Rattle.demand_rules.specs.Demand.{terms_of}
 use Rattle.die_log.specs.Model.Log.{now}
-use Rattle.die_log.specs.Model.Lives.{Lives, all_slots}
+use Rattle.die_log.specs.Model.Lives.{Lives}
 use Rattle.planned_log.specs.declared.refusals.AskRefusal.{AskRefusal}
 use Rattle.planned_log.specs.Asks.{asked_by, ask_refusals, first_refusal, ask_refusal}
 use Rattle.planned_die.specs.declared.memory.AskedJob.{AskedJob}

@@ -1,11 +1,11 @@
 -- A die on which nothing was done keeps its plan.
-use Rattle.std.proofs.Common.{◌≡◌, ℕ, ◌+◌, List, [], ◌∷◌, refl, sym, subst, arith}
+use Rattle.std.proofs.Common.{◌≡◌, ℕ, ◌+◌, [], ◌∷◌, refl, sym, subst, arith}
 use Rattle.slot_types.specs.declared.plans.DiePlan.{DiePlan}
 use Rattle.demand_rules.specs.declared.terms.Terms.{Terms}
 use Rattle.demand_rules.specs.Demand.{PassesDemand}
 use Rattle.demand_rules.specs.Supply.{PassesSupply}
 use Rattle.die_log.specs.Model.Log.{now}
-use Rattle.die_log.specs.Model.Start.{Start, fresh}
+use Rattle.die_log.specs.Model.Start.{fresh}
 use Rattle.die_log.specs.Model.Opening.{IsOpening}
 use Rattle.die_log.specs.Results.DemandedLives.{AreFull}
 use Rattle.slot_core.specs.Core.{Core}

@@ -1,6 +1,6 @@
 -- What a die remembers of its tasks' asks counts as what they asked for in all lives does.
-use Rattle.std.proofs.Common.{◌≡◌, ℕ, ◌+◌, ◌<◌, ◌≤◌, ◌==◌, ◌||◌, ◌&&◌, nat_le, nat_lt, not, Bool, true, false, cond, filter, List, [], ◌∷◌, ◌++◌}
-use Rattle.std.proofs.Common.{length, map, sum_by, refl, ap, sym, subst, ◌∙◌, inl, inr, arith, Option, None, Some}
+use Rattle.std.proofs.Common.{◌≡◌, ℕ, ◌+◌, ◌<◌, ◌≤◌, ◌==◌, ◌&&◌, nat_le, Bool, true, false, cond, filter, List, [], ◌∷◌, ◌++◌}
+use Rattle.std.proofs.Common.{length, map, sum_by, refl, ap, sym, ◌∙◌, inl, inr, arith}
 use Rattle.std.proofs.lemmas.Bool.{cases_Bool, eqb-true}
 use Rattle.std.proofs.lemmas.Bool.Decides.{nat_tests}
 use Rattle.std.proofs.lemmas.List.Sums.{sum_by-cons}
@@ -18,9 +18,8 @@ use Rattle.die_log.specs.Model.Log.{Log, now}
 use Rattle.die_log.specs.Model.Start.{Start}
 use Rattle.die_log.specs.Model.Lives.{Lives, all_slots}
 use Rattle.die_log.specs.Model.Answers.{answer, with_answer, after_call, run}
-use Rattle.planned_log.specs.declared.refusals.AskRefusal.{AskRefusal}
-use Rattle.planned_log.specs.Asks.{Asked, with_ask, asked_in, asked_by, counts_in, counting, operations_in, writes_in, has_room, room_at}
-use Rattle.planned_log.specs.Asks.{ask_refusals, first_refusal, ask_refusal}
+use Rattle.planned_log.specs.Asks.{Asked, asked_in, asked_by, counts_in, counting, operations_in, writes_in, has_room}
+use Rattle.planned_log.specs.Asks.{ask_refusals, first_refusal}
 use Rattle.planned_log.specs.KeptLogs.{comes_at, collections_at}
 use Rattle.planned_die.specs.declared.memory.AskedJob.{AskedJob}
 use Rattle.planned_die.specs.Remembered.{with_job, own_after, own_asks, still_counts, CountAs}

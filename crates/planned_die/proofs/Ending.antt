@@ -1,7 +1,7 @@
 -- Where a life may end.
-use Rattle.std.proofs.Common.{◌≡◌, ℕ, ◌+◌, ◌*◌, ◌/◌, ◌%◌, ◌<◌, ◌≤◌, ◌==◌, ◌↔◌, ◌||◌, ◌⊎◌, nat_le, Bool, true, false, List, [], ◌∷◌, length, get_or}
-use Rattle.std.proofs.Common.{refl, ap, sym, subst, ◌∙◌, inl, inr, arith}
-use Rattle.std.specs.List.{list_all, All}
+use Rattle.std.proofs.Common.{◌≡◌, ℕ, ◌+◌, ◌*◌, ◌/◌, ◌%◌, ◌<◌, ◌≤◌, ◌==◌, ◌||◌, ◌⊎◌, nat_le, Bool, true, false, length, get_or}
+use Rattle.std.proofs.Common.{refl, sym, subst, ◌∙◌, inl, inr, arith}
+use Rattle.std.specs.List.{list_all}
 use Rattle.std.proofs.Math.Nat.{div-add-mod, mul-le-mul_left, mul-mod_right, mod-lt}
 use Rattle.std.proofs.lemmas.Bool.{cases_lt, true≢false}
 use Rattle.std.proofs.lemmas.List.{get_or_default}

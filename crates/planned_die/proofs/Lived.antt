@@ -1,15 +1,13 @@
 -- What a call leaves of a die that has had these lives.
-use Rattle.std.proofs.Common.{◌≡◌, ℕ, ◌+◌, ◌<◌, ◌≤◌, Bool, List, [], ◌∷◌, ◌++◌, length, filter, refl, ap, sym, subst, ◌∙◌, arith, Ok, Err}
+use Rattle.std.proofs.Common.{◌≡◌, ℕ, ◌+◌, ◌≤◌, Bool, List, [], ◌∷◌, ◌++◌, length, filter, refl, ap, sym, subst, ◌∙◌, arith, Ok}
 use Rattle.std.proofs.lemmas.List.{length_push}
 use Rattle.std.proofs.lemmas.List.Sums.{sum_by-cons}
 use Rattle.slot_types.specs.declared.events.Op.{Op}
 use Rattle.slot_types.specs.declared.events.Event.TheVariants as events
 use Rattle.slot_types.specs.declared.replies.Reply.TheVariants as replies
 use Rattle.slot_types.specs.declared.replies.SlotReply.{SlotReply}
-use Rattle.slot_types.specs.declared.refusals.Refusal.{Refusal}
 use Rattle.slot_types.specs.Operations.{writes}
 use Rattle.flash_die.specs.declared.nand.NandCall.{NandCall}
-use Rattle.demand_rules.specs.declared.terms.Terms.{Terms}
 use Rattle.demand_rules.specs.Demand.{terms_of}
 use Rattle.die_log.specs.Model.Log.{Log, now, carried_slots}
 use Rattle.die_log.specs.Model.Start.{Start}
@@ -23,7 +21,7 @@ use Rattle.planned_log.proofs.Kept.{next_begins}
 use Rattle.planned_die.specs.declared.memory.AskedJob.{AskedJob}
 use Rattle.planned_die.specs.Remembered.{still_counts, CountAs}
 use Rattle.planned_die.specs.Planned.{Planned, HasLived}
-use Rattle.planned_die.specs.PlannedCalls.{own_calls, with_own}
+use Rattle.planned_die.specs.PlannedCalls.{with_own}
 use Rattle.planned_die.proofs.Counting.{drop_counts, ask_counts, run_asks, later_counts}
 
 module _ {N : Type 0} (before : Planned N) (earlier : Lives) (h : HasLived before earlier) where

@@ -1,9 +1,9 @@
 -- From which slot on what a die remembers leaves room for a job more.
-use Rattle.std.proofs.Common.{◌≡◌, ℕ, ◌+◌, ◌<◌, ◌≤◌, ◌==◌, ◌↔◌, ◌&&◌, nat_lt, nat_le, ◌-◌, max, Bool, true, false, cond, filter}
-use Rattle.std.proofs.Common.{List, [], ◌∷◌, ◌++◌, length, get_or, take, sum_by, refl, ap, sym, ◌∙◌, inl, inr, arith, None, Some}
+use Rattle.std.proofs.Common.{◌≡◌, ℕ, ◌+◌, ◌<◌, ◌≤◌, ◌==◌, ◌↔◌, ◌&&◌, nat_lt, nat_le, ◌-◌, Bool, true, false, cond, filter}
+use Rattle.std.proofs.Common.{List, [], ◌∷◌, ◌++◌, length, get_or, take, sum_by, refl, ap, sym, ◌∙◌, arith, None, Some}
 use Rattle.std.proofs.lemmas.Bool.{lt-ltb, ltb-true, leb-true, le-leb, and_parts, and_from}
 use Rattle.std.proofs.lemmas.Bool.Decides.{nat_tests}
-use Rattle.std.proofs.lemmas.List.{take_more, take_all}
+use Rattle.std.proofs.lemmas.List.{take_more}
 use Rattle.std.proofs.lemmas.List.Sums.{sum_by-cons}
 use Rattle.slot_types.specs.declared.events.Op.{Op}
 use Rattle.slot_types.specs.declared.plans.DiePlan.{DiePlan}

@@ -1,6 +1,5 @@
 //! Asks of tasks.
 
-
 ghost use Rattle.die_log.specs.Model.Lives.{Lives};
 ghost use Rattle.planned_die.specs.Planned.{HasLived};
 ghost use Rattle.planned_die.specs.PlannedCalls.{IsAsk};

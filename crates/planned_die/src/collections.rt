@@ -50,7 +50,13 @@ fn enter_own<N: Nand>(
     if !comes(own.collect_period, slot) {
         return Ok(());
     }
-    match core.collect(alloc, caller, TaskNo(task), slot, slot + own.collect_deadline) {
+    match core.collect(
+        alloc,
+        caller,
+        TaskNo(task),
+        slot,
+        slot + own.collect_deadline,
+    ) {
         Ok(_) => Ok(()),
         Err(refusal) => Err(refusal),
     }

@@ -1,4 +1,4 @@
-use Rattle.std.proofs.Common.{ℕ, ◌≤◌, ◌<◌}
+use Rattle.std.proofs.Common.{ℕ, ◌≤◌}
 use Rattle.planned_die.specs.NewPlans.{IsSomeLife}
 use Rattle.planned_die.proofs.life.life_of.Given as goal
 

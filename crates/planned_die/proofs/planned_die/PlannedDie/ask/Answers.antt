@@ -1,4 +1,4 @@
-use Rattle.std.proofs.Common.{◌≡◌, ℕ, ◌+◌, ◌≤◌, false, None, List, ◌∷◌, ◌++◌, [], filter, length, refl, ap, sym, subst, ◌∙◌, inl, inr, arith}
+use Rattle.std.proofs.Common.{◌≡◌, ◌+◌, false, None, List, ◌∷◌, ◌++◌, [], filter, length, refl, ap, sym, subst, ◌∙◌, inl, inr, arith, rules}
 use Rattle.slot_types.specs.Operations.{writes}
 use Rattle.demand_rules.specs.declared.terms.TaskTerms.{TaskTerms}
 use Rattle.demand_rules.specs.Demand.{terms_of}
@@ -26,7 +26,7 @@ returns-in-Some-clause-ask g c =
     } in
     let runs : die.core.stopped ≡ false = sym c.is_stopped.ensures ∙ c.if-is_stopped.false in
     let why : (earlier : Lives) → HasLived die earlier
-        → c.why_refused.result ≡ ask_refusal die.core.start.plan die.terms die.life earlier die.core.log c.args.task c.args.ops.now =
+    → c.why_refused.result ≡ ask_refusal die.core.start.plan die.terms die.life earlier die.core.log c.args.task c.args.ops.now =
     λ earlier h. refusal_is die earlier h c.plan.result.now c.now-now.result c.as_slice.result.now c.args.task c.args.ops.now c.why_refused.result
     c.why_refused.ensures c.plan.ensures c.now-now.ensures c.as_slice.ensures.value in
     rw (← c.self.view_is) (λ earlier h. (refl, inr (inl (runs, sym (why earlier h) ∙ c.in-Some.is))))
@@ -43,7 +43,7 @@ returns-in-Err-clause-ask g c =
     } in
     let runs : die.core.stopped ≡ false = sym c.is_stopped.ensures ∙ c.if-is_stopped.false in
     let why : (earlier : Lives) → HasLived die earlier
-        → c.why_refused.result ≡ ask_refusal die.core.start.plan die.terms die.life earlier die.core.log c.args.task c.args.ops.now =
+    → c.why_refused.result ≡ ask_refusal die.core.start.plan die.terms die.life earlier die.core.log c.args.task c.args.ops.now =
     λ earlier h. refusal_is die earlier h c.plan.result.now c.now-now.result c.as_slice.result.now c.args.task c.args.ops.now c.why_refused.result
     c.why_refused.ensures c.plan.ensures c.now-now.ensures c.as_slice.ensures.value in
     rw (← c.self.view_is) (λ earlier h. (
@@ -63,11 +63,11 @@ invariant_of-self-in-Ok-submit_lent g c =
     } in
     let runs : die.core.stopped ≡ false = sym c.is_stopped.ensures ∙ c.if-is_stopped.false in
     let why : (earlier : Lives) → HasLived die earlier
-        → c.why_refused.result ≡ ask_refusal die.core.start.plan die.terms die.life earlier die.core.log c.args.task c.args.ops.now =
+    → c.why_refused.result ≡ ask_refusal die.core.start.plan die.terms die.life earlier die.core.log c.args.task c.args.ops.now =
     λ earlier h. refusal_is die earlier h c.plan.result.now c.now-now.result c.as_slice.result.now c.args.task c.args.ops.now c.why_refused.result
     c.why_refused.ensures c.plan.ensures c.now-now.ensures c.as_slice.ensures.value in
     let none : (earlier : Lives) → HasLived die earlier
-        → ask_refusal die.core.start.plan die.terms die.life earlier die.core.log c.args.task c.args.ops.now ≡ None =
+    → ask_refusal die.core.start.plan die.terms die.life earlier die.core.log c.args.task c.args.ops.now ≡ None =
     λ earlier h. sym (why earlier h) ∙ c.in-None.is in
     let own : c.terms_at-own.result ≡ terms_of die.terms c.args.task = c.terms_at-own.ensures ∙ ap (terms_of die.terms) c.task.view_is in
     let deadline : c.terms_at-own.result.deadline ≡ (terms_of die.terms c.args.task).deadline = ap (λ (t : TaskTerms). t.deadline) own in
@@ -87,9 +87,9 @@ invariant_of-self-in-Ok-submit_lent g c =
       writes = writes c.args.ops.now;
     }) c.task.view_is in
     let dropped : c.drop_old.new.jobs.items
-        ≡ filter (still_counts c.args.task c.terms_at-own.result.period (c.self.inside.first + c.from.result)) (die.asked ++ c.job_of-job.result ∷ []) =
+    ≡ filter (still_counts c.args.task c.terms_at-own.result.period (c.self.inside.first + c.from.result)) (die.asked ++ c.job_of-job.result ∷ []) =
     c.drop_old.ensures
-    ∙ (ap (λ n. filter (still_counts n c.terms_at-own.result.period (c.self.inside.first + c.from.result)) c.push.new.self.items) c.task.view_is
+    ∙ (ap (λ n. filter (still_counts n c.terms_at-own.result.period (c.self.inside.first + c.from.result)) c.push.new.self.items) c.task-2.view_is
     ∙ ap (filter (still_counts c.args.task c.terms_at-own.result.period (c.self.inside.first + c.from.result))) c.in-Ok.ensures.items) in
     let lived : (earlier : Lives) (h : HasLived die earlier) → _ =
     λ earlier h. ask_lived die earlier h c.args.caller c.args.task c.in-Ok-submit_lent.number (c.self.inside.first + c.from.result)
@@ -127,11 +127,11 @@ returns-in-Ok-submit_lent-clause-ask g c =
     } in
     let runs : die.core.stopped ≡ false = sym c.is_stopped.ensures ∙ c.if-is_stopped.false in
     let why : (earlier : Lives) → HasLived die earlier
-        → c.why_refused.result ≡ ask_refusal die.core.start.plan die.terms die.life earlier die.core.log c.args.task c.args.ops.now =
+    → c.why_refused.result ≡ ask_refusal die.core.start.plan die.terms die.life earlier die.core.log c.args.task c.args.ops.now =
     λ earlier h. refusal_is die earlier h c.plan.result.now c.now-now.result c.as_slice.result.now c.args.task c.args.ops.now c.why_refused.result
     c.why_refused.ensures c.plan.ensures c.now-now.ensures c.as_slice.ensures.value in
     let none : (earlier : Lives) → HasLived die earlier
-        → ask_refusal die.core.start.plan die.terms die.life earlier die.core.log c.args.task c.args.ops.now ≡ None =
+    → ask_refusal die.core.start.plan die.terms die.life earlier die.core.log c.args.task c.args.ops.now ≡ None =
     λ earlier h. sym (why earlier h) ∙ c.in-None.is in
     let own : c.terms_at-own.result ≡ terms_of die.terms c.args.task = c.terms_at-own.ensures ∙ ap (terms_of die.terms) c.task.view_is in
     let deadline : c.terms_at-own.result.deadline ≡ (terms_of die.terms c.args.task).deadline = ap (λ (t : TaskTerms). t.deadline) own in
@@ -151,9 +151,9 @@ returns-in-Ok-submit_lent-clause-ask g c =
       writes = writes c.args.ops.now;
     }) c.task.view_is in
     let dropped : c.drop_old.new.jobs.items
-        ≡ filter (still_counts c.args.task c.terms_at-own.result.period (c.self.inside.first + c.from.result)) (die.asked ++ c.job_of-job.result ∷ []) =
+    ≡ filter (still_counts c.args.task c.terms_at-own.result.period (c.self.inside.first + c.from.result)) (die.asked ++ c.job_of-job.result ∷ []) =
     c.drop_old.ensures
-    ∙ (ap (λ n. filter (still_counts n c.terms_at-own.result.period (c.self.inside.first + c.from.result)) c.push.new.self.items) c.task.view_is
+    ∙ (ap (λ n. filter (still_counts n c.terms_at-own.result.period (c.self.inside.first + c.from.result)) c.push.new.self.items) c.task-2.view_is
     ∙ ap (filter (still_counts c.args.task c.terms_at-own.result.period (c.self.inside.first + c.from.result))) c.in-Ok.ensures.items) in
     let lived : (earlier : Lives) (h : HasLived die earlier) → _ =
     λ earlier h. ask_lived die earlier h c.args.caller c.args.task c.in-Ok-submit_lent.number (c.self.inside.first + c.from.result)
@@ -175,11 +175,11 @@ returns-in-Ok-submit_lent-clause-lived g c =
     } in
     let runs : die.core.stopped ≡ false = sym c.is_stopped.ensures ∙ c.if-is_stopped.false in
     let why : (earlier : Lives) → HasLived die earlier
-        → c.why_refused.result ≡ ask_refusal die.core.start.plan die.terms die.life earlier die.core.log c.args.task c.args.ops.now =
+    → c.why_refused.result ≡ ask_refusal die.core.start.plan die.terms die.life earlier die.core.log c.args.task c.args.ops.now =
     λ earlier h. refusal_is die earlier h c.plan.result.now c.now-now.result c.as_slice.result.now c.args.task c.args.ops.now c.why_refused.result
     c.why_refused.ensures c.plan.ensures c.now-now.ensures c.as_slice.ensures.value in
     let none : (earlier : Lives) → HasLived die earlier
-        → ask_refusal die.core.start.plan die.terms die.life earlier die.core.log c.args.task c.args.ops.now ≡ None =
+    → ask_refusal die.core.start.plan die.terms die.life earlier die.core.log c.args.task c.args.ops.now ≡ None =
     λ earlier h. sym (why earlier h) ∙ c.in-None.is in
     let own : c.terms_at-own.result ≡ terms_of die.terms c.args.task = c.terms_at-own.ensures ∙ ap (terms_of die.terms) c.task.view_is in
     let deadline : c.terms_at-own.result.deadline ≡ (terms_of die.terms c.args.task).deadline = ap (λ (t : TaskTerms). t.deadline) own in
@@ -199,9 +199,9 @@ returns-in-Ok-submit_lent-clause-lived g c =
       writes = writes c.args.ops.now;
     }) c.task.view_is in
     let dropped : c.drop_old.new.jobs.items
-        ≡ filter (still_counts c.args.task c.terms_at-own.result.period (c.self.inside.first + c.from.result)) (die.asked ++ c.job_of-job.result ∷ []) =
+    ≡ filter (still_counts c.args.task c.terms_at-own.result.period (c.self.inside.first + c.from.result)) (die.asked ++ c.job_of-job.result ∷ []) =
     c.drop_old.ensures
-    ∙ (ap (λ n. filter (still_counts n c.terms_at-own.result.period (c.self.inside.first + c.from.result)) c.push.new.self.items) c.task.view_is
+    ∙ (ap (λ n. filter (still_counts n c.terms_at-own.result.period (c.self.inside.first + c.from.result)) c.push.new.self.items) c.task-2.view_is
     ∙ ap (filter (still_counts c.args.task c.terms_at-own.result.period (c.self.inside.first + c.from.result))) c.in-Ok.ensures.items) in
     let lived : (earlier : Lives) (h : HasLived die earlier) → _ =
     λ earlier h. ask_lived die earlier h c.args.caller c.args.task c.in-Ok-submit_lent.number (c.self.inside.first + c.from.result)
@@ -223,11 +223,11 @@ invariant_of-self-in-Err-submit_lent g c =
     } in
     let runs : die.core.stopped ≡ false = sym c.is_stopped.ensures ∙ c.if-is_stopped.false in
     let why : (earlier : Lives) → HasLived die earlier
-        → c.why_refused.result ≡ ask_refusal die.core.start.plan die.terms die.life earlier die.core.log c.args.task c.args.ops.now =
+    → c.why_refused.result ≡ ask_refusal die.core.start.plan die.terms die.life earlier die.core.log c.args.task c.args.ops.now =
     λ earlier h. refusal_is die earlier h c.plan.result.now c.now-now.result c.as_slice.result.now c.args.task c.args.ops.now c.why_refused.result
     c.why_refused.ensures c.plan.ensures c.now-now.ensures c.as_slice.ensures.value in
     let none : (earlier : Lives) → HasLived die earlier
-        → ask_refusal die.core.start.plan die.terms die.life earlier die.core.log c.args.task c.args.ops.now ≡ None =
+    → ask_refusal die.core.start.plan die.terms die.life earlier die.core.log c.args.task c.args.ops.now ≡ None =
     λ earlier h. sym (why earlier h) ∙ c.in-None.is in
     let own : c.terms_at-own.result ≡ terms_of die.terms c.args.task = c.terms_at-own.ensures ∙ ap (terms_of die.terms) c.task.view_is in
     let deadline : c.terms_at-own.result.deadline ≡ (terms_of die.terms c.args.task).deadline = ap (λ (t : TaskTerms). t.deadline) own in
@@ -237,7 +237,7 @@ invariant_of-self-in-Err-submit_lent g c =
     let stays = (ask_memory g.N.Nand.ends g.N.Nand.failures g.N.Nand.never_fails c.self.inside.core c.submit_lent.new.self die.terms e0 die.life die.entered c.args.caller c.args.task c.now-now.result c.terms_at-own.result.deadline c.args.ops.now
     h0.kept runs (none e0 h0) c.now-now.ensures deadline c.in-Err-submit_lent.field-0 c.in-Err-submit_lent.ensures).1 in
     let back : c.pop.new.self.items ≡ die.asked =
-    pushed_off die.asked c.push.new.self.items c.pop.new.self.items c.job_of-job.result c.in-Ok.ensures.items _ ? c.pop.ensures.rest in
+    pushed_off die.asked c.push.new.self.items c.pop.new.self.items c.job_of-job.result c.in-Ok.ensures.items _ (search rules) c.pop.ensures.rest in
     subst (λ (core : Core g.row.N.Denot). IsPlanned (record die { core = core; asked = c.pop.new.self.items })) (sym stays)
     (subst (λ (l : List AskedJob). IsPlanned (record die { asked = l })) (sym back) c.self.invariant)
 
@@ -253,11 +253,11 @@ returns-in-Err-submit_lent-clause-ask g c =
     } in
     let runs : die.core.stopped ≡ false = sym c.is_stopped.ensures ∙ c.if-is_stopped.false in
     let why : (earlier : Lives) → HasLived die earlier
-        → c.why_refused.result ≡ ask_refusal die.core.start.plan die.terms die.life earlier die.core.log c.args.task c.args.ops.now =
+    → c.why_refused.result ≡ ask_refusal die.core.start.plan die.terms die.life earlier die.core.log c.args.task c.args.ops.now =
     λ earlier h. refusal_is die earlier h c.plan.result.now c.now-now.result c.as_slice.result.now c.args.task c.args.ops.now c.why_refused.result
     c.why_refused.ensures c.plan.ensures c.now-now.ensures c.as_slice.ensures.value in
     let none : (earlier : Lives) → HasLived die earlier
-        → ask_refusal die.core.start.plan die.terms die.life earlier die.core.log c.args.task c.args.ops.now ≡ None =
+    → ask_refusal die.core.start.plan die.terms die.life earlier die.core.log c.args.task c.args.ops.now ≡ None =
     λ earlier h. sym (why earlier h) ∙ c.in-None.is in
     let own : c.terms_at-own.result ≡ terms_of die.terms c.args.task = c.terms_at-own.ensures ∙ ap (terms_of die.terms) c.task.view_is in
     let deadline : c.terms_at-own.result.deadline ≡ (terms_of die.terms c.args.task).deadline = ap (λ (t : TaskTerms). t.deadline) own in
@@ -267,7 +267,7 @@ returns-in-Err-submit_lent-clause-ask g c =
     let stays = (ask_memory g.N.Nand.ends g.N.Nand.failures g.N.Nand.never_fails c.self.inside.core c.submit_lent.new.self die.terms e0 die.life die.entered c.args.caller c.args.task c.now-now.result c.terms_at-own.result.deadline c.args.ops.now
     h0.kept runs (none e0 h0) c.now-now.ensures deadline c.in-Err-submit_lent.field-0 c.in-Err-submit_lent.ensures).1 in
     let back : c.pop.new.self.items ≡ die.asked =
-    pushed_off die.asked c.push.new.self.items c.pop.new.self.items c.job_of-job.result c.in-Ok.ensures.items _ ? c.pop.ensures.rest in
+    pushed_off die.asked c.push.new.self.items c.pop.new.self.items c.job_of-job.result c.in-Ok.ensures.items _ (search rules) c.pop.ensures.rest in
     rw (← c.self.view_is) (λ earlier h. (
       ap (λ (l : List AskedJob). record die { core = c.submit_lent.new.self; asked = l }) back
           ∙ ap (λ (core : Core g.row.N.Denot). record die { core = core }) stays,
@@ -286,11 +286,11 @@ returns-in-Err-submit_lent-clause-lived g c =
     } in
     let runs : die.core.stopped ≡ false = sym c.is_stopped.ensures ∙ c.if-is_stopped.false in
     let why : (earlier : Lives) → HasLived die earlier
-        → c.why_refused.result ≡ ask_refusal die.core.start.plan die.terms die.life earlier die.core.log c.args.task c.args.ops.now =
+    → c.why_refused.result ≡ ask_refusal die.core.start.plan die.terms die.life earlier die.core.log c.args.task c.args.ops.now =
     λ earlier h. refusal_is die earlier h c.plan.result.now c.now-now.result c.as_slice.result.now c.args.task c.args.ops.now c.why_refused.result
     c.why_refused.ensures c.plan.ensures c.now-now.ensures c.as_slice.ensures.value in
     let none : (earlier : Lives) → HasLived die earlier
-        → ask_refusal die.core.start.plan die.terms die.life earlier die.core.log c.args.task c.args.ops.now ≡ None =
+    → ask_refusal die.core.start.plan die.terms die.life earlier die.core.log c.args.task c.args.ops.now ≡ None =
     λ earlier h. sym (why earlier h) ∙ c.in-None.is in
     let own : c.terms_at-own.result ≡ terms_of die.terms c.args.task = c.terms_at-own.ensures ∙ ap (terms_of die.terms) c.task.view_is in
     let deadline : c.terms_at-own.result.deadline ≡ (terms_of die.terms c.args.task).deadline = ap (λ (t : TaskTerms). t.deadline) own in
@@ -300,7 +300,7 @@ returns-in-Err-submit_lent-clause-lived g c =
     let stays = (ask_memory g.N.Nand.ends g.N.Nand.failures g.N.Nand.never_fails c.self.inside.core c.submit_lent.new.self die.terms e0 die.life die.entered c.args.caller c.args.task c.now-now.result c.terms_at-own.result.deadline c.args.ops.now
     h0.kept runs (none e0 h0) c.now-now.ensures deadline c.in-Err-submit_lent.field-0 c.in-Err-submit_lent.ensures).1 in
     let back : c.pop.new.self.items ≡ die.asked =
-    pushed_off die.asked c.push.new.self.items c.pop.new.self.items c.job_of-job.result c.in-Ok.ensures.items _ ? c.pop.ensures.rest in
+    pushed_off die.asked c.push.new.self.items c.pop.new.self.items c.job_of-job.result c.in-Ok.ensures.items _ (search rules) c.pop.ensures.rest in
     rw (← c.self.view_is) (λ earlier h.
     subst (λ (core : Core g.row.N.Denot). HasLived (record die { core = core; asked = c.pop.new.self.items }) earlier) (sym stays)
     (subst (λ (l : List AskedJob). HasLived (record die { asked = l }) earlier) (sym back) h))

@@ -1,4 +1,4 @@
-use Rattle.std.proofs.Common.{◌≡◌, ◌≤◌, ◌+◌, ◌∷◌, arith}
+use Rattle.std.proofs.Common.{◌≤◌, ◌+◌, ◌∷◌, arith}
 use Rattle.die_log.specs.Model.Log.{now}
 use Rattle.planned_die.specs.Planned.{Planned}
 use Rattle.planned_die.proofs.NextLife.{ended, not_left}
