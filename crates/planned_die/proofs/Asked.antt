@@ -106,8 +106,8 @@ module _ {N : Type 0} (ends : N → NandCall → Bool → N → Type 0) (failure
     pub asked_stays : next ≡ die
     asked_stays =
         let stays : after ≡ die.core =
-            (ask_memory ends failures never die.core after die.terms p.earlier die.life die.entered caller task slot deadline ops p.lived.kept u.runs
-            (u.none p.earlier p.lived) u.present u.terms r call).1 in
+        (ask_memory ends failures never die.core after die.terms p.earlier die.life die.entered caller task slot deadline ops p.lived.kept u.runs
+        (u.none p.earlier p.lived) u.present u.terms r call).1 in
         ap (λ (l : List AskedJob). record die { core = after; asked = l }) back ∙ ap (λ (core : Core N). record die { core = core }) stays
 
     pub asked_again : IsPlanned next
