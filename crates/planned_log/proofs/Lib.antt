@@ -1,10 +1,10 @@
 mod Counts
 mod Lefts
-mod Asking
+pub mod Asking
 mod Steps
-mod Kept
+pub mod Kept
 pub mod Served
 mod Moving
 mod Answered
-mod Waiting
+pub mod Waiting
 mod Numbers

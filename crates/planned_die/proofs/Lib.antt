@@ -1,0 +1,11 @@
+mod Waits
+mod Ending
+mod Counting
+mod Own
+mod Cores
+mod Slotting
+mod Lived
+mod NextLife
+mod Beginning
+mod NeverLate
+mod Asked

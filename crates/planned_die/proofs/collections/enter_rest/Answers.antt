@@ -1,0 +1,35 @@
+use Rattle.std.proofs.Common.{length, ap, ◌∙◌, arith}
+use Rattle.slot_types.specs.declared.plans.DiePlan.{DiePlan}
+use Rattle.slot_core.specs.Core.{Core}
+use Rattle.planned_die.proofs.Cores.{own_further}
+use Rattle.planned_die.proofs.collections.enter_rest.Goals as goal
+
+pub overflow_add-entered : goal.overflow_add-entered
+overflow_add-entered g c = omega (
+  arith,
+  c.loop-entered-test.true,
+  c.len-tasks.ensures,
+  ap (λ (p : DiePlan). length p.caps) c.plan.ensures,
+  c.promises.ensures.opens.bound.limits.few_tasks,
+)
+
+pub loop-entered-preserved : goal.loop-entered-preserved
+loop-entered-preserved g c =
+    let before = c.loop-entered.invariant in
+    let more = c.in-Ok.ensures in
+    record {
+      entered = own_further c.args.caller c.args.terms.now c.args.core.now c.loop-entered.core c.enter_own.new.core c.args.entered.now
+          c.loop-entered.entered before.from
+          (omega (
+            arith,
+            c.loop-entered-test.true,
+            c.len-tasks.ensures,
+            ap (λ (p : DiePlan). length p.caps) c.plan.ensures,
+            c.requires.lived.1.demand.has.one_each,
+          ))
+          before.entered before.slot_stays more.entered;
+      kept = λ earlier k. more.kept earlier (before.kept earlier k);
+      runs = ap (λ (core : Core g.row.N.Denot). core.stopped) more.entered ∙ before.runs;
+      slot_stays = more.slot_stays ∙ before.slot_stays;
+      from = omega (arith, before.from);
+    }

@@ -1,0 +1,55 @@
+use Rattle.std.proofs.Common.{◌≡◌, ◌≤◌, List, [], refl, ap, sym, subst, ◌∙◌, arith}
+use Rattle.std.specs.Prelude.{All}
+use Rattle.slot_types.specs.declared.plans.DiePlan.{DiePlan}
+use Rattle.plan_rules.specs.Bound.{MeetsBound}
+use Rattle.demand_rules.specs.Demand.{PassesDemand}
+use Rattle.demand_rules.specs.Supply.{PassesSupply}
+use Rattle.die_log.specs.Model.Start.{Start, fresh}
+use Rattle.slot_core.specs.Core.{Core}
+use Rattle.planned_log.specs.Lives.{IsLife}
+use Rattle.planned_die.specs.declared.memory.AskedJob.{AskedJob}
+use Rattle.planned_die.specs.NewPlans.{IsSomeLife}
+use Rattle.planned_die.specs.Planned.{HasLived}
+use Rattle.planned_die.proofs.Beginning.{new_lived}
+use Rattle.planned_die.proofs.planned_die.PlannedDie.new.Goals as goal
+
+pub returns-clause-longer : goal.returns-clause-longer
+returns-clause-longer g c other h =
+    c.in-Some.ensures.longer other (subst (λ (p : DiePlan). IsSomeLife p c.args.terms c.args.longest other)
+    (sym (c.plan-2.ensures ∙ ap (λ (core : Core g.row.N.Denot). core.start.plan) c.in-Ok.ensures.ok)) h)
+
+pub returns-clause-lived : goal.returns-clause-lived
+returns-clause-lived g c =
+    let passes = c.in-Ok-terms_test.ensures.passes.0 refl in
+    subst (λ (l : List AskedJob). HasLived {N = g.row.N.Denot} (record {
+      core = c.in-Ok.core;
+      terms = c.args.terms;
+      life = c.in-Some.life;
+      entered = 0;
+      first = 0;
+      asked = l;
+    }) []) (sym c.new-2.ensures.items)
+    (new_lived c.in-Ok.core c.args.plan c.args.terms c.in-Some.life (ap (λ (core : Core g.row.N.Denot). core.start) c.in-Ok.ensures.ok)
+    (ap (λ (core : Core g.row.N.Denot). core.log) c.in-Ok.ensures.ok) c.promises.ensures.opens
+    (subst (λ (p : DiePlan). PassesDemand p c.args.terms) c.plan.ensures passes.0)
+    (subst (λ (p : DiePlan). PassesSupply p c.args.terms) c.plan.ensures passes.1)
+    (subst (λ (p : DiePlan). IsLife p c.args.terms c.in-Some.life) c.plan-2.ensures c.in-Some.ensures.life.is_life))
+
+pub invariant_of-result : goal.invariant_of-result
+invariant_of-result g c = record {
+  earlier = [];
+  lived = returns-clause-lived g c;
+  early = omega arith;
+  asked_early = subst (λ (l : List AskedJob). All (λ j. j.at ≤ 4611686018427387904) l) (sym c.new-2.ensures.items) (λ k d lt. absurd (omega (arith, lt)));
+}
+
+pub returns-in-None-clause-refused : goal.returns-in-None-clause-refused
+returns-in-None-clause-refused g c =
+    let passes = c.in-Ok-terms_test.ensures.passes.0 refl in
+    let starts : c.in-Ok.core.start ≡ fresh c.args.plan = ap (λ (core : Core g.row.N.Denot). core.start) c.in-Ok.ensures.ok in
+    let plan_is : c.in-Ok.core.start.plan ≡ c.args.plan = ap (λ (s : Start). s.plan) starts in (
+      subst (λ (p : DiePlan). MeetsBound p) plan_is c.promises.ensures.opens.bound,
+      subst (λ (p : DiePlan). PassesDemand p c.args.terms) (c.plan.ensures ∙ plan_is) passes.0,
+      subst (λ (p : DiePlan). PassesSupply p c.args.terms) (c.plan.ensures ∙ plan_is) passes.1,
+      (λ life h. c.in-None.ensures.none life (subst (λ (p : DiePlan). IsSomeLife p c.args.terms c.args.longest life) (sym (c.plan-2.ensures ∙ plan_is)) h)),
+    )

@@ -1,0 +1,159 @@
+use Rattle.std.proofs.Common.{◌≡◌, ◌<◌, ◌∷◌, length, ap, sym, ◌∙◌, arith}
+use Rattle.die_log.specs.Model.Log.{Log, now}
+use Rattle.die_log.specs.Model.Lives.{Lives}
+use Rattle.slot_core.specs.Core.{Core}
+use Rattle.planned_log.specs.Asks.{asked_by}
+use Rattle.planned_die.specs.Planned.{Planned, HasLived}
+use Rattle.planned_die.proofs.Slotting.{slot_keeps, refused_keeps, refused_log, slotted, unslotted}
+use Rattle.planned_die.proofs.Lived.{own_lived, slot_lived, moved}
+use Rattle.planned_die.proofs.planned_die.PlannedDie.slot.Goals as goal
+
+pub returns-in-Ok-slot-clause-slot : goal.returns-in-Ok-slot-clause-slot
+returns-in-Ok-slot-clause-slot g c = rw (← c.self.view_is)
+    (slotted g.N.Nand.ends g.N.Nand.failures g.N.Nand.never_fails c.self.inside.terms c.self.inside.first c.self.inside.asked.items c.args.caller
+    c.self.inside.entered c.enter_rest.new.entered c.self.inside.life c.self.inside.core c.enter_rest.new.core c.slot.new.self
+    c.enter_rest.ensures.entered c.in-Ok.ensures.all c.in-Ok-slot.reply (omega (arith, c.now.ensures, c.if-now-self.false)) c.in-Ok-slot.ensures)
+
+pub returns-in-Err-slot-clause-slot : goal.returns-in-Err-slot-clause-slot
+returns-in-Err-slot-clause-slot g c = rw (← c.self.view_is)
+    (unslotted g.N.Nand.ends g.N.Nand.failures g.N.Nand.never_fails c.self.inside.terms c.self.inside.first c.self.inside.asked.items c.args.caller
+    c.self.inside.entered c.enter_rest.new.entered c.self.inside.life c.self.inside.core c.enter_rest.new.core c.slot.new.self
+    c.enter_rest.ensures.entered c.in-Ok.ensures.all c.in-Err-slot.refusal (sym c.is_stopped.ensures ∙ c.if-is_stopped.false)
+    (omega (arith, c.now.ensures, c.if-now-self.false)) c.in-Err-slot.ensures)
+
+pub returns-in-Ok-slot-clause-lived : goal.returns-in-Ok-slot-clause-lived
+returns-in-Ok-slot-clause-lived g c =
+    let die : Planned g.row.N.Denot = record {
+      core = c.self.inside.core;
+      terms = c.self.inside.terms;
+      life = c.self.inside.life;
+      entered = c.self.inside.entered;
+      first = c.self.inside.first;
+      asked = c.self.inside.asked.items;
+    } in
+    let between : (earlier : Lives) → HasLived die earlier → HasLived (record die { core = c.enter_rest.new.core; entered = c.enter_rest.new.entered }) earlier =
+    λ earlier h. own_lived die earlier h c.args.caller die.entered c.enter_rest.new.entered c.enter_rest.new.core c.enter_rest.ensures.entered
+    c.enter_rest.ensures.slot_stays (c.enter_rest.ensures.kept earlier h.kept) in
+    let all : c.enter_rest.new.entered ≡ length c.enter_rest.new.core.start.plan.caps = c.in-Ok.ensures.all
+    ∙ sym (ap (λ (core : Core g.row.N.Denot). length core.start.plan.caps) c.enter_rest.ensures.entered) in
+    let early : now c.enter_rest.new.core.log < die.life = omega (arith, c.enter_rest.ensures.slot_stays, c.now.ensures, c.if-now-self.false) in
+    let lived : (earlier : Lives) → HasLived die earlier → HasLived (record die { core = c.slot.new.self; entered = 0 }) earlier =
+    λ earlier h. slot_lived (record die { core = c.enter_rest.new.core; entered = c.enter_rest.new.entered }) earlier (between earlier h)
+    g.N.Nand.ends g.N.Nand.failures g.N.Nand.never_fails c.args.caller c.slot.new.self c.in-Ok-slot.reply c.in-Ok-slot.ensures
+    (slot_keeps g.N.Nand.ends g.N.Nand.failures g.N.Nand.never_fails die.terms earlier die.life c.enter_rest.new.entered c.args.caller
+    c.in-Ok-slot.reply c.enter_rest.new.core c.slot.new.self (c.enter_rest.ensures.kept earlier h.kept) all early c.in-Ok-slot.ensures) in
+    rw (← c.self.view_is) (λ earlier h. lived earlier h)
+
+pub returns-in-Err-slot-clause-lived : goal.returns-in-Err-slot-clause-lived
+returns-in-Err-slot-clause-lived g c =
+    let die : Planned g.row.N.Denot = record {
+      core = c.self.inside.core;
+      terms = c.self.inside.terms;
+      life = c.self.inside.life;
+      entered = c.self.inside.entered;
+      first = c.self.inside.first;
+      asked = c.self.inside.asked.items;
+    } in
+    let between : (earlier : Lives) → HasLived die earlier → HasLived (record die { core = c.enter_rest.new.core; entered = c.enter_rest.new.entered }) earlier =
+    λ earlier h. own_lived die earlier h c.args.caller die.entered c.enter_rest.new.entered c.enter_rest.new.core c.enter_rest.ensures.entered
+    c.enter_rest.ensures.slot_stays (c.enter_rest.ensures.kept earlier h.kept) in
+    let logs = refused_log g.N.Nand.ends g.N.Nand.failures g.N.Nand.never_fails c.args.caller c.in-Err-slot.refusal c.enter_rest.new.core
+    c.slot.new.self c.in-Err-slot.ensures in
+    let lived : (earlier : Lives) → HasLived die earlier → HasLived (record die { core = c.slot.new.self; entered = c.enter_rest.new.entered }) earlier =
+    λ earlier h. moved (record die { core = c.enter_rest.new.core; entered = c.enter_rest.new.entered }) earlier (between earlier h) c.slot.new.self
+    c.enter_rest.new.entered c.in-Err-slot.ensures.start_stays
+    (refused_keeps g.N.Nand.ends g.N.Nand.failures g.N.Nand.never_fails die.terms earlier die.life c.enter_rest.new.entered c.args.caller
+    c.in-Err-slot.refusal c.enter_rest.new.core c.slot.new.self (c.enter_rest.ensures.kept earlier h.kept) c.in-Err-slot.ensures)
+    (omega (arith, ap now logs)) (λ task. ap (λ (l : Log). asked_by task (l ∷ earlier)) logs) in
+    rw (← c.self.view_is) (λ earlier h. lived earlier h)
+
+pub returns-in-Err-clause-lived : goal.returns-in-Err-clause-lived
+returns-in-Err-clause-lived g c =
+    let die : Planned g.row.N.Denot = record {
+      core = c.self.inside.core;
+      terms = c.self.inside.terms;
+      life = c.self.inside.life;
+      entered = c.self.inside.entered;
+      first = c.self.inside.first;
+      asked = c.self.inside.asked.items;
+    } in
+    let between : (earlier : Lives) → HasLived die earlier → HasLived (record die { core = c.enter_rest.new.core; entered = c.enter_rest.new.entered }) earlier =
+    λ earlier h. own_lived die earlier h c.args.caller die.entered c.enter_rest.new.entered c.enter_rest.new.core c.enter_rest.ensures.entered
+    c.enter_rest.ensures.slot_stays (c.enter_rest.ensures.kept earlier h.kept) in
+    rw (← c.self.view_is) (λ earlier h. between earlier h)
+
+pub invariant_of-self : goal.invariant_of-self
+invariant_of-self g c =
+    let die : Planned g.row.N.Denot = record {
+      core = c.self.inside.core;
+      terms = c.self.inside.terms;
+      life = c.self.inside.life;
+      entered = c.self.inside.entered;
+      first = c.self.inside.first;
+      asked = c.self.inside.asked.items;
+    } in
+    let between : (earlier : Lives) → HasLived die earlier → HasLived (record die { core = c.enter_rest.new.core; entered = c.enter_rest.new.entered }) earlier =
+    λ earlier h. own_lived die earlier h c.args.caller die.entered c.enter_rest.new.entered c.enter_rest.new.core c.enter_rest.ensures.entered
+    c.enter_rest.ensures.slot_stays (c.enter_rest.ensures.kept earlier h.kept) in
+    record {
+      earlier = c.self.invariant.earlier;
+      lived = between c.self.invariant.earlier c.self.invariant.lived;
+      early = c.self.invariant.early;
+      asked_early = c.self.invariant.asked_early;
+    }
+
+pub invariant_of-self-in-Ok-slot : goal.invariant_of-self-in-Ok-slot
+invariant_of-self-in-Ok-slot g c =
+    let die : Planned g.row.N.Denot = record {
+      core = c.self.inside.core;
+      terms = c.self.inside.terms;
+      life = c.self.inside.life;
+      entered = c.self.inside.entered;
+      first = c.self.inside.first;
+      asked = c.self.inside.asked.items;
+    } in
+    let between : (earlier : Lives) → HasLived die earlier → HasLived (record die { core = c.enter_rest.new.core; entered = c.enter_rest.new.entered }) earlier =
+    λ earlier h. own_lived die earlier h c.args.caller die.entered c.enter_rest.new.entered c.enter_rest.new.core c.enter_rest.ensures.entered
+    c.enter_rest.ensures.slot_stays (c.enter_rest.ensures.kept earlier h.kept) in
+    let all : c.enter_rest.new.entered ≡ length c.enter_rest.new.core.start.plan.caps = c.in-Ok.ensures.all
+    ∙ sym (ap (λ (core : Core g.row.N.Denot). length core.start.plan.caps) c.enter_rest.ensures.entered) in
+    let early : now c.enter_rest.new.core.log < die.life = omega (arith, c.enter_rest.ensures.slot_stays, c.now.ensures, c.if-now-self.false) in
+    let lived : (earlier : Lives) → HasLived die earlier → HasLived (record die { core = c.slot.new.self; entered = 0 }) earlier =
+    λ earlier h. slot_lived (record die { core = c.enter_rest.new.core; entered = c.enter_rest.new.entered }) earlier (between earlier h)
+    g.N.Nand.ends g.N.Nand.failures g.N.Nand.never_fails c.args.caller c.slot.new.self c.in-Ok-slot.reply c.in-Ok-slot.ensures
+    (slot_keeps g.N.Nand.ends g.N.Nand.failures g.N.Nand.never_fails die.terms earlier die.life c.enter_rest.new.entered c.args.caller
+    c.in-Ok-slot.reply c.enter_rest.new.core c.slot.new.self (c.enter_rest.ensures.kept earlier h.kept) all early c.in-Ok-slot.ensures) in
+    record {
+      earlier = c.self.invariant.earlier;
+      lived = lived c.self.invariant.earlier c.self.invariant.lived;
+      early = c.self.invariant.early;
+      asked_early = c.self.invariant.asked_early;
+    }
+
+pub invariant_of-self-in-Err-slot : goal.invariant_of-self-in-Err-slot
+invariant_of-self-in-Err-slot g c =
+    let die : Planned g.row.N.Denot = record {
+      core = c.self.inside.core;
+      terms = c.self.inside.terms;
+      life = c.self.inside.life;
+      entered = c.self.inside.entered;
+      first = c.self.inside.first;
+      asked = c.self.inside.asked.items;
+    } in
+    let between : (earlier : Lives) → HasLived die earlier → HasLived (record die { core = c.enter_rest.new.core; entered = c.enter_rest.new.entered }) earlier =
+    λ earlier h. own_lived die earlier h c.args.caller die.entered c.enter_rest.new.entered c.enter_rest.new.core c.enter_rest.ensures.entered
+    c.enter_rest.ensures.slot_stays (c.enter_rest.ensures.kept earlier h.kept) in
+    let logs = refused_log g.N.Nand.ends g.N.Nand.failures g.N.Nand.never_fails c.args.caller c.in-Err-slot.refusal c.enter_rest.new.core
+    c.slot.new.self c.in-Err-slot.ensures in
+    let lived : (earlier : Lives) → HasLived die earlier → HasLived (record die { core = c.slot.new.self; entered = c.enter_rest.new.entered }) earlier =
+    λ earlier h. moved (record die { core = c.enter_rest.new.core; entered = c.enter_rest.new.entered }) earlier (between earlier h) c.slot.new.self
+    c.enter_rest.new.entered c.in-Err-slot.ensures.start_stays
+    (refused_keeps g.N.Nand.ends g.N.Nand.failures g.N.Nand.never_fails die.terms earlier die.life c.enter_rest.new.entered c.args.caller
+    c.in-Err-slot.refusal c.enter_rest.new.core c.slot.new.self (c.enter_rest.ensures.kept earlier h.kept) c.in-Err-slot.ensures)
+    (omega (arith, ap now logs)) (λ task. ap (λ (l : Log). asked_by task (l ∷ earlier)) logs) in
+    record {
+      earlier = c.self.invariant.earlier;
+      lived = lived c.self.invariant.earlier c.self.invariant.lived;
+      early = c.self.invariant.early;
+      asked_early = c.self.invariant.asked_early;
+    }

@@ -1,0 +1,20 @@
+use Rattle.std.proofs.Common.{nat_le, ap, sym, ◌∙◌, arith, find}
+use Rattle.std.specs.Prelude.{option_map}
+use Rattle.slot_types.specs.Operations.{page_of}
+use Rattle.demand_rules.specs.Demand.{terms_of}
+use Rattle.planned_log.specs.Asks.{most_operations}
+use Rattle.planned_die.specs.Remembered.{own_asks}
+use Rattle.planned_die.proofs.Waits.{bad_page_first}
+use Rattle.planned_die.proofs.rooms.why_refused.Goals as goal
+
+pub returns-in-Err : goal.returns-in-Err
+returns-in-Err c =
+    bad_page_first c.args.plan.now c.args.terms.now c.args.life c.args.first c.args.now (own_asks c.args.task c.args.asked.now) c.args.task c.args.ops.now
+    c.in-Err.page (omega (arith, c.if-task-len.false, c.len.ensures, c.task.view_is)) (omega (arith, c.if-ops-eq0.false))
+    (omega (
+      arith,
+      c.if-ops-most.false,
+      c.most_ops-most.ensures,
+      ap most_operations (c.terms_at-own.ensures ∙ ap (terms_of c.args.terms.now) c.task.view_is),
+    ))
+    (ap (λ l. option_map page_of (find (λ op. nat_le c.args.plan.now.logical (page_of op)) l)) (sym c.list.ensures) ∙ c.in-Err.ensures.missing)

@@ -1,0 +1,4 @@
+pub mod Remembered
+pub mod Planned
+pub mod PlannedCalls
+pub mod NewPlans

@@ -1,0 +1,105 @@
+-- What a die that keeps its plan itself answers, and what it leaves.
+use Rattle.std.specs.Prelude.{◌≡◌, ◌⊎◌, ℕ, ◌+◌, ◌<◌, ◌≤◌, Bool, true, false, List, length, map, take, drop, Option, Some, None}
+use Rattle.std.specs.Prelude.{Result, Ok, Err}
+use Rattle.slot_types.specs.declared.events.Op.{Op}
+use Rattle.slot_types.specs.declared.events.Event.{Event}
+use Rattle.slot_types.specs.declared.events.Event.TheVariants as events
+use Rattle.slot_types.specs.declared.refusals.Refusal.{Refusal}
+use Rattle.slot_types.specs.declared.refusals.Refusal.TheVariants as because
+use Rattle.slot_types.specs.declared.replies.Reply.TheVariants as replies
+use Rattle.slot_types.specs.declared.replies.SlotReply.{SlotReply}
+use Rattle.flash_die.specs.declared.nand.NandCall.{NandCall}
+use Rattle.demand_rules.specs.declared.terms.Terms.{Terms}
+use Rattle.die_log.specs.Model.Log.{now}
+use Rattle.die_log.specs.Model.Lives.{Lives}
+use Rattle.die_log.specs.Model.Answers.{run}
+use Rattle.slot_core.specs.Core.{Core}
+use Rattle.slot_core.specs.Calls.{IsCall, HasEntered}
+use Rattle.slot_core.specs.Renewals.{IsFirstWorn}
+use Rattle.planned_log.specs.declared.refusals.AskRefusal.{AskRefusal}
+use Rattle.planned_log.specs.declared.refusals.AskRefusal.TheVariants as asks
+use Rattle.planned_log.specs.Asks.{asked_job, ask_refusal}
+use Rattle.planned_log.specs.KeptLogs.{collections_at}
+use Rattle.planned_die.specs.declared.refusals.LifeRefusal.{LifeRefusal}
+use Rattle.planned_die.specs.declared.refusals.LifeRefusal.TheVariants as lives
+use Rattle.planned_die.specs.Planned.{Planned}
+
+-- Asks
+
+-- why the plan refuses an ask after these earlier lives, if it does
+abbrev pub refusal_in : {N : Type 0} → Planned N → Lives → ℕ → List Op → Option AskRefusal
+refusal_in die earlier task ops =
+    ask_refusal die.core.start.plan die.terms die.life earlier die.core.log task ops
+
+-- the plan doesn't refuse the ask, and the job is the log's next entry, released now and due as the task's terms say
+pub record HasAsked {N : Type 0} (caller task : ℕ) (ops : List Op) (earlier : Lives) (number : ℕ) (before after : Planned N) : Type 0 where
+  pub ran : before.core.stopped ≡ false
+  pub unrefused : refusal_in before earlier task ops ≡ None
+  pub entered : HasEntered caller (asked_job before.terms before.core.log task ops) number before.core after.core
+  pub stays : after ≡ record before { core = after.core; asked = after.asked }
+
+-- a fault had stopped the die; or this is the first cause in the plan; or the plan refuses nothing, but memory is refused
+abbrev pub RefusesAsk : {N : Type 0} → ℕ → List Op → Lives → AskRefusal → Planned N → Type 0
+RefusesAsk task ops earlier refusal die =
+    ((die.core.stopped ≡ true) × (refusal ≡ asks.DieStopped))
+    ⊎ ((die.core.stopped ≡ false) × (refusal_in die earlier task ops ≡ Some refusal))
+    ⊎ ((die.core.stopped ≡ false) × (refusal_in die earlier task ops ≡ None) × (refusal ≡ asks.NoMemory))
+
+-- where it is refused nothing changes
+abbrev pub IsAsk : {N : Type 0} → ℕ → ℕ → List Op → Lives → Result ℕ AskRefusal → Planned N → Planned N → Type 0
+IsAsk caller task ops earlier (Ok number) before after = HasAsked caller task ops earlier number before after
+IsAsk caller task ops earlier (Err refusal) before after = (after ≡ before) × RefusesAsk task ops earlier refusal before
+
+-- Slots
+
+-- the calls by which the die enters the collections of the present slot of the tasks from one up to another
+abbrev pub own_calls : ℕ → Terms → ℕ → ℕ → ℕ → List (ℕ × Event)
+own_calls caller terms from to slot = map (λ event. (caller, event)) (collections_at (drop from (take to terms.tasks)) from slot)
+
+-- the die below with these collections
+abbrev pub with_own : {N : Type 0} → ℕ → Terms → Core N → ℕ → ℕ → Core N
+with_own caller terms core from to =
+    record core { log = run core.start core.log (own_calls caller terms from to (now core.log)) }
+
+-- with all collections of the present slot
+abbrev pub with_all_own : {N : Type 0} → ℕ → Planned N → Core N
+with_all_own caller die = with_own caller die.terms die.core die.entered (length die.core.start.plan.caps)
+
+-- A slot: the collections of the plan that haven't come yet, and then a slot of the die below.
+pub record HasSlotted {N : Type 0} (ends : N → NandCall → Bool → N → Type 0) (failures : N → ℕ) (never : Bool) (caller : ℕ) (reply : SlotReply)
+    (before after : Planned N) : Type 0 where
+  pub early : now before.core.log < before.life
+  pub carried : IsCall ends failures never caller events.Slot (Ok (replies.Slot reply)) (with_all_own caller before) after.core
+  pub stays : after ≡ record before { core = after.core; entered = 0 }
+
+-- Why a slot is refused, and what it leaves: a fault had stopped the die, or the life has ended; or memory was refused for
+-- a collection, and those before it have come; or all have come, and the die below refuses the slot.
+abbrev pub RefusesSlot : {N : Type 0} → (N → NandCall → Bool → N → Type 0) → (N → ℕ) → Bool → ℕ → Refusal → Planned N → Planned N → Type 0
+RefusesSlot ends failures never caller refusal before after =
+    ((before.core.stopped ≡ true) × (refusal ≡ because.DieStopped) × (after ≡ before))
+    ⊎ ((before.core.stopped ≡ false) × (before.life ≤ now before.core.log) × (refusal ≡ because.ClockEnd) × (after ≡ before))
+    ⊎ ((before.core.stopped ≡ false) × (now before.core.log < before.life) × (refusal ≡ because.NoMemory)
+    × (after ≡ record before {
+      core = with_own caller before.terms before.core before.entered after.entered;
+      entered = after.entered;
+    }))
+    ⊎ ((before.core.stopped ≡ false) × (now before.core.log < before.life)
+    × IsCall ends failures never caller events.Slot (Err refusal) (with_all_own caller before) after.core
+    × (after ≡ record before { core = after.core; entered = length before.core.start.plan.caps }))
+
+abbrev pub IsSlot : {N : Type 0} → (N → NandCall → Bool → N → Type 0) → (N → ℕ) → Bool → ℕ → Result SlotReply Refusal → Planned N → Planned N → Type 0
+IsSlot ends failures never caller (Ok reply) before after = HasSlotted ends failures never caller reply before after
+IsSlot ends failures never caller (Err refusal) before after = RefusesSlot ends failures never caller refusal before after
+
+-- Lives
+
+-- why the next life doesn't begin: a fault has stopped the die; or the life ends in so many slots; or it has ended, and
+-- the clock of all lives is too far on; or it isn't, and this block is worn out
+abbrev pub RefusesLife : {N : Type 0} → Planned N → LifeRefusal → Type 0
+RefusesLife die lives.DieStopped = die.core.stopped ≡ true
+RefusesLife die (lives.NotEnded left) = (die.core.stopped ≡ false) × (0 < left) × (now die.core.log + left ≡ die.life)
+RefusesLife die lives.ClockEnd =
+    (die.core.stopped ≡ false) × (now die.core.log ≡ die.life) × (2305843009213693952 < die.first + die.life)
+RefusesLife die (lives.WornOut block) =
+    (die.core.stopped ≡ false) × (now die.core.log ≡ die.life) × (die.first + die.life ≤ 2305843009213693952)
+    × IsFirstWorn die.core.start die.core.log block

@@ -1,0 +1,75 @@
+//! Asks of tasks.
+
+ghost use Rattle.die_log.specs.Model.Lives.{Lives};
+ghost use Rattle.planned_die.specs.Planned.{HasLived};
+ghost use Rattle.planned_die.specs.PlannedCalls.{IsAsk};
+
+use crate::memory::{drop_old, job_of};
+use crate::planned_die::PlannedDie;
+use crate::rooms::why_refused;
+use crate::terms::terms_at;
+use flash_die::Nand;
+use planned_log::AskRefusal;
+use slot_types::{JobNo, Op, TaskNo};
+use std::alloc::Global;
+
+impl<N: Nand> PlannedDie<N> {
+    /// Accepts a job of the task, released in the present slot and due as many slots later as the task's terms say
+    /// (`deadline`), and answers its number. It is done by then, whatever the other tasks ask.
+    ///
+    /// The refusals, of which the first that stands is answered and nothing is changed: `DieStopped`; `UnknownTask`;
+    /// `EmptyJob`; `TooManyOps`, above 64 or the task's `work`; `BadPage`, with the first page that the die doesn't
+    /// have; `TooManyWrites`, above the task's `writes`; `TooSoon`, where with what the task asked for in the last
+    /// `period` slots it would be more than its `work` or its `writes`, with the first slot in which it isn't; `LifeEnd`,
+    /// where the job would be due after the last slot of the die's life; `NoMemory`. There is no other: tokens, numbers
+    /// and deadlines are never lacking.
+    pub fn ask(
+        &mut self,
+        alloc: Global,
+        caller: u32,
+        task: TaskNo,
+        ops: &[Op],
+    ) -> Result<JobNo, AskRefusal>
+        ensures ask { (earlier : Lives) → HasLived self.old earlier
+            → IsAsk caller task ops.now earlier result self.old self.new }
+        ensures lived { (earlier : Lives) → HasLived self.old earlier → HasLived self.new earlier }
+    {
+        if self.core.is_stopped() {
+            return Err(AskRefusal::DieStopped);
+        }
+        let now = self.core.now();
+        match why_refused(
+            self.core.plan(),
+            &self.terms,
+            self.life,
+            self.first,
+            now,
+            self.asked.as_slice(),
+            task,
+            ops,
+        ) {
+            Some(refusal) => return Err(refusal),
+            None => {}
+        }
+        let own = terms_at(&self.terms, task.0 as usize);
+        let clock = self.first + u64::from(now);
+        let job = job_of(task.0, clock, ops);
+        match self.asked.push(job) {
+            Ok(()) => {}
+            Err(_) => return Err(AskRefusal::NoMemory),
+        }
+        match self
+            .core
+            .submit_lent(alloc, caller, task, now, now + own.deadline, ops)
+        {
+            Ok(number) => {
+                drop_old(&mut self.asked, task.0, own.period, clock);
+                Ok(number)
+            }
+            Err(_) => {
+                let _ = self.asked.pop();
+                Err(AskRefusal::NoMemory)
+            }
+        }
+    }
+}

@@ -1,0 +1,18 @@
+//! A die that keeps its plan itself: its tasks ask, it enters its collections, and what it accepts is done in time.
+#![tactic(auto)]
+
+pub mod asks;
+pub mod collections;
+pub mod life;
+pub mod memory;
+pub mod planned_die;
+pub mod refusals;
+pub mod renewals;
+pub mod rooms;
+pub mod slots;
+pub mod terms;
+
+pub use memory::AskedJob;
+pub use planned_die::PlannedDie;
+pub use planned_log::AskRefusal;
+pub use refusals::{LifeRefusal, PlanRefusal};

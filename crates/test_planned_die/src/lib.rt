@@ -1,0 +1,30 @@
+//! Plays of a die that keeps its plan itself: two tasks, of which each is answered by its own asks alone.
+//!
+//! `plans` has the plans and `steps` the words of a test; `played` carries a step out. What is wanted is worked out from
+//! the rules (planned_log's README.md), and the numbers of collections that run from a second reading of them.
+#![tactic(auto)]
+
+#[cfg(test)]
+mod again;
+#[cfg(test)]
+mod asks;
+#[cfg(test)]
+mod collections;
+#[cfg(test)]
+mod dies;
+#[cfg(test)]
+mod faults;
+#[cfg(test)]
+mod lives;
+#[cfg(test)]
+mod loud_tasks;
+#[cfg(test)]
+mod memory;
+#[cfg(test)]
+mod plans;
+#[cfg(test)]
+mod played;
+#[cfg(test)]
+mod said;
+#[cfg(test)]
+mod steps;

@@ -1,0 +1,83 @@
+//! The words of a test: what the tasks ask of a die, what its slots carry out, and what stands of it then.
+//!
+//! A test is a table of steps, such as
+//!
+//! ```text
+//! Asks { task: 0, ops: &[READ], want: Ok(0) },
+//! Carries { jobs: &[Some(0)] },
+//! Is(Done { job: 0, completion: 1, lateness: -5 }),
+//! ```
+//!
+//! Jobs and collections go by their numbers, which begin at 0 in each life; collections have theirs in the slot in which
+//! they come, the first task's before the second one's.
+
+use planned_die::{AskRefusal, LifeRefusal};
+use slot_types::{Op, Refusal};
+
+/// A step of a table. A `want` is the answer: the number of the job, or why it is refused.
+#[derive(Drop)]
+pub(crate) enum Step<'a> {
+    /// A task asks for a job.
+    Asks {
+        task: u32,
+        ops: &'a [Op],
+        want: Result<u32, AskRefusal>,
+    },
+    /// The next slots carry out these jobs or collections, one a slot, or are idle.
+    Carries {
+        jobs: &'a [Option<u32>],
+    },
+    /// So many slots are carried out.
+    Slots {
+        count: u32,
+    },
+    /// In each of so many slots the second task asks for more than it ever may, and for as much as it may at once,
+    /// whatever it is answered; then the slot is carried out.
+    Babbles {
+        slots: u32,
+    },
+    /// The present slot is refused.
+    NoSlot {
+        want: Refusal,
+    },
+    /// The next life begins, or doesn't.
+    Renews {
+        want: Result<(), LifeRefusal>,
+    },
+    /// This stands of the die.
+    Is(Fact),
+}
+
+/// What may stand of a die.
+#[derive(Drop)]
+pub(crate) enum Fact {
+    /// The job is done.
+    Done {
+        job: u32,
+        completion: u32,
+        lateness: i64,
+    },
+    /// The collection is done, and gave its task so many pages.
+    Collected {
+        collection: u32,
+        completion: u32,
+        lateness: i64,
+        given: u32,
+    },
+    /// The collection was waived, and gave its task so many pages.
+    Waived {
+        collection: u32,
+        given: u32,
+    },
+    /// The present slot of the life is this one, and the life began in this slot of the clock.
+    Now {
+        slot: u32,
+        first: u64,
+    },
+    /// A life has so many slots.
+    Life {
+        slots: u32,
+    },
+    /// Nothing was done late.
+    NothingLate,
+}
