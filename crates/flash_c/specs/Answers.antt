@@ -1,5 +1,5 @@
 -- What an export answers of a die.
-use Rattle.std.specs.Prelude.{◌≡◌, ℕ, Bool, List}
+use Rattle.std.specs.Prelude.{◌≡◌, ℕ, Bool, List, IfSome}
 use Rattle.slot_types.specs.declared.pages.PageData.{PageData}
 use Rattle.slot_types.specs.declared.plans.DiePlan.{DiePlan}
 use Rattle.slot_types.specs.declared.refusals.Refusal.{Refusal}
@@ -35,9 +35,11 @@ pub record SaysUnbegun (die : Stepped) (code : ℕ) : Type 0 where
   pub refuses : RefusesBeginning die refusal
   pub code_is : code ≡ code_of refusal
 
--- a slot has ended with a reply, which is reported with the collections that were waived
+-- a slot has ended with a reply, which is reported with who began it and the collections that were waived
 pub record SaysReply (ok : Bool) (bytes : PageData) (before after : Stepped) (said : FlashReply) (room waived : List FlashWaived) : Type 0 where
   pub reply : SlotReply
   pub ended : HasEnded ok bytes reply before after
-  pub said_is : said ≡ reply_of ended.begun.caller reply
+  pub caller : ℕ
+  pub began : IfSome before.begun (λ begun. caller ≡ begun.caller)
+  pub said_is : said ≡ reply_of caller reply
   pub waived_is : waived ≡ array_with waived_of room reply.waived

@@ -2,7 +2,7 @@
 
 ghost use Rattle.std.specs.Prelude.{◌≡◌, Some};
 ghost use Rattle.stepped_die.specs.Stepped.{Stepped};
-ghost use Rattle.flash_c.specs.Entries.{what_of, job_of, at_of, entry_of, accepts, caller_in, SaysEntries, SaysWaivers};
+ghost use Rattle.flash_c.specs.Entries.{what_of, job_of, at_of, entry_of, accepts, caller_in, first_waived, SaysEntries, SaysWaivers};
 ghost use Rattle.flash_c.specs.Lists.{array_with};
 ghost use Rattle.flash_c.specs.Slots.{waived_of};
 
@@ -114,6 +114,17 @@ fn put_waivers(places: &mut [FlashWaived], waived: &WaivedOf)
     }
 }
 
+/// What the first note waived, which is taken off.
+#[tactic(auto, using(crate::proofs::Filling::filled_none))]
+fn put_first_waivers(places: &mut [FlashWaived], notes: &mut NotesFrom)
+    ensures { places.new ≡ array_with waived_of places.old (first_waived notes.old) }
+{
+    let Some(note) = notes.pop() else {
+        return;
+    };
+    put_waivers(places, &note.waived);
+}
+
 /// The entries of the log from this one on, as far as there is room.
 #[unsafe(no_mangle)]
 pub extern "C" fn flash_entries(
@@ -151,10 +162,7 @@ pub extern "C" fn flash_waived(
 {
     let boxed = take(alloc, die);
     let mut rest = boxed.core().notes_from(entry);
-    match rest.pop() {
-        Some(note) => put_waivers(waived, &note.waived),
-        None => {}
-    }
+    put_first_waivers(waived, &mut rest);
     put(die, boxed);
     OK
 }

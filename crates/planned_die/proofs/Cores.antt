@@ -1,5 +1,5 @@
 -- A die that keeps its plan itself: what it takes isn't refused but out of memory, and it keeps its plan with it.
-use Rattle.std.proofs.Common.{◌≡◌, ℕ, ◌+◌, ◌<◌, ◌≤◌, Bool, true, false, List, length, None, Ok, Err, ap, sym, subst}
+use Rattle.std.proofs.Common.{◌≡◌, ℕ, ◌+◌, ◌-◌, ◌<◌, ◌≤◌, Bool, true, false, List, [], ◌∷◌, length, length-append, None, Ok, Err, ap, sym, subst}
 use Rattle.std.proofs.Common.{◌∙◌, inl, inr, arith}
 use Rattle.std.proofs.lemmas.Bool.{true≢false}
 use Rattle.slot_types.specs.Arrivals.{IsArrival}
@@ -20,14 +20,14 @@ use Rattle.die_log.specs.Model.Answers.{answer, refusal_of, IsAccepted, with_ans
 use Rattle.die_log.proofs.Legality.{accepted_answer}
 use Rattle.die_log.proofs.Supply.Unrefused.{entered}
 use Rattle.slot_core.specs.Core.{Core}
-use Rattle.slot_core.specs.Calls.{IsCall, RefusesCall, HasEntered}
+use Rattle.slot_core.specs.Calls.{IsCall, RefusesCall, HasEntered, reserved_after}
 use Rattle.slot_core.proofs.Calling.{has_entered, arrival_stays}
 use Rattle.planned_log.specs.Asks.{asked_job, ask_refusal}
 use Rattle.planned_log.specs.KeptLogs.{comes_at, own_collection}
 use Rattle.planned_log.specs.Laws.{IsKept}
 use Rattle.planned_log.proofs.Kept.{ask_accepted, ask_goes_on, collection_accepted, collection_goes_on, passed_goes_on}
-use Rattle.planned_die.specs.PlannedCalls.{own_calls, with_own}
-use Rattle.planned_die.proofs.Own.{none_own, one_own, not_own, run_more}
+use Rattle.planned_die.specs.PlannedCalls.{own_calls, with_collections, with_own}
+use Rattle.planned_die.proofs.Own.{none_own, one_own, not_own, own_more, run_more}
 
 -- the die with another log
 pub core_kept : {N : Type 0} (before after : Core N) (terms : Terms) (earlier : Lives) (life more : ℕ) (next : Log) → after.start ≡ before.start
@@ -39,9 +39,19 @@ core_kept before after terms earlier life more next starts logs k =
 
 -- the log after what was entered
 entered_log : {N : Type 0} (caller : ℕ) (event : Event) (number : ℕ) (before after : Core N) → HasEntered caller event number before after
-    → after ≡ record before { log = after_call before.start before.log (caller, event) }
+    → after ≡ record before { reserved = reserved_after event before.reserved; log = after_call before.start before.log (caller, event) }
 entered_log caller event number before after h =
-    h.logged ∙ ap (λ (r : Reply). record before { log = with_answer caller event r before.log }) (sym h.answered)
+    h.logged ∙ ap (λ (r : Reply). record before { reserved = reserved_after event before.reserved; log = with_answer caller event r before.log })
+    (sym h.answered)
+
+-- no collection uses up nothing
+none_uses : (n : ℕ) → n ≡ n - 0
+none_uses n = omega arith
+
+without_any : {N : Type 0} (core : Core N) (calls : List (ℕ × Event)) → calls ≡ [] → core ≡ with_collections core calls
+without_any {N} core calls none =
+    ap (λ (n : ℕ). record core { reserved = record core.reserved { arrivals = n } }) (none_uses core.reserved.arrivals)
+    ∙ ap (λ (l : List (ℕ × Event)). with_collections core l) (sym none)
 
 module _ {N : Type 0} (ends : N → NandCall → Bool → N → Type 0) (failures : N → ℕ) (never : Bool) where
   -- what the log accepts is refused for memory alone
@@ -121,7 +131,7 @@ module _ {N : Type 0} (ends : N → NandCall → Bool → N → Type 0) (failure
       own_call r call = subst (λ (e : Event). IsCall ends failures never caller e r before after) collection_is call
 
       own_log : (number : ℕ) → IsCall ends failures never caller (events.Collect task slot (slot + deadline)) (Ok (replies.Taken number)) before after
-          → after ≡ record before { log = after_call before.start before.log (caller, own_collection terms before.log task) }
+          → after ≡ with_collections before ((caller, own_collection terms before.log task) ∷ [])
       own_log number call = entered_log caller (own_collection terms before.log task) number before after
           (has_entered ends failures never caller (own_collection terms before.log task) before after number tt (own_call _ call))
 
@@ -130,7 +140,7 @@ module _ {N : Type 0} (ends : N → NandCall → Bool → N → Type 0) (failure
           → after ≡ with_own caller terms before task (task + 1)
       own_entered number call =
           own_log number call
-          ∙ ap (λ calls. record before { log = run before.start before.log calls })
+          ∙ ap (λ calls. with_collections before calls)
           (sym (one_own caller terms (now before.log) task known (due_is true due)))
 
       pub own_keeps : (number : ℕ) → IsCall ends failures never caller (events.Collect task slot (slot + deadline))
@@ -158,8 +168,7 @@ module _ {N : Type 0} (ends : N → NandCall → Bool → N → Type 0) (failure
     -- a task that has none
     module _ (not_due : comes_at period slot ≡ false) where
       pub passed_over : before ≡ with_own caller terms before task (task + 1)
-      passed_over = ap (λ calls. record before { log = run before.start before.log calls })
-          (sym (not_own caller terms (now before.log) task known (due_is false not_due)))
+      passed_over = without_any before _ (not_own caller terms (now before.log) task known (due_is false not_due))
 
       pub passed_keeps : IsKept before.start terms earlier life (task + 1) before.log
       passed_keeps = passed_goes_on before.start terms earlier life task before.log kept lt (due_is false not_due)
@@ -167,8 +176,7 @@ module _ {N : Type 0} (ends : N → NandCall → Bool → N → Type 0) (failure
 -- Task by task
 
 pub own_begins : {N : Type 0} (caller : ℕ) (terms : Terms) (core : Core N) (task : ℕ) → core ≡ with_own caller terms core task task
-own_begins caller terms core task = ap (λ calls. record core { log = run core.start core.log calls })
-    (sym (none_own caller terms (now core.log) task))
+own_begins caller terms core task = without_any core _ (none_own caller terms (now core.log) task)
 
 -- the collections of one task more
 pub own_further : {N : Type 0} (caller : ℕ) (terms : Terms) (core between after : Core N) (from to : ℕ) → from ≤ to → to < length terms.tasks
@@ -176,8 +184,24 @@ pub own_further : {N : Type 0} (caller : ℕ) (terms : Terms) (core between afte
     → after ≡ with_own caller terms core from (to + 1)
 own_further {N} caller terms core between after from to le lt first slot then =
     then ∙ (ap (λ (c : Core N). with_own caller terms c to (to + 1)) first
-    ∙ (ap (λ (n : ℕ). record core {
-      log = run core.start (run core.start core.log (own_calls caller terms from to (now core.log))) (own_calls caller terms to (to + 1) n);
-    }) (sym (ap (λ (c : Core N). now c.log) first) ∙ slot)
-    ∙ ap (λ l. record core { log = l })
-    (sym (run_more caller terms (now core.log) core.start core.log from to le lt))))
+    ∙ (ap (λ (n : ℕ). with_collections (with_own caller terms core from to) (own_calls caller terms to (to + 1) n))
+    (sym (ap (λ (c : Core N). now c.log) first) ∙ slot)
+    ∙ (λ i. record core { reserved = record core.reserved { arrivals = used i }; log = logs i })))
+  where
+    earlier : List (ℕ × Event)
+    earlier = own_calls caller terms from to (now core.log)
+
+    later : List (ℕ × Event)
+    later = own_calls caller terms to (to + 1) (now core.log)
+
+    all : List (ℕ × Event)
+    all = own_calls caller terms from (to + 1) (now core.log)
+
+    counts : length all ≡ length earlier + length later
+    counts = ap (λ (l : List (ℕ × Event)). length l) (own_more caller terms (now core.log) from to le lt) ∙ length-append earlier later
+
+    used : core.reserved.arrivals - length earlier - length later ≡ core.reserved.arrivals - length all
+    used = omega (arith, counts)
+
+    logs : run core.start (run core.start core.log earlier) later ≡ run core.start core.log all
+    logs = sym (run_more caller terms (now core.log) core.start core.log from to le lt)

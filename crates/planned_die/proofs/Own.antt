@@ -82,7 +82,7 @@ module _ (caller : ℕ) (terms : Terms) (slot : ℕ) where
       (cond b (events.Collect task slot (slot + (terms_of terms task).collect_deadline) ∷ []) [])) not_due
 
   -- one more
-  own_more : (from to : ℕ) → from ≤ to → to < length terms.tasks
+  pub own_more : (from to : ℕ) → from ≤ to → to < length terms.tasks
       → own_calls caller terms from (to + 1) slot ≡ own_calls caller terms from to slot ++ own_calls caller terms to (to + 1) slot
   own_more from to le lt =
       let f : List TaskTerms → List (ℕ × Event) = λ ts. map (λ event. (caller, event)) (collections_at ts from slot) in

@@ -1,5 +1,5 @@
 -- What a die that keeps its plan itself answers, and what it leaves.
-use Rattle.std.specs.Prelude.{◌≡◌, ◌⊎◌, ℕ, ◌+◌, ◌<◌, ◌≤◌, Bool, true, false, List, length, map, take, drop, Option, Some, None}
+use Rattle.std.specs.Prelude.{◌≡◌, ◌⊎◌, ℕ, ◌+◌, ◌-◌, ◌<◌, ◌≤◌, Bool, true, false, List, length, map, take, drop, Option, Some, None}
 use Rattle.std.specs.Prelude.{Result, Ok, Err}
 use Rattle.slot_types.specs.declared.events.Op.{Op}
 use Rattle.slot_types.specs.declared.events.Event.{Event}
@@ -56,10 +56,16 @@ IsAsk caller task ops earlier (Err refusal) before after = (after ≡ before) ×
 abbrev pub own_calls : ℕ → Terms → ℕ → ℕ → ℕ → List (ℕ × Event)
 own_calls caller terms from to slot = map (λ event. (caller, event)) (collections_at (drop from (take to terms.tasks)) from slot)
 
+-- the die below after so many collections, which use up what was reserved for them
+abbrev pub with_collections : {N : Type 0} → Core N → List (ℕ × Event) → Core N
+with_collections core calls = record core {
+  reserved = record core.reserved { arrivals = core.reserved.arrivals - length calls };
+  log = run core.start core.log calls;
+}
+
 -- the die below with these collections
 abbrev pub with_own : {N : Type 0} → ℕ → Terms → Core N → ℕ → ℕ → Core N
-with_own caller terms core from to =
-    record core { log = run core.start core.log (own_calls caller terms from to (now core.log)) }
+with_own caller terms core from to = with_collections core (own_calls caller terms from to (now core.log))
 
 -- with all collections of the present slot
 abbrev pub with_all_own : {N : Type 0} → ℕ → Planned N → Core N

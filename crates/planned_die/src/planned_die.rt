@@ -1,6 +1,6 @@
 //! A die that keeps its plan itself.
 
-ghost use Rattle.std.specs.Prelude.{◌≡◌, ◌≤◌, ◌≤ℤ◌, ℕ, [], false, pos, max, IfSome, IfOk, IfErr, OnOk, OnErr};
+ghost use Rattle.std.specs.Prelude.{◌≡◌, ◌≤◌, ◌≤ℤ◌, ℕ, [], false, pos, IfSome, IfOk, IfErr, OnOk, OnErr};
 ghost use Rattle.slot_types.specs.Refusal.{FailsForMemory};
 ghost use Rattle.demand_rules.specs.Demand.{PassesDemand};
 ghost use Rattle.demand_rules.specs.Supply.{PassesSupply};
@@ -10,6 +10,7 @@ ghost use Rattle.die_log.specs.Model.Start.{fresh};
 ghost use Rattle.die_log.specs.Model.Lives.{Lives};
 ghost use Rattle.die_log.specs.Results.InTime.{IsInTime};
 ghost use Rattle.die_log.specs.Results.Promises.{KeepsPromises};
+ghost use Rattle.slot_core.specs.Core.{nothing_reserved, with_slots};
 ghost use Rattle.slot_core.specs.Outcomes.{worst_of};
 ghost use Rattle.planned_log.specs.Laws.{AreDoneInTime};
 ghost use Rattle.planned_die.specs.Planned.{HasLived};
@@ -88,7 +89,7 @@ impl<N: Nand> PlannedDie<N> {
           start = fresh plan;
           device = nand;
           stopped = false;
-          reserved = 0;
+          reserved = nothing_reserved;
           log = [];
         }) }
         ensures begins { IfOk result (λ die. (die.terms ≡ terms) × (die.entered ≡ 0)
@@ -182,11 +183,8 @@ impl<N: Nand> PlannedDie<N> {
 
     /// Takes the memory for this many later slots, as [`DieCore::reserve`].
     pub fn reserve(&mut self, slots: u32) -> Result<(), Refusal>
-        ensures ok { OnOk result (self.new ≡ record self.old {
-          core = record self.old.core {
-            reserved = max self.old.core.reserved slots;
-          };
-        }) }
+        ensures ok { OnOk result (self.new
+            ≡ record self.old { core = with_slots slots self.old.core }) }
         ensures lived { (earlier : Lives) → HasLived self.old earlier → HasLived self.new earlier }
         ensures refused { FailsForMemory result }
         ensures unchanged { OnErr result (self.new ≡ self.old) }
