@@ -119,7 +119,6 @@ call_by slot act job logical (Some (calls.Erase block last)) = record {
   logical = logical;
   name = no_name;
 }
-
 call_by slot act job logical (Some (calls.Trim trimmed)) = record {
   kind = 4;
   block = 0;

@@ -310,7 +310,11 @@ pub extern "C" fn flash_reserve_jobs(
 
 /// Starts the log anew at a quiet moment, and gives back the memory of the log so far, that which is reserved too.
 #[unsafe(no_mangle)]
-pub extern "C" fn flash_renew_giving_back(alloc: Global, die: &mut Handle, why: &mut FlashWhy) -> u32
+pub extern "C" fn flash_renew_giving_back(
+    alloc: Global,
+    die: &mut Handle,
+    why: &mut FlashWhy,
+) -> u32
     ghost held: { Stepped }
     requires full { die.old.value ≡ Some held }
     ensures full { IsSome die.new.value }

@@ -139,18 +139,21 @@ pub reserved_says : {A : Type 0} (r : Result A Refusal) (start : Start) (present
     → SaysLog start present u notes failed f
 reserved_says (Ok a) start present t u x notes failed f made stays says =
     subst (λ (y : Table). SaysLog start present y notes failed f) (sym made)
-    (record { kept = record {
-      exact = says.kept.exact;
-      bound = says.kept.bound;
-      left = says.kept.left;
-      now_is = says.kept.now_is;
-      tasks_are = says.kept.tasks_are;
-      clock_by = says.kept.clock_by;
-      ended_is = says.kept.ended_is;
-      jobs_are = says.kept.jobs_are;
-      places_are = says.kept.places_are;
-      flash = says.kept.flash;
-    }; fits = says.fits })
+    (record {
+      kept = record {
+        exact = says.kept.exact;
+        bound = says.kept.bound;
+        left = says.kept.left;
+        now_is = says.kept.now_is;
+        tasks_are = says.kept.tasks_are;
+        clock_by = says.kept.clock_by;
+        ended_is = says.kept.ended_is;
+        jobs_are = says.kept.jobs_are;
+        places_are = says.kept.places_are;
+        flash = says.kept.flash;
+      };
+      fits = says.fits;
+    })
 reserved_says (Err e) start present t u x notes failed f made stays says =
     subst (λ (y : Table). SaysLog start present y notes failed f) (sym stays) says
 

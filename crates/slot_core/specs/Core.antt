@@ -29,10 +29,12 @@ with_slots slots core = record core { reserved = record core.reserved { slots = 
 
 -- so many arrivals with so many operations in all are reserved, or as many of either as were before
 abbrev pub with_arrivals : {N : Type 0} → ℕ → ℕ → Core N → Core N
-with_arrivals arrivals operations core = record core { reserved = record core.reserved {
-  arrivals = max core.reserved.arrivals arrivals;
-  operations = max core.reserved.operations operations;
-} }
+with_arrivals arrivals operations core = record core {
+  reserved = record core.reserved {
+    arrivals = max core.reserved.arrivals arrivals;
+    operations = max core.reserved.operations operations;
+  };
+}
 
 -- the log with one more call
 abbrev pub with_entry : ℕ → Event → Reply → Log → Log

@@ -22,8 +22,13 @@ invariant_of-self-2 g c =
           (omega (arith, c.in_ok-reserve.ensures.room, c.max-most.ensures, c.reserved_arrivals.ensures))
           (rw (sym c.waivers_ahead-waivers.ensures) c.in_ok-reserve.ensures.waiver_room)
           c.self.invariant.1.waivers c.in_ok-reserve.ensures.no_less_for_waivers
-          (omega (arith, kept.tasks_are,
-          few_open (over f.volume.accounts.plan f.start) (log_of f.table f.events.notes) f.table.jobs kept.bound kept.exact kept.jobs_are)),
-      rw (reserved_jobs c.reserve-2.result f.table c.reserve-2.new.self more c.reserve-2.ensures.ok c.reserve-2.ensures.err,
-          c.in_ok-reserve.ensures.marked) c.self.invariant.2,
+          (omega (
+            arith,
+            kept.tasks_are,
+            few_open (over f.volume.accounts.plan f.start) (log_of f.table f.events.notes) f.table.jobs kept.bound kept.exact kept.jobs_are,
+          )),
+      rw (
+        reserved_jobs c.reserve-2.result f.table c.reserve-2.new.self more c.reserve-2.ensures.ok c.reserve-2.ensures.err,
+        c.in_ok-reserve.ensures.marked,
+      ) c.self.invariant.2,
     )

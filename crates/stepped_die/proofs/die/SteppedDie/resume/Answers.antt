@@ -19,7 +19,7 @@ returns-in-Ok-resume-clause-ok c =
           ∙ ap (λ (pages : List PageData). start_with c.args.plan c.args.checkpoint.now pages)
           (left_named c.args.plan c.args.checkpoint.now c.args.names.now c.in-Ok-left.mirror c.in-Ok-left.mirror c.in-Ok-resume.ensures.fits
           refl c.in-Ok-left.ensures.left);
-      device = ap (λ (core : Core MirrorNand). core.device) ok 
+      device = ap (λ (core : Core MirrorNand). core.device) ok
           ∙ (λ i. record { memory = c.in-Ok-left.ensures.left i });
       runs = ap (λ (core : Core MirrorNand). core.stopped) ok;
       reserves = ap (λ (core : Core MirrorNand). core.reserved) ok;
