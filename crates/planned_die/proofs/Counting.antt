@@ -1,9 +1,9 @@
 -- What a die remembers of its tasks' asks counts as what they asked for in all lives does.
-use Rattle.std.proofs.Common.{◌≡◌, ℕ, ◌+◌, ◌<◌, ◌≤◌, ◌==◌, ◌&&◌, nat_le, Bool, true, false, cond, filter, List, [], ◌∷◌, ◌++◌}
-use Rattle.std.proofs.Common.{length, map, sum_by, refl, ap, sym, ◌∙◌, inl, inr, arith}
-use Rattle.std.proofs.lemmas.Bool.{cases_Bool, eqb-true}
+use Rattle.std.proofs.Common.{◌≡◌, ◌≢◌, ℕ, ◌+◌, ◌<◌, ◌≤◌, ◌==◌, ◌&&◌, nat_le, true, false, cond, List, [], ◌∷◌, ◌++◌, get_or, set, drop}
+use Rattle.std.proofs.Common.{length, map, sum_by, refl, ap, sym, subst, ◌∙◌, inl, inr, arith}
+use Rattle.std.proofs.lemmas.Bool.{cases_Bool, cases_lt}
 use Rattle.std.proofs.lemmas.Bool.Decides.{nat_tests}
-use Rattle.std.proofs.lemmas.List.Sums.{sum_by-cons}
+use Rattle.std.proofs.lemmas.List.{get_or-set_same, get_or-set_other}
 use Rattle.slot_types.specs.declared.events.Op.{Op}
 use Rattle.slot_types.specs.declared.events.Event.{Event}
 use Rattle.slot_types.specs.declared.events.Event.TheVariants as events
@@ -22,33 +22,12 @@ use Rattle.planned_log.specs.Asks.{Asked, asked_in, asked_by, counts_in, countin
 use Rattle.planned_log.specs.Asks.{ask_refusals, first_refusal}
 use Rattle.planned_log.specs.KeptLogs.{comes_at, collections_at}
 use Rattle.planned_die.specs.declared.memory.AskedJob.{AskedJob}
-use Rattle.planned_die.specs.Remembered.{with_job, own_after, own_asks, still_counts, CountAs}
-use Rattle.planned_die.proofs.Waits.{own_more}
+use Rattle.planned_die.specs.declared.task_asks.TaskAsks.{TaskAsks}
+use Rattle.planned_die.specs.Remembered.{newest_first, own_asks, CountAs, IsKeptFor}
+use Rattle.planned_die.proofs.Sums.{sum_counting}
+use Rattle.planned_die.proofs.Passing.{as_asked, newest_one, without_passed}
 
 -- What is refused
-
-sum_counting : (period slot : ℕ) (amount : Asked → ℕ) (asked : List Asked)
-    → sum_by (λ a. cond (counts_in period slot a) (amount a) 0) asked ≡ sum_by amount (counting period slot asked)
-sum_counting period slot amount [] = refl
-sum_counting period slot amount (a ∷ asked) = by (counts_in period slot a) refl (sum_counting period slot amount asked)
-  where
-    by : (b : Bool) → counts_in period slot a ≡ b
-        → sum_by (λ x. cond (counts_in period slot x) (amount x) 0) asked ≡ sum_by amount (counting period slot asked)
-        → sum_by (λ x. cond (counts_in period slot x) (amount x) 0) (a ∷ asked)
-        ≡ sum_by amount (cond b (a ∷ counting period slot asked) (counting period slot asked))
-    by true e rest = omega (
-      arith,
-      sum_by-cons (λ x. cond (counts_in period slot x) (amount x) 0) a asked,
-      ap {B = ℕ} (λ b. cond b (amount a) 0) e,
-      sum_by-cons amount a (counting period slot asked),
-      rest,
-    )
-    by false e rest = omega (
-      arith,
-      sum_by-cons (λ x. cond (counts_in period slot x) (amount x) 0) a asked,
-      ap {B = ℕ} (λ b. cond b (amount a) 0) e,
-      rest,
-    )
 
 same_sum : (period slot : ℕ) (amount : Asked → ℕ) (one two : List Asked) → counting period slot one ≡ counting period slot two
     → sum_by (λ a. cond (counts_in period slot a) (amount a) 0) one ≡ sum_by (λ a. cond (counts_in period slot a) (amount a) 0) two
@@ -73,78 +52,47 @@ refused_alike plan terms life first slot one two task ops same = elim (cases_Boo
       rw (same_room (terms_of terms task) (first + slot) one two (length ops) (writes ops) e) (rw e refl)
 ]
 
--- What doesn't count any more
-
--- a job more on both sides
-with_same : (task period slot : ℕ) (one two : List Asked) (j : AskedJob) → counting period slot one ≡ counting period slot two
-    → counting period slot (with_job task one j) ≡ counting period slot (with_job task two j)
-with_same task period slot one two j e = by (j.task == task) (counts_in period slot (record { at = j.at; operations = j.operations; writes = j.writes }))
-  where
-    a : Asked
-    a = record { at = j.at; operations = j.operations; writes = j.writes }
-
-    by : (b c : Bool) → counting period slot (cond b (a ∷ one) one) ≡ counting period slot (cond b (a ∷ two) two)
-    by true c = ap (λ l. cond (counts_in period slot a) (a ∷ l) l) e
-    by false c = e
-
-module _ (task own period clock : ℕ) (t : ℕ) (slot : ℕ) (same : t ≡ task → period ≡ own) (le : clock ≤ slot) where
-  -- one that is dropped counts for nobody
-  dropped_one : (before : List Asked) (j : AskedJob) → still_counts task own clock j ≡ false
-      → counting period slot (with_job t before j) ≡ counting period slot before
-  dropped_one before j gone = by (j.task == t) refl
-    where
-      a : Asked
-      a = record { at = j.at; operations = j.operations; writes = j.writes }
-
-      not_other : j.task ≡ task
-      not_other = grind (arith, nat_tests, gone)
-
-      past : j.at + own ≤ clock
-      past = grind (arith, nat_tests, gone)
-
-      by : (b : Bool) → (j.task == t) ≡ b → counting period slot (cond b (a ∷ before) before) ≡ counting period slot before
-      by true e =
-          let is : t ≡ task = omega (arith, not_other, eqb-true j.task t e) in
-          let out : counts_in period slot a ≡ false = grind (arith, nat_tests, same is, past, le) in
-          rw out refl
-      by false e = refl
-
-  dropped : (jobs : List AskedJob) (one two : List Asked) → counting period slot one ≡ counting period slot two
-      → counting period slot (own_after t one (filter (still_counts task own clock) jobs)) ≡ counting period slot (own_after t two jobs)
-  dropped [] one two e = e
-  dropped (j ∷ jobs) one two e =
-      by (still_counts task own clock j) refl
-      (dropped jobs (with_job t one j) (with_job t two j) (with_same t period slot one two j e))
-      (λ gone. dropped jobs one (with_job t two j) (e ∙ sym (dropped_one two j gone)))
-    where
-      by : (b : Bool) → still_counts task own clock j ≡ b
-          → counting period slot (own_after t (with_job t one j) (filter (still_counts task own clock) jobs))
-          ≡ counting period slot (own_after t (with_job t two j) jobs)
-          → (still_counts task own clock j ≡ false → counting period slot (own_after t one (filter (still_counts task own clock) jobs))
-          ≡ counting period slot (own_after t (with_job t two j) jobs))
-          → counting period slot (own_after t one (cond b (j ∷ filter (still_counts task own clock) jobs) (filter (still_counts task own clock) jobs)))
-          ≡ counting period slot (own_after t (with_job t two j) jobs)
-      by true is kept gone = kept
-      by false is kept gone = gone is
-
-pub drop_counts : (plan : DiePlan) (terms : Terms) (task clock : ℕ) (jobs : List AskedJob) (lives : Lives) → CountAs plan terms clock jobs lives
-    → CountAs plan terms clock (filter (still_counts task (terms_of terms task).period clock) jobs) lives
-drop_counts plan terms task clock jobs lives h t slot lt le =
-    dropped task (terms_of terms task).period (terms_of terms t).period clock t slot (λ e. ap (λ n. (terms_of terms n).period) e) le jobs [] [] refl
-    ∙ h t slot lt le
-
 -- One ask more
 
-pub ask_counts : (plan : DiePlan) (terms : Terms) (caller task due clock : ℕ) (ops : List Op) (r : Reply) (jobs : List AskedJob) (log : Log)
-    (earlier : Lives) (j : AskedJob) → j ≡ record { task = task; at = all_slots earlier + now log; operations = length ops; writes = writes ops }
-    → CountAs plan terms clock jobs (log ∷ earlier)
-    → CountAs plan terms clock (jobs ++ j ∷ []) ((record { caller = caller; event = events.Submit task (now log) due ops; reply = r } ∷ log) ∷ earlier)
-ask_counts plan terms caller task due clock ops r jobs log earlier j is h t slot lt le =
-    let period : ℕ = (terms_of terms t).period in
-    ap (counting period slot) (own_more t jobs j)
-    ∙ (ap (λ (k : AskedJob). counting period slot (with_job t (own_asks t jobs) k)) is
-    ∙ with_same t period slot (own_asks t jobs) (asked_by t (log ∷ earlier))
-    (record { task = task; at = all_slots earlier + now log; operations = length ops; writes = writes ops }) (h t slot lt le))
+module _ (plan : DiePlan) (terms : Terms) (caller task due clock : ℕ) (ops : List Op) (r : Reply) (asked : List (List AskedJob)) (log : Log)
+    (earlier : Lives) (t : TaskAsks) (j : AskedJob) (is : j ≡ record { at = all_slots earlier + now log; operations = length ops; writes = writes ops })
+    (kept : IsKeptFor (terms_of terms task).period clock t) (jobs : t.jobs.items ≡ get_or asked task []) (known : task < length asked)
+    (h : CountAs plan terms clock asked (log ∷ earlier)) where
+  abbrev entered : Lives
+  entered = (record { caller = caller; event = events.Submit task (now log) due ops; reply = r } ∷ log) ∷ earlier
+
+  abbrev noted : List (List AskedJob)
+  noted = set asked task (drop t.passed t.jobs.items ++ j ∷ [])
+
+  other_counts : (i slot : ℕ) → i < length plan.caps → clock ≤ slot → i ≢ task
+      → counting (terms_of terms i).period slot (own_asks i noted) ≡ counting (terms_of terms i).period slot (asked_by i entered)
+  other_counts i slot lt le ne =
+      let not_own : (task == i) ≡ false = grind (arith, nat_tests, ne) in
+      rw (get_or-set_other asked task i (drop t.passed t.jobs.items ++ j ∷ []) [] ne) (rw not_own (h i slot lt le))
+
+  own_counts : (slot : ℕ) → task < length plan.caps → clock ≤ slot
+      → counting (terms_of terms task).period slot (own_asks task noted) ≡ counting (terms_of terms task).period slot (asked_by task entered)
+  own_counts slot lt le =
+      let own : (task == task) ≡ true = grind (arith, nat_tests) in
+      let period : ℕ = (terms_of terms task).period in
+      let a : Asked = as_asked j in
+      let rest : counting period slot (newest_first (drop t.passed t.jobs.items)) ≡ counting period slot (asked_by task (log ∷ earlier)) =
+      sym (without_passed period clock t kept slot le) ∙ (ap (λ l. counting period slot (newest_first l)) jobs ∙ h task slot lt le) in
+      ap (λ l. counting period slot (newest_first l)) (get_or-set_same asked task (drop t.passed t.jobs.items ++ j ∷ []) [] known)
+      ∙ (ap (counting period slot) (newest_one (drop t.passed t.jobs.items) j)
+      ∙ (ap (λ l. cond (counts_in period slot a) (a ∷ l) l) rest
+      ∙ (ap (λ (k : AskedJob). counting period slot (as_asked k ∷ asked_by task (log ∷ earlier))) is ∙ rw own refl)))
+
+  pub ask_counts : CountAs plan terms clock noted entered
+  ask_counts i slot lt le = elim (cases_lt i task) [
+    | inl less ↦ other_counts i slot lt le (λ e. absurd (omega (arith, e, less)))
+    | inr more ↦ elim (cases_lt task i) [
+      | inl less ↦ other_counts i slot lt le (λ e. absurd (omega (arith, e, less)))
+      | inr less ↦ let same : i ≡ task = omega (arith, more, less) in
+          subst (λ n. counting (terms_of terms n).period slot (own_asks n noted) ≡ counting (terms_of terms n).period slot (asked_by n entered)) (sym same)
+          (own_counts slot (omega (arith, lt, same)) le)
+    ]
+  ]
 
 -- Collections and slots are no asks
 
@@ -166,7 +114,7 @@ run_asks start task first caller slot before (t ∷ ts) k log =
     ]
 
 -- where the asks are the same and the clock went on
-pub later_counts : (plan : DiePlan) (terms : Terms) (clock after : ℕ) (jobs : List AskedJob) (lives next : Lives) → clock ≤ after
+pub later_counts : (plan : DiePlan) (terms : Terms) (clock after : ℕ) (jobs : List (List AskedJob)) (lives next : Lives) → clock ≤ after
     → ((task : ℕ) → asked_by task next ≡ asked_by task lives) → CountAs plan terms clock jobs lives → CountAs plan terms after jobs next
 later_counts plan terms clock after jobs lives next le same h t slot lt from =
     h t slot lt (omega (arith, le, from)) ∙ ap (counting (terms_of terms t).period slot) (sym (same t))

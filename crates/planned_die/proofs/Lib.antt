@@ -1,3 +1,6 @@
+mod Sums
+mod Passing
+mod AllAsks
 mod Waits
 mod Ending
 mod Counting

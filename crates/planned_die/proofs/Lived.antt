@@ -1,5 +1,5 @@
 -- What a call leaves of a die that has had these lives.
-use Rattle.std.proofs.Common.{◌≡◌, ℕ, ◌+◌, ◌≤◌, Bool, List, [], ◌∷◌, ◌++◌, length, filter, refl, ap, sym, subst, ◌∙◌, arith, Ok}
+use Rattle.std.proofs.Common.{◌≡◌, ℕ, ◌+◌, ◌<◌, ◌≤◌, Bool, List, [], ◌∷◌, ◌++◌, length, get_or, set, drop, refl, ap, sym, subst, ◌∙◌, arith, Ok}
 use Rattle.std.proofs.lemmas.List.{length_push}
 use Rattle.std.proofs.lemmas.List.Sums.{sum_by-cons}
 use Rattle.slot_types.specs.declared.events.Op.{Op}
@@ -19,10 +19,11 @@ use Rattle.planned_log.specs.Asks.{asked_job, asked_by}
 use Rattle.planned_log.specs.Laws.{IsKept}
 use Rattle.planned_log.proofs.Kept.{next_begins}
 use Rattle.planned_die.specs.declared.memory.AskedJob.{AskedJob}
-use Rattle.planned_die.specs.Remembered.{still_counts, CountAs}
+use Rattle.planned_die.specs.declared.task_asks.TaskAsks.{TaskAsks}
+use Rattle.planned_die.specs.Remembered.{CountAs, IsKeptFor}
 use Rattle.planned_die.specs.Planned.{Planned, HasLived}
 use Rattle.planned_die.specs.PlannedCalls.{with_own}
-use Rattle.planned_die.proofs.Counting.{drop_counts, ask_counts, run_asks, later_counts}
+use Rattle.planned_die.proofs.Counting.{ask_counts, run_asks, later_counts}
 
 module _ {N : Type 0} (before : Planned N) (earlier : Lives) (h : HasLived before earlier) where
   -- a log in which no task asked for more, and that is no shorter
@@ -46,21 +47,22 @@ module _ {N : Type 0} (before : Planned N) (earlier : Lives) (h : HasLived befor
       ∙ run_asks before.core.start task (all_slots earlier) caller (now before.core.log) (asked_by task earlier) _ from before.core.log)
 
   -- an accepted ask
-  pub ask_lived : (caller task number clock period : ℕ) (ops : List Op) (core : Core N) (j : AskedJob) (asked : List AskedJob)
+  pub ask_lived : (caller task number clock : ℕ) (ops : List Op) (core : Core N) (t : TaskAsks) (j : AskedJob) (asked : List (List AskedJob))
       → HasEntered caller (asked_job before.terms before.core.log task ops) number before.core core
       → IsKept core.start before.terms earlier before.life before.entered core.log
-      → clock ≡ before.first + now before.core.log → period ≡ (terms_of before.terms task).period
-      → j ≡ record { task = task; at = clock; operations = length ops; writes = writes ops }
-      → asked ≡ filter (still_counts task period clock) (before.asked ++ j ∷ [])
+      → clock ≡ before.first + now before.core.log → IsKeptFor (terms_of before.terms task).period clock t
+      → t.jobs.items ≡ get_or before.asked task [] → task < length before.asked
+      → j ≡ record { at = clock; operations = length ops; writes = writes ops }
+      → asked ≡ set before.asked task (drop t.passed t.jobs.items ++ j ∷ [])
       → HasLived (record before { core = core; asked = asked }) earlier
-  ask_lived caller task number clock period ops core j asked entered kept clock_is period_is is then = record {
+  ask_lived caller task number clock ops core t j asked entered kept clock_is sums jobs known is noted = record {
     kept = kept;
     began = h.began;
     counts = subst (λ (c : Core N). CountAs c.start.plan before.terms (before.first + now c.log) asked (c.log ∷ earlier)) (sym entered.logged)
-        (subst (λ (l : List AskedJob). CountAs before.core.start.plan before.terms (before.first + now before.core.log) l (log ∷ earlier)) (sym same)
-        (drop_counts before.core.start.plan before.terms task (before.first + now before.core.log) (before.asked ++ j ∷ []) (log ∷ earlier)
+        (subst (λ (l : List (List AskedJob)). CountAs before.core.start.plan before.terms (before.first + now before.core.log) l (log ∷ earlier)) (sym noted)
         (ask_counts before.core.start.plan before.terms caller task (now before.core.log + (terms_of before.terms task).deadline)
-        (before.first + now before.core.log) ops (replies.Taken number) before.asked before.core.log earlier j job_is h.counts)));
+        (before.first + now before.core.log) ops (replies.Taken number) before.asked before.core.log earlier t j job_is
+        (subst (λ n. IsKeptFor (terms_of before.terms task).period n t) clock_is sums) jobs known h.counts));
   }
     where
       log : Log
@@ -70,14 +72,9 @@ module _ {N : Type 0} (before : Planned N) (earlier : Lives) (h : HasLived befor
         reply = replies.Taken number;
       } ∷ before.core.log
 
-      job_is : j ≡ record { task = task; at = all_slots earlier + now before.core.log; operations = length ops; writes = writes ops }
-      job_is = is ∙ ap (λ n. record { task = task; at = n; operations = length ops; writes = writes ops })
+      job_is : j ≡ record { at = all_slots earlier + now before.core.log; operations = length ops; writes = writes ops }
+      job_is = is ∙ ap (λ n. record { at = n; operations = length ops; writes = writes ops })
           (clock_is ∙ ap (λ n. n + now before.core.log) h.began)
-
-      same : asked ≡ filter (still_counts task (terms_of before.terms task).period (before.first + now before.core.log)) (before.asked ++ j ∷ [])
-      same = then
-          ∙ (ap (λ n. filter (still_counts task n clock) (before.asked ++ j ∷ [])) period_is
-          ∙ ap (λ n. filter (still_counts task (terms_of before.terms task).period n) (before.asked ++ j ∷ [])) clock_is)
 
   -- the next life
   pub next_lived : now before.core.log ≡ before.life → (core : Core N) (first : ℕ) → core ≡ renewed_core before.core

@@ -53,7 +53,7 @@ module _ {N : Type 0} (ends : N → NandCall → Bool → N → Type 0) (failure
       core_kept between after terms earlier life entered between.log call.start_stays (refused_log caller r between after call) kept
 
   -- what the slot of the die below is, once all collections have come
-  module _ (terms : Terms) (first : ℕ) (asked : List AskedJob) (caller from to life : ℕ) (core between after : Core N)
+  module _ (terms : Terms) (first : ℕ) (asked : List (List AskedJob)) (caller from to life : ℕ) (core between after : Core N)
       (is : between ≡ with_own caller terms core from to) (all : to ≡ length core.start.plan.caps) where
     abbrev planned : Core N → ℕ → Planned N
     planned c n = record { core = c; terms = terms; life = life; entered = n; first = first; asked = asked }

@@ -1,5 +1,5 @@
 -- A die that keeps its plan itself, as its callers see it.
-use Rattle.std.specs.Prelude.{◌≡◌, ℕ, ◌+◌, ◌≤◌, ◌∷◌, List, All}
+use Rattle.std.specs.Prelude.{◌≡◌, ℕ, ◌+◌, ◌≤◌, ◌∷◌, List, length, All}
 use Rattle.demand_rules.specs.declared.terms.Terms.{Terms}
 use Rattle.die_log.specs.Model.Log.{now}
 use Rattle.die_log.specs.Model.Lives.{Lives, all_slots}
@@ -9,14 +9,15 @@ use Rattle.planned_die.specs.declared.memory.AskedJob.{AskedJob}
 use Rattle.planned_die.specs.Remembered.{CountAs}
 
 -- the die below, what its tasks may ask for, how many slots a life has, of how many tasks the collections of the present
--- slot have come, in which slot of the clock of all lives the present life began, and what the die remembers of the asks
+-- slot have come, in which slot of the clock of all lives the present life began, and by task which of the jobs that it
+-- asked for the die remembers, the newest last
 pub record Planned (N : Type 0) : Type 0 where
   pub core : Core N
   pub terms : Terms
   pub life : ℕ
   pub entered : ℕ
   pub first : ℕ
-  pub asked : List AskedJob
+  pub asked : List (List AskedJob)
 
 -- The die has had these lives before the present one: its log keeps the plan after them, the clock went on through them,
 -- and from now on what it remembers counts as what its tasks asked for in all lives does.
@@ -30,4 +31,5 @@ pub record IsPlanned {N : Type 0} (die : Planned N) : Type 0 where
   pub earlier : Lives
   pub lived : HasLived die earlier
   pub early : die.first ≤ 2305843009213693952
-  pub asked_early : All (λ j. j.at ≤ 4611686018427387904) die.asked
+  pub asked_early : All (All (λ j. j.at ≤ 4611686018427387904)) die.asked
+  pub one_each : length die.asked ≡ length die.core.start.plan.caps

@@ -1,6 +1,6 @@
 -- What a die remembers of its tasks' asks, to answer the next one.
-use Rattle.std.specs.Prelude.{◌≡◌, ℕ, ◌+◌, ◌-◌, ◌%◌, ◌≤◌, ◌<◌, ◌==◌, ◌||◌, not, nat_lt, nat_le, Bool, if◌then◌else◌, List, [], ◌∷◌, length}
-use Rattle.std.specs.Prelude.{Option, Some, None}
+use Rattle.std.specs.Prelude.{◌≡◌, ℕ, ◌+◌, ◌-◌, ◌%◌, ◌≤◌, ◌<◌, ◌==◌, ◌||◌, nat_le, Bool, if◌then◌else◌, List, [], ◌∷◌, ◌++◌, length, slice_index_or, take, drop}
+use Rattle.std.specs.Prelude.{sum_by, All, Option, Some, None}
 use Rattle.slot_types.specs.declared.plans.DiePlan.{DiePlan}
 use Rattle.demand_rules.specs.declared.terms.TaskTerms.{TaskTerms}
 use Rattle.demand_rules.specs.declared.terms.Terms.{Terms}
@@ -8,33 +8,26 @@ use Rattle.demand_rules.specs.Demand.{terms_of}
 use Rattle.die_log.specs.Model.Lives.{Lives}
 use Rattle.planned_log.specs.Asks.{Asked, counting, asked_by, has_room, room_at}
 use Rattle.planned_die.specs.declared.memory.AskedJob.{AskedJob}
-
--- what a task asked for by one of the jobs, before what it had asked for
-abbrev pub with_job : ℕ → List Asked → AskedJob → List Asked
-with_job task before j =
-    if j.task == task then record { at = j.at; operations = j.operations; writes = j.writes } ∷ before else before
-
-abbrev pub own_after : ℕ → List Asked → List AskedJob → List Asked
-own_after task before [] = before
-own_after task before (j ∷ rest) = own_after task (with_job task before j) rest
-
--- what the task asked for by these jobs, of which the newest stands last: the newest first
-abbrev pub own_asks : ℕ → List AskedJob → List Asked
-own_asks task jobs = own_after task [] jobs
-
--- the job is another task's, or still counts
-abbrev pub still_counts : (task period clock : ℕ) → AskedJob → Bool
-still_counts task period clock j = not (j.task == task) || nat_lt clock (j.at + period)
-
--- From a slot of the clock on these jobs count as those of all lives do
-abbrev pub CountAs : DiePlan → Terms → ℕ → List AskedJob → Lives → Type 0
-CountAs plan terms clock jobs lives = (task slot : ℕ) → task < length plan.caps → clock ≤ slot
-    → let period = (terms_of terms task).period in
-    counting period slot (own_asks task jobs) ≡ counting period slot (asked_by task lives)
+use Rattle.planned_die.specs.declared.task_asks.TaskAsks.{TaskAsks}
 
 -- the amount that a limit is of
 abbrev pub amount_of : Bool → Asked → ℕ
 amount_of of_writes a = if of_writes then a.writes else a.operations
+
+-- what a task asked for by these jobs, of which the newest stands last: the newest first
+abbrev pub newest_first : List AskedJob → List Asked
+newest_first [] = []
+newest_first (j ∷ later) = newest_first later ++ record { at = j.at; operations = j.operations; writes = j.writes } ∷ []
+
+-- by task the jobs that it asked for
+abbrev pub own_asks : ℕ → List (List AskedJob) → List Asked
+own_asks task asked = newest_first (slice_index_or asked task [])
+
+-- From a slot of the clock on these jobs count as those of all lives do
+abbrev pub CountAs : DiePlan → Terms → ℕ → List (List AskedJob) → Lives → Type 0
+CountAs plan terms clock asked lives = (task slot : ℕ) → task < length plan.caps → clock ≤ slot
+    → let period = (terms_of terms task).period in
+    counting period slot (own_asks task asked) ≡ counting period slot (asked_by task lives)
 
 -- the slot, counted from slot `first` of the clock, in which there is room again, where there is none now
 abbrev pub next_room : TaskTerms → (first clock : ℕ) → List Asked → (operations writes : ℕ) → Option ℕ
@@ -45,3 +38,36 @@ next_room t first clock asked ops written =
 -- collections come again, or no sooner after the last one than that is due
 abbrev pub ends_well : ℕ → TaskTerms → Bool
 ends_well life t = (life % t.collect_period == 0) || nat_le t.collect_deadline (life % t.collect_period)
+
+-- How the sums are kept
+
+-- all of these count in the slot
+abbrev pub AllCount : (period slot : ℕ) → List AskedJob → Type 0
+AllCount period slot jobs = All (λ j. slot < j.at + period) jobs
+
+-- they came one after the other
+abbrev pub CameInOrder : List AskedJob → Type 0
+CameInOrder [] = Unit {0}
+CameInOrder (j ∷ later) = All (λ k. j.at ≤ k.at) later × CameInOrder later
+
+-- In this slot of the clock: what was passed by counts no more, and the sums are those of the others.
+pub record IsKeptFor (period clock : ℕ) (t : TaskAsks) : Type 0 where
+  pub fits : t.passed ≤ length t.jobs.items
+  pub gone : All (λ j. j.at + period ≤ clock) (take t.passed t.jobs.items)
+  pub came : All (λ j. j.at ≤ clock) t.jobs.items
+  pub in_order : CameInOrder t.jobs.items
+  pub operations : t.operations ≡ sum_by (λ j. j.operations) (drop t.passed t.jobs.items)
+  pub writes : t.writes ≡ sum_by (λ j. j.writes) (drop t.passed t.jobs.items)
+
+-- the jobs alone
+abbrev pub jobs_of : TaskAsks → List AskedJob
+jobs_of t = t.jobs.items
+
+-- so it is of each task
+abbrev pub AreKept : Terms → ℕ → List TaskAsks → Type 0
+AreKept terms clock asked =
+    (task : ℕ) (d : TaskAsks) → task < length asked → IsKeptFor (terms_of terms task).period clock (slice_index_or asked task d)
+
+-- with so much more the sums are numbers still
+abbrev pub HasRoomFor : TaskAsks → (operations writes : ℕ) → Type 0
+HasRoomFor t ops written = (t.operations + ops ≤ 4294967295) × (t.writes + written ≤ 4294967295)

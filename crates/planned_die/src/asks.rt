@@ -4,7 +4,8 @@ ghost use Rattle.die_log.specs.Model.Lives.{Lives};
 ghost use Rattle.planned_die.specs.Planned.{HasLived};
 ghost use Rattle.planned_die.specs.PlannedCalls.{IsAsk};
 
-use crate::memory::{drop_old, job_of};
+use crate::all_asks::{note_job, reserve_job};
+use crate::memory::job_of;
 use crate::planned_die::PlannedDie;
 use crate::rooms::why_refused;
 use crate::terms::terms_at;
@@ -44,32 +45,29 @@ impl<N: Nand> PlannedDie<N> {
             self.life,
             self.first,
             now,
-            self.asked.as_slice(),
+            &mut self.asked,
             task,
             ops,
         ) {
             Some(refusal) => return Err(refusal),
             None => {}
         }
-        let own = terms_at(&self.terms, task.0 as usize);
-        let clock = self.first + u64::from(now);
-        let job = job_of(task.0, clock, ops);
-        match self.asked.push(job) {
+        let own = task.0 as usize;
+        match reserve_job(&mut self.asked, own) {
             Ok(()) => {}
             Err(_) => return Err(AskRefusal::NoMemory),
         }
+        let deadline = terms_at(&self.terms, own).deadline;
+        let clock = self.first + u64::from(now);
         match self
             .core
-            .submit_lent(alloc, caller, task, now, now + own.deadline, ops)
+            .submit_lent(alloc, caller, task, now, now + deadline, ops)
         {
             Ok(number) => {
-                drop_old(&mut self.asked, task.0, own.period, clock);
+                note_job(&mut self.asked, own, job_of(clock, ops));
                 Ok(number)
             }
-            Err(_) => {
-                let _ = self.asked.pop();
-                Err(AskRefusal::NoMemory)
-            }
+            Err(_) => Err(AskRefusal::NoMemory),
         }
     }
 }

@@ -1,6 +1,7 @@
 //! A die that keeps its plan itself: its tasks ask, it enters its collections, and what it accepts is done in time.
 #![tactic(auto)]
 
+pub mod all_asks;
 pub mod asks;
 pub mod collections;
 pub mod life;
@@ -10,6 +11,7 @@ pub mod refusals;
 pub mod renewals;
 pub mod rooms;
 pub mod slots;
+pub mod task_asks;
 pub mod terms;
 
 pub use memory::AskedJob;

@@ -1,6 +1,6 @@
 //! A die that keeps its plan itself.
 
-ghost use Rattle.std.specs.Prelude.{◌≡◌, ◌≤◌, ◌≤ℤ◌, ℕ, [], false, pos, IfSome, IfOk, IfErr, OnOk, OnErr};
+ghost use Rattle.std.specs.Prelude.{◌≡◌, ◌≤◌, ◌≤ℤ◌, ℕ, [], false, pos, length, replicate, IfSome, IfOk, IfErr, OnOk, OnErr};
 ghost use Rattle.slot_types.specs.Refusal.{FailsForMemory};
 ghost use Rattle.demand_rules.specs.Demand.{PassesDemand};
 ghost use Rattle.demand_rules.specs.Supply.{PassesSupply};
@@ -16,9 +16,10 @@ ghost use Rattle.planned_log.specs.Laws.{AreDoneInTime};
 ghost use Rattle.planned_die.specs.Planned.{HasLived};
 ghost use Rattle.planned_die.specs.NewPlans.{RefusesPlan, IsSomeLife};
 
+use crate::all_asks::new_asks;
 use crate::life::life_of;
-use crate::memory::AskedJob;
 use crate::refusals::PlanRefusal;
+use crate::task_asks::TaskAsks;
 use demand_rules::{Terms, terms_test};
 use flash_die::Nand;
 use slot_core::{DieCore, Worst};
@@ -43,12 +44,15 @@ pub struct PlannedDie<N: Nand> {
     pub(crate) entered: u32,
     /// The slot of the clock of all lives in which the present life began.
     pub(crate) first: u64,
-    /// The jobs that were asked for, the newest last. Those that count no more go when their task asks.
-    pub(crate) asked: Vec<AskedJob>,
+    /// By task what it asked for.
+    pub(crate) asked: Vec<TaskAsks>,
 }
 
 impl<N: Nand> Model for PlannedDie<N> {
+    ghost use Rattle.std.specs.Prelude.{◌+◌, map};
+    ghost use Rattle.die_log.specs.Model.Log.{now};
     ghost use Rattle.planned_die.specs.Planned.{Planned, IsPlanned};
+    ghost use Rattle.planned_die.specs.Remembered.{jobs_of, AreKept};
 
     ghost Value = { Planned N };
 
@@ -58,7 +62,7 @@ impl<N: Nand> Model for PlannedDie<N> {
       life = d.life;
       entered = d.entered;
       first = d.first;
-      asked = d.asked.items;
+      asked = map jobs_of d.asked.items;
     } };
 
     ghost invariant = { λ d. IsPlanned {N = N} (record {
@@ -67,8 +71,8 @@ impl<N: Nand> Model for PlannedDie<N> {
       life = d.life;
       entered = d.entered;
       first = d.first;
-      asked = d.asked.items;
-    }) };
+      asked = map jobs_of d.asked.items;
+    }) × AreKept d.terms (d.first + now d.core.log) d.asked.items };
 }
 
 impl<N: Nand> PlannedDie<N> {
@@ -93,7 +97,7 @@ impl<N: Nand> PlannedDie<N> {
           log = [];
         }) }
         ensures begins { IfOk result (λ die. (die.terms ≡ terms) × (die.entered ≡ 0)
-            × (die.first ≡ 0) × (die.asked ≡ [])) }
+            × (die.first ≡ 0) × (die.asked ≡ replicate (length plan.caps) [])) }
         ensures life { IfOk result (λ die. IsSomeLife plan terms longest die.life) }
         ensures longer { IfOk result (λ die. (other : ℕ)
             → IsSomeLife plan terms longest other → other ≤ die.life) }
@@ -114,13 +118,17 @@ impl<N: Nand> PlannedDie<N> {
             Some(life) => life,
             None => return Err(PlanRefusal::NoLife),
         };
+        let asked = match new_asks(alloc, core.plan().caps.len()) {
+            Ok(asked) => asked,
+            Err(_) => return Err(PlanRefusal::Die(Refusal::NoMemory)),
+        };
         Ok(PlannedDie {
             core,
             terms,
             life,
             entered: 0,
             first: 0,
-            asked: Vec::new(alloc),
+            asked,
         })
     }
 

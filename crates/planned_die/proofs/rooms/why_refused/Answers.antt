@@ -1,15 +1,15 @@
-use Rattle.std.proofs.Common.{nat_le, ap, sym, ◌∙◌, arith, find}
+use Rattle.std.proofs.Common.{map, nat_le, ap, sym, ◌∙◌, arith, find}
 use Rattle.std.specs.Prelude.{option_map}
 use Rattle.slot_types.specs.Operations.{page_of}
 use Rattle.demand_rules.specs.Demand.{terms_of}
 use Rattle.planned_log.specs.Asks.{most_operations}
-use Rattle.planned_die.specs.Remembered.{own_asks}
+use Rattle.planned_die.specs.Remembered.{own_asks, jobs_of}
 use Rattle.planned_die.proofs.Waits.{bad_page_first}
 use Rattle.planned_die.proofs.rooms.why_refused.Goals as goal
 
-pub returns-in-Err : goal.returns-in-Err
-returns-in-Err c =
-    bad_page_first c.args.plan.now c.args.terms.now c.args.life c.args.first c.args.now (own_asks c.args.task c.args.asked.now) c.args.task c.args.ops.now
+pub returns-in-Err-clause-refused : goal.returns-in-Err-clause-refused
+returns-in-Err-clause-refused c =
+    bad_page_first c.args.plan.now c.args.terms.now c.args.life c.args.first c.args.now (own_asks c.args.task (map jobs_of c.args.asked.now.items)) c.args.task c.args.ops.now
     c.in-Err.page (omega (arith, c.if-task-len.false, c.len.ensures, c.task.view_is)) (omega (arith, c.if-ops-eq0.false))
     (omega (
       arith,

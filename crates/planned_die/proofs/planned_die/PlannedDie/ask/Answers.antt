@@ -1,14 +1,18 @@
-use Rattle.std.proofs.Common.{◌≡◌, ◌+◌, false, List, ◌∷◌, ◌++◌, [], filter, length, refl, ap, sym, ◌∙◌, inl, inr, arith, rules}
+use Rattle.std.proofs.Common.{◌≡◌, ◌+◌, ◌<◌, false, List, ◌∷◌, ◌++◌, [], length, get_or, set, map, drop, refl, ap, sym, subst, ◌∙◌, inl, inr, arith}
+use Rattle.std.proofs.lemmas.List.{length-map}
+use Rattle.slot_types.specs.declared.plans.DiePlan.{DiePlan}
 use Rattle.slot_types.specs.Operations.{writes}
 use Rattle.demand_rules.specs.declared.terms.TaskTerms.{TaskTerms}
 use Rattle.demand_rules.specs.Demand.{terms_of}
 use Rattle.die_log.specs.Model.Log.{now}
 use Rattle.die_log.specs.Model.Lives.{Lives}
 use Rattle.planned_die.specs.declared.memory.AskedJob.{AskedJob}
-use Rattle.planned_die.specs.Remembered.{still_counts}
-use Rattle.planned_die.specs.Planned.{Planned, HasLived}
+use Rattle.planned_die.specs.declared.task_asks.TaskAsks.{TaskAsks}
+use Rattle.planned_die.specs.Remembered.{jobs_of, AreKept, HasRoomFor}
+use Rattle.planned_die.specs.Planned.{Planned, HasLived, IsPlanned}
 use Rattle.planned_die.specs.PlannedCalls.{refusal_in}
-use Rattle.planned_die.proofs.Asked.{refusal_is, pushed_off, IsUnrefused, has_asked, asked_lived, asked_planned, asked_again, no_memory, still_lived}
+use Rattle.planned_die.proofs.Asked.{refusal_is, asked_same, IsUnrefused, has_asked, asked_lived, asked_planned, asked_kept, asked_again, kept_again}
+use Rattle.planned_die.proofs.Asked.{no_memory, still_lived, some_of}
 use Rattle.planned_die.proofs.planned_die.PlannedDie.ask.Goals as goal
 
 pub returns-in-Some-clause-ask : goal.returns-in-Some-clause-ask
@@ -19,13 +23,32 @@ returns-in-Some-clause-ask g c =
       life = c.self.inside.life;
       entered = c.self.inside.entered;
       first = c.self.inside.first;
-      asked = c.self.inside.asked.items;
+      asked = map jobs_of c.self.inside.asked.items;
     } in
     let runs : die.core.stopped ≡ false = sym c.is_stopped.ensures ∙ c.if-is_stopped.false in
     let why : (earlier : Lives) → HasLived die earlier → c.why_refused.result ≡ refusal_in die earlier c.args.task c.args.ops.now =
-    λ earlier h. refusal_is die earlier h c.plan.result.now c.now-now.result c.as_slice.result.now c.args.task c.args.ops.now c.why_refused.result
-    c.why_refused.ensures c.plan.ensures c.now-now.ensures c.as_slice.ensures.value in
-    rw (← c.self.view_is) (λ earlier h. (refl, inr (inl (runs, sym (why earlier h) ∙ c.in-Some.is))))
+    λ earlier h. refusal_is die earlier h c.plan.result.now c.now-now.result die.asked c.args.task c.args.ops.now c.why_refused.result
+    c.why_refused.ensures.refused c.plan.ensures c.now-now.ensures refl in
+    rw (← c.self.view_is) (λ earlier h. (
+      asked_same die (map jobs_of c.why_refused.new.asked.items) c.why_refused.ensures.jobs,
+      inr (inl (runs, sym (why earlier h) ∙ c.in-Some.is)),
+    ))
+
+pub invariant_of-self-in-Err : goal.invariant_of-self-in-Err
+invariant_of-self-in-Err g c =
+    let die : Planned g.row.N.Denot = record {
+      core = c.self.inside.core;
+      terms = c.self.inside.terms;
+      life = c.self.inside.life;
+      entered = c.self.inside.entered;
+      first = c.self.inside.first;
+      asked = map jobs_of c.self.inside.asked.items;
+    } in
+    let kept : List TaskAsks = c.reserve_job.new.asked.items in
+    let same : map jobs_of kept ≡ die.asked = c.reserve_job.ensures.jobs ∙ c.why_refused.ensures.jobs in
+    let sums : AreKept die.terms (die.first + now die.core.log) kept = c.reserve_job.ensures.kept die.terms _
+    (subst (λ n. AreKept die.terms (die.first + n) c.why_refused.new.asked.items) c.now-now.ensures c.why_refused.ensures.kept) in
+    (subst IsPlanned (sym (asked_same die (map jobs_of kept) same)) c.self.invariant.0, sums)
 
 pub returns-in-Err-clause-ask : goal.returns-in-Err-clause-ask
 returns-in-Err-clause-ask g c =
@@ -35,16 +58,25 @@ returns-in-Err-clause-ask g c =
       life = c.self.inside.life;
       entered = c.self.inside.entered;
       first = c.self.inside.first;
-      asked = c.self.inside.asked.items;
+      asked = map jobs_of c.self.inside.asked.items;
     } in
     let runs : die.core.stopped ≡ false = sym c.is_stopped.ensures ∙ c.if-is_stopped.false in
     let why : (earlier : Lives) → HasLived die earlier → c.why_refused.result ≡ refusal_in die earlier c.args.task c.args.ops.now =
-    λ earlier h. refusal_is die earlier h c.plan.result.now c.now-now.result c.as_slice.result.now c.args.task c.args.ops.now c.why_refused.result
-    c.why_refused.ensures c.plan.ensures c.now-now.ensures c.as_slice.ensures.value in
+    λ earlier h. refusal_is die earlier h c.plan.result.now c.now-now.result die.asked c.args.task c.args.ops.now c.why_refused.result
+    c.why_refused.ensures.refused c.plan.ensures c.now-now.ensures refl in
+    let kept : List TaskAsks = c.reserve_job.new.asked.items in
+    let same : map jobs_of kept ≡ die.asked = c.reserve_job.ensures.jobs ∙ c.why_refused.ensures.jobs in
     rw (← c.self.view_is) (λ earlier h. (
-      ap (λ (l : List AskedJob). record die { asked = l }) c.in-Err.ensures.items,
+      asked_same die (map jobs_of kept) same,
       inr (inr (runs, sym (why earlier h) ∙ c.in-None.is, refl)),
     ))
+
+pub note_job-requires-clause-room : goal.note_job-requires-clause-room
+note_job-requires-clause-room g c d =
+    let room : HasRoomFor (get_or c.why_refused.new.asked.items c.args.task d) (length c.args.ops.now) (writes c.args.ops.now) = c.in-None.ensures.room d in
+    subst (λ (j : AskedJob). HasRoomFor (get_or c.reserve_job.new.asked.items c.task.inside.0 d) j.operations j.writes) (sym c.job_of.ensures)
+    (c.reserve_job.ensures.same d (length c.args.ops.now) (writes c.args.ops.now)
+    (subst (λ n. HasRoomFor (get_or c.why_refused.new.asked.items n d) (length c.args.ops.now) (writes c.args.ops.now)) (sym c.task.view_is) room))
 
 pub invariant_of-self-in-Ok-submit_lent : goal.invariant_of-self-in-Ok-submit_lent
 invariant_of-self-in-Ok-submit_lent g c =
@@ -54,38 +86,49 @@ invariant_of-self-in-Ok-submit_lent g c =
       life = c.self.inside.life;
       entered = c.self.inside.entered;
       first = c.self.inside.first;
-      asked = c.self.inside.asked.items;
+      asked = map jobs_of c.self.inside.asked.items;
     } in
     let why : (earlier : Lives) → HasLived die earlier → c.why_refused.result ≡ refusal_in die earlier c.args.task c.args.ops.now =
-    λ earlier h. refusal_is die earlier h c.plan.result.now c.now-now.result c.as_slice.result.now c.args.task c.args.ops.now c.why_refused.result
-    c.why_refused.ensures c.plan.ensures c.now-now.ensures c.as_slice.ensures.value in
-    let own : c.terms_at-own.result ≡ terms_of die.terms c.args.task = c.terms_at-own.ensures ∙ ap (terms_of die.terms) c.task.view_is in
-    let unrefused : IsUnrefused die c.args.task c.now-now.result c.terms_at-own.result.deadline c.args.ops.now = record {
+    λ earlier h. refusal_is die earlier h c.plan.result.now c.now-now.result die.asked c.args.task c.args.ops.now c.why_refused.result
+    c.why_refused.ensures.refused c.plan.ensures c.now-now.ensures refl in
+    let own : c.terms_at-deadline.result ≡ terms_of die.terms c.args.task = c.terms_at-deadline.ensures ∙ ap (terms_of die.terms) c.task.view_is in
+    let unrefused : IsUnrefused die c.args.task c.now-now.result c.terms_at-deadline.result.deadline c.args.ops.now = record {
       runs = sym c.is_stopped.ensures ∙ c.if-is_stopped.false;
       none = λ earlier h. sym (why earlier h) ∙ c.in-None.is;
       present = c.now-now.ensures;
       terms = ap (λ (t : TaskTerms). t.deadline) own;
     } in
+    let kept : List TaskAsks = c.reserve_job.new.asked.items in
+    let same : map jobs_of kept ≡ die.asked = c.reserve_job.ensures.jobs ∙ c.why_refused.ensures.jobs in
+    let sums : AreKept die.terms (die.first + now die.core.log) kept = c.reserve_job.ensures.kept die.terms _
+    (subst (λ n. AreKept die.terms (die.first + n) c.why_refused.new.asked.items) c.now-now.ensures c.why_refused.ensures.kept) in
     let at : c.self.inside.first + c.from.result ≡ die.first + now die.core.log = omega (arith, c.from.ensures, c.now-now.ensures) in
-    let job : c.job_of-job.result ≡ record {
-      task = c.args.task;
-      at = c.self.inside.first + c.from.result;
-      operations = length c.args.ops.now;
-      writes = writes c.args.ops.now;
-    } = c.job_of-job.ensures ∙ ap (λ n. record {
-      task = n;
-      at = c.self.inside.first + c.from.result;
-      operations = length c.args.ops.now;
-      writes = writes c.args.ops.now;
-    }) c.task.view_is in
-    let noted : c.drop_old.new.jobs.items
-    ≡ filter (still_counts c.args.task c.terms_at-own.result.period (c.self.inside.first + c.from.result)) (die.asked ++ c.job_of-job.result ∷ []) =
-    c.drop_old.ensures
-    ∙ (ap (λ n. filter (still_counts n c.terms_at-own.result.period (c.self.inside.first + c.from.result)) c.push.new.self.items) c.task-2.view_is
-    ∙ ap (filter (still_counts c.args.task c.terms_at-own.result.period (c.self.inside.first + c.from.result))) c.in-Ok.ensures.items) in
-    asked_planned g.N.Nand.ends g.N.Nand.failures g.N.Nand.never_fails die c.args.caller c.args.task c.now-now.result c.terms_at-own.result.deadline
-    c.args.ops.now unrefused c.submit_lent.new.self c.drop_old.new.jobs.items c.in-Ok-submit_lent.number c.in-Ok-submit_lent.ensures c.job_of-job.result
-    (c.self.inside.first + c.from.result) c.terms_at-own.result.period at (ap (λ (t : TaskTerms). t.period) own) job noted c.self.invariant
+    let sums_at : AreKept die.terms (c.self.inside.first + c.from.result) kept = subst (λ n. AreKept die.terms n kept) (sym at) sums in
+    let known : c.args.task < length kept = omega (
+      arith,
+      c.in-None.ensures.known,
+      ap (λ (p : DiePlan). length p.caps) c.plan.ensures,
+      length-map kept jobs_of,
+      ap length same,
+      c.self.invariant.0.one_each,
+    ) in
+    let some : TaskAsks = some_of kept (omega (arith, known)) in
+    let noted : map jobs_of c.note_job.new.asked.items
+    ≡ set die.asked c.args.task (drop (get_or kept c.args.task some).passed (get_or kept c.args.task some).jobs.items ++ c.job_of.result ∷ []) =
+    subst (λ n. map jobs_of c.note_job.new.asked.items ≡ set (map jobs_of kept) n (drop (get_or kept n some).passed (get_or kept n some).jobs.items
+    ++ c.job_of.result ∷ [])) c.task.view_is (c.note_job.ensures.jobs some)
+    ∙ ap (λ (l : List (List AskedJob)). set l c.args.task (drop (get_or kept c.args.task some).passed (get_or kept c.args.task some).jobs.items
+    ++ c.job_of.result ∷ [])) same in (
+      asked_planned g.N.Nand.ends g.N.Nand.failures g.N.Nand.never_fails die c.args.caller c.args.task c.now-now.result c.terms_at-deadline.result.deadline
+          c.args.ops.now unrefused c.submit_lent.new.self (map jobs_of c.note_job.new.asked.items) c.in-Ok-submit_lent.number c.in-Ok-submit_lent.ensures kept same
+          (c.self.inside.first + c.from.result) at sums_at known some c.job_of.result c.job_of.ensures noted
+          c.self.invariant.0,
+      asked_kept g.N.Nand.ends g.N.Nand.failures g.N.Nand.never_fails die c.args.caller c.args.task c.now-now.result c.terms_at-deadline.result.deadline
+          c.args.ops.now unrefused c.submit_lent.new.self (map jobs_of c.note_job.new.asked.items) c.in-Ok-submit_lent.number c.in-Ok-submit_lent.ensures kept same
+          (c.self.inside.first + c.from.result) at sums_at known some c.job_of.result c.job_of.ensures noted
+          c.self.invariant.0 c.note_job.new.asked.items (c.note_job.ensures.kept die.terms
+          (subst (λ (k : AskedJob). AreKept die.terms k.at kept) (sym c.job_of.ensures) sums_at)),
+    )
 
 pub returns-in-Ok-submit_lent-clause-ask : goal.returns-in-Ok-submit_lent-clause-ask
 returns-in-Ok-submit_lent-clause-ask g c =
@@ -95,20 +138,20 @@ returns-in-Ok-submit_lent-clause-ask g c =
       life = c.self.inside.life;
       entered = c.self.inside.entered;
       first = c.self.inside.first;
-      asked = c.self.inside.asked.items;
+      asked = map jobs_of c.self.inside.asked.items;
     } in
     let why : (earlier : Lives) → HasLived die earlier → c.why_refused.result ≡ refusal_in die earlier c.args.task c.args.ops.now =
-    λ earlier h. refusal_is die earlier h c.plan.result.now c.now-now.result c.as_slice.result.now c.args.task c.args.ops.now c.why_refused.result
-    c.why_refused.ensures c.plan.ensures c.now-now.ensures c.as_slice.ensures.value in
-    let own : c.terms_at-own.result ≡ terms_of die.terms c.args.task = c.terms_at-own.ensures ∙ ap (terms_of die.terms) c.task.view_is in
-    let unrefused : IsUnrefused die c.args.task c.now-now.result c.terms_at-own.result.deadline c.args.ops.now = record {
+    λ earlier h. refusal_is die earlier h c.plan.result.now c.now-now.result die.asked c.args.task c.args.ops.now c.why_refused.result
+    c.why_refused.ensures.refused c.plan.ensures c.now-now.ensures refl in
+    let own : c.terms_at-deadline.result ≡ terms_of die.terms c.args.task = c.terms_at-deadline.ensures ∙ ap (terms_of die.terms) c.task.view_is in
+    let unrefused : IsUnrefused die c.args.task c.now-now.result c.terms_at-deadline.result.deadline c.args.ops.now = record {
       runs = sym c.is_stopped.ensures ∙ c.if-is_stopped.false;
       none = λ earlier h. sym (why earlier h) ∙ c.in-None.is;
       present = c.now-now.ensures;
       terms = ap (λ (t : TaskTerms). t.deadline) own;
     } in
-    rw (← c.self.view_is) (has_asked g.N.Nand.ends g.N.Nand.failures g.N.Nand.never_fails die c.args.caller c.args.task c.now-now.result c.terms_at-own.result.deadline
-    c.args.ops.now unrefused c.submit_lent.new.self c.drop_old.new.jobs.items c.in-Ok-submit_lent.number c.in-Ok-submit_lent.ensures)
+    rw (← c.self.view_is) (has_asked g.N.Nand.ends g.N.Nand.failures g.N.Nand.never_fails die c.args.caller c.args.task c.now-now.result c.terms_at-deadline.result.deadline
+    c.args.ops.now unrefused c.submit_lent.new.self (map jobs_of c.note_job.new.asked.items) c.in-Ok-submit_lent.number c.in-Ok-submit_lent.ensures)
 
 pub returns-in-Ok-submit_lent-clause-lived : goal.returns-in-Ok-submit_lent-clause-lived
 returns-in-Ok-submit_lent-clause-lived g c =
@@ -118,38 +161,42 @@ returns-in-Ok-submit_lent-clause-lived g c =
       life = c.self.inside.life;
       entered = c.self.inside.entered;
       first = c.self.inside.first;
-      asked = c.self.inside.asked.items;
+      asked = map jobs_of c.self.inside.asked.items;
     } in
     let why : (earlier : Lives) → HasLived die earlier → c.why_refused.result ≡ refusal_in die earlier c.args.task c.args.ops.now =
-    λ earlier h. refusal_is die earlier h c.plan.result.now c.now-now.result c.as_slice.result.now c.args.task c.args.ops.now c.why_refused.result
-    c.why_refused.ensures c.plan.ensures c.now-now.ensures c.as_slice.ensures.value in
-    let own : c.terms_at-own.result ≡ terms_of die.terms c.args.task = c.terms_at-own.ensures ∙ ap (terms_of die.terms) c.task.view_is in
-    let unrefused : IsUnrefused die c.args.task c.now-now.result c.terms_at-own.result.deadline c.args.ops.now = record {
+    λ earlier h. refusal_is die earlier h c.plan.result.now c.now-now.result die.asked c.args.task c.args.ops.now c.why_refused.result
+    c.why_refused.ensures.refused c.plan.ensures c.now-now.ensures refl in
+    let own : c.terms_at-deadline.result ≡ terms_of die.terms c.args.task = c.terms_at-deadline.ensures ∙ ap (terms_of die.terms) c.task.view_is in
+    let unrefused : IsUnrefused die c.args.task c.now-now.result c.terms_at-deadline.result.deadline c.args.ops.now = record {
       runs = sym c.is_stopped.ensures ∙ c.if-is_stopped.false;
       none = λ earlier h. sym (why earlier h) ∙ c.in-None.is;
       present = c.now-now.ensures;
       terms = ap (λ (t : TaskTerms). t.deadline) own;
     } in
+    let kept : List TaskAsks = c.reserve_job.new.asked.items in
+    let same : map jobs_of kept ≡ die.asked = c.reserve_job.ensures.jobs ∙ c.why_refused.ensures.jobs in
+    let sums : AreKept die.terms (die.first + now die.core.log) kept = c.reserve_job.ensures.kept die.terms _
+    (subst (λ n. AreKept die.terms (die.first + n) c.why_refused.new.asked.items) c.now-now.ensures c.why_refused.ensures.kept) in
     let at : c.self.inside.first + c.from.result ≡ die.first + now die.core.log = omega (arith, c.from.ensures, c.now-now.ensures) in
-    let job : c.job_of-job.result ≡ record {
-      task = c.args.task;
-      at = c.self.inside.first + c.from.result;
-      operations = length c.args.ops.now;
-      writes = writes c.args.ops.now;
-    } = c.job_of-job.ensures ∙ ap (λ n. record {
-      task = n;
-      at = c.self.inside.first + c.from.result;
-      operations = length c.args.ops.now;
-      writes = writes c.args.ops.now;
-    }) c.task.view_is in
-    let noted : c.drop_old.new.jobs.items
-    ≡ filter (still_counts c.args.task c.terms_at-own.result.period (c.self.inside.first + c.from.result)) (die.asked ++ c.job_of-job.result ∷ []) =
-    c.drop_old.ensures
-    ∙ (ap (λ n. filter (still_counts n c.terms_at-own.result.period (c.self.inside.first + c.from.result)) c.push.new.self.items) c.task-2.view_is
-    ∙ ap (filter (still_counts c.args.task c.terms_at-own.result.period (c.self.inside.first + c.from.result))) c.in-Ok.ensures.items) in
-    rw (← c.self.view_is) (asked_lived g.N.Nand.ends g.N.Nand.failures g.N.Nand.never_fails die c.args.caller c.args.task c.now-now.result c.terms_at-own.result.deadline
-    c.args.ops.now unrefused c.submit_lent.new.self c.drop_old.new.jobs.items c.in-Ok-submit_lent.number c.in-Ok-submit_lent.ensures c.job_of-job.result
-    (c.self.inside.first + c.from.result) c.terms_at-own.result.period at (ap (λ (t : TaskTerms). t.period) own) job noted)
+    let sums_at : AreKept die.terms (c.self.inside.first + c.from.result) kept = subst (λ n. AreKept die.terms n kept) (sym at) sums in
+    let known : c.args.task < length kept = omega (
+      arith,
+      c.in-None.ensures.known,
+      ap (λ (p : DiePlan). length p.caps) c.plan.ensures,
+      length-map kept jobs_of,
+      ap length same,
+      c.self.invariant.0.one_each,
+    ) in
+    let some : TaskAsks = some_of kept (omega (arith, known)) in
+    let noted : map jobs_of c.note_job.new.asked.items
+    ≡ set die.asked c.args.task (drop (get_or kept c.args.task some).passed (get_or kept c.args.task some).jobs.items ++ c.job_of.result ∷ []) =
+    subst (λ n. map jobs_of c.note_job.new.asked.items ≡ set (map jobs_of kept) n (drop (get_or kept n some).passed (get_or kept n some).jobs.items
+    ++ c.job_of.result ∷ [])) c.task.view_is (c.note_job.ensures.jobs some)
+    ∙ ap (λ (l : List (List AskedJob)). set l c.args.task (drop (get_or kept c.args.task some).passed (get_or kept c.args.task some).jobs.items
+    ++ c.job_of.result ∷ [])) same in
+    rw (← c.self.view_is) (asked_lived g.N.Nand.ends g.N.Nand.failures g.N.Nand.never_fails die c.args.caller c.args.task c.now-now.result c.terms_at-deadline.result.deadline
+    c.args.ops.now unrefused c.submit_lent.new.self (map jobs_of c.note_job.new.asked.items) c.in-Ok-submit_lent.number c.in-Ok-submit_lent.ensures kept same
+    (c.self.inside.first + c.from.result) at sums_at known some c.job_of.result c.job_of.ensures noted)
 
 pub invariant_of-self-in-Err-submit_lent : goal.invariant_of-self-in-Err-submit_lent
 invariant_of-self-in-Err-submit_lent g c =
@@ -159,23 +206,29 @@ invariant_of-self-in-Err-submit_lent g c =
       life = c.self.inside.life;
       entered = c.self.inside.entered;
       first = c.self.inside.first;
-      asked = c.self.inside.asked.items;
+      asked = map jobs_of c.self.inside.asked.items;
     } in
     let why : (earlier : Lives) → HasLived die earlier → c.why_refused.result ≡ refusal_in die earlier c.args.task c.args.ops.now =
-    λ earlier h. refusal_is die earlier h c.plan.result.now c.now-now.result c.as_slice.result.now c.args.task c.args.ops.now c.why_refused.result
-    c.why_refused.ensures c.plan.ensures c.now-now.ensures c.as_slice.ensures.value in
-    let own : c.terms_at-own.result ≡ terms_of die.terms c.args.task = c.terms_at-own.ensures ∙ ap (terms_of die.terms) c.task.view_is in
-    let unrefused : IsUnrefused die c.args.task c.now-now.result c.terms_at-own.result.deadline c.args.ops.now = record {
+    λ earlier h. refusal_is die earlier h c.plan.result.now c.now-now.result die.asked c.args.task c.args.ops.now c.why_refused.result
+    c.why_refused.ensures.refused c.plan.ensures c.now-now.ensures refl in
+    let own : c.terms_at-deadline.result ≡ terms_of die.terms c.args.task = c.terms_at-deadline.ensures ∙ ap (terms_of die.terms) c.task.view_is in
+    let unrefused : IsUnrefused die c.args.task c.now-now.result c.terms_at-deadline.result.deadline c.args.ops.now = record {
       runs = sym c.is_stopped.ensures ∙ c.if-is_stopped.false;
       none = λ earlier h. sym (why earlier h) ∙ c.in-None.is;
       present = c.now-now.ensures;
       terms = ap (λ (t : TaskTerms). t.deadline) own;
     } in
-    let back : c.pop.new.self.items ≡ die.asked =
-    pushed_off die.asked c.push.new.self.items c.pop.new.self.items c.job_of-job.result c.in-Ok.ensures.items _ (search rules) c.pop.ensures.rest in
-    asked_again g.N.Nand.ends g.N.Nand.failures g.N.Nand.never_fails die c.args.caller c.args.task c.now-now.result c.terms_at-own.result.deadline
-    c.args.ops.now unrefused c.submit_lent.new.self c.pop.new.self.items c.in-Err-submit_lent.field-0 c.in-Err-submit_lent.ensures back
-    c.self.invariant
+    let kept : List TaskAsks = c.reserve_job.new.asked.items in
+    let same : map jobs_of kept ≡ die.asked = c.reserve_job.ensures.jobs ∙ c.why_refused.ensures.jobs in
+    let sums : AreKept die.terms (die.first + now die.core.log) kept = c.reserve_job.ensures.kept die.terms _
+    (subst (λ n. AreKept die.terms (die.first + n) c.why_refused.new.asked.items) c.now-now.ensures c.why_refused.ensures.kept) in (
+      asked_again g.N.Nand.ends g.N.Nand.failures g.N.Nand.never_fails die c.args.caller c.args.task c.now-now.result c.terms_at-deadline.result.deadline
+          c.args.ops.now unrefused c.submit_lent.new.self (map jobs_of kept) c.in-Err-submit_lent.field-0 c.in-Err-submit_lent.ensures same
+          c.self.invariant.0,
+      kept_again g.N.Nand.ends g.N.Nand.failures g.N.Nand.never_fails die c.args.caller c.args.task c.now-now.result c.terms_at-deadline.result.deadline
+          c.args.ops.now unrefused c.submit_lent.new.self (map jobs_of kept) c.in-Err-submit_lent.field-0 c.in-Err-submit_lent.ensures same
+          c.self.invariant.0 kept sums,
+    )
 
 pub returns-in-Err-submit_lent-clause-ask : goal.returns-in-Err-submit_lent-clause-ask
 returns-in-Err-submit_lent-clause-ask g c =
@@ -185,23 +238,23 @@ returns-in-Err-submit_lent-clause-ask g c =
       life = c.self.inside.life;
       entered = c.self.inside.entered;
       first = c.self.inside.first;
-      asked = c.self.inside.asked.items;
+      asked = map jobs_of c.self.inside.asked.items;
     } in
     let why : (earlier : Lives) → HasLived die earlier → c.why_refused.result ≡ refusal_in die earlier c.args.task c.args.ops.now =
-    λ earlier h. refusal_is die earlier h c.plan.result.now c.now-now.result c.as_slice.result.now c.args.task c.args.ops.now c.why_refused.result
-    c.why_refused.ensures c.plan.ensures c.now-now.ensures c.as_slice.ensures.value in
-    let own : c.terms_at-own.result ≡ terms_of die.terms c.args.task = c.terms_at-own.ensures ∙ ap (terms_of die.terms) c.task.view_is in
-    let unrefused : IsUnrefused die c.args.task c.now-now.result c.terms_at-own.result.deadline c.args.ops.now = record {
+    λ earlier h. refusal_is die earlier h c.plan.result.now c.now-now.result die.asked c.args.task c.args.ops.now c.why_refused.result
+    c.why_refused.ensures.refused c.plan.ensures c.now-now.ensures refl in
+    let own : c.terms_at-deadline.result ≡ terms_of die.terms c.args.task = c.terms_at-deadline.ensures ∙ ap (terms_of die.terms) c.task.view_is in
+    let unrefused : IsUnrefused die c.args.task c.now-now.result c.terms_at-deadline.result.deadline c.args.ops.now = record {
       runs = sym c.is_stopped.ensures ∙ c.if-is_stopped.false;
       none = λ earlier h. sym (why earlier h) ∙ c.in-None.is;
       present = c.now-now.ensures;
       terms = ap (λ (t : TaskTerms). t.deadline) own;
     } in
-    let back : c.pop.new.self.items ≡ die.asked =
-    pushed_off die.asked c.push.new.self.items c.pop.new.self.items c.job_of-job.result c.in-Ok.ensures.items _ (search rules) c.pop.ensures.rest in
-    rw (← c.self.view_is) (no_memory g.N.Nand.ends g.N.Nand.failures g.N.Nand.never_fails die c.args.caller c.args.task c.now-now.result c.terms_at-own.result.deadline
-    c.args.ops.now unrefused c.submit_lent.new.self c.pop.new.self.items c.in-Err-submit_lent.field-0 c.in-Err-submit_lent.ensures back
-    c.self.invariant)
+    let kept : List TaskAsks = c.reserve_job.new.asked.items in
+    let same : map jobs_of kept ≡ die.asked = c.reserve_job.ensures.jobs ∙ c.why_refused.ensures.jobs in
+    rw (← c.self.view_is) (no_memory g.N.Nand.ends g.N.Nand.failures g.N.Nand.never_fails die c.args.caller c.args.task c.now-now.result c.terms_at-deadline.result.deadline
+    c.args.ops.now unrefused c.submit_lent.new.self (map jobs_of kept) c.in-Err-submit_lent.field-0 c.in-Err-submit_lent.ensures same
+    c.self.invariant.0)
 
 pub returns-in-Err-submit_lent-clause-lived : goal.returns-in-Err-submit_lent-clause-lived
 returns-in-Err-submit_lent-clause-lived g c =
@@ -211,20 +264,20 @@ returns-in-Err-submit_lent-clause-lived g c =
       life = c.self.inside.life;
       entered = c.self.inside.entered;
       first = c.self.inside.first;
-      asked = c.self.inside.asked.items;
+      asked = map jobs_of c.self.inside.asked.items;
     } in
     let why : (earlier : Lives) → HasLived die earlier → c.why_refused.result ≡ refusal_in die earlier c.args.task c.args.ops.now =
-    λ earlier h. refusal_is die earlier h c.plan.result.now c.now-now.result c.as_slice.result.now c.args.task c.args.ops.now c.why_refused.result
-    c.why_refused.ensures c.plan.ensures c.now-now.ensures c.as_slice.ensures.value in
-    let own : c.terms_at-own.result ≡ terms_of die.terms c.args.task = c.terms_at-own.ensures ∙ ap (terms_of die.terms) c.task.view_is in
-    let unrefused : IsUnrefused die c.args.task c.now-now.result c.terms_at-own.result.deadline c.args.ops.now = record {
+    λ earlier h. refusal_is die earlier h c.plan.result.now c.now-now.result die.asked c.args.task c.args.ops.now c.why_refused.result
+    c.why_refused.ensures.refused c.plan.ensures c.now-now.ensures refl in
+    let own : c.terms_at-deadline.result ≡ terms_of die.terms c.args.task = c.terms_at-deadline.ensures ∙ ap (terms_of die.terms) c.task.view_is in
+    let unrefused : IsUnrefused die c.args.task c.now-now.result c.terms_at-deadline.result.deadline c.args.ops.now = record {
       runs = sym c.is_stopped.ensures ∙ c.if-is_stopped.false;
       none = λ earlier h. sym (why earlier h) ∙ c.in-None.is;
       present = c.now-now.ensures;
       terms = ap (λ (t : TaskTerms). t.deadline) own;
     } in
-    let back : c.pop.new.self.items ≡ die.asked =
-    pushed_off die.asked c.push.new.self.items c.pop.new.self.items c.job_of-job.result c.in-Ok.ensures.items _ (search rules) c.pop.ensures.rest in
-    rw (← c.self.view_is) (still_lived g.N.Nand.ends g.N.Nand.failures g.N.Nand.never_fails die c.args.caller c.args.task c.now-now.result c.terms_at-own.result.deadline
-    c.args.ops.now unrefused c.submit_lent.new.self c.pop.new.self.items c.in-Err-submit_lent.field-0 c.in-Err-submit_lent.ensures back
-    c.self.invariant)
+    let kept : List TaskAsks = c.reserve_job.new.asked.items in
+    let same : map jobs_of kept ≡ die.asked = c.reserve_job.ensures.jobs ∙ c.why_refused.ensures.jobs in
+    rw (← c.self.view_is) (still_lived g.N.Nand.ends g.N.Nand.failures g.N.Nand.never_fails die c.args.caller c.args.task c.now-now.result c.terms_at-deadline.result.deadline
+    c.args.ops.now unrefused c.submit_lent.new.self (map jobs_of kept) c.in-Err-submit_lent.field-0 c.in-Err-submit_lent.ensures same
+    c.self.invariant.0)

@@ -1,5 +1,7 @@
-use Rattle.std.proofs.Common.{◌≡◌, ◌≤◌, List, [], refl, ap, sym, subst, ◌∙◌, arith}
+use Rattle.std.proofs.Common.{◌≡◌, ◌≤◌, List, [], length, refl, ap, sym, subst, ◌∙◌, arith}
 use Rattle.std.specs.Prelude.{All}
+use Rattle.std.proofs.lemmas.List.{length-replicate}
+use Rattle.std.proofs.lemmas.List.Elements.{All-replicate}
 use Rattle.slot_types.specs.declared.plans.DiePlan.{DiePlan}
 use Rattle.plan_rules.specs.Bound.{MeetsBound}
 use Rattle.demand_rules.specs.Demand.{PassesDemand}
@@ -21,27 +23,33 @@ returns-clause-longer g c other h =
 pub returns-clause-lived : goal.returns-clause-lived
 returns-clause-lived g c =
     let passes = c.in-Ok-terms_test.ensures.passes.0 refl in
-    subst (λ (l : List AskedJob). HasLived {N = g.row.N.Denot} (record {
+    subst (λ (l : List (List AskedJob)). HasLived {N = g.row.N.Denot} (record {
       core = c.in-Ok.core;
       terms = c.args.terms;
       life = c.in-Some.life;
       entered = 0;
       first = 0;
       asked = l;
-    }) []) (sym c.new-2.ensures.items)
-    (new_lived c.in-Ok.core c.args.plan c.args.terms c.in-Some.life (ap (λ (core : Core g.row.N.Denot). core.start) c.in-Ok.ensures.ok)
+    }) []) (sym c.in-Ok-new_asks.ensures.jobs)
+    (new_lived c.in-Ok.core c.args.plan c.args.terms c.in-Some.life c.len.result (ap (λ (core : Core g.row.N.Denot). core.start) c.in-Ok.ensures.ok)
     (ap (λ (core : Core g.row.N.Denot). core.log) c.in-Ok.ensures.ok) c.promises.ensures.opens
     (subst (λ (p : DiePlan). PassesDemand p c.args.terms) c.plan.ensures passes.0)
     (subst (λ (p : DiePlan). PassesSupply p c.args.terms) c.plan.ensures passes.1)
     (subst (λ (p : DiePlan). IsLife p c.args.terms c.in-Some.life) c.plan-2.ensures c.in-Some.ensures.life.is_life))
 
 pub invariant_of-result : goal.invariant_of-result
-invariant_of-result g c = record {
-  earlier = [];
-  lived = returns-clause-lived g c;
-  early = omega arith;
-  asked_early = subst (λ (l : List AskedJob). All (λ j. j.at ≤ 4611686018427387904) l) (sym c.new-2.ensures.items) (λ k d lt. absurd (omega (arith, lt)));
-}
+invariant_of-result g c = (
+  record {
+    earlier = [];
+    lived = returns-clause-lived g c;
+    early = omega arith;
+    asked_early = subst (λ (l : List (List AskedJob)). All (All (λ (j : AskedJob). j.at ≤ 4611686018427387904)) l) (sym c.in-Ok-new_asks.ensures.jobs)
+        (All-replicate (All (λ (j : AskedJob). j.at ≤ 4611686018427387904)) c.len.result [] (λ k d lt. absurd (omega (arith, lt))));
+    one_each = ap length c.in-Ok-new_asks.ensures.jobs
+        ∙ (length-replicate c.len.result [] ∙ (c.len.ensures ∙ ap (λ (p : DiePlan). length p.caps) c.plan-3.ensures));
+  },
+  c.in-Ok-new_asks.ensures.kept c.args.terms _,
+)
 
 pub returns-in-None-clause-refused : goal.returns-in-None-clause-refused
 returns-in-None-clause-refused g c =

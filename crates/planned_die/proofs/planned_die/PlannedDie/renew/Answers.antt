@@ -1,7 +1,10 @@
-use Rattle.std.proofs.Common.{◌≤◌, ◌+◌, ◌∷◌, arith}
+use Rattle.std.proofs.Common.{map, ◌≤◌, ◌+◌, ◌∷◌, length, ap, sym, ◌∙◌, arith}
 use Rattle.die_log.specs.Model.Log.{now}
+use Rattle.planned_die.specs.Remembered.{jobs_of}
 use Rattle.planned_die.specs.Planned.{Planned}
 use Rattle.planned_die.proofs.NextLife.{ended, not_left}
+use Rattle.slot_core.specs.Core.{Core}
+use Rattle.planned_die.proofs.Passing.{kept_later}
 use Rattle.planned_die.proofs.Lived.{next_lived}
 use Rattle.planned_die.proofs.planned_die.PlannedDie.renew.Goals as goal
 
@@ -13,23 +16,27 @@ invariant_of-self g c =
       life = c.self.inside.life;
       entered = c.self.inside.entered;
       first = c.self.inside.first;
-      asked = c.self.inside.asked.items;
+      asked = map jobs_of c.self.inside.asked.items;
     } in
-    let over : c.self.inside.life ≤ now c.self.inside.core.log = omega (arith, c.now-now.ensures, c.if-now-self.false) in
-    record {
-      earlier = c.self.inside.core.log ∷ c.self.invariant.earlier;
-      lived = next_lived die c.self.invariant.earlier c.self.invariant.lived
-          (ended die.core die.terms c.self.invariant.earlier die.life die.entered c.self.invariant.lived.kept over) c.renew.new.self
-          (c.self.inside.first + c.from.result) c.in-Ok.ensures.ok (omega (arith, c.from.ensures, c.now-now.ensures));
-      early = c.if-next-gt-LAST_BEGINNING.false;
-      asked_early = c.self.invariant.asked_early;
-    }
+    let over : c.self.inside.life ≤ now c.self.inside.core.log = omega (arith, c.now-now.ensures, c.if-now-self.false) in (
+      record {
+        earlier = c.self.inside.core.log ∷ c.self.invariant.0.earlier;
+        lived = next_lived die c.self.invariant.0.earlier c.self.invariant.0.lived
+            (ended die.core die.terms c.self.invariant.0.earlier die.life die.entered c.self.invariant.0.lived.kept over) c.renew.new.self
+            (c.self.inside.first + c.from.result) c.in-Ok.ensures.ok (omega (arith, c.from.ensures, c.now-now.ensures));
+        early = c.if-next-gt-LAST_BEGINNING.false;
+        asked_early = c.self.invariant.0.asked_early;
+        one_each = c.self.invariant.0.one_each ∙ sym (ap (λ (core : Core g.row.N.Denot). length core.start.plan.caps) c.in-Ok.ensures.ok);
+      },
+      kept_later die.terms (die.first + now die.core.log) _ c.self.inside.asked.items
+          (omega (arith, c.from.ensures, c.now-now.ensures, ap (λ (core : Core g.row.N.Denot). now core.log) c.in-Ok.ensures.ok)) c.self.invariant.1,
+    )
 
 pub unreachable-requires : goal.unreachable-requires
 unreachable-requires g c =
     let over : c.self.inside.life ≤ now c.self.inside.core.log = omega (arith, c.now-now.ensures, c.if-now-self.false) in
-    not_left c.self.inside.core c.self.inside.terms c.self.invariant.earlier c.self.inside.life c.self.inside.entered
-    c.self.invariant.lived.kept over c.in-Err-NotQuiet.field-0 c.in-Err-NotQuiet.field-0-0 c.in-Err-NotQuiet.ensures.refused
+    not_left c.self.inside.core c.self.inside.terms c.self.invariant.0.earlier c.self.inside.life c.self.inside.entered
+    c.self.invariant.0.lived.kept over c.in-Err-NotQuiet.field-0 c.in-Err-NotQuiet.field-0-0 c.in-Err-NotQuiet.ensures.refused
     c.in-Err-NotQuiet.field-0-is
 
 pub returns-in-Ok-clause-lived : goal.returns-in-Ok-clause-lived
@@ -40,9 +47,9 @@ returns-in-Ok-clause-lived g c =
       life = c.self.inside.life;
       entered = c.self.inside.entered;
       first = c.self.inside.first;
-      asked = c.self.inside.asked.items;
+      asked = map jobs_of c.self.inside.asked.items;
     } in
     let over : c.self.inside.life ≤ now c.self.inside.core.log = omega (arith, c.now-now.ensures, c.if-now-self.false) in
     rw (← c.self.view_is) (λ earlier h. next_lived die earlier h
-    (ended die.core die.terms c.self.invariant.earlier die.life die.entered c.self.invariant.lived.kept over) c.renew.new.self
+    (ended die.core die.terms c.self.invariant.0.earlier die.life die.entered c.self.invariant.0.lived.kept over) c.renew.new.self
     (c.self.inside.first + c.from.result) c.in-Ok.ensures.ok (omega (arith, c.from.ensures, c.now-now.ensures)))

@@ -1,22 +1,26 @@
-use Rattle.std.proofs.Common.{◌≡◌, ◌<◌, ◌∷◌, length, ap, sym, ◌∙◌, arith}
-use Rattle.die_log.specs.Model.Log.{Log, now}
+use Rattle.std.proofs.Common.{map, ◌+◌, ◌≡◌, ◌<◌, ◌∷◌, length, ap, sym, ◌∙◌, arith}
+use Rattle.die_log.specs.Model.Log.{Log, now, carried_slots}
+use Rattle.die_log.specs.Model.Start.{Start}
 use Rattle.die_log.specs.Model.Lives.{Lives}
 use Rattle.slot_core.specs.Core.{Core}
 use Rattle.planned_log.specs.Asks.{asked_by}
+use Rattle.planned_die.specs.Remembered.{jobs_of}
 use Rattle.planned_die.specs.Planned.{Planned, HasLived}
+use Rattle.std.proofs.lemmas.List.{length_push}
+use Rattle.planned_die.proofs.Passing.{kept_later}
 use Rattle.planned_die.proofs.Slotting.{slot_keeps, refused_keeps, refused_log, slotted, unslotted}
 use Rattle.planned_die.proofs.Lived.{own_lived, slot_lived, moved}
 use Rattle.planned_die.proofs.planned_die.PlannedDie.slot.Goals as goal
 
 pub returns-in-Ok-slot-clause-slot : goal.returns-in-Ok-slot-clause-slot
 returns-in-Ok-slot-clause-slot g c = rw (← c.self.view_is)
-    (slotted g.N.Nand.ends g.N.Nand.failures g.N.Nand.never_fails c.self.inside.terms c.self.inside.first c.self.inside.asked.items c.args.caller
+    (slotted g.N.Nand.ends g.N.Nand.failures g.N.Nand.never_fails c.self.inside.terms c.self.inside.first (map jobs_of c.self.inside.asked.items) c.args.caller
     c.self.inside.entered c.enter_rest.new.entered c.self.inside.life c.self.inside.core c.enter_rest.new.core c.slot.new.self
     c.enter_rest.ensures.entered c.in-Ok.ensures.all c.in-Ok-slot.reply (omega (arith, c.now.ensures, c.if-now-self.false)) c.in-Ok-slot.ensures)
 
 pub returns-in-Err-slot-clause-slot : goal.returns-in-Err-slot-clause-slot
 returns-in-Err-slot-clause-slot g c = rw (← c.self.view_is)
-    (unslotted g.N.Nand.ends g.N.Nand.failures g.N.Nand.never_fails c.self.inside.terms c.self.inside.first c.self.inside.asked.items c.args.caller
+    (unslotted g.N.Nand.ends g.N.Nand.failures g.N.Nand.never_fails c.self.inside.terms c.self.inside.first (map jobs_of c.self.inside.asked.items) c.args.caller
     c.self.inside.entered c.enter_rest.new.entered c.self.inside.life c.self.inside.core c.enter_rest.new.core c.slot.new.self
     c.enter_rest.ensures.entered c.in-Ok.ensures.all c.in-Err-slot.refusal (sym c.is_stopped.ensures ∙ c.if-is_stopped.false)
     (omega (arith, c.now.ensures, c.if-now-self.false)) c.in-Err-slot.ensures)
@@ -29,7 +33,7 @@ returns-in-Ok-slot-clause-lived g c =
       life = c.self.inside.life;
       entered = c.self.inside.entered;
       first = c.self.inside.first;
-      asked = c.self.inside.asked.items;
+      asked = map jobs_of c.self.inside.asked.items;
     } in
     let between : (earlier : Lives) → HasLived die earlier → HasLived (record die { core = c.enter_rest.new.core; entered = c.enter_rest.new.entered }) earlier =
     λ earlier h. own_lived die earlier h c.args.caller die.entered c.enter_rest.new.entered c.enter_rest.new.core c.enter_rest.ensures.entered
@@ -52,7 +56,7 @@ returns-in-Err-slot-clause-lived g c =
       life = c.self.inside.life;
       entered = c.self.inside.entered;
       first = c.self.inside.first;
-      asked = c.self.inside.asked.items;
+      asked = map jobs_of c.self.inside.asked.items;
     } in
     let between : (earlier : Lives) → HasLived die earlier → HasLived (record die { core = c.enter_rest.new.core; entered = c.enter_rest.new.entered }) earlier =
     λ earlier h. own_lived die earlier h c.args.caller die.entered c.enter_rest.new.entered c.enter_rest.new.core c.enter_rest.ensures.entered
@@ -75,7 +79,7 @@ returns-in-Err-clause-lived g c =
       life = c.self.inside.life;
       entered = c.self.inside.entered;
       first = c.self.inside.first;
-      asked = c.self.inside.asked.items;
+      asked = map jobs_of c.self.inside.asked.items;
     } in
     let between : (earlier : Lives) → HasLived die earlier → HasLived (record die { core = c.enter_rest.new.core; entered = c.enter_rest.new.entered }) earlier =
     λ earlier h. own_lived die earlier h c.args.caller die.entered c.enter_rest.new.entered c.enter_rest.new.core c.enter_rest.ensures.entered
@@ -90,17 +94,20 @@ invariant_of-self g c =
       life = c.self.inside.life;
       entered = c.self.inside.entered;
       first = c.self.inside.first;
-      asked = c.self.inside.asked.items;
+      asked = map jobs_of c.self.inside.asked.items;
     } in
     let between : (earlier : Lives) → HasLived die earlier → HasLived (record die { core = c.enter_rest.new.core; entered = c.enter_rest.new.entered }) earlier =
     λ earlier h. own_lived die earlier h c.args.caller die.entered c.enter_rest.new.entered c.enter_rest.new.core c.enter_rest.ensures.entered
-    c.enter_rest.ensures.slot_stays (c.enter_rest.ensures.kept earlier h.kept) in
-    record {
-      earlier = c.self.invariant.earlier;
-      lived = between c.self.invariant.earlier c.self.invariant.lived;
-      early = c.self.invariant.early;
-      asked_early = c.self.invariant.asked_early;
-    }
+    c.enter_rest.ensures.slot_stays (c.enter_rest.ensures.kept earlier h.kept) in (
+      record {
+        earlier = c.self.invariant.0.earlier;
+        lived = between c.self.invariant.0.earlier c.self.invariant.0.lived;
+        early = c.self.invariant.0.early;
+        asked_early = c.self.invariant.0.asked_early;
+        one_each = c.self.invariant.0.one_each ∙ sym (ap (λ (core : Core g.row.N.Denot). length core.start.plan.caps) c.enter_rest.ensures.entered);
+      },
+      kept_later die.terms (die.first + now die.core.log) _ c.self.inside.asked.items (omega (arith, c.enter_rest.ensures.slot_stays)) c.self.invariant.1,
+    )
 
 pub invariant_of-self-in-Ok-slot : goal.invariant_of-self-in-Ok-slot
 invariant_of-self-in-Ok-slot g c =
@@ -110,7 +117,7 @@ invariant_of-self-in-Ok-slot g c =
       life = c.self.inside.life;
       entered = c.self.inside.entered;
       first = c.self.inside.first;
-      asked = c.self.inside.asked.items;
+      asked = map jobs_of c.self.inside.asked.items;
     } in
     let between : (earlier : Lives) → HasLived die earlier → HasLived (record die { core = c.enter_rest.new.core; entered = c.enter_rest.new.entered }) earlier =
     λ earlier h. own_lived die earlier h c.args.caller die.entered c.enter_rest.new.entered c.enter_rest.new.core c.enter_rest.ensures.entered
@@ -122,13 +129,16 @@ invariant_of-self-in-Ok-slot g c =
     λ earlier h. slot_lived (record die { core = c.enter_rest.new.core; entered = c.enter_rest.new.entered }) earlier (between earlier h)
     g.N.Nand.ends g.N.Nand.failures g.N.Nand.never_fails c.args.caller c.slot.new.self c.in-Ok-slot.reply c.in-Ok-slot.ensures
     (slot_keeps g.N.Nand.ends g.N.Nand.failures g.N.Nand.never_fails die.terms earlier die.life c.enter_rest.new.entered c.args.caller
-    c.in-Ok-slot.reply c.enter_rest.new.core c.slot.new.self (c.enter_rest.ensures.kept earlier h.kept) all early c.in-Ok-slot.ensures) in
-    record {
-      earlier = c.self.invariant.earlier;
-      lived = lived c.self.invariant.earlier c.self.invariant.lived;
-      early = c.self.invariant.early;
-      asked_early = c.self.invariant.asked_early;
-    }
+    c.in-Ok-slot.reply c.enter_rest.new.core c.slot.new.self (c.enter_rest.ensures.kept earlier h.kept) all early c.in-Ok-slot.ensures) in (
+      record {
+        earlier = c.self.invariant.0.earlier;
+        lived = lived c.self.invariant.0.earlier c.self.invariant.0.lived;
+        early = c.self.invariant.0.early;
+        asked_early = c.self.invariant.0.asked_early;
+        one_each = c.self.invariant.0.one_each ∙ sym (ap (λ (t : Start). length t.plan.caps) c.in-Ok-slot.ensures.start_stays ∙ ap (λ (core : Core g.row.N.Denot). length core.start.plan.caps) c.enter_rest.ensures.entered);
+      },
+      kept_later die.terms (die.first + now die.core.log) _ c.self.inside.asked.items (omega (arith, c.enter_rest.ensures.slot_stays, ap now c.in-Ok-slot.ensures.ended.logged, length_push (carried_slots c.enter_rest.new.core.log) c.in-Ok-slot.reply.ran)) c.self.invariant.1,
+    )
 
 pub invariant_of-self-in-Err-slot : goal.invariant_of-self-in-Err-slot
 invariant_of-self-in-Err-slot g c =
@@ -138,7 +148,7 @@ invariant_of-self-in-Err-slot g c =
       life = c.self.inside.life;
       entered = c.self.inside.entered;
       first = c.self.inside.first;
-      asked = c.self.inside.asked.items;
+      asked = map jobs_of c.self.inside.asked.items;
     } in
     let between : (earlier : Lives) → HasLived die earlier → HasLived (record die { core = c.enter_rest.new.core; entered = c.enter_rest.new.entered }) earlier =
     λ earlier h. own_lived die earlier h c.args.caller die.entered c.enter_rest.new.entered c.enter_rest.new.core c.enter_rest.ensures.entered
@@ -150,10 +160,13 @@ invariant_of-self-in-Err-slot g c =
     c.enter_rest.new.entered c.in-Err-slot.ensures.start_stays
     (refused_keeps g.N.Nand.ends g.N.Nand.failures g.N.Nand.never_fails die.terms earlier die.life c.enter_rest.new.entered c.args.caller
     c.in-Err-slot.refusal c.enter_rest.new.core c.slot.new.self (c.enter_rest.ensures.kept earlier h.kept) c.in-Err-slot.ensures)
-    (omega (arith, ap now logs)) (λ task. ap (λ (l : Log). asked_by task (l ∷ earlier)) logs) in
-    record {
-      earlier = c.self.invariant.earlier;
-      lived = lived c.self.invariant.earlier c.self.invariant.lived;
-      early = c.self.invariant.early;
-      asked_early = c.self.invariant.asked_early;
-    }
+    (omega (arith, ap now logs)) (λ task. ap (λ (l : Log). asked_by task (l ∷ earlier)) logs) in (
+      record {
+        earlier = c.self.invariant.0.earlier;
+        lived = lived c.self.invariant.0.earlier c.self.invariant.0.lived;
+        early = c.self.invariant.0.early;
+        asked_early = c.self.invariant.0.asked_early;
+        one_each = c.self.invariant.0.one_each ∙ sym (ap (λ (t : Start). length t.plan.caps) c.in-Err-slot.ensures.start_stays ∙ ap (λ (core : Core g.row.N.Denot). length core.start.plan.caps) c.enter_rest.ensures.entered);
+      },
+      kept_later die.terms (die.first + now die.core.log) _ c.self.inside.asked.items (omega (arith, c.enter_rest.ensures.slot_stays, ap now logs)) c.self.invariant.1,
+    )
