@@ -273,18 +273,19 @@ uint32_t mg_reserve_jobs(mg_die *die, uint32_t jobs, uint32_t operations);
  *
  *   birth     1,088 + 20 C + 4 logical + 60 blocks + 8 (pages + 1) + 8 (blocks / 64, rounded up) + 53 K + 4 K', and 16 K' more
  *             in a plan with times. It has so many from mg_new or mg_resume on. This is exact
- *   reserved  that, and 24 a slot, 100 a job or collection, 37 an operation, and 12 K: with so much reserved at once, jobs first.
- *             It has so many until all of that is used up. This is exact, too: a list of a few items has room for 4, and the
- *             list of 24 bytes a slot and job grows to twice the jobs at least, and is moved
+ *   reserved  that, and 24 a slot, 108 a job or collection, 37 an operation, and 12 K: with so much reserved at once, jobs first;
+ *             of it 8 a job are given back when it is reserved. It has so many until all of that is used up. Exact, too, for 64
+ *             and more of each and no fewer slots than jobs; else it says what shorter lists take
  *   life      with nothing reserved, by the end of a life of so many slots, jobs and operations in all, each list having grown
- *             to between once and twice its items, and one being moved: some 48 a slot, 180 a job, 58 an operation. Not tight:
- *             alike entries are kept once, callers only where they change, and each job is taken for a collection that is
- *             waived, and that waits when all others do
+ *             to between once and twice its items: 24 to 48 a slot, 112 to 200 a job or collection, 42 an operation, and half of
+ *             the greatest list, while that is moved. Not tight: alike entries are kept once, callers only where they change, and
+ *             each job is taken for a collection that is waived, and that waits while all others do. Lives of random jobs take
+ *             more than a third of it
  *   question  what a question takes beside that and gives back before it answers: a report, 60 to 96 a job, or a checkpoint
  *   resume    what mg_resume takes until it has answered: beside a birth, the arrays of the checkpoint
  *
- * What is reserved piece by piece may take up to twice as much. What the heap itself takes for a block, and what lies unused
- * between blocks, isn't counted; there are 24 blocks from birth on, and 11 more lists. */
+ * Reserve all at once: piece by piece, or slots before jobs, it may take twice as much and more. What the heap itself takes for a
+ * block, and what lies unused between blocks, isn't counted; there are 23 blocks from birth on, 24 with times, and 10 more lists. */
 struct mg_bytes { uint64_t birth, reserved, life, question, resume; };
 
 /* These, for a plan. Refused as mg_plan_bound is. */

@@ -27,6 +27,8 @@ static uint32_t below(uint32_t bound) { /* splitmix64 */
 
 static uint32_t between(uint32_t least, uint32_t most) { return least + below(most - least + 1); }
 
+static uint64_t most(uint64_t a, uint64_t b) { return a > b ? a : b; }
+
 static union size { size_t size; _Alignas(16) char room[16]; } *before(void *at) { return (union size *)at - 1; }
 
 void *mg_alloc(size_t size, size_t align) {
@@ -122,6 +124,25 @@ static mg_die made(void) {
 
 /* ---- What is compared -------------------------------------------------------------------------------------------- */
 
+/* The formulas of maulgreen.h, by whom mg_memory isn't written. */
+static void show_formulas(uint32_t plans) {
+    for (uint32_t n = 0; n < plans; n++) {
+        random_plan();
+        const uint32_t jobs = between(64, 65536), slots = between(jobs, 1048576), operations = between(64, 64 * jobs);
+        const uint64_t cells = plan.blocks * plan.pages, listed = task_count <= 4 ? 4 : task_count <= 8 ? 8 : 16;
+        const uint64_t birth = 1088 + 20 * cells + 4 * plan.logical + 60 * plan.blocks + 8 * (plan.pages + 1) + 8 * ((plan.blocks + 63) / 64)
+                               + 53 * task_count + 4 * listed + (plan.common ? 16 * listed : 0);
+        const struct mg_bytes bytes = said(slots, jobs, operations);
+        check(bytes.birth == birth, "the formula of a birth");
+        check(bytes.reserved == birth + (uint64_t)24 * slots + (uint64_t)108 * jobs + (uint64_t)37 * operations + 12 * task_count,
+              "that of what is reserved");
+        check(bytes.life >= birth + (uint64_t)24 * slots + (uint64_t)112 * jobs + (uint64_t)42 * operations, "a life takes no less");
+        check(bytes.life <= birth + (uint64_t)48 * slots + (uint64_t)200 * jobs + (uint64_t)42 * operations + 8192
+                            + most(most((uint64_t)16 * (slots + jobs), (uint64_t)48 * jobs), (uint64_t)16 * operations), "and no more");
+        check(bytes.question <= most((uint64_t)96 * jobs, (uint64_t)60 * plan.logical + 8 * plan.blocks + 4 * task_count) + 1024, "a question");
+    }
+}
+
 static void show_births(uint32_t shapes) {
     for (uint32_t n = 0; n < shapes; n++) {
         random_plan();
@@ -192,7 +213,7 @@ static uint32_t show_life(struct life life, uint32_t most_ops, int refused) {
     struct mg_bytes bytes = said(had.slots, had.jobs, had.operations);
     check(top <= bytes.life, "a life takes no more than is said");
     uint32_t part = (uint32_t)((top - bytes.birth) * 100 / (bytes.life - bytes.birth));
-    ask(&die, bytes.question);
+    if (had.jobs < 20000) ask(&die, bytes.question); /* a report takes a step for each job and each entry before it */
     settle(&die);
     check(mg_renew_giving_back(&die, NULL) == MG_OK && held == bytes.birth, "a renewal gives all of it back");
     show_resumption(&die, &bytes);
@@ -228,6 +249,7 @@ static void show_whole_life(void) {
 
 int main(int argc, char **argv) {
     uint32_t times = argc > 1 ? (uint32_t)atoi(argv[1]) : 1;
+    show_formulas(1000);
     show_births(400 * times);
     show_lives(60 * times);
     show_whole_life();
