@@ -216,8 +216,8 @@ static void show_reserves(void) {
     for (uint32_t i = 0; i < 20; i++)
         check(mg_begin(&die, i, &call) == MG_OK && mg_end(&die, 1, &call.name, &reply, NULL, 0) == MG_OK && reply.caller == i, "20 slots");
     check(mg_reserve(&die, 1) == MG_NO_MEMORY, "these are, too");
-    check(mg_renew(&die, NULL) == MG_OK && mg_begin(&die, 9, &call) == MG_OK && mg_end(&die, 1, &call.name, &reply, NULL, 0) == MG_OK,
-          "a renewal keeps the memory");
+    check(mg_renew(&die, NULL) == MG_OK && mg_reserve_jobs(&die, 10, 30) == MG_OK && mg_reserve(&die, 20) == MG_OK,
+          "a renewal keeps the memory: as much is reserved again");
     check(mg_renew_giving_back(&die, NULL) == MG_OK && mg_begin(&die, 9, &call) == MG_NO_MEMORY, "and another one gives it back");
     left = UINT32_MAX;
     mg_free(&die);
