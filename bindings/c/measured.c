@@ -1,6 +1,8 @@
 /* Compares mg_memory with a heap that counts: births and reserves of many shapes, whose bytes have to be as it says; lives in
  * what is reserved, which have to ask for nothing; and lives in which nothing is, which have to stay below what it says, and
- * not far below. While a block is moved, both count. It has the three heap functions in itself. */
+ * not far below. While a block is moved, both count. It has the three heap functions in itself.
+ *
+ *   measured [TIMES]    10, and from then on a whole life, too */
 #include "maulgreen.h"
 #include <inttypes.h>
 #include <stdio.h>
@@ -248,10 +250,10 @@ static void show_whole_life(void) {
 }
 
 int main(int argc, char **argv) {
-    uint32_t times = argc > 1 ? (uint32_t)atoi(argv[1]) : 1;
-    show_formulas(1000);
-    show_births(400 * times);
-    show_lives(60 * times);
-    show_whole_life();
+    uint32_t times = argc > 1 ? (uint32_t)atoi(argv[1]) : 10;
+    show_formulas(100 * times);
+    show_births(40 * times);
+    show_lives(6 * times);
+    if (times >= 10) show_whole_life();
     return 0;
 }
