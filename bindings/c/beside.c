@@ -49,6 +49,10 @@ static void *ask(void *at) {
         struct mg_name read[1];
         struct mg_row rows[8];
         uint32_t jobs[8], total;
+        struct mg_cell at;
+        struct mg_entry entries[4];
+        struct mg_waived waived[1];
+        check(mg_place(die, r % 16, &at) == MG_OK && mg_entries(die, r, entries, 4) == MG_OK && mg_entry_waived(die, r, waived, 1) == MG_OK, "places and entries");
         check(mg_now(die) > ROUNDS && mg_len(die) > ROUNDS && mg_records(die) > 0, "the log");
         check(mg_job(die, r, &head) == MG_OK && mg_outcome(die, r, &outcome, read, 1) == MG_OK, "a job");
         check(mg_worst(die, &worst) == MG_OK && mg_certificate(die, &cert, jobs, 8) == MG_OK && cert.job == worst.job, "the worst");

@@ -42,6 +42,9 @@ static void of_no_die(mg_die *die) {
     struct mg_worst_job worst;
     struct mg_cert cert;
     uint32_t number = 5, spare = 6, total = 7;
+    struct mg_cell cell = {1, 2};
+    struct mg_entry entry = {1, 2, 3, 4, 5};
+    struct mg_waived waived = {1, 2};
     struct mg_op read = {MG_READ, 0, {{0}}};
     mg_free(die);
     mg_free(die);
@@ -50,7 +53,15 @@ static void of_no_die(mg_die *die) {
     why = unsaid;
     check(mg_collect(die, 1, 0, 0, 1, &number, &why) == MG_EMPTY_HANDLE && says(&why, 0, 0), "collect");
     check(mg_begin(die, 1, &call) == MG_EMPTY_HANDLE && mg_end(die, 1, &name, &reply, NULL, 0) == MG_EMPTY_HANDLE, "a slot");
-    check(mg_reserve(die, 1) == MG_EMPTY_HANDLE && mg_renew(die, NULL) == MG_EMPTY_HANDLE, "reserve and renew");
+    check(mg_reserve(die, 1) == MG_EMPTY_HANDLE && mg_reserve_jobs(die, 1, 1) == MG_EMPTY_HANDLE, "reserves");
+    why = unsaid;
+    check(mg_renew(die, NULL) == MG_EMPTY_HANDLE && mg_renew(die, &why) == MG_EMPTY_HANDLE && says(&why, 0, 0), "renew");
+    why = unsaid;
+    check(mg_renew_giving_back(die, NULL) == MG_EMPTY_HANDLE && mg_renew_giving_back(die, &why) == MG_EMPTY_HANDLE && says(&why, 0, 0),
+          "the other renewal");
+    check(mg_place(die, 0, &cell) == MG_EMPTY_HANDLE && cell.block == 1 && cell.page == 2, "a place");
+    check(mg_entries(die, 0, &entry, 1) == MG_EMPTY_HANDLE && entry.what == 1 && entry.waived == 5, "entries");
+    check(mg_entry_waived(die, 0, &waived, 1) == MG_EMPTY_HANDLE && waived.job == 1, "what was waived");
     check(mg_checkpoint(die, NULL, 0, NULL, 0, NULL, 0, NULL, 0, &spare, NULL) == MG_EMPTY_HANDLE, "checkpoint");
     check(mg_job(die, 0, &head) == MG_EMPTY_HANDLE && mg_outcome(die, 0, &outcome, NULL, 0) == MG_EMPTY_HANDLE, "a job");
     check(mg_worst(die, &worst) == MG_EMPTY_HANDLE && mg_certificate(die, &cert, NULL, 0) == MG_EMPTY_HANDLE, "the worst");
@@ -79,11 +90,19 @@ static void show_pointers(void) {
     struct mg_worst_job worst;
     struct mg_cert cert;
     struct mg_load load;
+    struct mg_cell cell;
+    struct mg_entry entries[3] = {{0, 0, 0, 0, 0}};
+    struct mg_bytes bytes;
     uint32_t total, spare;
     struct mg_op ops[2] = {{MG_WRITE, 3, {{7}}}, {MG_READ, 3, {{0}}}};
     check(mg_plan_bound(&plan, NULL, 0) == MG_BAD_PLAN && mg_plan_test(&plan, NULL, 0, &load) == MG_BAD_PLAN, "no task");
     check(mg_plan_bound(NULL, &task, 1) == MG_NULL_POINTER && mg_plan_bound(&plan, NULL, 1) == MG_NULL_POINTER, "no plan");
     check(mg_plan_test(&plan, &task, 1, NULL) == MG_NULL_POINTER && mg_check(NULL, 0, NULL, NULL, 0) == MG_NULL_POINTER, "nothing");
+    check(mg_memory(NULL, &task, 1, 1, 1, 1, &bytes) == MG_NULL_POINTER && mg_memory(&plan, NULL, 1, 1, 1, 1, &bytes) == MG_NULL_POINTER
+          && mg_memory(&plan, &task, 1, 1, 1, 1, NULL) == MG_NULL_POINTER && mg_memory(&plan, NULL, 0, 1, 1, 1, &bytes) == MG_BAD_PLAN,
+          "memory of no plan");
+    check(mg_memory(&plan, &task, 1, UINT32_MAX, UINT32_MAX, UINT32_MAX, &bytes) == MG_OK && bytes.reserved > (uint64_t)UINT32_MAX * 100,
+          "as much as there may be");
     check(mg_new(&die, &plan, NULL, 0) == MG_BAD_PLAN && mg_new(&die, NULL, &task, 1) == MG_NULL_POINTER, "the same");
     check(mg_new(&die, &plan, &task, 1) == MG_OK, "new");
     check(mg_submit(&die, 1, 0, 0, 2, NULL, 0, NULL, NULL) == MG_EMPTY_JOB, "no operation");
@@ -98,9 +117,16 @@ static void show_pointers(void) {
     check(mg_outcome(&die, 0, &outcome, NULL, 0) == MG_OK && outcome.reads == 1, "how many reads");
     check(mg_outcome(&die, 0, &outcome, NULL, 1) == MG_NULL_POINTER && mg_outcome(&die, 0, NULL, NULL, 0) == MG_NULL_POINTER, "not there");
     check(mg_worst(&die, &worst) == MG_OK && mg_worst(&die, NULL) == MG_NULL_POINTER, "worst");
+    check(mg_place(&die, 3, &cell) == MG_OK && cell.block == 0 && cell.page == 0 && mg_place(&die, 3, NULL) == MG_NULL_POINTER, "a place");
+    check(mg_place(&die, LOGICAL, &cell) == MG_OK && cell.block == MG_NOWHERE, "a page that isn't there lies nowhere");
+    check(mg_entries(&die, 0, NULL, 0) == MG_OK && mg_entries(&die, 0, NULL, 1) == MG_NULL_POINTER, "entries");
+    check(mg_entries(&die, 2, entries, 3) == MG_OK && entries[0].what == MG_OPERATION && entries[1].what == MG_LAST_OPERATION, "two slots");
+    check(entries[0].caller == 9 && entries[1].at == 1 && entries[2].what == 0 && entries[2].caller == 0, "and no third one");
+    check(mg_entries(&die, UINT32_MAX, entries + 2, 1) == MG_OK && entries[2].caller == 0, "nor one beyond");
+    check(mg_entry_waived(&die, 2, NULL, 0) == MG_OK && mg_entry_waived(&die, 2, NULL, 1) == MG_NULL_POINTER, "what was waived");
     check(mg_certificate(&die, &cert, NULL, 0) == MG_OK && cert.jobs == 1, "how many jobs");
     check(mg_rows(&die, NULL, 0, &total) == MG_OK && total == 2, "how many rows");
-    check(mg_renew(&die, NULL) == MG_NOT_QUIET, "the collection waits");
+    check(mg_renew(&die, NULL) == MG_NOT_QUIET && mg_renew_giving_back(&die, NULL) == MG_NOT_QUIET, "the collection waits");
     check(mg_checkpoint(&die, NULL, 0, NULL, 0, NULL, 0, NULL, 0, NULL, NULL) == MG_NULL_POINTER, "where to");
     check(mg_checkpoint(&die, NULL, 0, NULL, 0, NULL, 0, NULL, 0, &spare, NULL) == MG_NOT_QUIET, "the same");
     check(mg_refusal_name(MG_NO_TOKENS, NULL, 0) == 8, "the length of a name");
@@ -161,6 +187,69 @@ static void show_memory(void) {
     }
 }
 
+/* Reserves that are refused at each call of the heap in turn, and what is reserved. */
+static void show_reserves(void) {
+    const struct mg_op read = {MG_READ, 0, {{0}}};
+    struct mg_call call;
+    struct mg_reply reply;
+    uint32_t tried;
+    mg_die die = {0};
+    check(mg_new(&die, &plan, &task, 1) == MG_OK, "new");
+    for (tried = 0;; tried++) {
+        left = tried;
+        uint32_t code = mg_reserve_jobs(&die, 10, 30);
+        if (code == MG_OK) break;
+        check(code == MG_NO_MEMORY, "nothing is reserved");
+        left = 0;
+        check(mg_submit(&die, 1, 0, 0, 9, &read, 1, NULL, NULL) == MG_NO_MEMORY, "so a job is refused");
+    }
+    check(tried > 3, "some were refused, each time later");
+    left = 0;
+    check(mg_reserve_jobs(&die, 10, 30) == MG_OK && mg_reserve_jobs(&die, 11, 0) == MG_NO_MEMORY, "so many are reserved, and no more");
+    check(mg_reserve(&die, 0) == MG_OK && mg_reserve(&die, 1) == MG_NO_MEMORY && mg_begin(&die, 9, &call) == MG_NO_MEMORY, "and no slot is");
+    left = UINT32_MAX;
+    check(mg_reserve(&die, 20) == MG_OK, "20 are");
+    left = 0;
+    for (uint32_t i = 0; i < 10; i++) check(mg_submit(&die, i, 0, 0, 99, &read, 1, NULL, NULL) == MG_OK, "10 jobs");
+    check(mg_submit(&die, 1, 0, 0, 99, &read, 1, NULL, NULL) == MG_NO_MEMORY && mg_collect(&die, 1, 0, 0, 99, NULL, NULL) == MG_NO_MEMORY,
+          "they are used up");
+    for (uint32_t i = 0; i < 20; i++)
+        check(mg_begin(&die, i, &call) == MG_OK && mg_end(&die, 1, &call.name, &reply, NULL, 0) == MG_OK && reply.caller == i, "20 slots");
+    check(mg_reserve(&die, 1) == MG_NO_MEMORY, "these are, too");
+    check(mg_renew(&die, NULL) == MG_OK && mg_reserve_jobs(&die, 10, 30) == MG_OK && mg_reserve(&die, 20) == MG_OK,
+          "a renewal keeps the memory: as much is reserved again");
+    check(mg_renew_giving_back(&die, NULL) == MG_OK && mg_begin(&die, 9, &call) == MG_NO_MEMORY, "and another one gives it back");
+    left = UINT32_MAX;
+    mg_free(&die);
+}
+
+/* A driver that can't note a trim: the page wasn't trimmed, and lies where it did. */
+static void show_trims(void) {
+    const struct mg_op ops[3] = {{MG_WRITE, 5, {{7}}}, {MG_TRIM, 5, {{0}}}, {MG_TRIM, 5, {{0}}}};
+    struct mg_call call;
+    struct mg_reply reply;
+    struct mg_cell cell;
+    struct mg_job_head head;
+    struct mg_entry entry;
+    for (int noted = 0; noted < 2; noted++) {
+        mg_die die = {0};
+        check(mg_new(&die, &plan, &task, 1) == MG_OK && mg_submit(&die, 44, 0, 0, 9, ops, 3, NULL, NULL) == MG_OK, "new");
+        check(mg_begin(&die, 9, &call) == MG_OK && mg_end(&die, 1, &call.name, &reply, NULL, 0) == MG_OK, "the write");
+        check(mg_begin(&die, 9, &call) == MG_OK && call.kind == MG_CALL_TRIM && call.act == MG_DID_TRIM && call.logical == 5, "the trim");
+        check(mg_place(&die, 5, &cell) == MG_OK && cell.block == 0 && cell.page == 0, "it isn't trimmed yet");
+        uint32_t code = mg_end(&die, noted ? 1 : 2, &call.name, &reply, NULL, 0);
+        check(code == (noted ? MG_OK : MG_DEVICE_FAULT), "whether it was noted");
+        check(mg_now(&die) == (noted ? 2u : 1u) && mg_len(&die) == (noted ? 3u : 2u), "whether the slot is in the log");
+        check(mg_place(&die, 5, &cell) == MG_OK && (cell.block == MG_NOWHERE) == noted, "whether it is trimmed");
+        check(mg_begin(&die, 9, &call) == (noted ? MG_OK : MG_DIE_STOPPED), "whether the die goes on");
+        check(mg_reserve(&die, 5) == MG_OK && mg_reserve_jobs(&die, 5, 5) == MG_OK, "memory is taken all the same");
+        check(mg_renew_giving_back(&die, NULL) == (noted ? MG_BEGUN : MG_DIE_STOPPED), "and not given back");
+        check(mg_job(&die, 0, &head) == MG_OK && head.caller == 44 && mg_entries(&die, 0, &entry, 1) == MG_OK && entry.caller == 44
+              && entry.what == MG_SUBMITTED, "who submitted it");
+        mg_free(&die);
+    }
+}
+
 static void show_texts(void) {
     uint32_t texts = 0;
     for (uint32_t code = 0; code < 400; code++) {
@@ -217,6 +306,8 @@ int main(int argc, char **argv) {
     show_handles();
     show_pointers();
     show_memory();
+    show_reserves();
+    show_trims();
     show_texts();
     show_report(argc > 1 ? argv[1] : NULL);
     puts("all as it should be");

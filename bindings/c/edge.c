@@ -109,10 +109,20 @@ uint32_t mg_end(mg_die *die, uint32_t ok, const struct mg_name *name, struct mg_
 
 uint32_t mg_reserve(mg_die *die, uint32_t slots) { return is_full(die) ? flash_reserve(die, slots) : MG_EMPTY_HANDLE; }
 
+uint32_t mg_reserve_jobs(mg_die *die, uint32_t jobs, uint32_t operations) {
+    return is_full(die) ? flash_reserve_jobs(die, jobs, operations) : MG_EMPTY_HANDLE;
+}
+
 uint32_t mg_renew(mg_die *die, struct mg_why *why) {
     struct mg_why numbers;
     if (!is_full(die)) return refused(MG_EMPTY_HANDLE, why);
     return flash_renew(die, why ? why : &numbers);
+}
+
+uint32_t mg_renew_giving_back(mg_die *die, struct mg_why *why) {
+    struct mg_why numbers;
+    if (!is_full(die)) return refused(MG_EMPTY_HANDLE, why);
+    return flash_renew_giving_back(die, why ? why : &numbers);
 }
 
 uint32_t mg_checkpoint(mg_die *die, struct mg_cell *places, size_t place_count, struct mg_name *names, size_t name_count,
@@ -162,6 +172,27 @@ uint64_t mg_records(const mg_die *die) {
     if (!is_full(die)) return 0;
     mg_die own = *die;
     return flash_records(&own);
+}
+
+uint32_t mg_place(const mg_die *die, uint32_t page, struct mg_cell *place) {
+    if (!is_full(die)) return MG_EMPTY_HANDLE;
+    if (!place) return MG_NULL_POINTER;
+    mg_die own = *die;
+    return flash_place(&own, page, place);
+}
+
+uint32_t mg_entries(const mg_die *die, uint32_t from, struct mg_entry *entries, size_t count) {
+    if (!is_full(die)) return MG_EMPTY_HANDLE;
+    if (!is_array(entries, count)) return MG_NULL_POINTER;
+    mg_die own = *die;
+    return flash_entries(&own, from, ARRAY(entries), count);
+}
+
+uint32_t mg_entry_waived(const mg_die *die, uint32_t entry, struct mg_waived *waived, size_t count) {
+    if (!is_full(die)) return MG_EMPTY_HANDLE;
+    if (!is_array(waived, count)) return MG_NULL_POINTER;
+    mg_die own = *die;
+    return flash_waived(&own, entry, ARRAY(waived), count);
 }
 
 uint32_t mg_job(const mg_die *die, uint32_t number, struct mg_job_head *job) {

@@ -63,7 +63,7 @@ enum {
     MG_COLLECTOR_BUSY = 13,   /* the task has a collection that is neither done nor waived */
     MG_CLOCK_END = 14,        /* the present slot is 1,048,576 */
     MG_DEVICE_FAULT = 15,     /* the device failed in this slot, or gave another name than its cell was programmed with */
-    MG_DIE_STOPPED = 16,      /* the device failed before; the die answers questions and mg_reserve, and nothing else */
+    MG_DIE_STOPPED = 16,      /* the device failed before; the die answers questions, takes memory, and nothing else */
     MG_UNKNOWN_JOB = 17,      /* no job or collection of this number */
     MG_BEGUN = 100,           /* a slot has begun, and is to be ended first */
     MG_NOT_BEGUN = 101,       /* no slot has begun */
@@ -198,7 +198,7 @@ uint32_t mg_collect(mg_die *die, uint32_t caller, uint32_t task, uint32_t releas
 
 /* ---- Slots: begin, do the call, end ------------------------------------------------------------------------------ */
 
-enum { MG_CALL_NONE = 0, MG_CALL_READ = 1, MG_CALL_PROGRAM = 2, MG_CALL_ERASE = 3 };
+enum { MG_CALL_NONE = 0, MG_CALL_READ = 1, MG_CALL_PROGRAM = 2, MG_CALL_ERASE = 3, MG_CALL_TRIM = 4 };
 enum { MG_IDLE = 0, MG_DID_READ = 1, MG_DID_WRITE = 2, MG_DID_TRIM = 3, MG_COPY_READ = 4,
        MG_COPY_PROGRAM = 5, MG_ERASE = 6 };
 
@@ -211,7 +211,9 @@ enum { MG_IDLE = 0, MG_DID_READ = 1, MG_DID_WRITE = 2, MG_DID_TRIM = 3, MG_COPY_
  *                       the page was written or trimmed meanwhile, it reads another page or erases, and the payload isn't
  *                       needed any more. Else it is a job's read
  *   MG_CALL_PROGRAM  program the cell (block, page), the next free one of its block, with the payload of this name
- *   MG_CALL_ERASE    do one slot of the erase of `block`; `last` is 1 in its last one, which frees the block's pages */
+ *   MG_CALL_ERASE    do one slot of the erase of `block`; `last` is 1 in its last one, which frees the block's pages
+ *   MG_CALL_TRIM     the slot trims the page `logical`, for which the chip does nothing. A driver that keeps a record of trims
+ *                    writes it now: where it can't, `ok` of mg_end is 0, and the page wasn't trimmed */
 struct mg_call {
     uint32_t kind;          /* MG_CALL_.. */
     uint32_t block, page;
@@ -223,7 +225,8 @@ struct mg_call {
 };
 
 /* Begins the present slot, and reports the one call of the device that it needs. The first that stands: DIE_STOPPED; BEGUN;
- * CLOCK_END; NO_MEMORY, never while slots are reserved: nothing has begun then. Every slot that has begun is to be ended. */
+ * CLOCK_END; NO_MEMORY, never while slots are reserved: nothing has begun then. Every slot that has begun is to be ended.
+ * `caller` is any number of yours, which the log keeps. */
 uint32_t mg_begin(mg_die *die, uint32_t caller, struct mg_call *call);
 
 struct mg_reply {
@@ -233,14 +236,15 @@ struct mg_reply {
     uint32_t page;          /* the logical page, or the block that is erased */
     uint32_t finished;      /* 1: it was the last slot of `job` */
     uint32_t waived;        /* how many collections were waived, at most one a task */
-    struct mg_name name; /* what was read or written, by a job */
+    uint32_t caller;        /* who began the slot */
+    struct mg_name name;    /* what was read or written, by a job */
 };
 
 /* A collection that was waived, and how many tokens it gave its task. */
 struct mg_waived { uint32_t job, given; };
 
-/* Ends the slot that has begun. `ok` is 1 where the device did what it was asked, else the device has failed; it isn't looked at
- * where nothing was asked (MG_CALL_NONE). `name` is that of what a read gave, and isn't looked at else.
+/* Ends the slot that has begun. `ok` is 1 where the device did what it was asked, or the driver has noted a trim; else that has
+ * failed. It isn't looked at where nothing was asked (MG_CALL_NONE). `name` is that of what a read gave, and isn't looked at else.
  * Reports what the slot did, and the collections that it waived.
  *
  * The first that stands: DIE_STOPPED; NOT_BEGUN; DEVICE_FAULT, where something was asked and `ok` isn't 1, or a read gave
@@ -253,19 +257,55 @@ uint32_t mg_end(mg_die *die, uint32_t ok, const struct mg_name *name, struct mg_
 
 /* Takes the memory for so many later slots: begin and end of these take no memory and are never refused for it. Each slot
  * that is ended uses one of them up, and one that has begun is the first of them. It may be called at any time, within a slot
- * and of a die that is stopped, too. NO_MEMORY. */
+ * and of a die that is stopped, too. NO_MEMORY, where nothing changes; never where so many are reserved already. */
 uint32_t mg_reserve(mg_die *die, uint32_t slots);
 
+/* Takes the memory for so many later jobs and collections, with so many operations in all: while that lasts, mg_submit and
+ * mg_collect take no memory and are never refused for it. Each one that is accepted uses one of them up, with as many operations
+ * as it has; one of more operations than are left may be refused. It may be called at any time, as mg_reserve. NO_MEMORY, where
+ * nothing changes; never where so many of both are reserved already.
+ *
+ * Reserve jobs first, and slots after them: a list that grows gets twice its room, so the other way round takes more. */
+uint32_t mg_reserve_jobs(mg_die *die, uint32_t jobs, uint32_t operations);
+
+/* How many bytes a die asks of the heap at most, in all blocks that it has at once: while mg_realloc moves a block, the old one
+ * and the new one. With C cells (blocks * pages), K tasks, and K' of them rounded up to 4, 8 or 16:
+ *
+ *   birth     1,088 + 20 C + 4 logical + 60 blocks + 8 (pages + 1) + 8 (blocks / 64, rounded up) + 53 K + 4 K', and 16 K' more
+ *             in a plan with times. It has so many from mg_new or mg_resume on. This is exact
+ *   reserved  that, and 24 a slot, 108 a job or collection, 37 an operation, and 12 K: with so much reserved at once, jobs first;
+ *             of it 8 a job are given back when it is reserved. It has so many until all of that is used up. Exact, too, for 64
+ *             and more of each and no fewer slots than jobs; else it says what shorter lists take
+ *   life      with nothing reserved, by the end of a life of so many slots, jobs and operations in all, each list having grown
+ *             to between once and twice its items: 24 to 48 a slot, 112 to 200 a job or collection, 42 an operation, and half of
+ *             the greatest list, while that is moved. Not tight: alike entries are kept once, callers only where they change, and
+ *             each job is taken for a collection that is waived, and that waits while all others do. Lives of random jobs take
+ *             more than a third of it
+ *   question  what a question takes beside that and gives back before it answers: a report, 60 to 96 a job, or a checkpoint
+ *   resume    what mg_resume takes until it has answered: beside a birth, the arrays of the checkpoint
+ *
+ * Reserve all at once: piece by piece, or slots before jobs, it may take twice as much and more. What the heap itself takes for a
+ * block, and what lies unused between blocks, isn't counted; there are 23 blocks from birth on, 24 with times, and 10 more lists. */
+struct mg_bytes { uint64_t birth, reserved, life, question, resume; };
+
+/* These, for a plan. Refused as mg_plan_bound is. */
+uint32_t mg_memory(const struct mg_plan *plan, const struct mg_task *tasks, size_t count, uint32_t slots, uint32_t jobs,
+                   uint32_t operations, struct mg_bytes *bytes);
+
 /* Starts the log anew at a moment at which all that was accepted is done or was waived: the present slot is 0 again, and
- * jobs are numbered from 0. Pages, tokens, erases and reserved slots stay. It takes no memory. A die reaches 1,048,576 slots
- * and 65,536 jobs and collections between two renewals.
+ * jobs are numbered from 0. Pages, tokens, erases and what is reserved stay. It takes no memory, and keeps that of the log so
+ * far for the one that comes. A die reaches 1,048,576 slots and 65,536 jobs and collections between two renewals.
  *
  * The first that stands: DIE_STOPPED; BEGUN; NOT_QUIET; WORN_OUT. */
 uint32_t mg_renew(mg_die *die, struct mg_why *why);
 
+/* As mg_renew, and gives back the memory of the log so far: then the die has as much as it had at its birth, and nothing is
+ * reserved. */
+uint32_t mg_renew_giving_back(mg_die *die, struct mg_why *why);
+
 /* ---- Shutting down and going on ----------------------------------------------------------------------------------- */
 
-/* Where a logical page lies: in this cell, or nowhere if `block` is MG_NOWHERE. */
+/* Where a logical page lies: in this cell, or nowhere if `block` is MG_NOWHERE, and then it is blank. */
 #define MG_NOWHERE UINT32_MAX
 struct mg_cell { uint32_t block, page; };
 
@@ -308,8 +348,32 @@ uint32_t mg_now(const mg_die *die);     /* the present slot: how many were carri
 uint64_t mg_len(const mg_die *die);     /* the entries of the log: jobs and collections accepted, and slots */
 uint64_t mg_records(const mg_die *die); /* the records that these take in memory: runs of alike entries */
 
-struct mg_job_head { uint32_t collects, task, release, due; }; /* collects is 1 for a collection */
-/* What it was accepted with. UNKNOWN_JOB. */
+/* The cell in which a logical page lies, at any moment: within a slot it is that before the slot, and of a stopped die that
+ * before the slot that failed. So every page of a stopped die is found. One that the die doesn't have lies nowhere. */
+uint32_t mg_place(const mg_die *die, uint32_t page, struct mg_cell *place);
+
+/* What an entry of the log is of. */
+enum { MG_SUBMITTED = 0, MG_COLLECTED = 1, /* a job, a collection was accepted */
+       MG_IDLE_SLOT = 2,                   /* a slot in which nothing was carried */
+       MG_OPERATION = 3, MG_LAST_OPERATION = 4, /* one in which a job did an operation, its last one */
+       MG_PAGE_READ = 5, MG_PAGE_PROGRAMMED = 6, /* one in which a collection read a page to copy it, programmed it */
+       MG_ERASED = 7, MG_LAST_ERASED = 8 };     /* one in which it did a slot of its erase, the last one */
+struct mg_entry {
+    uint32_t what;   /* MG_SUBMITTED .. */
+    uint32_t caller; /* who submitted it, or began the slot */
+    uint32_t job;    /* the job or collection; 0 in an idle slot */
+    uint32_t at;     /* of an operation its place in the job, from 0; of a copy the logical page; of an erase the block; 0 else */
+    uint32_t waived; /* how many collections were waived in the slot */
+};
+/* The entries of the log, from this one on, counted from 0: those that are there, which are mg_len - from, as far as there is
+ * room; the rest of the array isn't written. It takes a step for each record before them, so read many at once, and no memory. */
+uint32_t mg_entries(const mg_die *die, uint32_t from, struct mg_entry *entries, size_t count);
+
+/* The collections that were waived in the slot of an entry, and how many tokens they gave, as far as there is room. */
+uint32_t mg_entry_waived(const mg_die *die, uint32_t entry, struct mg_waived *waived, size_t count);
+
+struct mg_job_head { uint32_t collects, task, release, due, caller; }; /* collects is 1 for a collection */
+/* What it was accepted with, and who submitted it: to find that takes a step for each entry before it. UNKNOWN_JOB. */
 uint32_t mg_job(const mg_die *die, uint32_t number, struct mg_job_head *job);
 
 enum { MG_WAITING = 0, MG_DONE = 1, MG_WAIVED = 2 };

@@ -18,7 +18,9 @@ uint32_t flash_begin(mg_die *die, uint32_t caller, struct mg_call *call);
 uint32_t flash_end(mg_die *die, uint32_t ok, const struct mg_name *name, struct mg_reply *reply, struct mg_waived *waived,
                    size_t count);
 uint32_t flash_reserve(mg_die *die, uint32_t slots);
+uint32_t flash_reserve_jobs(mg_die *die, uint32_t jobs, uint32_t operations);
 uint32_t flash_renew(mg_die *die, struct mg_why *why);
+uint32_t flash_renew_giving_back(mg_die *die, struct mg_why *why);
 uint32_t flash_checkpoint(mg_die *die, struct mg_cell *places, size_t place_count, struct mg_name *names, size_t name_count,
                           struct mg_block *blocks, size_t block_count, uint32_t *balances, size_t balance_count,
                           uint32_t *spare, struct mg_why *why);
@@ -29,6 +31,9 @@ uint32_t flash_resume(mg_die *die, const struct mg_plan *plan, const struct mg_t
 uint32_t flash_now(mg_die *die);
 uint64_t flash_len(mg_die *die);
 uint64_t flash_records(mg_die *die);
+uint32_t flash_place(mg_die *die, uint32_t page, struct mg_cell *place);
+uint32_t flash_entries(mg_die *die, uint32_t from, struct mg_entry *entries, size_t count);
+uint32_t flash_waived(mg_die *die, uint32_t entry, struct mg_waived *waived, size_t count);
 uint32_t flash_job(mg_die *die, uint32_t number, struct mg_job_head *job);
 uint32_t flash_outcome(mg_die *die, uint32_t job, struct mg_job_outcome *outcome, struct mg_name *reads, size_t count);
 uint32_t flash_worst(mg_die *die, struct mg_worst_job *worst);

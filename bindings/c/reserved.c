@@ -1,5 +1,5 @@
-/* Counts what the library asks of its heap: in slots that are reserved, begin and end ask nothing, whatever the slot carries
- * and whatever arrives meanwhile. It has the three heap functions in itself. */
+/* Counts what the library asks of its heap: where jobs and slots are reserved, nothing, whatever arrives, between begin and end,
+ * too, and whatever the slots carry. mg_memory says beforehand how much that is. It has the three heap functions in itself. */
 #include "maulgreen.h"
 #include <stdio.h>
 #include <stdlib.h>
@@ -14,14 +14,17 @@ static void check(int holds, const char *what) {
 }
 
 int main(void) {
-    enum { SLOTS = 4000 };
+    enum { SLOTS = 4000, JOBS = 3 * SLOTS, OPERATIONS = 4 * SLOTS };
     struct mg_plan plan = {8, 4, 3, 16, 2, 0};
     struct mg_task task = {4, 0, 0, 0, 0};
-    unsigned long acts[7] = {0}, waived_ones = 0, within = 0;
+    unsigned long acts[7] = {0}, waived_ones = 0, jobs = 0;
+    struct mg_bytes bytes;
     uint32_t seed = 1;
     mg_die die = {0};
     check(mg_new(&die, &plan, &task, 1) == MG_OK, "new");
-    check(mg_reserve(&die, SLOTS) == MG_OK, "4000 slots are reserved");
+    check(mg_memory(&plan, &task, 1, SLOTS, JOBS, OPERATIONS, &bytes) == MG_OK, "how much memory");
+    check(mg_reserve_jobs(&die, JOBS, OPERATIONS) == MG_OK && mg_reserve(&die, SLOTS) == MG_OK, "jobs first, and then slots");
+    asked = 0;
     for (uint32_t s = 0; s < SLOTS; s++) {
         struct mg_call call;
         struct mg_reply reply;
@@ -30,22 +33,20 @@ int main(void) {
         uint32_t number, now = mg_now(&die), page = (seed = seed * 1664525u + 1013904223u) >> 28;
         struct mg_op ops[2] = {{MG_WRITE, page, {{(uint8_t)s, 1}}}, {MG_READ, page, {{0}}}};
         if (s % 5 == 0) {
-            mg_collect(&die, 1, 0, now, now + 40, &number, &why);
-            mg_submit(&die, 1, 0, now, now + 9, ops, 2, &number, &why);
+            jobs += mg_collect(&die, 1, 0, now, now + 40, &number, &why) == MG_OK;
+            jobs += mg_submit(&die, 1, 0, now, now + 9, ops, 2, &number, &why) == MG_OK;
         }
-        unsigned long before = asked;
         check(mg_begin(&die, s % 3, &call) == MG_OK, "begin");
-        within += asked - before;
-        mg_submit(&die, 1, 0, call.slot + 1, call.slot + 9, ops + 1, 1, &number, &why); /* arrivals take their memory */
-        before = asked;
+        jobs += mg_submit(&die, 1, 0, call.slot + 1, call.slot + 9, ops + 1, 1, &number, &why) == MG_OK;
         check(mg_end(&die, 1, &call.name, &reply, waived, 16) == MG_OK, "end");
-        within += asked - before;
         acts[reply.act]++;
         waived_ones += reply.waived;
     }
     check(acts[MG_DID_READ] && acts[MG_DID_WRITE] && acts[MG_COPY_PROGRAM] && acts[MG_ERASE] && waived_ones,
           "reads, writes, copies, erases and waivers");
+    check(jobs > SLOTS, "jobs and collections");
     mg_free(&die);
-    printf("of %d slots that were reserved, %lu calls of the heap in begin and end\n", SLOTS, within);
-    return within != 0;
+    printf("of %d slots and %lu jobs that were reserved, in at most %lu bytes, %lu calls of the heap\n", SLOTS, jobs, (unsigned long)bytes.reserved,
+           asked);
+    return asked != 0;
 }

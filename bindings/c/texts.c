@@ -26,7 +26,7 @@ const char *mg_refusal_text(uint32_t refusal) {
     case MG_COLLECTOR_BUSY: return "the task has a collection that is neither done nor waived";
     case MG_CLOCK_END: return "the present slot is 1,048,576: the die is to be renewed";
     case MG_DEVICE_FAULT: return "the device failed in this slot, or gave another name than its cell was programmed with";
-    case MG_DIE_STOPPED: return "the device failed before; the die answers questions, and nothing else";
+    case MG_DIE_STOPPED: return "the device failed before; the die answers questions, takes memory, and nothing else";
     case MG_UNKNOWN_JOB: return "no job or collection of this number";
     case MG_BEGUN: return "a slot has begun, and is to be ended first";
     case MG_NOT_BEGUN: return "no slot has begun";

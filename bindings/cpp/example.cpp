@@ -22,6 +22,7 @@ static maulgreen::name drive(chip &cells, const maulgreen::call &call) {
     switch (call.kind) {
     case MG_CALL_READ: return cells.at({call.block, call.page});
     case MG_CALL_PROGRAM: cells[{call.block, call.page}] = call.name; break;
+    case MG_CALL_TRIM: break; // a driver that keeps a record of trims writes it here
     case MG_CALL_ERASE:
         if (call.last) cells.erase(cells.lower_bound({call.block, 0}), cells.lower_bound({call.block + 1, 0}));
     }
@@ -44,6 +45,10 @@ int main() {
     check(refused([&] { maulgreen::bound(plan, {}); }) == MG_BAD_PLAN, "its bound isn't met");
     maulgreen::die first(plan, {{4, 0, 0, 0, 0}});
     maulgreen::die die = std::move(first);
+    // Careful programs reserve: then nothing is refused for memory, nor waits for it.
+    die.reserve_jobs(400, 400);
+    die.reserve(4000);
+    std::cout << maulgreen::memory(plan, {{4, 0, 0, 0, 0}}, 4000, 400, 400).reserved << " bytes at most\n";
     chip cells;
     uint32_t acts[7] = {}, seed = 1;
     for (uint32_t round = 0; round < 200; round++) {
@@ -61,10 +66,18 @@ int main() {
         check(die.outcome(job).read_names == std::vector<maulgreen::name>{what}, "a read gives what was written last");
     }
     std::cout << acts[2] << " writes, " << acts[1] << " reads, " << acts[5] << " copies, " << acts[6] << " erase slots\n";
+    const std::vector<maulgreen::entry> log = die.log(0, 1000000);
+    check(log.size() == die.entries() && log[0].what == MG_COLLECTED && log[1].what == MG_SUBMITTED && log[1].caller == 1, "the log");
+    check(log[2].caller == 9 && log[4].waived_ones.size() == 1 && log[4].waived_ones[0].job == 0 && die.job(1).caller == 1, "and its callers");
+    check(die.log(2, 1).size() == 1 && die.log(UINT32_MAX, 9).empty(), "a part of it");
+    for (uint32_t page = 0; page < 16; page++)
+        check(!die.place(page) || cells.count({die.place(page)->block, die.place(page)->page}), "a page lies in a programmed cell");
+    check(!die.place(16), "one that isn't there lies nowhere");
     check(maulgreen::check(die.rows(), die.certificate()) == MG_OK, "the certificate holds");
     check(refused([&] { die.submit(1, 0, die.now(), die.now() + 1, {maulgreen::trim(0), maulgreen::read(16)}); }) == MG_BAD_PAGE, "page 16");
     die.renew();
     check(die.now() == 0, "a new log");
+    die.renew_giving_back();
     maulgreen::checkpoint left = die.checkpoint();
     die = maulgreen::die(plan, {{4, 0, 0, 0, 0}}, left); // the chip keeps its pages
     left.places.pop_back();
@@ -76,5 +89,6 @@ int main() {
         check(refused([&] { moved_from.end(true); }) == MG_NOT_BEGUN, "a slot that was moved from isn't ended");
     }
     check(refused([&] { die.begin(9); }) == MG_DIE_STOPPED, "a slot that is destroyed stops the die");
+    check(cells.count({die.place(5)->block, die.place(5)->page}) == 1, "and its pages are found");
     std::cout << "all as it should be\n";
 }

@@ -12,6 +12,7 @@
 #include <array>
 #include <cstdint>
 #include <exception>
+#include <optional>
 #include <stdexcept>
 #include <utility>
 #include <vector>
@@ -28,6 +29,7 @@ using call = ::mg_call;
 using row = ::mg_row;
 using job_head = struct ::mg_job_head;
 using worst_job = struct ::mg_worst_job;
+using cell = ::mg_cell;
 
 // Why a call is refused: its number of maulgreen.h, and the numbers that it has.
 class refusal : public std::exception {
@@ -55,6 +57,11 @@ inline op trim(std::uint32_t page) { return {MG_TRIM, page, {}}; }
 
 // A slot's reply, with the collections that it waived.
 struct reply : ::mg_reply {
+    std::vector<::mg_waived> waived_ones;
+};
+
+// An entry of the log, with the collections that were waived in its slot.
+struct entry : ::mg_entry {
     std::vector<::mg_waived> waived_ones;
 };
 
@@ -87,6 +94,13 @@ inline ::mg_load plan_test(const plan &p, const std::vector<task> &tasks) {
     ::mg_load load{};
     must(::mg_plan_test(&p, tasks.data(), tasks.size(), &load));
     return load;
+}
+
+// How many bytes a die asks of the heap at most, as maulgreen.h says.
+inline ::mg_bytes memory(const plan &p, const std::vector<task> &tasks, std::uint32_t slots, std::uint32_t jobs, std::uint32_t operations) {
+    ::mg_bytes bytes{};
+    must(::mg_memory(&p, tasks.data(), tasks.size(), slots, jobs, operations, &bytes));
+    return bytes;
 }
 
 // MG_OK where the certificate holds for the rows, else its first flaw.
@@ -204,10 +218,17 @@ public:
     }
 
     void reserve(std::uint32_t slots) { must(::mg_reserve(handle_, slots)); }
+    void reserve_jobs(std::uint32_t jobs, std::uint32_t operations) { must(::mg_reserve_jobs(handle_, jobs, operations)); }
 
     void renew() {
         ::mg_why why{0, 0};
         must(::mg_renew(handle_, &why), why);
+    }
+
+    // And gives back the memory of the log so far, that which is reserved, too.
+    void renew_giving_back() {
+        ::mg_why why{0, 0};
+        must(::mg_renew_giving_back(handle_, &why), why);
     }
 
     // What stands, with the names of the pages. The die stays as it is.
@@ -228,6 +249,27 @@ public:
     std::uint32_t now() const { return ::mg_now(handle_); }
     std::uint64_t entries() const { return ::mg_len(handle_); }
     std::uint64_t records() const { return ::mg_records(handle_); }
+
+    // The cell in which a logical page lies, if it lies in one; of a die that is stopped, too.
+    std::optional<cell> place(std::uint32_t page) const {
+        cell said{};
+        must(::mg_place(handle_, page, &said));
+        return said.block == MG_NOWHERE ? std::nullopt : std::optional<cell>(said);
+    }
+
+    // The entries of the log from this one on, so many at most.
+    std::vector<entry> log(std::uint32_t from, std::size_t count) const {
+        const std::uint64_t there = entries() > from ? entries() - from : 0;
+        std::vector<::mg_entry> read(static_cast<std::size_t>(std::min<std::uint64_t>(there, count)));
+        must(::mg_entries(handle_, from, read.data(), read.size()));
+        std::vector<entry> said;
+        for (const ::mg_entry &e : read) {
+            said.push_back({e, std::vector<::mg_waived>(e.waived)});
+            if (e.waived)
+                must(::mg_entry_waived(handle_, from + static_cast<std::uint32_t>(said.size()) - 1, said.back().waived_ones.data(), e.waived));
+        }
+        return said;
+    }
 
     job_head job(std::uint32_t number) const {
         job_head said{};

@@ -26,7 +26,13 @@ for wrong in (-1, OTHER, OTHER + 5, 1.0, "1", None, True):
     is_wrong(lambda: die.collect(0, 0, wrong))
     is_wrong(lambda: die.begin(wrong))
     is_wrong(lambda: die.reserve(wrong))
+    is_wrong(lambda: die.reserve_jobs(wrong, 1))
+    is_wrong(lambda: die.reserve_jobs(1, wrong))
     is_wrong(lambda: die.outcome(wrong))
+    is_wrong(lambda: die.place(wrong))
+    is_wrong(lambda: die.log(wrong))
+    is_wrong(lambda: die.log(0, wrong))
+    is_wrong(lambda: maulgreen.memory(PLAN, [TASK], wrong))
     is_wrong(lambda: Die(PLAN._replace(blocks=wrong), [TASK]))
     is_wrong(lambda: maulgreen.bound(PLAN, [TASK._replace(cap=wrong)]))
 for op in ((WRITE, 4), (WRITE, 4, b"abc"), (WRITE, 4, b"x" * 17), (WRITE, 4, "x" * 16), (READ, 4, BLANK), (TRIM, 4, BLANK), (READ,)):
@@ -44,6 +50,7 @@ done = threading.Event()
 
 def ask():
     while not done.is_set():
+        assert len(die.log(0, 20)) >= 2 and die.place(3) is None
         assert die.now() >= 1 and die.worst().lateness <= 0 and len(die.rows()) >= 1
 
 
@@ -58,4 +65,6 @@ for thread in threads:
     thread.join()
 die.close()
 is_wrong(die.now)
+is_wrong(lambda: die.place(4))
+is_wrong(die.log)
 print("all as it should be")

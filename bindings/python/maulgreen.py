@@ -14,9 +14,11 @@ from typing import Callable, Iterable, List, NamedTuple, Optional, Sequence, Tup
 
 BLANK = b"\xff" * 16  # the name of a page that was never written, or was trimmed since
 READ, WRITE, TRIM = 0, 1, 2
-NOTHING, READ_CELL, PROGRAM_CELL, ERASE_SLOT = 0, 1, 2, 3
+NOTHING, READ_CELL, PROGRAM_CELL, ERASE_SLOT, NOTE_TRIM = 0, 1, 2, 3, 4
 IDLE, DID_READ, DID_WRITE, DID_TRIM, COPY_READ, COPY_PROGRAM, ERASE = range(7)
 WAITING, DONE, WAIVED = 0, 1, 2
+# what an entry of the log is of
+SUBMITTED, COLLECTED, IDLE_SLOT, OPERATION, LAST_OPERATION, PAGE_READ, PAGE_PROGRAMMED, ERASED, LAST_ERASED = range(9)
 
 U32, U64, I64 = c.c_uint32, c.c_uint64, c.c_int64
 _Name = c.c_uint8 * 16
@@ -37,17 +39,18 @@ _Load = _struct("_Load", "common", [("demand", U64)])
 _Why = _struct("_Why", "first second")
 _Op = _named("_Op", "kind page")
 _Call = _named("_Call", "kind block page last slot act job logical")
-_Reply = _named("_Reply", "slot act job page finished waived")
+_Reply = _named("_Reply", "slot act job page finished waived caller")
 _Waived = _struct("_Waived", "job given")
-_Job = _struct("_Job", "collects task release due")
+_Entry = _struct("_Entry", "what caller job at waived")
+_Job = _struct("_Job", "collects task release due caller")
 _Outcome = _struct("_Outcome", "state completion given reads", [("lateness", I64)])
 _Worst = _struct("_Worst", "job", [("lateness", I64)])
 _Certificate = _struct("_Certificate", "job start due completion jobs")
 _Row = _struct("_Row", "number release due work done completion")
 _Place = _struct("_Place", "block page")
 _Block = _struct("_Block", "filled erases")
+_Bytes = type("_Bytes", (c.Structure,), {"_fields_": [(word, U64) for word in "birth reserved life question resume".split()]})
 _NOWHERE = _NO_PAGE = 0xFFFFFFFF
-
 
 
 class Plan(NamedTuple):
@@ -74,8 +77,18 @@ class Load(NamedTuple):
     common: int
 
 
+class Memory(NamedTuple):
+    """How many bytes a die asks of the heap at most: at its birth; with so much reserved; by the end of a life in which nothing was;
+    what a question takes beside, and gives back; and what a die takes until it has gone on from a checkpoint."""
+    birth: int
+    reserved: int
+    life: int
+    question: int
+    resume: int
+
+
 class Call(NamedTuple):
-    """What the device is to do, and for whom. `logical` is the page that is read, written, trimmed or copied, or None."""
+    """What the device is to do, and for whom. NOTE_TRIM is for a driver that keeps a record of trims: the chip does nothing. `logical` is the page that is read, written, trimmed or copied, or None."""
     kind: int
     block: int
     page: int
@@ -101,6 +114,16 @@ class Reply(NamedTuple):
     finished: bool
     waived: List[Waived]
     name: bytes
+    caller: int
+
+
+class Entry(NamedTuple):
+    """An entry of the log: `what` is SUBMITTED .., `at` the place of an operation, the page of a copy or the block of an erase."""
+    what: int
+    caller: int
+    job: int
+    at: int
+    waived: List[Waived]
 
 
 class Job(NamedTuple):
@@ -108,6 +131,7 @@ class Job(NamedTuple):
     task: int
     release: int
     due: int
+    caller: int
 
 
 class Outcome(NamedTuple):
@@ -166,8 +190,8 @@ def _library() -> str:
 
 
 _lib = c.CDLL(_library())
-for _word in ("version refusal_name plan_bound plan_test new submit collect begin end reserve renew now job outcome worst "
-              "certificate rows check checkpoint resume").split():
+for _word in ("version refusal_name plan_bound plan_test memory new submit collect begin end reserve reserve_jobs renew "
+              "renew_giving_back now place entries entry_waived job outcome worst certificate rows check checkpoint resume").split():
     getattr(_lib, "mg_" + _word).restype = U32
 _lib.mg_len.restype = _lib.mg_records.restype = U64
 _lib.mg_free.restype = None
@@ -238,6 +262,13 @@ def plan_test(plan: Plan, tasks: Iterable[Task]) -> Load:
     load = _Load()
     _must(_lib.mg_plan_test(*_plan(plan, tasks), c.byref(load)))
     return Load(load.demand, load.common)
+
+
+def memory(plan: Plan, tasks: Iterable[Task], slots: int = 0, jobs: int = 0, operations: int = 0) -> Memory:
+    """How many bytes a die asks of the heap at most, for so many slots, jobs and operations."""
+    said = _Bytes()
+    _must(_lib.mg_memory(*_plan(plan, tasks), U32(_u32(slots)), U32(_u32(jobs)), U32(_u32(operations)), c.byref(said)))
+    return Memory(said.birth, said.reserved, said.life, said.question, said.resume)
 
 
 def check(rows: Iterable[Row], certificate: Certificate) -> None:
@@ -322,7 +353,7 @@ class Die:
         said, waived = _Reply(), (_Waived * 16)()
         _must(self._call("end", U32(1 if ok else 0), c.byref(_name(name)), c.byref(said), waived, c.c_size_t(16)))
         return Reply(said.slot, said.act, said.job, said.page, said.finished == 1,
-                     [Waived(w.job, w.given) for w in waived[:said.waived]], bytes(said.name))
+                     [Waived(w.job, w.given) for w in waived[:said.waived]], bytes(said.name), said.caller)
 
     def slot(self, drive: Callable[[Call], Tuple[bool, bytes]], caller: int = 0) -> Reply:
         """One slot. drive(call) does what is asked on the device, and answers (ok, name). Where it raises, the slot is a fault."""
@@ -340,9 +371,18 @@ class Die:
     def reserve(self, slots: int) -> None:
         _must(self._call("reserve", U32(_u32(slots))))
 
+    def reserve_jobs(self, jobs: int, operations: int) -> None:
+        """Takes the memory for so many later jobs and collections, with so many operations in all; slots are reserved after it."""
+        _must(self._call("reserve_jobs", U32(_u32(jobs)), U32(_u32(operations))))
+
     def renew(self) -> None:
         why = _Why()
         _must(self._call("renew", c.byref(why)), why)
+
+    def renew_giving_back(self) -> None:
+        """And gives back the memory of the log so far, that which is reserved, too."""
+        why = _Why()
+        _must(self._call("renew_giving_back", c.byref(why)), why)
 
     def checkpoint(self) -> Checkpoint:
         """What stands at a moment at which all is done or was waived, with the names of the pages."""
@@ -363,10 +403,30 @@ class Die:
     def records(self) -> int:
         return self._call("records")
 
+    def place(self, page: int) -> Optional[Tuple[int, int]]:
+        """The cell in which a logical page lies, (block, page), or None; of a die that is stopped, too."""
+        at = _Place()
+        _must(self._call("place", U32(_u32(page)), c.byref(at)))
+        return None if at.block == _NOWHERE else (at.block, at.page)
+
+    def log(self, start: int = 0, count: int = 2**32 - 1) -> List[Entry]:
+        """The entries of the log from this one on, so many at most."""
+        _u32(start), _u32(count)
+        with self._lock:
+            there = max(0, min(len(self) - start, count))
+            entries, said = (_Entry * there)(), []
+            _must(self._call("entries", U32(start), entries, c.c_size_t(there)))
+            for number, e in enumerate(entries, start):
+                waived = (_Waived * e.waived)()
+                if e.waived:
+                    _must(self._call("entry_waived", U32(number), waived, c.c_size_t(e.waived)))
+                said.append(Entry(e.what, e.caller, e.job, e.at, [Waived(w.job, w.given) for w in waived]))
+            return said
+
     def job(self, number: int) -> Job:
         job = _Job()
         _must(self._call("job", U32(_u32(number)), c.byref(job)))
-        return Job(job.collects == 1, job.task, job.release, job.due)
+        return Job(job.collects == 1, job.task, job.release, job.due, job.caller)
 
     def outcome(self, job: int) -> Outcome:
         said, reads = _Outcome(), (_Name * 64)()

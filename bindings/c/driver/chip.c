@@ -7,10 +7,11 @@
 #include <unistd.h>
 
 static struct chip_page (*cells)[PAGES];
-static long calls_left; /* 0: the power stays */
+static long calls_left;    /* 0: the power stays */
+static long programs_left; /* 0: none fails */
 
 void chip_open(const char *file) {
-    const size_t size = sizeof(struct chip_page) * BLOCKS * PAGES;
+    const size_t size = sizeof(struct chip_page) * (BLOCKS + NOTE_BLOCKS) * PAGES;
     int fd = open(file, O_RDWR | O_CREAT, 0644);
     bool is_new = fd >= 0 && lseek(fd, 0, SEEK_END) != (off_t)size;
     if (fd < 0 || ftruncate(fd, (off_t)size)) abort();
@@ -21,6 +22,8 @@ void chip_open(const char *file) {
 }
 
 void chip_cut(long calls) { calls_left = calls; }
+
+void chip_fail(long programs) { programs_left = programs; }
 
 static bool is_cut(void) { return calls_left > 0 && --calls_left == 0; }
 
@@ -39,10 +42,12 @@ bool chip_read(uint32_t block, uint32_t page, struct chip_page *out) {
 
 bool chip_program(uint32_t block, uint32_t page, const struct chip_page *in) {
     if (!chip_is_free(&cells[block][page])) return false;
-    if (is_cut()) { /* torn: some of its bytes are there, and maybe those of the spare area */
+    bool cut = is_cut(), fails = programs_left > 0 && --programs_left == 0;
+    if (cut || fails) { /* torn: some of its bytes are there, and maybe those of the spare area */
         memcpy(cells[block][page].payload, in->payload, (size_t)rand() % PAYLOAD);
         if (rand() & 1) memcpy(cells[block][page].spare, in->spare, SPARE);
-        _exit(77);
+        if (cut) _exit(77);
+        return false;
     }
     cells[block][page] = *in;
     return true;

@@ -1,5 +1,5 @@
-/* Takes the power from the driver at random, in its work and in its recovery, and looks after each cut whether a page has lost
- * what was reported as written.
+/* Takes the power from the driver at random, in its work and in its recovery, and lets programs fail. It looks after each cut,
+ * and of each die that is stopped, whether a page has lost what was reported as written, or has again what was trimmed.
  *
  *   cuts FILE CUTS SEED */
 #define _DEFAULT_SOURCE
@@ -11,9 +11,9 @@
 #include <sys/wait.h>
 #include <unistd.h>
 
-/* What the world knows, which no cut takes: by page the version that was last reported as written, and the one that was asked
- * for after it. */
-static struct { uint32_t done[LOGICAL], asked[LOGICAL], programs; } *world;
+/* What the world knows, which no cut takes: by page the version that was last reported as written, 0 where it was trimmed, and the
+ * one that was asked for after it. */
+static struct { uint32_t done[LOGICAL], asked[LOGICAL], versions[LOGICAL], programs, trims, stopped; } *world;
 
 static void check(int holds, const char *what) {
     if (holds) return;
@@ -27,18 +27,19 @@ static void fill(uint8_t *payload, uint32_t page, uint32_t version) {
     memcpy(payload, &version, 4);
 }
 
-/* Each page has what was reported last, or what was asked for when the power went. */
-static void look(struct driver *driver) {
+/* Each page has what was reported last, or what was asked for when the power went; of a stopped die, what was reported last. */
+static void look(struct driver *driver, bool is_stopped) {
     uint8_t payload[PAYLOAD], wanted[PAYLOAD];
     for (uint32_t page = 0; page < LOGICAL; page++) {
         bool blank;
         uint32_t version = 0;
-        check(driver_read(driver, page, payload, &blank) == MG_OK, "a read");
+        uint32_t refusal = is_stopped ? driver_rescue(driver, page, payload, &blank) : driver_read(driver, page, payload, &blank);
+        check(refusal == MG_OK, "a read");
         if (!blank) memcpy(&version, payload, 4);
         fill(wanted, page, version);
         check(blank || !memcmp(payload, wanted, PAYLOAD), "a payload is whole");
-        check(version == world->done[page] || version == world->asked[page], "nothing is lost, and nothing comes back");
-        world->done[page] = world->asked[page] = version;
+        check(version == world->done[page] || (!is_stopped && version == world->asked[page]), "nothing is lost, and nothing comes back");
+        if (!is_stopped) world->done[page] = world->asked[page] = version;
     }
 }
 
@@ -47,14 +48,27 @@ static void work(struct driver *driver, int slots) {
         uint8_t payload[PAYLOAD];
         uint32_t job, now = mg_now(&driver->die), task = (uint32_t)rand() % TASKS, page = (uint32_t)rand() % LOGICAL;
         if (rand() % 2 == 0 && world->asked[page] == world->done[page]) {
-            fill(payload, page, world->done[page] + 1);
-            uint32_t refusal = driver_write(driver, task, page, payload, now + 5 + (uint32_t)rand() % 40, &job);
+            bool trims = rand() % 6 == 0;
+            uint32_t due = now + 5 + (uint32_t)rand() % 40, version = trims ? 0 : world->versions[page] + 1;
+            fill(payload, page, version);
+            uint32_t refusal = trims ? driver_trim(driver, task, page, due, &job) : driver_write(driver, task, page, payload, due, &job);
             check(refusal == MG_OK || refusal == MG_NO_TOKENS, "a write is taken, or waits for tokens");
-            if (refusal == MG_OK) world->asked[page]++;
-            else mg_collect(&driver->die, 0, task, now, now + 200, NULL, NULL);
+            if (refusal == MG_OK) {
+                world->asked[page] = version;
+                world->versions[page] += !trims;
+            } else mg_collect(&driver->die, 0, task, now, now + 200, NULL, NULL);
         }
         struct mg_reply reply;
-        check(driver_slot(driver, &reply) == MG_OK, "a slot");
+        uint32_t refusal = driver_slot(driver, &reply);
+        if (refusal == MG_DEVICE_FAULT) { /* a program has failed */
+            look(driver, true);
+            world->stopped++;
+            check(driver_open(driver) == MG_OK, "the driver goes on");
+            look(driver, false);
+            continue;
+        }
+        check(refusal == MG_OK, "a slot");
+        if (reply.act == MG_DID_TRIM) world->done[reply.page] = world->asked[reply.page], world->trims++;
         if (reply.act == MG_DID_WRITE) world->done[reply.page] = world->asked[reply.page], world->programs++;
     }
 }
@@ -69,8 +83,9 @@ static int life(const char *file, unsigned seed, long cut_opening, long cut_work
         chip_cut(cut_opening);
         check(driver_open(&driver) == MG_OK, "the driver opens what is there");
         chip_cut(0);
-        look(&driver);
+        look(&driver, false);
         chip_cut(cut_work);
+        chip_fail(rand() % 3 ? 0 : 1 + rand() % 400);
         work(&driver, 3000);
         mg_free(&driver.die);
         _exit(0);
@@ -95,6 +110,8 @@ int main(int argc, char **argv) {
         srand(seed + 7919u * (unsigned)cuts);
     }
     life(argv[1], seed, 0, 0);
-    printf("%d cuts, %d of them within a recovery; %u pages were written, and none was lost\n", cuts, within, world->programs);
+    check(world->trims && (world->stopped || cuts < 20), "trims, and dies that were stopped");
+    printf("%d cuts, %d of them within a recovery, and %u programs that failed; %u pages were written and %u trimmed, and none was lost or came back\n",
+           cuts, within, world->stopped, world->programs, world->trims);
     return 0;
 }

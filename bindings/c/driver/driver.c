@@ -42,7 +42,53 @@ static struct chip_page sealed(struct driver *driver, const uint8_t *payload, st
 static bool is_whole(const struct chip_page *page, struct label *label) {
     memcpy(label, page->spare, SPARE);
     struct mg_name name = name_of(page->payload);
-    return label->check == check_of(*label) && label->logical < LOGICAL && !memcmp(&label->name, &name, sizeof name);
+    return label->check == check_of(*label) && label->logical <= LOGICAL && !memcmp(&label->name, &name, sizeof name);
+}
+
+/* ---- Notes of trims ---------------------------------------------------------------------------------------------- */
+
+/* A note is a page with all of `trims`, sealed as a payload is. Notes fill one block, and then the other one, which is erased
+ * before: so the newest is always whole. */
+_Static_assert(sizeof(uint64_t[LOGICAL]) <= PAYLOAD, "a note is a page");
+enum { NOTE = LOGICAL }; /* the logical page of its label */
+
+static bool erase_all(uint32_t block) {
+    for (int slot = 1; slot <= ERASE_SLOTS; slot++)
+        if (!chip_erase_slot(block, slot == ERASE_SLOTS)) return false;
+    return true;
+}
+
+/* Notes that a page is trimmed: whether it was noted. */
+static bool note_trim(struct driver *driver, uint32_t logical) {
+    uint8_t payload[PAYLOAD] = {0};
+    if (driver->note_page == PAGES) {
+        driver->note_block = driver->note_block == BLOCKS ? BLOCKS + 1 : BLOCKS;
+        driver->note_page = 0;
+        if (!erase_all(driver->note_block)) return false;
+    }
+    driver->trims[logical] = ++driver->serial;
+    memcpy(payload, driver->trims, sizeof driver->trims);
+    struct chip_page page = sealed(driver, payload, name_of(payload), NOTE, 0);
+    return chip_program(driver->note_block, driver->note_page++, &page);
+}
+
+/* Finds the newest note, and where the next one goes: behind it, and behind those that are torn. */
+static bool find_notes(struct driver *driver) {
+    driver->note_block = BLOCKS;
+    for (uint32_t b = BLOCKS; b < BLOCKS + NOTE_BLOCKS; b++)
+        for (uint32_t p = 0; p < PAGES; p++) {
+            struct chip_page page;
+            struct label label;
+            if (!chip_read(b, p, &page)) return false;
+            if (chip_is_free(&page)) continue;
+            if (b == driver->note_block) driver->note_page = p + 1;
+            if (!is_whole(&page, &label) || label.logical != NOTE || label.serial <= driver->serial) continue;
+            driver->serial = label.serial;
+            memcpy(driver->trims, page.payload, sizeof driver->trims);
+            driver->note_block = b;
+            driver->note_page = p + 1;
+        }
+    return true;
 }
 
 /* ---- Buffers ----------------------------------------------------------------------------------------------------- */
@@ -86,6 +132,7 @@ static bool drive(struct driver *driver, const struct mg_call *call, struct mg_n
     case MG_CALL_ERASE:
         driver->erases[call->block] += call->last;
         return chip_erase_slot(call->block, call->last);
+    case MG_CALL_TRIM: return note_trim(driver, call->logical);
     default: return true;
     }
 }
@@ -107,6 +154,11 @@ uint32_t driver_write(struct driver *driver, uint32_t task, uint32_t page, const
     return refusal ? refusal : keep(driver, *job, payload) ? MG_OK : BROKEN;
 }
 
+uint32_t driver_trim(struct driver *driver, uint32_t task, uint32_t page, uint32_t due, uint32_t *job) {
+    const struct mg_op trim = {MG_TRIM, page, {{0}}};
+    return mg_submit(&driver->die, 0, task, mg_now(&driver->die), due, &trim, 1, job, NULL);
+}
+
 uint32_t driver_read(struct driver *driver, uint32_t page, uint8_t *payload, bool *blank) {
     static const struct mg_name none = {{255, 255, 255, 255, 255, 255, 255, 255, 255, 255, 255, 255, 255, 255, 255, 255}};
     const struct mg_op read = {MG_READ, page, {{0}}};
@@ -119,6 +171,20 @@ uint32_t driver_read(struct driver *driver, uint32_t page, uint8_t *payload, boo
     } while (reply.act != MG_DID_READ || reply.job != job);
     *blank = !memcmp(&reply.name, &none, sizeof none);
     if (!*blank) memcpy(payload, driver->read, PAYLOAD);
+    return MG_OK;
+}
+
+/* ---- After a fault ----------------------------------------------------------------------------------------------- */
+
+uint32_t driver_rescue(struct driver *driver, uint32_t page, uint8_t *payload, bool *blank) {
+    struct mg_cell at;
+    struct chip_page read;
+    uint32_t refusal = mg_place(&driver->die, page, &at);
+    if (refusal) return refusal;
+    *blank = at.block == MG_NOWHERE;
+    if (*blank) return MG_OK;
+    if (!chip_read(at.block, at.page, &read)) return BROKEN;
+    memcpy(payload, read.payload, PAYLOAD);
     return MG_OK;
 }
 
@@ -153,18 +219,17 @@ static bool scan(struct driver *driver) {
             if (!chip_read(b, p, &page)) return false;
             if (chip_is_free(&page)) continue;
             found.blocks[b].filled = p + 1;
-            if (!is_whole(&page, &label)) continue; /* torn: programmed, and of no use */
+            if (!is_whole(&page, &label) || label.logical == NOTE) continue; /* torn: programmed, and of no use */
             if (label.serial > driver->serial) driver->serial = label.serial;
             if (label.erases > driver->erases[b]) driver->erases[b] = label.erases;
-            if (label.serial > found.serials[label.logical]) place(label.logical, b, p, &label);
+            if (label.serial > found.serials[label.logical] && label.serial > driver->trims[label.logical]) place(label.logical, b, p, &label);
         }
     return true;
 }
 
 /* An erase that was cut is done from its start: no newest payload lies in such a block. */
 static bool erase(struct driver *driver, uint32_t block) {
-    for (int slot = 1; slot <= ERASE_SLOTS; slot++)
-        if (!chip_erase_slot(block, slot == ERASE_SLOTS)) return false;
+    if (!erase_all(block)) return false;
     driver->erases[block]++;
     found.blocks[block].filled = found.live[block] = 0;
     return true;
@@ -217,7 +282,7 @@ static bool make_room(struct driver *driver) {
 uint32_t driver_open(struct driver *driver) {
     mg_free(&driver->die);
     memset(driver, 0, sizeof *driver);
-    if (!scan(driver)) return BROKEN;
+    if (!find_notes(driver) || !scan(driver)) return BROKEN;
     for (uint32_t b = 0; b < BLOCKS; b++)
         if (found.blocks[b].filled > 0 && found.live[b] == 0 && !erase(driver, b)) return BROKEN;
     if (!make_room(driver)) return BROKEN;
@@ -228,6 +293,9 @@ uint32_t driver_open(struct driver *driver) {
         spare -= balances[t];
     }
     for (uint32_t b = 0; b < BLOCKS; b++) found.blocks[b].erases = driver->erases[b];
-    return mg_resume(&driver->die, &plan, tasks, TASKS, found.places, LOGICAL, found.names, LOGICAL, found.blocks, BLOCKS, balances,
-                     TASKS, spare, NULL);
+    uint32_t refusal = mg_resume(&driver->die, &plan, tasks, TASKS, found.places, LOGICAL, found.names, LOGICAL, found.blocks, BLOCKS,
+                                 balances, TASKS, spare, NULL);
+    /* With that nothing is refused for memory, nor waits for it, until a renewal is due. */
+    if (!refusal) refusal = mg_reserve_jobs(&driver->die, JOBS, JOBS);
+    return refusal ? refusal : mg_reserve(&driver->die, SLOTS);
 }

@@ -1,18 +1,22 @@
-/* A driver over maulgreen.h: two tasks write and read pages of 2,048 bytes. What a page holds is named by a digest, and a label
- * in its spare area says which logical page it is and how new. So after a loss of power the driver finds the newest payload of
- * each page, and the die goes on from there. Trims aren't used: no label would say of one. */
+/* A driver over maulgreen.h: two tasks write, trim and read pages of 2,048 bytes. What a page holds is named by a digest, and a
+ * label in its spare area says which logical page it is and how new. A trim leaves no label: a note of it goes into one of two
+ * blocks that the die knows nothing of. So after a loss of power the driver finds the newest payload of each page that wasn't
+ * trimmed since, and the die goes on from there. */
 #ifndef DRIVER_H
 #define DRIVER_H
 #include "../maulgreen.h"
 #include "chip.h"
 
 enum { TASKS = 2, LOGICAL = 150, ALPHA = 4, CAP = 16, BUFFERS = 40, BROKEN = 1000 };
+enum { SLOTS = 16384, JOBS = 8192 }; /* that are reserved: in 1,592,154 bytes with the 11,074 of its birth, as mg_memory says */
 
 struct buffer { bool is_used; uint32_t job; uint8_t payload[PAYLOAD]; };
 
 struct driver {
     mg_die die;
-    uint64_t serial;             /* of the last program, over all lives of the chip */
+    uint64_t serial;             /* of the last program or trim, over all lives of the chip */
+    uint64_t trims[LOGICAL];     /* by page the serial of its last trim: a payload that is older isn't there any more */
+    uint32_t note_block, note_page; /* where the next note goes */
     uint32_t erases[BLOCKS];
     struct buffer buffers[BUFFERS]; /* of writes until they are programmed, of copies until the collection's next call */
     uint8_t read[PAYLOAD];       /* what the last read of a job gave */
@@ -26,9 +30,15 @@ uint32_t driver_open(struct driver *driver);
 /* Asks for a write by `due`, which is done in some later slot. */
 uint32_t driver_write(struct driver *driver, uint32_t task, uint32_t page, const uint8_t *payload, uint32_t due, uint32_t *job);
 
+/* Asks for a page to be blank, as driver_write. */
+uint32_t driver_trim(struct driver *driver, uint32_t task, uint32_t page, uint32_t due, uint32_t *job);
+
 /* Reads a page, in as many slots as it takes; `blank` where it was never written. */
 uint32_t driver_read(struct driver *driver, uint32_t page, uint8_t *payload, bool *blank);
 
-/* One slot. After MG_DEVICE_FAULT the driver is opened again. */
+/* One slot. After MG_DEVICE_FAULT the die is stopped: the driver may rescue its pages, and is opened again. */
 uint32_t driver_slot(struct driver *driver, struct mg_reply *reply);
+
+/* Reads a page of a die that is stopped, from the cell that it names, of which labels aren't needed. */
+uint32_t driver_rescue(struct driver *driver, uint32_t page, uint8_t *payload, bool *blank);
 #endif

@@ -1,6 +1,6 @@
 //! Drives a chip of 4 KiB pages, which is simulated here: what `../c/example.c` does, in Rust.
 
-use maulgreen::{check, Act, Call, Die, Misfit, Name, Op, Outcome, Plan, Refusal};
+use maulgreen::{check, Act, Call, Die, Entered, Misfit, Name, Op, Outcome, Plan, Refusal};
 use std::collections::HashMap;
 
 const PAYLOAD: usize = 4096;
@@ -39,7 +39,8 @@ impl Driver {
     /// Does what the die asks: whether it went well, and the name of what a read gave.
     fn drive(&mut self, call: Call) -> (bool, Name) {
         match call {
-            Call::Nothing => (true, Name::BLANK),
+            // A driver that keeps a record of trims writes it here.
+            Call::Nothing | Call::Trim { .. } => (true, Name::BLANK),
             Call::Read { block, page, copy, .. } => {
                 let payload = self.cells[&(block, page)].clone();
                 if copy {
@@ -107,6 +108,9 @@ fn main() -> Result<(), Refusal> {
     assert_eq!(die.submit(1, 0, 0, 1, &[Op::Write(0, Name::BLANK); 5]), Err(Refusal::NoTokens { have: 4, need: 5 }));
     println!("refusals have their numbers");
 
+    // Careful programs reserve: then nothing is refused for memory, nor waits for it.
+    die.reserve_jobs(400, 400)?;
+    die.reserve(4000)?;
     let acts = play(&mut die, &mut driver, 200)?;
     println!("{} writes, {} reads, {} copies, {} erase slots", acts[2], acts[1], acts[5], acts[6]);
     let (worst, certificate, rows) = (die.worst()?, die.certificate()?, die.rows()?);
@@ -115,6 +119,12 @@ fn main() -> Result<(), Refusal> {
         "worst: job {}, lateness {}; its certificate: {} jobs fill slots {} to {}",
         worst.job, worst.lateness, certificate.jobs.len(), certificate.start, certificate.completion
     );
+
+    let log = die.log(0, usize::MAX);
+    assert_eq!((log.len() as u64, log[1].what, log[1].caller), (die.entries(), Entered::Submitted { job: 1 }, 1));
+    assert_eq!((log[2].what, log[2].caller), (Entered::Operation { job: 1, place: 0, last: false }, 9));
+    assert!(log[4].waived.len() == 1 && log[4].waived[0].job == 0 && die.job(1)?.caller == 1);
+    assert!(die.log(2, 3) == log[2..5] && die.log(u32::MAX, 9).is_empty());
 
     // Arrivals while a slot has begun, and a renewal.
     let now = die.now();
@@ -148,6 +158,11 @@ fn main() -> Result<(), Refusal> {
     let (mut die, mut driver) = made()?;
     driver.programs_left = Some(20);
     assert_eq!(play(&mut die, &mut driver, 200), Err(Refusal::DeviceFault));
+    // Every page of a stopped die is found.
+    for place in (0..=LOGICAL).filter_map(|page| die.place(page)) {
+        assert!(driver.cells.contains_key(&(place.block, place.page)));
+    }
+    assert!((0..LOGICAL).any(|page| die.place(page).is_some()));
     println!("a program that fails stops the die");
 
     // The die is dropped and made again from its checkpoint; the chip keeps its pages.

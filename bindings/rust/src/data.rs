@@ -112,15 +112,19 @@ pub enum Call {
     Program { block: u32, page: u32, name: Name },
     /// Do one slot of the erase of the block; the last one frees its pages.
     Erase { block: u32, last: bool },
+    /// The slot trims the logical page, for which the chip does nothing. A driver that keeps a record of trims writes it now: where
+    /// it can't, the slot is ended as one that failed, and the page wasn't trimmed.
+    Trim { page: u32 },
 }
 
 impl Call {
     pub(crate) fn of(call: &raw::Call) -> Call {
-        let raw::Call { kind, block, page, last, act, name, .. } = *call;
+        let raw::Call { kind, block, page, last, act, logical, name, .. } = *call;
         match kind {
             1 => Call::Read { block, page, name, copy: act == 4 },
             2 => Call::Program { block, page, name },
             3 => Call::Erase { block, last: last == 1 },
+            4 => Call::Trim { page: logical },
             _ => Call::Nothing,
         }
     }
@@ -171,12 +175,14 @@ pub struct Reply {
     pub act: Act,
     /// Whether it was the last slot of its job or collection.
     pub finished: bool,
+    /// Who began it.
+    pub caller: u32,
     pub waived: Vec<Waived>,
 }
 
 impl Reply {
     pub(crate) fn of(said: &raw::Reply, waived: &[raw::Waived]) -> Reply {
-        let raw::Reply { slot, act, job, page, finished, waived: count, name } = *said;
+        let raw::Reply { slot, act, job, page, finished, waived: count, caller, name } = *said;
         Reply {
             slot,
             act: match act {
@@ -189,6 +195,7 @@ impl Reply {
                 _ => Act::Idle,
             },
             finished: finished == 1,
+            caller,
             waived: waived[..(count as usize).min(waived.len())]
                 .iter()
                 .map(|w| Waived { job: w.job, given: w.given })
@@ -197,9 +204,70 @@ impl Reply {
     }
 }
 
+/// An entry of the log.
+#[derive(Clone, PartialEq, Eq, Debug)]
+pub struct Entry {
+    pub what: Entered,
+    /// Who submitted it, or began the slot.
+    pub caller: u32,
+    /// The collections that were waived in the slot.
+    pub waived: Vec<Waived>,
+}
+
+/// What an entry of the log is of.
+#[derive(Clone, Copy, PartialEq, Eq, Debug)]
+pub enum Entered {
+    /// A job was accepted.
+    Submitted { job: u32 },
+    /// A collection was accepted.
+    Collected { job: u32 },
+    /// A slot in which nothing was carried.
+    Idle,
+    /// One in which a job did its operation at this place, from 0.
+    Operation { job: u32, place: u32, last: bool },
+    /// One in which a collection read a logical page to copy it.
+    CopyRead { job: u32, page: u32 },
+    /// One in which a collection programmed it.
+    CopyProgram { job: u32, page: u32 },
+    /// One in which a collection did a slot of its erase.
+    Erase { job: u32, block: u32, last: bool },
+}
+
+impl Entered {
+    pub(crate) fn of(entry: &raw::Entry) -> Entered {
+        let raw::Entry { what, job, at, .. } = *entry;
+        match what {
+            0 => Entered::Submitted { job },
+            1 => Entered::Collected { job },
+            3 | 4 => Entered::Operation { job, place: at, last: what == 4 },
+            5 => Entered::CopyRead { job, page: at },
+            6 => Entered::CopyProgram { job, page: at },
+            7 | 8 => Entered::Erase { job, block: at, last: what == 8 },
+            _ => Entered::Idle,
+        }
+    }
+}
+
+/// How many bytes a die asks of the heap at most; maulgreen.h has the formulas.
+#[derive(Clone, Copy, PartialEq, Eq, Debug)]
+pub struct Memory {
+    /// From its birth on. Exact.
+    pub birth: u64,
+    /// That, and with so much reserved at once, jobs first. Exact.
+    pub reserved: u64,
+    /// By the end of a life of so many slots, jobs and operations in which nothing was reserved.
+    pub life: u64,
+    /// What a question takes beside that, and gives back.
+    pub question: u64,
+    /// What [`Die::resume`](crate::Die::resume) takes until it has answered.
+    pub resume: u64,
+}
+
 /// What a job or a collection was accepted with.
 #[derive(Clone, Copy, PartialEq, Eq, Debug)]
 pub struct Job {
+    /// Who submitted it.
+    pub caller: u32,
     pub collects: bool,
     pub task: u32,
     pub release: u32,

@@ -1,7 +1,8 @@
 //! A die, and a slot that has begun.
 
 use crate::data::{
-    Begun, BlockCounts, Call, Certificate, Checkpoint, Job, Load, Name, Op, Outcome, Place, Plan, Reply, Row, Worst,
+    Begun, BlockCounts, Call, Certificate, Checkpoint, Entered, Entry, Job, Load, Memory, Name, Op, Outcome, Place, Plan, Reply, Row, Waived,
+    Worst,
 };
 use crate::raw;
 use crate::refusals::{answer, Refusal};
@@ -34,6 +35,17 @@ impl Plan {
         // SAFETY: as in `bound`.
         plain(unsafe { raw::mg_plan_test(&plan, tasks.as_ptr(), tasks.len(), &mut load) })?;
         Ok(Load { demand: load.demand, common: load.common })
+    }
+
+    /// How many bytes a die asks of the heap at most, with so much reserved, or by the end of a life with so much in it. Refused as
+    /// [`Plan::bound`].
+    pub fn memory(&self, slots: u32, jobs: u32, operations: u32) -> Result<Memory, Refusal> {
+        let (plan, tasks) = self.raw();
+        let mut said = raw::Bytes::default();
+        // SAFETY: as in `bound`.
+        plain(unsafe { raw::mg_memory(&plan, tasks.as_ptr(), tasks.len(), slots, jobs, operations, &mut said) })?;
+        let raw::Bytes { birth, reserved, life, question, resume } = said;
+        Ok(Memory { birth, reserved, life, question, resume })
     }
 }
 
@@ -188,17 +200,59 @@ impl Die {
         Ok(Reply::of(&said, &waived))
     }
 
+    /// Takes the memory for so many later jobs and collections, with so many operations in all: while that lasts,
+    /// [`Die::submit`] and [`Die::collect`] ask the library's heap for nothing, and are never refused for it. `NoMemory` where it
+    /// isn't there. Reserve slots after them: the other way round takes more.
+    pub fn reserve_jobs(&mut self, jobs: u32, operations: u32) -> Result<(), Refusal> {
+        plain(unsafe { raw::mg_reserve_jobs(&mut self.handle, jobs, operations) })
+    }
+
     /// Takes the memory for so many later slots, which then take none. `NoMemory` where it isn't there.
     pub fn reserve(&mut self, slots: u32) -> Result<(), Refusal> {
         plain(unsafe { raw::mg_reserve(&mut self.handle, slots) })
     }
 
-    /// Starts the log anew: the present slot is 0 again, and jobs are numbered from 0. Pages, tokens, erases and reserved
-    /// slots stay. Refused with the first that stands: `DieStopped`, `NotQuiet`, `WornOut`.
+    /// Starts the log anew: the present slot is 0 again, and jobs are numbered from 0. Pages, tokens, erases and what is reserved
+    /// stay. Refused with the first that stands: `DieStopped`, `NotQuiet`, `WornOut`.
     pub fn renew(&mut self) -> Result<(), Refusal> {
         let mut why = NO_NUMBERS;
         let code = unsafe { raw::mg_renew(&mut self.handle, &mut why) };
         answer(code, &why)
+    }
+
+    /// As [`Die::renew`], and gives back the memory of the log so far, that which is reserved, too.
+    pub fn renew_giving_back(&mut self) -> Result<(), Refusal> {
+        let mut why = NO_NUMBERS;
+        let code = unsafe { raw::mg_renew_giving_back(&mut self.handle, &mut why) };
+        answer(code, &why)
+    }
+
+    /// The cell in which a logical page lies, if it lies in one: at any moment, and of a die that is stopped, so that every page of
+    /// that is found.
+    pub fn place(&self, page: u32) -> Option<Place> {
+        let mut said = raw::Place::default();
+        // It refuses nothing but what can't be here, an empty handle and a null pointer.
+        let code = unsafe { raw::mg_place(&self.handle, page, &mut said) };
+        (code == 0 && said.block != NOWHERE).then_some(Place { block: said.block, page: said.page })
+    }
+
+    /// The entries of the log from this one on, counted from 0, so many at most. To find the first takes a step for each record
+    /// before it.
+    pub fn log(&self, from: u32, count: usize) -> Vec<Entry> {
+        let there = self.entries().saturating_sub(u64::from(from)).min(count as u64) as usize;
+        let mut said = vec![raw::Entry::default(); there];
+        // It refuses no more than `place`.
+        unsafe { raw::mg_entries(&self.handle, from, said.as_mut_ptr(), said.len()) };
+        (from..).zip(&said).map(|(number, entry)| self.entry(number, entry)).collect()
+    }
+
+    fn entry(&self, number: u32, entry: &raw::Entry) -> Entry {
+        let mut waived = vec![raw::Waived::default(); entry.waived as usize];
+        if !waived.is_empty() {
+            unsafe { raw::mg_entry_waived(&self.handle, number, waived.as_mut_ptr(), waived.len()) };
+        }
+        let waived = waived.into_iter().map(|raw::Waived { job, given }| Waived { job, given }).collect();
+        Entry { what: Entered::of(entry), caller: entry.caller, waived }
     }
 
     /// The present slot: how many were carried out.
@@ -216,12 +270,12 @@ impl Die {
         unsafe { raw::mg_records(&self.handle) }
     }
 
-    /// What a job or a collection was accepted with. `UnknownJob` where there is none of that number.
+    /// What a job or a collection was accepted with, and who submitted it, for which it takes a step for each entry before it. `UnknownJob` where there is none of that number.
     pub fn job(&self, number: u32) -> Result<Job, Refusal> {
         let mut said = raw::Job::default();
         plain(unsafe { raw::mg_job(&self.handle, number, &mut said) })?;
-        let raw::Job { collects, task, release, due } = said;
-        Ok(Job { collects: collects == 1, task, release, due })
+        let raw::Job { collects, task, release, due, caller } = said;
+        Ok(Job { caller, collects: collects == 1, task, release, due })
     }
 
     /// What became of a job or a collection. `UnknownJob`; `NoMemory`.

@@ -18,7 +18,7 @@
 //!     let gave = match slot.call() {
 //!         Call::Read { block, page, .. } => chip[block as usize][page as usize],
 //!         Call::Program { block, page, name } => { chip[block as usize][page as usize] = name; name }
-//!         Call::Erase { .. } | Call::Nothing => Name::BLANK,
+//!         Call::Erase { .. } | Call::Trim { .. } | Call::Nothing => Name::BLANK,
 //!     };
 //!     slot.end(true, gave)?;
 //! }
@@ -84,6 +84,26 @@
 //! # Ok(())
 //! # }
 //! ```
+//!
+//! What may be refused for memory is reserved beforehand, and [`Plan::memory`] says how much that takes:
+//!
+//! ```
+//! use maulgreen::{Die, Entered, Op, Plan, Refusal};
+//!
+//! # fn main() -> Result<(), Refusal> {
+//! let plan = Plan { blocks: 64, pages: 32, erase_slots: 3, logical: 1024, alpha: 8, caps: vec![32], times: None };
+//! assert_eq!(plan.memory(1000, 100, 400)?.reserved, 99_937);
+//! let mut die = Die::new(&plan)?;
+//! die.reserve_jobs(100, 400)?;
+//! die.reserve(1000)?;
+//! die.submit(7, 0, 0, 2, &[Op::Trim(5)])?;
+//! let slot = die.begin(9)?;
+//! assert_eq!(slot.call(), maulgreen::Call::Trim { page: 5 });
+//! slot.end(true, maulgreen::Name::BLANK)?;
+//! assert_eq!((die.log(0, 9)[1].what, die.job(0)?.caller), (Entered::Operation { job: 0, place: 0, last: true }, 7));
+//! # Ok(())
+//! # }
+//! ```
 
 #![no_std]
 
@@ -95,8 +115,8 @@ mod raw;
 mod refusals;
 
 pub use data::{
-    Act, Begun, BlockCounts, Call, Certificate, Checkpoint, Job, Load, Name, Op, Outcome, Place, Plan, Reply, Row, TaskTimes, Times,
-    Waived, Worst,
+    Act, Begun, BlockCounts, Call, Certificate, Checkpoint, Entered, Entry, Job, Load, Memory, Name, Op, Outcome, Place, Plan, Reply, Row,
+    TaskTimes, Times, Waived, Worst,
 };
 pub use die::{check, Die, Slot};
 pub use refusals::{Flaw, Misfit, Refusal};

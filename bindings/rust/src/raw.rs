@@ -28,9 +28,11 @@ structs! {
     Why { first: u32, second: u32 }
     Op { kind: u32, page: u32, name: Name }
     Call { kind: u32, block: u32, page: u32, last: u32, slot: u32, act: u32, job: u32, logical: u32, name: Name }
-    Reply { slot: u32, act: u32, job: u32, page: u32, finished: u32, waived: u32, name: Name }
+    Reply { slot: u32, act: u32, job: u32, page: u32, finished: u32, waived: u32, caller: u32, name: Name }
     Waived { job: u32, given: u32 }
-    Job { collects: u32, task: u32, release: u32, due: u32 }
+    Entry { what: u32, caller: u32, job: u32, at: u32, waived: u32 }
+    Job { collects: u32, task: u32, release: u32, due: u32, caller: u32 }
+    Bytes { birth: u64, reserved: u64, life: u64, question: u64, resume: u64 }
     Outcome { lateness: i64, state: u32, completion: u32, given: u32, reads: u32 }
     Worst { lateness: i64, job: u32 }
     Certificate { job: u32, start: u32, due: u32, completion: u32, jobs: u32 }
@@ -44,6 +46,9 @@ extern "C" {
     pub fn mg_refusal_text(refusal: u32) -> *const core::ffi::c_char;
     pub fn mg_plan_bound(plan: *const Plan, tasks: *const Task, count: usize) -> u32;
     pub fn mg_plan_test(plan: *const Plan, tasks: *const Task, count: usize, load: *mut Load) -> u32;
+    pub fn mg_memory(
+        plan: *const Plan, tasks: *const Task, count: usize, slots: u32, jobs: u32, operations: u32, bytes: *mut Bytes,
+    ) -> u32;
     pub fn mg_new(die: *mut Handle, plan: *const Plan, tasks: *const Task, count: usize) -> u32;
     pub fn mg_free(die: *mut Handle);
     pub fn mg_submit(
@@ -58,7 +63,9 @@ extern "C" {
         die: *mut Handle, ok: u32, name: *const Name, reply: *mut Reply, waived: *mut Waived, count: usize,
     ) -> u32;
     pub fn mg_reserve(die: *mut Handle, slots: u32) -> u32;
+    pub fn mg_reserve_jobs(die: *mut Handle, jobs: u32, operations: u32) -> u32;
     pub fn mg_renew(die: *mut Handle, why: *mut Why) -> u32;
+    pub fn mg_renew_giving_back(die: *mut Handle, why: *mut Why) -> u32;
     pub fn mg_checkpoint(
         die: *mut Handle, places: *mut Place, place_count: usize, names: *mut Name, name_count: usize, blocks: *mut Block,
         block_count: usize, balances: *mut u32, balance_count: usize, spare: *mut u32, why: *mut Why,
@@ -71,6 +78,9 @@ extern "C" {
     pub fn mg_now(die: *const Handle) -> u32;
     pub fn mg_len(die: *const Handle) -> u64;
     pub fn mg_records(die: *const Handle) -> u64;
+    pub fn mg_place(die: *const Handle, page: u32, place: *mut Place) -> u32;
+    pub fn mg_entries(die: *const Handle, from: u32, entries: *mut Entry, count: usize) -> u32;
+    pub fn mg_entry_waived(die: *const Handle, entry: u32, waived: *mut Waived, count: usize) -> u32;
     pub fn mg_job(die: *const Handle, number: u32, job: *mut Job) -> u32;
     pub fn mg_outcome(die: *const Handle, job: u32, outcome: *mut Outcome, reads: *mut Name, count: usize) -> u32;
     pub fn mg_worst(die: *const Handle, worst: *mut Worst) -> u32;

@@ -34,7 +34,7 @@ pub enum Refusal {
     ClockEnd,
     /// The device failed in this slot, or gave another name than its cell was programmed with.
     DeviceFault,
-    /// The device failed before; the die answers questions, and nothing else.
+    /// The device failed before; the die answers questions, takes memory, and nothing else.
     DieStopped,
     /// No job or collection of this number.
     UnknownJob,
