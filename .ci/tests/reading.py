@@ -13,6 +13,7 @@ from pathlib import Path
 CI = Path(__file__).resolve().parents[1]
 sys.path.insert(0, str(CI))
 from common import repository
+from pages import proof_maps
 from wrong_bodies import pages
 
 
@@ -83,6 +84,93 @@ new: Ok(2)
 ```
 """
 
+# Proofs: a principle, a lemma by it, an induction over events, and what takes a list apart but carries none.
+PRINCIPLE = """-- Logs, entry by entry.
+use Rattle.std.proofs.Common.{List, []}
+
+-- a property of logs
+pub by_log : (start : Start) (Q : Log → Type 0) → Q [] → ((past : Log) → Q past → Q (next ∷ past)) → (log : Log) → Q log
+by_log start Q none step [] = none
+by_log start Q none step (e ∷ past) = step past (by_log start Q none step past)
+"""
+TOP = """-- What holds of each log:
+-- and why.
+use Rattle.low.proofs.Steps.{by_log as over, other}
+use Rattle.high.proofs.Side as side
+use Rattle.high.proofs.Small.{one}
+
+pub good : (log : Log) → IsGood log
+good = over Start IsGood one step
+  where
+    step : (past : Log) → IsGood past → IsGood (next ∷ past)
+    step past h = side.more past h
+"""
+SIDE = """-- Events in turn.
+use Rattle.low.proofs.Steps.{by_log}
+use Rattle.high.proofs.Small.{one}
+
+module _ {N : Type 0} (n : N) where
+  -- by the events
+  pub in_turn : {A : Type 0} (first second : List Event) (h : (n : ℕ) → n ≡ n) → IsTrue first
+      → Fits second
+  in_turn {A} first [] h yes = one
+  in_turn first (e ∷ second) h yes = by_case e
+    where
+      by_case : (e : Event) → Fits (e ∷ second)
+      by_case e = in_turn first second h yes -- in_turn again
+  in_turn_not : (first : List Event) → Fits first
+  in_turn_not [] = one
+  in_turn_not (e ∷ first) = in_turn e first
+
+  jobs : List Job → Fits n
+  jobs [] = one
+  jobs (j ∷ js) = jobs js
+"""
+MODULES = {("low", "Steps"): PRINCIPLE, ("high", "Top"): TOP, ("high", "Side"): SIDE, ("high", "Small"): "-- Small.\n\npub one : Unit\none = tt\n",
+           ("high", "Long"): "-- Long, " + "and longer, " * 10 + "still.\n" + "\n" * 99,
+           ("high", "laws/is_good/Answers"): "use Rattle.high.proofs.Top.{good}\nuse Rattle.high.proofs.Long.{x}\n"
+                                             "use Rattle.high.proofs.laws.is_good.Goals as goal\n"}
+
+
+class Proofs(unittest.TestCase):
+    def setUp(self):
+        self.modules = {key: proof_maps.Module(text) for key, text in MODULES.items()}
+        self.layers = proof_maps.layers(self.modules, [("high", "laws/is_good/Answers")])
+
+    def test_a_module_stands_below_all_that_import_it(self):
+        self.assertEqual(self.layers, {("high", "laws/is_good/Answers"): 0, ("high", "Top"): 1, ("high", "Long"): 1, ("high", "Side"): 2,
+                                       ("low", "Steps"): 3, ("high", "Small"): 3})
+
+    def test_types_of_arguments(self):
+        self.assertEqual(proof_maps.argument_types("{A : Type 0} (a b : List A) (f : (n : ℕ) → n ≡ n) → List Job → IsTrue a → C"),
+                         ["List A", "List A", "(n : ℕ) → n ≡ n", "List Job", "IsTrue a"])
+
+    def test_what_is_taken_apart_by_a_definition_that_calls_itself(self):
+        found = {name: proof_maps.taken_apart(name, *rest) for name, *rest in proof_maps.definitions(SIDE)}
+        self.assertEqual(found, {"in_turn": ["List Event"], "in_turn_not": [], "jobs": ["List Job"]})
+
+    def test_inductions(self):
+        found = {key[1]: proof_maps.inductions(self.modules, key) for key in self.modules}
+        self.assertEqual(found, {"Steps": {"log": ["by_log"]}, "Top": {"log": ["good"]}, "Side": {"events": ["in_turn"]}, "Small": {},
+                                 "Long": {}, "laws/is_good/Answers": {}})
+
+    def test_small_modules_and_those_of_many_are_left_out(self):
+        kept = proof_maps.shown(self.modules, self.layers, list(self.layers))
+        self.assertEqual(set(kept), {("high", "Top"), ("high", "Long"), ("high", "Side"), ("low", "Steps")})
+        for number in range(proof_maps.MANY_IMPORTS - 1):
+            self.modules["high", f"More{number}"] = proof_maps.Module("use Rattle.high.proofs.Long.{x}\n")
+        found = dict.fromkeys(self.modules, 0)
+        self.assertNotIn(("high", "Long"), proof_maps.shown(self.modules, found, list(found)))
+
+    def test_a_picture(self):
+        kept = proof_maps.shown(self.modules, self.layers, list(self.layers))
+        self.assertEqual(list(proof_maps.picture(self.modules, "high", self.layers, kept, 60)), [
+            "  Long           100  Long, and longer, and longer ..",
+            "● Top             11  What holds of each log: and why.",
+            "                      [log: good]",
+            "○   Side          20  Events in turn. [events: in_turn]",
+            "●     low/Steps    7  Logs, entry by entry. [log: by_log]"])
+
 
 class Reading(unittest.TestCase):
     def setUp(self):
@@ -96,11 +184,17 @@ class Reading(unittest.TestCase):
                            ("crates.txt", "# A part\nlow:\nhigh may_wait=2: low std\n")):
             (self.top / path).parent.mkdir(parents=True, exist_ok=True)
             (self.top / path).write_text(text)
+        for (crate, name), text in MODULES.items():
+            path = self.top / "crates" / crate / "proofs" / f"{name}.antt"
+            path.parent.mkdir(parents=True, exist_ok=True)
+            path.write_text(text)
+        docs.PROOFS.clear()
         self.before = docs.TOP, docs.CRATES
         docs.TOP, docs.CRATES = self.top, self.top / "crates"
 
     def tearDown(self):
         docs.TOP, docs.CRATES = self.before
+        docs.PROOFS.clear()
         self.folder.cleanup()
 
     def test_lines_of_crates(self):
@@ -124,6 +218,16 @@ class Reading(unittest.TestCase):
     def test_public_calls_and_their_clauses(self):
         self.assertEqual([(name, clauses) for name, _, clauses in docs.public_calls("high")],
                          [("ask", ["IfOk result (λ n. n ≡ size item) }", "(result ≡ Err NoMemory) ↔ is_scarce item }"])])
+
+    def test_a_page_maps_each_module_once(self):
+        page = self.top / "docs.md"
+        page.write_text("<!-- docs: proofs high/laws is_good -->\n<!-- end -->\n<!-- docs: proofs high laws/is_good -->\n<!-- end -->\n")
+        lines = docs.written({}, page).split("\n")
+        self.assertEqual(lines[1], "*`is_good` rests on 6 proof modules with 145 lines:* `high` 5 with 138, `low` 1 with 7. Not shown: 2.")
+        self.assertEqual(lines[9:12], ["<!-- end -->", "<!-- docs: proofs high laws/is_good -->", "*`is_good` rests on 6 proof modules with "
+                                       "145 lines:* `high` 5 with 138, `low` 1 with 7. Beside those above: 0."])
+        with self.assertRaises(SystemExit):
+            docs.proofs({}, "high/laws", "is_bad")
 
     def test_clauses_of_a_function(self):
         head, clauses = docs.head_of("high/calls", "ask")
