@@ -77,7 +77,7 @@ static uint32_t drive(const struct mg_call *call, struct mg_name *gave) {
     case MG_CALL_ERASE: /* the erase is suspended after each slot but its last */
         if (call->last) memset(cells[call->block], 0xFF, sizeof cells[call->block]);
         return 1;
-    default: return 1;
+    default: return 1; /* nothing; or a trim, of which this driver keeps no record */
     }
 }
 
@@ -222,6 +222,20 @@ static void show_corruption(mg_die *die) {
     puts("a corrupted page is a fault");
 }
 
+/* A die that is stopped still says where each page lies: so all of them are read from the chip, which is intact but for a cell. */
+static void show_rescue(const mg_die *die) {
+    uint32_t found = 0;
+    for (uint32_t page = 0; page < LOGICAL; page++) {
+        struct mg_cell at;
+        check(mg_place(die, page, &at) == MG_OK, "a place");
+        if (at.block == MG_NOWHERE) continue; /* it was never written, or was trimmed */
+        const uint8_t *payload = cells[at.block][at.page];
+        for (size_t i = 1; i < PAYLOAD; i++) check(payload[i] == (uint8_t)(payload[0] + i * 7), "a payload as `play` makes it");
+        found++;
+    }
+    check(found > 1, "pages that are found");
+}
+
 /* What a driver writes down when it shuts down, and reads back when it goes on. */
 static struct {
     struct mg_cell places[LOGICAL];
@@ -317,6 +331,7 @@ int main(void) {
     programs_left = 20;
     check(play(&die, 200, acts) == MG_DEVICE_FAULT, "a program fails");
     check(play(&die, 0, acts) == MG_OK && mg_reserve(&die, 1) == MG_OK, "questions and room are to be had");
+    show_rescue(&die);
     mg_free(&die);
     puts("a program that fails stops the die");
     show_shutdown();
