@@ -411,7 +411,8 @@ typedef int (*mg_put)(void *to, const char *text, size_t size);
 
 /* The report of some dies, numbered from 0 by their places, as `flashrec audit` reads it: what was accepted, what became of it,
  * and the certificate of each die, as CSV. It is put out in pieces of up to 1,024 bytes; where it is refused, the pieces so far are
- * no report. A die of which it tells may be asked meanwhile, and nothing else. EMPTY_HANDLE, NO_MEMORY; NOT_TAKEN, where a piece
+ * no report. For each job it takes a step for each entry before it, as mg_job: seconds for 16,384 jobs, minutes for a whole life.
+ * A die of which it tells may be asked meanwhile, and nothing else. EMPTY_HANDLE, NO_MEMORY; NOT_TAKEN, where a piece
  * wasn't taken, after which none is put out. */
 uint32_t mg_report(const mg_die *const *dies, size_t count, mg_put put, void *to);
 
