@@ -19,8 +19,8 @@ use Rattle.flash_c.specs.Counts.{count_of, flag}
 abbrev pub load_of : Load → FlashLoad
 load_of load = record { demand = load.demand; common = load.common }
 
-abbrev pub job_of : ℕ → JobHead → FlashJob
-job_of caller head = record { collects = flag head.collects; task = head.task; release = head.release; due = head.due; caller = caller }
+abbrev pub job_of : JobHead → FlashJob
+job_of head = record { collects = flag head.collects; task = head.task; release = head.release; due = head.due }
 
 -- what became of a job or collection: 0 waits, 1 done, 2 waived
 abbrev pub outcome_of : Outcome → FlashOutcome

@@ -71,26 +71,52 @@ pub extern "C" fn flash_records(alloc: Global, die: &mut Handle) -> u64
     records
 }
 
-/// What a job or a collection was accepted with. To find who submitted it takes a step for each entry up to that one.
+/// What a job or a collection was accepted with.
 #[unsafe(no_mangle)]
 pub extern "C" fn flash_job(alloc: Global, die: &mut Handle, number: u32, job: &mut FlashJob) -> u32
     ghost held: { Stepped }
     requires full { die.old.value ≡ Some held }
     ensures same { die.new.value ≡ Some held }
     ensures said { result ≡ 0 → IsSomeAnd (head_at held.core.log number) (λ head.
-        job.new ≡ says.job_of job.new.caller head) }
-    ensures caller { result ≡ 0 → SaysCaller held.core.log number job.new.caller }
+        job.new ≡ says.job_of head) }
     ensures unknown { result ≢ 0 → (result ≡ 17) × (job_at held.core.log number ≡ None)
         × (job.new ≡ job.old) }
 {
     let boxed = take(alloc, die);
     let said = boxed.core().job(JobNo(number));
-    let mut notes = boxed.core().notes_from(0);
-    let caller = caller_of_job(&mut notes, number);
     put(die, boxed);
     match said {
         Ok(head) => {
-            *job = job_of(caller, head);
+            *job = job_of(head);
+            OK
+        }
+        Err(refusal) => of_refusal(refusal),
+    }
+}
+
+/// Who submitted a job or a collection. To find that takes a step for each entry of the log up to that one.
+#[unsafe(no_mangle)]
+pub extern "C" fn flash_caller(
+    alloc: Global,
+    die: &mut Handle,
+    number: u32,
+    caller: &mut u32,
+) -> u32
+    ghost held: { Stepped }
+    requires full { die.old.value ≡ Some held }
+    ensures same { die.new.value ≡ Some held }
+    ensures said { result ≡ 0 → SaysCaller held.core.log number caller.new }
+    ensures unknown { (result ≡ 17) ↔ (job_at held.core.log number ≡ None) }
+    ensures refused { result ≢ 0 → (result ≡ 17) × (caller.new ≡ caller.old) }
+{
+    let boxed = take(alloc, die);
+    let said = boxed.core().job(JobNo(number));
+    let mut notes = boxed.core().notes_from(0);
+    let found = caller_of_job(&mut notes, number);
+    put(die, boxed);
+    match said {
+        Ok(_) => {
+            *caller = found;
             OK
         }
         Err(refusal) => of_refusal(refusal),

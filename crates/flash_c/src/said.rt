@@ -19,15 +19,14 @@ pub(crate) fn load_of(load: Load) -> FlashLoad
     }
 }
 
-pub(crate) fn job_of(caller: u32, head: JobHead) -> FlashJob
-    ensures { result ≡ job_of caller head }
+pub(crate) fn job_of(head: JobHead) -> FlashJob
+    ensures { result ≡ job_of head }
 {
     FlashJob {
         collects: flag(head.collects),
         task: head.task.0,
         release: head.release,
         due: head.due,
-        caller,
     }
 }
 

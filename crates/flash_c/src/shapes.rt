@@ -128,8 +128,6 @@ pub struct FlashJob {
     pub task: u32,
     pub release: u32,
     pub due: u32,
-    /// Who submitted it.
-    pub caller: u32,
 }
 
 /// What became of a job or collection: 0 waits, 1 done, 2 waived.
