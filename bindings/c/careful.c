@@ -244,8 +244,10 @@ static void show_trims(void) {
         check(mg_begin(&die, 9, &call) == (noted ? MG_OK : MG_DIE_STOPPED), "whether the die goes on");
         check(mg_reserve(&die, 5) == MG_OK && mg_reserve_jobs(&die, 5, 5) == MG_OK, "memory is taken all the same");
         check(mg_renew_giving_back(&die, NULL) == (noted ? MG_BEGUN : MG_DIE_STOPPED), "and not given back");
-        check(mg_job(&die, 0, &head) == MG_OK && head.caller == 44 && mg_entries(&die, 0, &entry, 1) == MG_OK && entry.caller == 44
-              && entry.what == MG_SUBMITTED, "who submitted it");
+        uint32_t caller = 0;
+        check(mg_caller(&die, 0, &caller) == MG_OK && caller == 44 && mg_caller(&die, 1, &caller) == MG_UNKNOWN_JOB && caller == 44
+              && mg_caller(&die, 0, NULL) == MG_NULL_POINTER, "who submitted it");
+        check(mg_entries(&die, 0, &entry, 1) == MG_OK && entry.caller == 44 && entry.what == MG_SUBMITTED, "in the log, too");
         mg_free(&die);
     }
 }

@@ -202,6 +202,13 @@ uint32_t mg_job(const mg_die *die, uint32_t number, struct mg_job_head *job) {
     return flash_job(&own, number, job);
 }
 
+uint32_t mg_caller(const mg_die *die, uint32_t number, uint32_t *caller) {
+    if (!is_full(die)) return MG_EMPTY_HANDLE;
+    if (!caller) return MG_NULL_POINTER;
+    mg_die own = *die;
+    return flash_caller(&own, number, caller);
+}
+
 uint32_t mg_outcome(const mg_die *die, uint32_t job, struct mg_job_outcome *outcome, struct mg_name *reads, size_t count) {
     if (!is_full(die)) return MG_EMPTY_HANDLE;
     if (!outcome || !is_array(reads, count)) return MG_NULL_POINTER;

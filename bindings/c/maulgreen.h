@@ -372,9 +372,12 @@ uint32_t mg_entries(const mg_die *die, uint32_t from, struct mg_entry *entries, 
 /* The collections that were waived in the slot of an entry, and how many tokens they gave, as far as there is room. */
 uint32_t mg_entry_waived(const mg_die *die, uint32_t entry, struct mg_waived *waived, size_t count);
 
-struct mg_job_head { uint32_t collects, task, release, due, caller; }; /* collects is 1 for a collection */
-/* What it was accepted with, and who submitted it: to find that takes a step for each entry before it. UNKNOWN_JOB. */
+struct mg_job_head { uint32_t collects, task, release, due; }; /* collects is 1 for a collection */
+/* What it was accepted with. UNKNOWN_JOB. */
 uint32_t mg_job(const mg_die *die, uint32_t number, struct mg_job_head *job);
+
+/* Who submitted a job or a collection: to find that takes a step for each entry before it. UNKNOWN_JOB. */
+uint32_t mg_caller(const mg_die *die, uint32_t number, uint32_t *caller);
 
 enum { MG_WAITING = 0, MG_DONE = 1, MG_WAIVED = 2 };
 struct mg_job_outcome {
@@ -411,8 +414,7 @@ typedef int (*mg_put)(void *to, const char *text, size_t size);
 
 /* The report of some dies, numbered from 0 by their places, as `flashrec audit` reads it: what was accepted, what became of it,
  * and the certificate of each die, as CSV. It is put out in pieces of up to 1,024 bytes; where it is refused, the pieces so far are
- * no report. For each job it takes a step for each entry before it, as mg_job: seconds for 16,384 jobs, minutes for a whole life.
- * A die of which it tells may be asked meanwhile, and nothing else. EMPTY_HANDLE, NO_MEMORY; NOT_TAKEN, where a piece
+ * no report. A die of which it tells may be asked meanwhile, and nothing else. EMPTY_HANDLE, NO_MEMORY; NOT_TAKEN, where a piece
  * wasn't taken, after which none is put out. */
 uint32_t mg_report(const mg_die *const *dies, size_t count, mg_put put, void *to);
 

@@ -35,6 +35,7 @@ uint32_t flash_place(mg_die *die, uint32_t page, struct mg_cell *place);
 uint32_t flash_entries(mg_die *die, uint32_t from, struct mg_entry *entries, size_t count);
 uint32_t flash_waived(mg_die *die, uint32_t entry, struct mg_waived *waived, size_t count);
 uint32_t flash_job(mg_die *die, uint32_t number, struct mg_job_head *job);
+uint32_t flash_caller(mg_die *die, uint32_t number, uint32_t *caller);
 uint32_t flash_outcome(mg_die *die, uint32_t job, struct mg_job_outcome *outcome, struct mg_name *reads, size_t count);
 uint32_t flash_worst(mg_die *die, struct mg_worst_job *worst);
 uint32_t flash_certificate(mg_die *die, struct mg_cert *certificate, uint32_t *jobs, size_t count);

@@ -68,7 +68,7 @@ int main() {
     std::cout << acts[2] << " writes, " << acts[1] << " reads, " << acts[5] << " copies, " << acts[6] << " erase slots\n";
     const std::vector<maulgreen::entry> log = die.log(0, 1000000);
     check(log.size() == die.entries() && log[0].what == MG_COLLECTED && log[1].what == MG_SUBMITTED && log[1].caller == 1, "the log");
-    check(log[2].caller == 9 && log[4].waived_ones.size() == 1 && log[4].waived_ones[0].job == 0 && die.job(1).caller == 1, "and its callers");
+    check(log[2].caller == 9 && log[4].waived_ones.size() == 1 && log[4].waived_ones[0].job == 0 && die.caller(1) == 1, "and its callers");
     check(die.log(2, 1).size() == 1 && die.log(UINT32_MAX, 9).empty(), "a part of it");
     for (uint32_t page = 0; page < 16; page++)
         check(!die.place(page) || cells.count({die.place(page)->block, die.place(page)->page}), "a page lies in a programmed cell");

@@ -277,6 +277,13 @@ public:
         return said;
     }
 
+    // Who submitted it: to find that takes a step for each entry before it.
+    std::uint32_t caller(std::uint32_t number) const {
+        std::uint32_t said = 0;
+        must(::mg_caller(handle_, number, &said));
+        return said;
+    }
+
     maulgreen::outcome outcome(std::uint32_t job) const {
         maulgreen::outcome said{};
         std::array<name, 64> reads{};

@@ -342,9 +342,10 @@ static void ask(mg_die *die) {
     uint32_t code = mg_outcome(die, number, &outcome, reads, 64);
     fprintf(answers, " job %" PRIu32, code);
     if (code == MG_OK) {
-        check(mg_job(die, number, &head) == MG_OK, "job");
+        uint32_t caller;
+        check(mg_job(die, number, &head) == MG_OK && mg_caller(die, number, &caller) == MG_OK, "job");
         fprintf(answers, " %" PRIu32 " %" PRIu32 " %" PRIu32 " %" PRIu32 " %" PRIu32 " state %" PRIu32 " %" PRIu32 " %" PRId64 " %" PRIu32, head.collects,
-                head.task, head.release, head.due, head.caller, outcome.state, outcome.completion, outcome.lateness, outcome.given);
+                head.task, head.release, head.due, caller, outcome.state, outcome.completion, outcome.lateness, outcome.given);
         for (uint32_t i = 0; i < outcome.reads; i++) fprintf(answers, " %" PRIu32, word_of(&reads[i]));
     }
     check(mg_place(die, page, &at) == MG_OK, "a place");

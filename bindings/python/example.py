@@ -59,7 +59,7 @@ with maulgreen.Die(maulgreen.Plan(8, 4, 3, 16, 2), [maulgreen.Task(4)], checkpoi
     print(refused(lambda: maulgreen.Die(maulgreen.Plan(8, 4, 3, 16, 2), [maulgreen.Task(4)], checkpoint._replace(balances=[5]))))
     die.submit(0, 0, 1, [(maulgreen.TRIM, 3)], caller=7)
     call = die.begin(8)
-    assert call.kind == maulgreen.NOTE_TRIM and call.logical == 3 and die.end(True).caller == 8 and die.job(0).caller == 7
+    assert call.kind == maulgreen.NOTE_TRIM and call.logical == 3 and die.end(True).caller == 8 and die.caller(0) == 7
     die.submit(0, 1, 2, [(maulgreen.READ, 4)])
     print(refused(lambda: die.slot(lambda call: (True, b"?" * 16))))
     print(refused(lambda: die.begin()))

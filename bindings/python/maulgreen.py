@@ -42,7 +42,7 @@ _Call = _named("_Call", "kind block page last slot act job logical")
 _Reply = _named("_Reply", "slot act job page finished waived caller")
 _Waived = _struct("_Waived", "job given")
 _Entry = _struct("_Entry", "what caller job at waived")
-_Job = _struct("_Job", "collects task release due caller")
+_Job = _struct("_Job", "collects task release due")
 _Outcome = _struct("_Outcome", "state completion given reads", [("lateness", I64)])
 _Worst = _struct("_Worst", "job", [("lateness", I64)])
 _Certificate = _struct("_Certificate", "job start due completion jobs")
@@ -131,7 +131,6 @@ class Job(NamedTuple):
     task: int
     release: int
     due: int
-    caller: int
 
 
 class Outcome(NamedTuple):
@@ -426,7 +425,13 @@ class Die:
     def job(self, number: int) -> Job:
         job = _Job()
         _must(self._call("job", U32(_u32(number)), c.byref(job)))
-        return Job(job.collects == 1, job.task, job.release, job.due, job.caller)
+        return Job(job.collects == 1, job.task, job.release, job.due)
+
+    def caller(self, number: int) -> int:
+        """Who submitted a job or a collection: to find that takes a step for each entry before it."""
+        caller = U32()
+        _must(self._call("caller", U32(_u32(number)), c.byref(caller)))
+        return caller.value
 
     def outcome(self, job: int) -> Outcome:
         said, reads = _Outcome(), (_Name * 64)()

@@ -123,7 +123,7 @@ fn main() -> Result<(), Refusal> {
     let log = die.log(0, usize::MAX);
     assert_eq!((log.len() as u64, log[1].what, log[1].caller), (die.entries(), Entered::Submitted { job: 1 }, 1));
     assert_eq!((log[2].what, log[2].caller), (Entered::Operation { job: 1, place: 0, last: false }, 9));
-    assert!(log[4].waived.len() == 1 && log[4].waived[0].job == 0 && die.job(1)?.caller == 1);
+    assert!(log[4].waived.len() == 1 && log[4].waived[0].job == 0 && die.caller(1)? == 1);
     assert!(die.log(2, 3) == log[2..5] && die.log(u32::MAX, 9).is_empty());
 
     // Arrivals while a slot has begun, and a renewal.

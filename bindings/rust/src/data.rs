@@ -266,8 +266,6 @@ pub struct Memory {
 /// What a job or a collection was accepted with.
 #[derive(Clone, Copy, PartialEq, Eq, Debug)]
 pub struct Job {
-    /// Who submitted it.
-    pub caller: u32,
     pub collects: bool,
     pub task: u32,
     pub release: u32,

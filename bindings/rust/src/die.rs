@@ -270,12 +270,20 @@ impl Die {
         unsafe { raw::mg_records(&self.handle) }
     }
 
-    /// What a job or a collection was accepted with, and who submitted it, for which it takes a step for each entry before it. `UnknownJob` where there is none of that number.
+    /// What a job or a collection was accepted with. `UnknownJob` where there is none of that number.
     pub fn job(&self, number: u32) -> Result<Job, Refusal> {
         let mut said = raw::Job::default();
         plain(unsafe { raw::mg_job(&self.handle, number, &mut said) })?;
-        let raw::Job { collects, task, release, due, caller } = said;
-        Ok(Job { caller, collects: collects == 1, task, release, due })
+        let raw::Job { collects, task, release, due } = said;
+        Ok(Job { collects: collects == 1, task, release, due })
+    }
+
+    /// Who submitted a job or a collection: to find that takes a step for each entry before it. `UnknownJob` where there is none of
+    /// that number.
+    pub fn caller(&self, number: u32) -> Result<u32, Refusal> {
+        let mut said = 0;
+        plain(unsafe { raw::mg_caller(&self.handle, number, &mut said) })?;
+        Ok(said)
     }
 
     /// What became of a job or a collection. `UnknownJob`; `NoMemory`.

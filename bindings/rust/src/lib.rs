@@ -100,7 +100,7 @@
 //! let slot = die.begin(9)?;
 //! assert_eq!(slot.call(), maulgreen::Call::Trim { page: 5 });
 //! slot.end(true, maulgreen::Name::BLANK)?;
-//! assert_eq!((die.log(0, 9)[1].what, die.job(0)?.caller), (Entered::Operation { job: 0, place: 0, last: true }, 7));
+//! assert_eq!((die.log(0, 9)[1].what, die.caller(0)?), (Entered::Operation { job: 0, place: 0, last: true }, 7));
 //! # Ok(())
 //! # }
 //! ```

@@ -31,7 +31,7 @@ structs! {
     Reply { slot: u32, act: u32, job: u32, page: u32, finished: u32, waived: u32, caller: u32, name: Name }
     Waived { job: u32, given: u32 }
     Entry { what: u32, caller: u32, job: u32, at: u32, waived: u32 }
-    Job { collects: u32, task: u32, release: u32, due: u32, caller: u32 }
+    Job { collects: u32, task: u32, release: u32, due: u32 }
     Bytes { birth: u64, reserved: u64, life: u64, question: u64, resume: u64 }
     Outcome { lateness: i64, state: u32, completion: u32, given: u32, reads: u32 }
     Worst { lateness: i64, job: u32 }
@@ -82,6 +82,7 @@ extern "C" {
     pub fn mg_entries(die: *const Handle, from: u32, entries: *mut Entry, count: usize) -> u32;
     pub fn mg_entry_waived(die: *const Handle, entry: u32, waived: *mut Waived, count: usize) -> u32;
     pub fn mg_job(die: *const Handle, number: u32, job: *mut Job) -> u32;
+    pub fn mg_caller(die: *const Handle, number: u32, caller: *mut u32) -> u32;
     pub fn mg_outcome(die: *const Handle, job: u32, outcome: *mut Outcome, reads: *mut Name, count: usize) -> u32;
     pub fn mg_worst(die: *const Handle, worst: *mut Worst) -> u32;
     pub fn mg_certificate(die: *const Handle, certificate: *mut Certificate, jobs: *mut u32, count: usize) -> u32;
