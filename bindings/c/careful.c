@@ -229,7 +229,6 @@ static void show_trims(void) {
     struct mg_call call;
     struct mg_reply reply;
     struct mg_cell cell;
-    struct mg_job_head head;
     struct mg_entry entry;
     for (int noted = 0; noted < 2; noted++) {
         mg_die die = {0};
