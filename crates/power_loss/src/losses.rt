@@ -23,7 +23,8 @@ ghost use Rattle.power_loss.specs.Labels.{Label, Labels, labels, fresh_labels, I
 ghost use Rattle.power_loss.specs.Laws.{MountsAll};
 ghost use Rattle.power_loss.specs.Losses.{Life, AreLives, BeginsNext, ForUntrimmedLives, MaySeeAtEnd};
 ghost use Rattle.power_loss.specs.Losses.{MaySeeInCall, up_to, contents_left, first_contents, logs};
-ghost use Rattle.power_loss.specs.Recovery.{IsRecoverable, cells_of, labels_of, AreMountActs, IsSafe, IsAbove, IsUnplacedBlock, remounted_cells, remounted_labels};
+ghost use Rattle.power_loss.specs.Recovery.{IsRecoverable, cells_of, labels_of, AreMountActs, IsSafe, IsAbove};
+ghost use Rattle.power_loss.specs.Recovery.{IsUnplacedBlock, remounted_cells, remounted_labels};
 ghost use Rattle.power_loss.specs.Seen.{MaySeeAfter, MaySeeDuring};
 
 /// A fresh die has no old labels; and where a log trims nothing, a page that is placed nowhere has none after it.
@@ -49,7 +50,8 @@ pub fn a_part_shows_its_die()
 {}
 
 /// A mount needs to know labels alone: by the newest label of each page it finds every place and every content. It
-/// erases any one block in which it finds no page, and can then go on, by acts at each moment of which the power may go again, until a log may start with full accounts beside
+/// erases any one block in which it finds no page, and can then go on, by acts at each moment of which the power may go
+/// again, until a log may start with full accounts beside
 /// a block that is wholly free.
 pub fn a_mount_starts_a_log()
     ensures found { (plan : DiePlan) (pages : List PageData) (seen : List (List Label)) → MeetsBound plan
