@@ -278,12 +278,13 @@ class Die:
         self.plan = plan
         self.flash = Flash(plan.blocks, plan.pages, plan.erase_slots, plan.logical, calls)
         self.accounts = Accounts(plan)
-        self.reserved, self.stopped = 0, False
+        self.lasting, self.stopped = 0, False
         self.start()
 
     def start(self):
         """A life begins."""
         self.now, self.items, self.pending, self.finished = 0, [], [], []
+        self.reserved = self.lasting
         self.carried, self.entries, self.records, self.last = [], 0, 0, None
 
     def refuse_times(self, task, release, due):
@@ -495,7 +496,7 @@ class Die:
             self.accounts.spare, self.accounts.balance = stood.spare, list(stood.balances)
             self.flash.at = list(stood.places)
             self.flash.bytes = [BLANK if at is None else content for at, content in zip(stood.places, self.flash.bytes)]
-        self.reserved = 0
+        self.lasting = 0
         self.start()
         return why or "ok"
 
@@ -660,7 +661,7 @@ class Player:
             numbers = ["-" if act is None else str(number) for _, _, number, act, _ in replies]
             return " ".join(numbers) if name == "slots" else "ok"
         if name == "reserve":
-            die.reserved = max(die.reserved, int(fields[1]))
+            die.reserved, die.lasting = (max(had, int(fields[1])) for had in (die.reserved, die.lasting))
             return "ok"
         if name == "outcome":
             return die.outcome(int(fields[1]))

@@ -14,6 +14,7 @@ CI = Path(__file__).resolve().parents[1]
 sys.path.insert(0, str(CI))
 from common import repository
 from pages import proof_maps
+from second_reading import play_tables
 from wrong_bodies import pages
 
 
@@ -25,7 +26,7 @@ def script(path):
     return module
 
 
-docs, plays, version, nightly = map(script, ("docs", "second_reading/plays", "release/version", "nightly"))
+docs, version, nightly = map(script, ("docs", "release/version", "nightly"))
 
 SPEC = """-- What is small.
 use Rattle.low.specs.Sizes.{IsSmall as IsLittle, size}
@@ -304,18 +305,18 @@ class Plays(unittest.TestCase):
             data = Path(folder)
             (data / "a.toml").write_text("k = 1\n")
             table = "# x\n> flashrec plan a.toml\n0|so~|\n@ a.toml\n1||bad~|k = 1|k = 2\n1||bad~||end^\n0..1|2|x|y\n"
-            found = list(plays.plays_of(table, data))
+            found = list(play_tables.plays_of(table, data))
         self.assertEqual([play[0] for play in found], [3, 5, 6, 7, 7])
         self.assertEqual(found[0][1:], ("flashrec plan a.toml", 0, "so~", "", None, None))
         self.assertEqual([play[6] for play in found[1:]], [b"k = 2\n", b"k = 1\nend\r", b"", b"k"])
 
     def test_changes(self):
-        self.assertEqual(plays.changed(b"abab", ["b", "c", "c", "3*x~"]), b"ax\nx\nx\nax\nx\nx\n")
-        self.assertEqual(plays.changed(b"ab", ["=", "z"]), b"z")
+        self.assertEqual(play_tables.changed(b"abab", ["b", "c", "c", "3*x~"]), b"ax\nx\nx\nax\nx\nx\n")
+        self.assertEqual(play_tables.changed(b"ab", ["=", "z"]), b"z")
 
     def test_what_is_wanted(self):
-        self.assertTrue(plays.is_answered("fro~*", b"fro\nnt", None))
-        self.assertFalse(plays.is_answered("fro~", b"fro\nnt", None))
+        self.assertTrue(play_tables.is_answered("fro~*", b"fro\nnt", None))
+        self.assertFalse(play_tables.is_answered("fro~", b"fro\nnt", None))
 
 
 class Releases(unittest.TestCase):

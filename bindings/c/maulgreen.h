@@ -256,14 +256,15 @@ uint32_t mg_end(mg_die *die, uint32_t ok, const struct mg_name *name, struct mg_
                    struct mg_waived *waived, size_t count);
 
 /* Takes the memory for so many later slots: begin and end of these take no memory and are never refused for it. Each slot
- * that is ended uses one of them up, and one that has begun is the first of them. It may be called at any time, within a slot
- * and of a die that is stopped, too. NO_MEMORY, where nothing changes; never where so many are reserved already. */
+ * that is ended uses one of them up, and one that has begun is the first of them; each mg_renew reserves them all again. It may
+ * be called at any time, within a slot and of a die that is stopped, too. NO_MEMORY, where nothing changes; never where so many
+ * are reserved already. */
 uint32_t mg_reserve(mg_die *die, uint32_t slots);
 
 /* Takes the memory for so many later jobs and collections, with so many operations in all: while that lasts, mg_submit and
  * mg_collect take no memory and are never refused for it. Each one that is accepted uses one of them up, with as many operations
- * as it has; one of more operations than are left may be refused. It may be called at any time, as mg_reserve. NO_MEMORY, where
- * nothing changes; never where so many of both are reserved already.
+ * as it has; one of more operations than are left may be refused. Each mg_renew reserves them all again. It may be called at any
+ * time, as mg_reserve. NO_MEMORY, where nothing changes; never where so many of both are reserved already.
  *
  * Reserve jobs first, and slots after them: a list that grows gets twice its room, so the other way round takes more. */
 uint32_t mg_reserve_jobs(mg_die *die, uint32_t jobs, uint32_t operations);
@@ -271,10 +272,11 @@ uint32_t mg_reserve_jobs(mg_die *die, uint32_t jobs, uint32_t operations);
 /* How many bytes a die asks of the heap at most, in all blocks that it has at once: while mg_realloc moves a block, the old one
  * and the new one. With C cells (blocks * pages), K tasks, and K' of them rounded up to 4, 8 or 16:
  *
- *   birth     1,088 + 20 C + 4 logical + 60 blocks + 8 (pages + 1) + 8 (blocks / 64, rounded up) + 53 K + 4 K', and 16 K' more
+ *   birth     1,120 + 20 C + 4 logical + 60 blocks + 8 (pages + 1) + 8 (blocks / 64, rounded up) + 53 K + 4 K', and 16 K' more
  *             in a plan with times. It has so many from mg_new or mg_resume on. This is exact
  *   reserved  that, and 24 a slot, 108 a job or collection, 37 an operation, and 12 K: with so much reserved at once, jobs first;
- *             of it 8 a job are given back when it is reserved. It has so many until all of that is used up. Exact, too, for 64
+ *             of it 8 a job are given back when it is reserved. It has so many until all of that is used up, also in later lives,
+ *             in each of which it is reserved again. Exact, too, for 64
  *             and more of each and no fewer slots than jobs; else it says what shorter lists take
  *   life      with nothing reserved, by the end of a life of so many slots, jobs and operations in all, each list having grown
  *             to between once and twice its items: 24 to 48 a slot, 112 to 200 a job or collection, 42 an operation, and half of
@@ -293,14 +295,15 @@ uint32_t mg_memory(const struct mg_plan *plan, const struct mg_task *tasks, size
                    uint32_t operations, struct mg_bytes *bytes);
 
 /* Starts the log anew at a moment at which all that was accepted is done or was waived: the present slot is 0 again, and
- * jobs are numbered from 0. Pages, tokens, erases and what is reserved stay. It takes no memory, and keeps that of the log so
- * far for the one that comes. A die reaches 1,048,576 slots and 65,536 jobs and collections between two renewals.
+ * jobs are numbered from 0. Pages, tokens and erases stay. It takes no memory, and keeps that of the log so far for the one that
+ * comes: as many slots, jobs and operations are reserved again as ever were, each the most that was asked for. A die reaches
+ * 1,048,576 slots and 65,536 jobs and collections between two renewals.
  *
  * The first that stands: DIE_STOPPED; BEGUN; NOT_QUIET; WORN_OUT. */
 uint32_t mg_renew(mg_die *die, struct mg_why *why);
 
 /* As mg_renew, and gives back the memory of the log so far: then the die has as much as it had at its birth, and nothing is
- * reserved. */
+ * reserved, nor by a later mg_renew. */
 uint32_t mg_renew_giving_back(mg_die *die, struct mg_why *why);
 
 /* ---- Shutting down and going on ----------------------------------------------------------------------------------- */

@@ -375,6 +375,7 @@ class Die:
         _must(self._call("reserve_jobs", U32(_u32(jobs)), U32(_u32(operations))))
 
     def renew(self) -> None:
+        """What had been reserved is reserved again, without memory being taken."""
         why = _Why()
         _must(self._call("renew", c.byref(why)), why)
 

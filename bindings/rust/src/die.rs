@@ -212,8 +212,9 @@ impl Die {
         plain(unsafe { raw::mg_reserve(&mut self.handle, slots) })
     }
 
-    /// Starts the log anew: the present slot is 0 again, and jobs are numbered from 0. Pages, tokens, erases and what is reserved
-    /// stay. Refused with the first that stands: `DieStopped`, `NotQuiet`, `WornOut`.
+    /// Starts the log anew: the present slot is 0 again, and jobs are numbered from 0. Pages, tokens and erases stay, and what had
+    /// been reserved is reserved again, without memory being taken. Refused with the first that stands: `DieStopped`, `NotQuiet`,
+    /// `WornOut`.
     pub fn renew(&mut self) -> Result<(), Refusal> {
         let mut why = NO_NUMBERS;
         let code = unsafe { raw::mg_renew(&mut self.handle, &mut why) };

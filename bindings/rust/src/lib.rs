@@ -92,7 +92,7 @@
 //!
 //! # fn main() -> Result<(), Refusal> {
 //! let plan = Plan { blocks: 64, pages: 32, erase_slots: 3, logical: 1024, alpha: 8, caps: vec![32], times: None };
-//! assert_eq!(plan.memory(1000, 100, 400)?.reserved, 99_937);
+//! assert_eq!(plan.memory(1000, 100, 400)?.reserved, 99_969);
 //! let mut die = Die::new(&plan)?;
 //! die.reserve_jobs(100, 400)?;
 //! die.reserve(1000)?;

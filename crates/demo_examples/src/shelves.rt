@@ -1,11 +1,10 @@
 //! The files that a command writes, kept as a text.
 
-use slot_types::Refusal;
 use std::alloc::Global;
 use std::cell::RefCell;
 use std::io;
-use std::io::Write;
-use tool_commands::Shelf;
+use std::io::{ErrorKind, Write};
+use tool_commands::{Shelf, Unput};
 
 /// The files that were written: each a line with its name, and its text. One whose name begins with `full/` can't be
 /// written.
@@ -38,16 +37,18 @@ impl Shelved {
 }
 
 impl Shelf for Shelved {
-    fn put(&self, name: &str, text: &[u8]) -> Result<(), Refusal> {
+    fn put(&self, name: &str, text: &[u8]) -> Result<(), Unput> {
         if name.starts_with("full/") {
-            return Err(Refusal::WriteFault);
+            return Err(Unput::from(io::Error::from(ErrorKind::StorageFull)));
         }
         match self.files.try_borrow_mut() {
-            Ok(mut files) => match add_file(&mut files, name, text) {
-                Ok(()) => Ok(()),
-                Err(_) => Err(Refusal::NoMemory),
-            },
-            Err(_) => Err(Refusal::WriteFault),
+            Ok(mut files) => Ok(add_file(&mut files, name, text)?),
+            Err(_) => Err(Unput::NoMemory),
         }
+    }
+
+    /// Two names are of one file where they are spelled as one.
+    fn is_one(&self, one: &str, other: &str) -> bool {
+        one == other
     }
 }

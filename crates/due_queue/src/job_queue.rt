@@ -59,10 +59,10 @@ impl<K: JobKey> JobQueue<K> {
         self.pairs.reserve(count)
     }
 
-    /// Takes all keys away. The queue keeps the room that it has for more.
+    /// Takes all keys away, each of which leaves room for one more. The queue keeps its memory.
     pub fn clear(&mut self)
         ensures keys { self.new.keys ≡ [] }
-        ensures spare { self.old.spare ≤ self.new.spare }
+        ensures spare { self.new.spare ≡ self.old.spare + length self.old.keys }
     {
         self.pairs.clear();
     }

@@ -59,8 +59,9 @@ impl PairHeap {
 
     pub fn clear(&mut self)
         ensures keys { self.new.keys ≡ [] }
-        ensures spare { self.old.spare ≤ self.new.spare }
+        ensures spare { self.new.spare ≡ self.old.spare + length self.old.keys }
     {
+        self.spare += self.heap.len();
         self.heap.clear();
     }
 

@@ -26,11 +26,14 @@ abbrev pub waives_newest : List Note → Bool
 waives_newest [] = false
 waives_newest (s ∷ past) = not (is_none s.waived)
 
--- a log as contracts see it: its notes, the newest first, for how many more and for how many waivers there is room, how
--- many records of deeds it keeps, and how many slots there were when it was marked
+-- a log as contracts see it: its notes, the newest first, for how many more and for how many waivers there is room, for
+-- how many of either there is room where it is empty, how many records of deeds it keeps, and how many slots there were
+-- when it was marked
 pub record Events : Type 0 where
   pub notes : List Note
   pub room : ℕ
   pub waiver_room : ℕ
+  pub memory : ℕ
+  pub waiver_memory : ℕ
   pub kept : ℕ
   pub marked : ℕ

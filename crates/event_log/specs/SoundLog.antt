@@ -47,8 +47,16 @@ pub record IsMarked (deeds : List Deed) (marked callers_marked : ℕ) : Type 0 w
   pub alone : (d : Deed) → marked ≡ length deeds → last_of deeds ≡ Some d → stands_alone d ≡ true
   pub no_callers : callers_marked ≡ 0
 
--- the parts have the room that is promised
+-- the parts have the room that is promised: of events, of which they keep the deed and the caller; and of waivers
 pub record HasPromisedRoom (room waiver_room deeds_room callers_room waivers capacity : ℕ) : Type 0 where
   pub deeds : room ≤ deeds_room
   pub callers : room ≤ callers_room
   pub waivers_fit : waivers + waiver_room ≤ capacity
+
+-- where they are empty they have what is promised for then, which is no less
+pub record HasPromisedMemory (room waiver_room memory waiver_memory deeds_memory callers_memory capacity : ℕ) : Type 0 where
+  pub deeds : memory ≤ deeds_memory
+  pub callers : memory ≤ callers_memory
+  pub waivers : waiver_memory ≤ capacity
+  pub lasts : room ≤ memory
+  pub waivers_last : waiver_room ≤ waiver_memory

@@ -3,11 +3,12 @@ use Rattle.std.specs.Prelude.{ℕ, ◌<◌, List, [], ◌∷◌, ◌++◌, Optio
 use Rattle.std.specs.List.{AllByRecursion}
 use Rattle.event_log.specs.declared.runs.Run.{Run}
 
--- a list as contracts see it: its items one by one, for how many more there is room at least, in how many runs it keeps
--- them, and how many items there were when it was marked
+-- a list as contracts see it: its items one by one, for how many more there is room at least, for how many there is
+-- memory where it is empty, in how many runs it keeps them, and how many items there were when it was marked
 pub record Spread (T : Type 0) : Type 0 where
   pub items : List T
   pub room : ℕ
+  pub memory : ℕ
   pub kept : ℕ
   pub marked : ℕ
 

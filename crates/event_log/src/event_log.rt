@@ -21,8 +21,9 @@ use std::mem::size_of;
 /// The events of a die, kept small: equal neighbours once with their count, callers and waivers beside them, and no
 /// bytes.
 ///
-/// Contracts see the events one by one, the newest first, for how many more events and waivers there is room, how many
-/// records of deeds are kept, and how many slots there were when the log was marked, 0 before that.
+/// Contracts see the events one by one, the newest first, for how many more events and waivers there is room, for how
+/// many there is room where the log is empty, how many records of deeds are kept, and how many slots there were when
+/// the log was marked, 0 before that.
 #[derive(Drop)]
 pub struct EventLog {
     deeds: Runs<Deed>,
@@ -33,6 +34,10 @@ pub struct EventLog {
     room: usize,
     /// For how many more waivers there is room.
     waiver_room: usize,
+    /// For how many events there is room where there is none.
+    memory: usize,
+    /// For how many waivers there is room where there is none.
+    waiver_memory: usize,
     /// Whether the newest event came with a waiver.
     waives: bool,
 }
@@ -49,7 +54,7 @@ const CALLERS_AHEAD: usize = 64;
 impl Model for EventLog {
     ghost use Rattle.std.specs.Prelude.{vec_len, vec_capacity};
     ghost use Rattle.event_log.specs.Notes.{Events};
-    ghost use Rattle.event_log.specs.SoundLog.{notes_in, slots_before, IsSoundLog, HasPromisedRoom, IsMarked};
+    ghost use Rattle.event_log.specs.SoundLog.{notes_in, slots_before, IsSoundLog, HasPromisedRoom, HasPromisedMemory, IsMarked};
 
     ghost Value = { Events };
 
@@ -57,6 +62,8 @@ impl Model for EventLog {
       notes = notes_in l.deeds.items l.callers.items l.waivers.items;
       room = l.room;
       waiver_room = l.waiver_room;
+      memory = l.memory;
+      waiver_memory = l.waiver_memory;
       kept = l.deeds.kept;
       marked = slots_before l.deeds.marked l.deeds.items;
     } };
@@ -64,13 +71,22 @@ impl Model for EventLog {
     ghost invariant = { λ l.
         IsSoundLog l.deeds.items l.callers.items l.waivers.items l.len l.deeds.kept l.callers.kept l.waives
         × HasPromisedRoom l.room l.waiver_room l.deeds.room l.callers.room (vec_len l.waivers) (vec_capacity l.waivers)
-        × IsMarked l.deeds.items l.deeds.marked l.callers.marked };
+        × IsMarked l.deeds.items l.deeds.marked l.callers.marked
+        × HasPromisedMemory l.room l.waiver_room l.memory l.waiver_memory l.deeds.memory l.callers.memory (vec_capacity l.waivers) };
 }
 
 impl EventLog {
     /// A log without events, and without room for any. It takes no memory.
     pub fn new(alloc: Global) -> EventLog
-        ensures { result ≡ record { notes = []; room = 0; waiver_room = 0; kept = 0; marked = 0 } }
+        ensures { result ≡ record {
+          notes = [];
+          room = 0;
+          waiver_room = 0;
+          memory = 0;
+          waiver_memory = 0;
+          kept = 0;
+          marked = 0;
+        } }
     {
         EventLog {
             deeds: Runs::new(alloc),
@@ -79,22 +95,29 @@ impl EventLog {
             len: 0,
             room: 0,
             waiver_room: 0,
+            memory: 0,
+            waiver_memory: 0,
             waives: false,
         }
     }
 
-    /// Takes all events and the mark away. The log keeps its memory, so there is room for at least as many more as before.
+    /// Takes all events and the mark away. The log keeps its memory: there is as much room again as there ever was. It
+    /// takes none.
     pub fn clear(&mut self)
         ensures events { self.new.notes ≡ [] }
         ensures marked { self.new.marked ≡ 0 }
-        ensures room { self.old.room ≤ self.new.room }
-        ensures waiver_room { self.old.waiver_room ≤ self.new.waiver_room }
+        ensures room { self.new.room ≡ self.old.memory }
+        ensures waiver_room { self.new.waiver_room ≡ self.old.waiver_memory }
+        ensures memory { self.new.memory ≡ self.old.memory }
+        ensures waiver_memory { self.new.waiver_memory ≡ self.old.waiver_memory }
     {
         self.deeds.clear();
         self.callers.clear();
         self.waivers.clear();
         self.len = 0;
         self.waives = false;
+        self.room = self.memory;
+        self.waiver_room = self.waiver_memory;
     }
 
     /// How many events there are.
@@ -150,13 +173,18 @@ impl EventLog {
     }
 
     /// Makes room for at least so many more events, and for so many more waivers with them, and never less than there
-    /// was. Where there is that room already, this isn't refused. Refused with `NoMemory`, nothing changes.
+    /// was. Where there is that room already, this isn't refused. As long as the log keeps its memory it has room for so
+    /// many from each [`clear`](EventLog::clear) on. Refused with `NoMemory`, nothing changes.
     #[inline(always)]
     pub fn reserve(&mut self, events: usize, waivers: usize) -> Result<(), Refusal>
         ensures room { OnOk result (events ≤ self.new.room) }
         ensures waiver_room { OnOk result (waivers ≤ self.new.waiver_room) }
         ensures no_less { self.old.room ≤ self.new.room }
         ensures no_less_for_waivers { self.old.waiver_room ≤ self.new.waiver_room }
+        ensures lasts { self.new.room ≤ self.new.memory }
+        ensures waivers_last { self.new.waiver_room ≤ self.new.waiver_memory }
+        ensures memory { self.old.memory ≤ self.new.memory }
+        ensures waiver_memory { self.old.waiver_memory ≤ self.new.waiver_memory }
         ensures succeeds { events ≤ self.old.room → waivers ≤ self.old.waiver_room → IsOk result }
         ensures refused { FailsForMemory result }
         ensures events { self.new.notes ≡ self.old.notes }
@@ -177,6 +205,10 @@ impl EventLog {
         ensures waiver_room { OnOk result (waivers ≤ self.new.waiver_room) }
         ensures no_less { self.old.room ≤ self.new.room }
         ensures no_less_for_waivers { self.old.waiver_room ≤ self.new.waiver_room }
+        ensures lasts { self.new.room ≤ self.new.memory }
+        ensures waivers_last { self.new.waiver_room ≤ self.new.waiver_memory }
+        ensures memory { self.old.memory ≤ self.new.memory }
+        ensures waiver_memory { self.old.waiver_memory ≤ self.new.waiver_memory }
         ensures refused { FailsForMemory result }
         ensures events { self.new.notes ≡ self.old.notes }
         ensures kept { self.new.kept ≡ self.old.kept }
@@ -189,6 +221,8 @@ impl EventLog {
         // All that was had, so that the next events seldom ask.
         self.room = self.deeds.room().min(self.callers.room());
         self.waiver_room = self.waivers.capacity() - self.waivers.len();
+        self.memory = self.memory.max(self.room);
+        self.waiver_memory = self.waiver_memory.max(self.waiver_room);
         Ok(())
     }
 
@@ -217,6 +251,8 @@ impl EventLog {
             ≡ record { caller = caller; deed = deed; waived = waived.now } ∷ self.old.notes }
         ensures room { self.old.room ≡ self.new.room + 1 }
         ensures waiver_room { self.old.waiver_room ≡ self.new.waiver_room + length waived.now }
+        ensures memory { self.new.memory ≡ self.old.memory }
+        ensures waiver_memory { self.new.waiver_memory ≡ self.old.waiver_memory }
         ensures marked { self.new.marked ≡ self.old.marked }
     {
         let same_caller = is_last_caller(&self.callers, caller);
@@ -240,6 +276,8 @@ impl EventLog {
             ≡ record { caller = caller; deed = Deed.Idle; waived = waived.now } ∷ self.old.notes }
         ensures room { self.old.room ≤ self.new.room + 1 }
         ensures waiver_room { self.old.waiver_room ≡ self.new.waiver_room + length waived.now }
+        ensures memory { self.new.memory ≡ self.old.memory }
+        ensures waiver_memory { self.new.waiver_memory ≡ self.old.waiver_memory }
         ensures marked { self.new.marked ≡ self.old.marked }
     {
         if self.goes_on(caller, &Deed::Idle, waived) {

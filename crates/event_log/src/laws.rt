@@ -34,9 +34,9 @@ pub fn records_are_counted()
         → record_count (entries_of jobs notes) ≡ records notes }
 {}
 
-/// Making room (`reserve`) leaves one log in all but its room, and where it is refused one log. It has one answer, too,
-/// where there is that room already. Left open are whether there is memory for more, and how much room beyond what was
-/// asked for is made.
+/// Making room (`reserve`) leaves one log in all but its room and memory, and where it is refused one log. It has one
+/// answer, too, where there is that room already. Left open are whether there is memory for more, and how much room
+/// beyond what was asked for is made.
 pub fn making_room_has_one_answer<T>()
     ensures log { (events waivers : ℕ) (before left right : Events)
         (one other : Result (Unit {0}) Refusal) →

@@ -17,8 +17,9 @@ pub(crate) struct Run<T> {
     pub(crate) count: u32,
 }
 
-/// A list that grows at its end. Contracts see its items one by one, for how many more there is room at least, in how many
-/// runs it keeps them, and how many items there were when it was marked, 0 before that.
+/// A list that grows at its end. Contracts see its items one by one, for how many more there is room at least, for how
+/// many there is memory where it is empty, in how many runs it keeps them, and how many items there were when it was
+/// marked, 0 before that.
 #[derive(Drop)]
 pub struct Runs<T> {
     runs: Vec<Run<T>>,
@@ -35,6 +36,7 @@ impl<T> Model for Runs<T> {
     ghost view = { λ r. record {
       items = spread r.runs.items;
       room = vec_capacity r.runs - vec_len r.runs;
+      memory = vec_capacity r.runs;
       kept = vec_len r.runs;
       marked = length (spread (take r.marked r.runs.items));
     } };
@@ -46,6 +48,7 @@ impl<T> Runs<T> {
     /// A list with no item. It takes no memory.
     pub fn new(alloc: Global) -> Runs<T>
         ensures items { result.items ≡ [] }
+        ensures memory { result.memory ≡ 0 }
         ensures kept { result.kept ≡ 0 }
         ensures marked { result.marked ≡ 0 }
     {
@@ -64,6 +67,7 @@ impl<T> Runs<T> {
         ensures kept { self.new.kept ≡ self.old.kept }
         ensures marked { self.new.marked ≡ self.old.marked }
         ensures room { self.old.room ≤ self.new.room }
+        ensures memory { self.old.memory ≤ self.new.memory }
         ensures succeeds { count ≤ self.old.room → IsOk result }
         ensures err { OnErr result (self.new ≡ self.old) }
     {
@@ -73,12 +77,13 @@ impl<T> Runs<T> {
 }
 
 impl<T: Drop> Runs<T> {
-    /// Takes all items and the mark away. The list keeps its memory.
+    /// Takes all items and the mark away. The list keeps its memory, and all of it is room again.
     pub fn clear(&mut self)
         ensures items { self.new.items ≡ [] }
         ensures kept { self.new.kept ≡ 0 }
         ensures marked { self.new.marked ≡ 0 }
-        ensures room { self.old.room ≤ self.new.room }
+        ensures room { self.new.room ≡ self.old.memory }
+        ensures memory { self.new.memory ≡ self.old.memory }
     {
         self.runs.clear();
         self.marked = 0;
@@ -86,9 +91,10 @@ impl<T: Drop> Runs<T> {
 }
 
 impl<T> Runs<T> {
-    /// For how many more items there is room, however few of them are alike.
+    /// For how many more items there is room, however few of them are alike. It is never more than there is memory for.
     pub fn room(&self) -> usize
-        ensures { result ≡ self.now.room }
+        ensures room { result ≡ self.now.room }
+        ensures most { self.now.room ≤ self.now.memory }
     {
         self.runs.capacity() - self.runs.len()
     }
@@ -146,6 +152,7 @@ impl<T: Copy> Runs<T> {
         ensures marked { self.new.marked ≡ self.old.marked }
         ensures room { self.old.room ≤ self.new.room + 1 }
         ensures room_stays { is_like_last ≡ true → self.new.room ≡ self.old.room }
+        ensures memory { self.new.memory ≡ self.old.memory }
     {
         if is_like_last {
             let last = self.runs.len() - 1;

@@ -262,7 +262,7 @@ pub extern "C" fn flash_end(
     }
 }
 
-/// Takes the memory for this many later slots.
+/// Takes the memory for this many later slots. Each renewal reserves as many again.
 #[unsafe(no_mangle)]
 pub extern "C" fn flash_reserve(alloc: Global, die: &mut Handle, slots: u32) -> u32
     ghost held: { Stepped }
@@ -282,7 +282,8 @@ pub extern "C" fn flash_reserve(alloc: Global, die: &mut Handle, slots: u32) -> 
     }
 }
 
-/// Takes the memory for this many later jobs and collections, with so many operations in all.
+/// Takes the memory for this many later jobs and collections, with so many operations in all. Each renewal reserves as
+/// many again.
 #[unsafe(no_mangle)]
 pub extern "C" fn flash_reserve_jobs(
     alloc: Global,
@@ -319,7 +320,10 @@ pub extern "C" fn flash_renew_giving_back(
     requires full { die.old.value ≡ Some held }
     ensures full { IsSome die.new.value }
     ensures renewed { result ≡ 0 → IfSome die.new.value (λ after. after ≡ record held {
-      core = record (renewed_core held.core) { reserved = nothing_reserved };
+      core = record (renewed_core held.core) {
+        reserved = nothing_reserved;
+        lasting = nothing_reserved;
+      };
     }) }
     ensures may { result ≡ 0 → MayBeRenewed held.core }
     ensures well { result ≡ 0 → why.new ≡ why.old }
@@ -338,7 +342,7 @@ pub extern "C" fn flash_renew_giving_back(
     }
 }
 
-/// Starts the log anew at a quiet moment.
+/// Starts the log anew at a quiet moment. What ever was reserved is reserved again.
 #[unsafe(no_mangle)]
 pub extern "C" fn flash_renew(alloc: Global, die: &mut Handle, why: &mut FlashWhy) -> u32
     ghost held: { Stepped }

@@ -9,6 +9,7 @@ ghost use Rattle.flash_commands.specs.Syntax.{flashrec_app};
 
 use crate::run_numbers::{Slots, Workers};
 use crate::syntax::program_words;
+use crate::word_faults::reported_of;
 use clap::error::ErrorKind;
 use clap::{ArgMatches, Error};
 use std::alloc::Global;
@@ -118,14 +119,15 @@ fn parsed<'a>(
     Ok(command_met(&matches))
 }
 
-/// The error for a number that is none or out of its range.
-fn range_error(mut program: clap::Command<'_>) -> Error
+/// The error for a number that is none or out of its range, which names its option and its value.
+fn range_error(alloc: Global, mut program: clap::Command<'_>, words: &[String]) -> Error
     ensures { HasKind (range_fault None) result }
 {
-    match program.error(
-        ErrorKind::ValueValidation,
-        "--slots wants a whole number from 0 to 1048576, --workers one from 1 to 16",
-    ) {
+    let said = match reported_of(alloc, words) {
+        Ok(said) => said,
+        Err(error) => return Error::from(error),
+    };
+    match program.error(ErrorKind::ValueValidation, said.as_str()) {
         Ok(error) => error,
         Err(error) => Error::from(error),
     }
@@ -147,7 +149,7 @@ pub fn read_words<'a>(alloc: Global, words: &'a [String]) -> Result<Command<'a>,
     let mut program = program_words(alloc)?;
     match parsed(&mut program, words) {
         Ok(Some(command)) => Ok(command),
-        Ok(None) => Err(range_error(program)),
+        Ok(None) => Err(range_error(alloc, program, words)),
         Err(error) => Err(error),
     }
 }

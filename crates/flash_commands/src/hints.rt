@@ -1,10 +1,15 @@
-//! What a terminal is shown of a refusal beside its line: the file, the place in it, and what to do.
+//! What is reported of a refusal behind its line: the file, the place in it, the cause, and what to do.
 
 use crate::files::{inputs_among, inputs_in, path_of};
+use crate::plan_hints::{report_dies, report_tasks};
 use crate::record_lines::line_of_record;
-use std::fs;
-use std::io::Write;
+use crate::refusal_names::refusal_name;
+use crate::script_hints::report_row;
+use crate::values::{shown_name, shown_word};
+use std::alloc::Global;
+use std::io::{ErrorKind, Read, Write};
 use std::rt::Files;
+use std::{fs, io};
 
 /// The files of a command, by what they have.
 #[derive(Clone, Copy, Drop)]
@@ -18,8 +23,11 @@ pub struct Texts<'a> {
     /// Reports whose refusals are reported each with its name in front, as `monday.csv: error 20 ReportText 3`.
     pub reports: &'a [&'a str],
     pub traces: &'a [&'a str],
-    /// The file that gets what a command prints.
-    pub output: Option<&'a str>,
+    /// How many slots are run, if any are.
+    pub slots: Option<u32>,
+    /// The die and the task that options name, each with its option.
+    pub die: Option<(&'static str, u32)>,
+    pub task: Option<(&'static str, u32)>,
 }
 
 impl Texts<'_> {
@@ -32,7 +40,9 @@ impl Texts<'_> {
         report: None,
         reports: &[],
         traces: &[],
-        output: None,
+        slots: None,
+        die: None,
+        task: None,
     };
 }
 
@@ -43,15 +53,8 @@ const CHECKPOINT_BYTES: u64 = 134_217_728;
 
 const SHEET_BYTES: u64 = 1_048_576;
 
-/// What to do about a record that is refused, and about a row that its die refused.
-const FORM: &str = "docs/TEXTS.md has the form";
-
-const REFUSALS: &str = "docs/RULES.md has the refusals by number";
-
-/// The name of a file, as a reader knows it.
-fn shown_name(name: &str) -> &str {
-    if name == "-" { "standard input" } else { name }
-}
+/// Where the form of a text stands.
+pub(crate) const FORM: &str = "man maulgreen-texts has the form";
 
 /// The line in which a record of a file begins; none where the file isn't there any more as it was read, as a pipe.
 fn line_in<R: Files>(files: &R, name: &str, record: u64) -> Option<u64> {
@@ -80,7 +83,16 @@ fn report_record<R: Files, W: Write>(
     };
 }
 
-/// Tells why a file can't be opened, or not be read to its end, where that is seen. A writer that fails is passed over.
+/// Why the first byte of a file can't be read, if it can't.
+fn first_fault<R: Files>(files: &R, path: &str) -> Option<io::Error> {
+    match fs::open(files, path) {
+        Err(error) => Some(error),
+        Ok(mut file) => file.read(&mut [0]).err(),
+    }
+}
+
+/// Tells why a file can't be opened, or not be read to its end. Of what is no file, as a device or a pipe, this isn't
+/// seen any more, and it is said what may be. A writer that fails is passed over.
 fn report_unread<R: Files, W: Write>(files: &R, err: &mut W, name: Option<&str>, most: u64) {
     let Some(name) = name else {
         return;
@@ -96,11 +108,15 @@ fn report_unread<R: Files, W: Write>(files: &R, err: &mut W, name: Option<&str>,
                 "{shown}: it has {bytes} bytes, and {most} are read at most; cut it"
             )
         }
-        Ok(found) if found.is_file() => match fs::open(files, path) {
-            Err(error) => writeln!(err, "{shown}: {error}"),
-            Ok(_) => Ok(()),
+        Ok(found) if found.is_file() => match first_fault(files, path) {
+            Some(error) => writeln!(err, "{shown}: {error}"),
+            None => Ok(()),
         },
-        Ok(_) => Ok(()),
+        Ok(_) if most < u64::MAX => writeln!(
+            err,
+            "{shown}: it is no file; a read of it failed, or it has more than {most} bytes"
+        ),
+        Ok(_) => writeln!(err, "{shown}: it is no file; a read of it failed"),
     };
 }
 
@@ -126,10 +142,10 @@ fn report_files<R: Files, W: Write>(files: &R, err: &mut W, texts: Texts<'_>) {
 /// Tells of a plan what explains it. A writer that fails is passed over.
 fn report_plan<W: Write>(err: &mut W, plan: Option<&str>) {
     if let Some(plan) = plan {
-        let shown = shown_name(plan);
+        let (shown, word) = (shown_name(plan), shown_word(plan));
         let _ = writeln!(
             err,
-            "{shown}: flashplan explain {plan} says what is wrong, and what would mend it"
+            "{shown}: flashplan explain {word} says what is wrong, and what would mend it"
         );
     }
 }
@@ -142,13 +158,28 @@ fn report_sheet<W: Write>(err: &mut W, sheet: Option<&str>) {
     }
 }
 
-/// Tells which file couldn't be written. A writer that fails is passed over.
-fn report_output<W: Write>(err: &mut W, output: Option<&str>) {
-    if let Some(output) = output {
-        let _ = writeln!(
-            err,
-            "{output}: it stays as it was, since {output}.part beside it can't be written, or not take its name"
-        );
+/// Tells where the first row is that was refused, and what it has. A writer that fails is passed over.
+fn report_refused<R: Files, W: Write>(
+    files: &R,
+    err: &mut W,
+    script: Option<&str>,
+    record: &str,
+    number: &str,
+) {
+    if let Ok(number) = number.parse::<u8>()
+        && let Some(named) = refusal_name(number)
+    {
+        report_record(files, err, script, record, named.meaning);
+    }
+}
+
+/// Tells why standard output took no more, where a write of it failed; nothing where its reader went away. A writer that
+/// fails is passed over.
+pub fn report_unwritten<W: Write>(err: &mut W, error: Option<&io::Error>) {
+    if let Some(error) = error
+        && error.kind() != ErrorKind::BrokenPipe
+    {
+        let _ = writeln!(err, "standard output: {error}");
     }
 }
 
@@ -177,15 +208,24 @@ fn words_in(line: &str) -> [&str; 7] {
 }
 
 /// Tells more of a line that reported a refusal; nothing of any other line.
-fn report_line<R: Files, W: Write>(files: &R, err: &mut W, line: &str, texts: Texts<'_>) {
+fn report_line<R: Files, W: Write>(
+    files: &R,
+    alloc: Global,
+    err: &mut W,
+    line: &str,
+    texts: Texts<'_>,
+) {
     match words_in(line) {
         ["error", "2" | "3" | "18", ..] => report_plan(err, texts.plan),
-        ["error", "19", _, record, ..] => report_record(files, err, texts.script, record, FORM),
+        ["error", "4", ..] => report_dies(files, alloc, err, texts),
+        ["error", "5", ..] => report_tasks(files, alloc, err, texts),
+        ["error", "19", _, record, cause, ..] => {
+            report_row(files, alloc, err, texts, record, cause);
+        }
         ["error", "20", _, record, ..] => report_record(files, err, texts.report, record, FORM),
         ["error", "21", ..] => report_files(files, err, texts),
-        ["error", "22", _, "", ..] => report_output(err, texts.output),
-        ["refused", _, "first", "line", record, ..] => {
-            report_record(files, err, texts.script, record, REFUSALS);
+        ["refused", _, "first", "line", record, _, number] => {
+            report_refused(files, err, texts.script, record, number);
         }
         ["error:", "the", "checkpoint,", "record", record, ..]
         | ["error:", "the", "checkpoint,", "die", _, "record", record] => {
@@ -217,12 +257,18 @@ fn report_named_trace<W: Write>(err: &mut W, line: &str, trace: &str) {
     }
 }
 
-/// Tells more of what was reported of a command, line by line: of each refusal the file, the place in it, and what to
-/// do; of files that can't be opened why. It is meant for a terminal, which has shown the report. Files are opened once
-/// more, but for pipes, and read up to the place. A writer that fails is passed over.
-pub fn report_more<R: Files, W: Write>(files: &R, err: &mut W, said: &str, texts: Texts<'_>) {
+/// Tells more of what was reported of a command, line by line: of each refusal the file, the place in it, the cause, and
+/// what to do; of files that can't be opened why. Files are opened once more, but for pipes, and read up to the place. A
+/// writer that fails is passed over.
+pub fn report_more<R: Files, W: Write>(
+    files: &R,
+    alloc: Global,
+    err: &mut W,
+    said: &str,
+    texts: Texts<'_>,
+) {
     for line in said.lines() {
-        report_line(files, err, line, texts);
+        report_line(files, alloc, err, line, texts);
         for trace in texts.traces {
             report_named_trace(err, line, trace);
         }
@@ -231,6 +277,7 @@ pub fn report_more<R: Files, W: Write>(files: &R, err: &mut W, said: &str, texts
                 let report = Some(*name);
                 report_line(
                     files,
+                    alloc,
                     err,
                     of_it,
                     Texts {

@@ -83,7 +83,7 @@ fn name<'a>(alloc: Global) -> Command<'a>
             "Ends with 0 where all went well, 1 where a text, a file or memory is refused, 2 for a fault of the\n\
              words, 3 where a certificate is refused.\n\n\
              Example: flashrec run plan.toml script.csv --slots 1000\n\
-             docs/TEXTS.md has what plans, scripts and reports say",
+             man maulgreen-texts has what plans, scripts and reports say",
         )
 }
 

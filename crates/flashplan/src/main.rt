@@ -1,13 +1,18 @@
 //! The program `flashplan`.
 #![tactic(auto)]
 
+mod places;
 mod whole_files;
 
 ghost use Rattle.tool_command_words.specs.RequestTexts.{RequestFits};
 
-use flash_commands::{Heard, Shown, WatchedDisk, end, own_words, report_more, show};
+use flash_commands::{
+    Fault, Heard, Noted, Shown, WatchedDisk, end, own_words, report_more, report_unwritten, show,
+};
+use slot_types::Refusal;
 use std::alloc::Global;
-use std::io::{IsTerminal, Write};
+use std::io;
+use std::io::{ErrorKind, IsTerminal, Write};
 use std::process::ExitCode;
 use std::rt::{Clock, Files};
 use text_base::{Flagged, Output};
@@ -23,8 +28,8 @@ fn shown_of(asked: &Asked<'_>, is_terminal: bool) -> Shown {
     }
 }
 
-/// Carries out what is asked for on the files of the system, and answers the status. `more` gets, where that is a
-/// terminal, what it is shown beside what `err` gets.
+/// Carries out what is asked for on the files of the system, and answers the status. `more` gets the file, the place in
+/// it, and the cause of what `err` gets.
 fn carry_out<R: Files + Clock + Eprint, W: Output, E: Write + Drop>(
     rt: &R,
     alloc: Global,
@@ -40,15 +45,24 @@ fn carry_out<R: Files + Clock + Eprint, W: Output, E: Write + Drop>(
     let folder = WatchedDisk::new(rt, shown_of(asked, is_terminal));
     let shelf = DiskShelf::new(rt, alloc);
     let status = act_asked(alloc, &folder, &shelf, asked, out, &mut heard);
-    if is_terminal {
-        report_more(rt, more, heard.lines(), texts_of(asked));
-    }
+    report_more(rt, alloc, more, heard.lines(), texts_of(asked));
     status
+}
+
+/// Reports that standard output took no more, and why; nothing where its reader went away, as of `| head`. A writer that
+/// fails is passed over.
+fn tell_unwritten<W: Write>(err: &mut W, error: Option<&io::Error>) {
+    if let Some(fault) = error
+        && fault.kind() != ErrorKind::BrokenPipe
+    {
+        let _ = end(err, Err(Fault::Refused(Refusal::WriteFault)));
+        report_unwritten(err, error);
+    }
 }
 
 fn main(rt: HostRuntime) -> ExitCode {
     let alloc = rt.alloc();
-    let (mut out, mut err) = (Flagged::new(rt.stdout()), rt.stderr());
+    let (mut out, mut err) = (Flagged::new(Noted::new(rt.stdout())), rt.stderr());
     let is_terminal = err.is_terminal();
     let status = match own_words(&rt, alloc, "flashplan") {
         Ok(words) => match read_words(alloc, words.as_slice()) {
@@ -65,5 +79,6 @@ fn main(rt: HostRuntime) -> ExitCode {
         },
         Err(fault) => end(&mut err, Err(fault)),
     };
+    tell_unwritten(&mut err, out.get_ref().error());
     ExitCode::from(status)
 }

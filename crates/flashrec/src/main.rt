@@ -3,7 +3,8 @@
 
 pub use flash_commands::{Command, act, read_words};
 use flash_commands::{
-    Fault, Flagged, Heard, Shown, Texts, WatchedDisk, end, open, own_words, report_more, show,
+    Fault, Flagged, Heard, Noted, Shown, Texts, WatchedDisk, end, open, own_words, report_more,
+    report_unwritten, show,
 };
 use std::io::IsTerminal;
 use std::process::ExitCode;
@@ -12,9 +13,15 @@ use std::process::ExitCode;
 fn texts_of(command: Command<'_>) -> Texts<'_> {
     match command {
         Command::Alone => Texts::NONE,
-        Command::Run { plan, script, .. } => Texts {
+        Command::Run {
+            plan,
+            script,
+            slots,
+            ..
+        } => Texts {
             plan: Some(plan),
             script: Some(script),
+            slots: Some(slots.count),
             ..Texts::NONE
         },
         Command::Audit { report } => Texts {
@@ -30,7 +37,7 @@ fn texts_of(command: Command<'_>) -> Texts<'_> {
 
 fn main(rt: HostRuntime) -> ExitCode {
     let alloc = rt.alloc();
-    let (mut out, mut err) = (Flagged::new(rt.stdout()), rt.stderr());
+    let (mut out, mut err) = (Flagged::new(Noted::new(rt.stdout())), rt.stderr());
     let is_terminal = err.is_terminal();
     let shown = if is_terminal {
         Shown::Bytes
@@ -47,9 +54,8 @@ fn main(rt: HostRuntime) -> ExitCode {
                     }
                     Err(refusal) => end(&mut heard, Err(Fault::Refused(refusal))),
                 };
-                if is_terminal {
-                    report_more(&rt, &mut err, heard.lines(), texts_of(command));
-                }
+                report_more(&rt, alloc, &mut err, heard.lines(), texts_of(command));
+                report_unwritten(&mut err, out.get_ref().error());
                 status
             }
             Err(error) => show(&rt, &mut err, error),

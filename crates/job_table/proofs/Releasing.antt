@@ -39,7 +39,7 @@ popped now (k ∷ ks) rest w e f =
 pub record IsStep (jobs : List JobRecord) (now : ℕ) (old rest : List WaitKey) (ready ready' : List Key) (spare : ℕ) : Type 0 where
   pub roomy : IsRoomy rest ready' spare
   pub queued : AreQueued jobs now rest ready'
-  pub fewer : length rest < length old
+  pub one_fewer : length old ≡ suc (length rest)
 
 pub release_step : (jobs : List JobRecord) (now : ℕ) (old rest : List WaitKey) (ready : List Key) (spare spare' : ℕ) (w : WaitKey)
     (job : JobRecord) (due : ℕ)
@@ -63,7 +63,7 @@ release_step jobs now old rest ready spare spare' w job due first_is rest_is rea
       };
       queued = release_one jobs now w rest ready due pop.released
           (λ other at_w. due_is ∙ ap (λ j. j.due) (read ∙ get_or_from_slice_get jobs w.number other job at_w)) rising q;
-      fewer = omega arith;
+      one_fewer = len;
     }
 
 -- where none is popped, all are released later

@@ -8,11 +8,13 @@ use Rattle.due_queue.specs.Keys.{is_due_before, is_released_before}
 use Rattle.job_table.specs.Jobs.{JobRecord, is_pending}
 use Rattle.job_table.specs.Order.{due_key, release_key}
 
--- the keys in the two queues, and for how many more jobs there is room
+-- the keys in the two queues, for how many more jobs there is room, and for how many there is memory where none stands in
+-- them
 pub record Lines : Type 0 where
   pub waiting : List WaitKey
   pub ready : List Key
   pub room : ℕ
+  pub memory : ℕ
 
 -- the keys rise, and each that waits has room among the released ones
 pub record IsRoomy (waiting : List WaitKey) (ready : List Key) (spare : ℕ) : Type 0 where

@@ -24,12 +24,18 @@ abbrev pub reserve_with : ℕ → ℕ → Reserve → Reserve
 reserve_with arrivals operations reserve =
     record { arrivals = max reserve.arrivals arrivals; operations = max reserve.operations operations }
 
--- jobs by number, in memory of which so much is reserved
+-- jobs by number, in memory of which so much is reserved, and so much once all are taken away
 pub record KeptJobs : Type 0 where
   pub jobs : List JobRecord
   pub reserve : Reserve
+  pub lasting : Reserve
 
--- the rows have room for the arrivals, and the bytes of reads have it for all operations
-pub record HasReserve (reserve : Reserve) (rows row_capacity reads read_capacity : ℕ) : Type 0 where
+-- the rows have room for the arrivals, and the bytes of reads have it for all operations: for those that are reserved
+-- beside what stands, and for those that last once it is empty, which are no fewer
+pub record HasReserve (reserve lasting : Reserve) (rows row_capacity reads read_capacity : ℕ) : Type 0 where
   pub for_rows : rows + reserve.arrivals ≤ row_capacity
   pub for_reads : reads + reserve.operations ≤ read_capacity
+  pub rows_last : lasting.arrivals ≤ row_capacity
+  pub reads_last : lasting.operations ≤ read_capacity
+  pub most_arrivals : reserve.arrivals ≤ lasting.arrivals
+  pub most_operations : reserve.operations ≤ lasting.operations

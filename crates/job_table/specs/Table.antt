@@ -5,20 +5,22 @@ use Rattle.job_table.specs.Jobs.{JobRecord, is_pending, reads_next}
 use Rattle.job_table.specs.Reserves.{Reserve, no_reserve, reserve_after}
 
 -- how many tasks there are, the slot up to which releases were looked at, whether the die has stopped, the jobs and
--- collections by number, and for how many more memory is reserved
+-- collections by number, for how many more memory is reserved, and for how many there is memory once all are taken away:
+-- as many as were ever reserved
 pub record Table : Type 0 where
   pub tasks : ℕ
   pub clock : ℕ
   pub ended : Bool
   pub jobs : List JobRecord
   pub reserve : Reserve
+  pub lasting : Reserve
 
 abbrev pub empty_table : ℕ → Table
-empty_table tasks = record { tasks = tasks; clock = 0; ended = false; jobs = []; reserve = no_reserve }
+empty_table tasks = record { tasks = tasks; clock = 0; ended = false; jobs = []; reserve = no_reserve; lasting = no_reserve }
 
--- without jobs, at slot 0 again; what is reserved stays
+-- without jobs, at slot 0 again; as much is reserved again as ever was
 abbrev pub cleared_table : Table → Table
-cleared_table table = record (empty_table table.tasks) { reserve = table.reserve }
+cleared_table table = record (empty_table table.tasks) { reserve = table.lasting; lasting = table.lasting }
 
 -- one more, under the next number, for which what is reserved is used
 abbrev pub with_job : Table → JobRecord → Table

@@ -62,7 +62,10 @@ impl<'a> CountedOps<'a> {
     /// Refused with `NoMemory`, none is added.
     pub(crate) fn add_to(&self, list: &mut OpArena) -> Result<(), Refusal>
         ensures ok { OnOk result (list.new
-            ≡ record { ops = list.old.ops ++ self.now; room = list.old.room - length self.now }) }
+            ≡ record list.old {
+              ops = list.old.ops ++ self.now;
+              room = list.old.room - length self.now;
+            }) }
         ensures refused { FailsForMemory result }
         ensures succeeds { length self.now ≤ list.old.room → IsOk result }
         ensures err { OnErr result (list.new ≡ list.old) }

@@ -34,6 +34,8 @@ pub(crate) struct FlatJobs {
     all_reads: u32,
     /// For how many more jobs memory is reserved.
     arrivals: u32,
+    /// For how many there is memory where none stands.
+    lasting_arrivals: u32,
 }
 
 impl Model for FlatJobs {
@@ -48,13 +50,15 @@ impl Model for FlatJobs {
     ghost view = { λ j. record {
       jobs = jobs_at j.ops.ops j.reads.items j.rows.items;
       reserve = record { arrivals = j.arrivals; operations = j.ops.room };
+      lasting = record { arrivals = j.lasting_arrivals; operations = j.ops.lasting };
     } };
 
     ghost invariant = { λ j. AreLaid j.rows.items j.ops.ops j.reads.items j.placed
         × HaveRoom j.rows.items j.ops.ops j.reads.items j.all_reads j.placed (vec_capacity j.reads)
         × HasFewOps j.rows.items j.ops.ops
-        × HasReserve (record { arrivals = j.arrivals; operations = j.ops.room }) (vec_len j.rows) (vec_capacity j.rows)
-        j.all_reads (vec_capacity j.reads) };
+        × HasReserve (record { arrivals = j.arrivals; operations = j.ops.room })
+        (record { arrivals = j.lasting_arrivals; operations = j.ops.lasting })
+        (vec_len j.rows) (vec_capacity j.rows) j.all_reads (vec_capacity j.reads) };
 }
 
 /// Fills so many places, in room that was made.
@@ -124,7 +128,8 @@ fn next_writes(row: &Row, ops: &OpArena) -> u8
 impl FlatJobs {
     /// No job. It takes no memory.
     pub(crate) fn new(alloc: Global) -> FlatJobs
-        ensures { result ≡ record { jobs = []; reserve = no_reserve } }
+        ensures { result
+            ≡ record { jobs = []; reserve = no_reserve; lasting = no_reserve } }
     {
         FlatJobs {
             rows: Vec::new(alloc),
@@ -133,18 +138,20 @@ impl FlatJobs {
             placed: 0,
             all_reads: 0,
             arrivals: 0,
+            lasting_arrivals: 0,
         }
     }
 
-    /// Takes all jobs away. The memory stays, and so does what is reserved.
+    /// Takes all jobs away. The memory stays, and as much is reserved again as ever was.
     pub(crate) fn clear(&mut self)
-        ensures { self.new ≡ record self.old { jobs = [] } }
+        ensures { self.new ≡ record self.old { jobs = []; reserve = self.old.lasting } }
     {
         self.rows.clear();
         self.ops.clear();
         self.reads.clear();
         self.placed = 0;
         self.all_reads = 0;
+        self.arrivals = self.lasting_arrivals;
     }
 
     /// How many there are.
@@ -160,6 +167,13 @@ impl FlatJobs {
         ensures { result ≡ self.now.reserve.arrivals }
     {
         self.arrivals
+    }
+
+    /// For how many there is memory where none stands.
+    pub(crate) fn lasting_arrivals(&self) -> u32
+        ensures { result ≡ self.now.lasting.arrivals }
+    {
+        self.lasting_arrivals
     }
 
     /// For how many operations of these memory is reserved, in all.
@@ -196,20 +210,21 @@ impl FlatJobs {
     pub(crate) fn reserve(&mut self, arrivals: u32, operations: u32) -> Result<(), Refusal>
         ensures ok { OnOk result (self.new ≡ record self.old {
           reserve = reserve_with arrivals operations self.old.reserve;
+          lasting = reserve_with arrivals operations self.old.lasting;
         }) }
         ensures refused { FailsForMemory result }
         ensures succeeds { arrivals ≤ self.old.reserve.arrivals
             → operations ≤ self.old.reserve.operations → IsOk result }
         ensures err { OnErr result (self.new ≡ self.old) }
     {
-        let arrivals = self.arrivals.max(arrivals);
-        let operations = self.ops.room().max(operations as usize);
-        self.rows.reserve(arrivals as usize)?;
+        let most = self.arrivals.max(arrivals);
+        let most_operations = self.ops.room().max(operations as usize);
+        self.rows.reserve(most as usize)?;
         // Each of the operations may be a read.
-        self.reads
-            .reserve(self.all_reads as usize + operations - self.reads.len())?;
-        self.ops.reserve(operations)?;
-        self.arrivals = arrivals;
+        self.reads.reserve(self.all_reads as usize + most_operations - self.reads.len())?;
+        self.ops.reserve(operations as usize)?;
+        self.arrivals = most;
+        self.lasting_arrivals = self.lasting_arrivals.max(arrivals);
         Ok(())
     }
 
@@ -219,7 +234,7 @@ impl FlatJobs {
     pub(crate) fn push(&mut self, head: &JobHead, ops: &CountedOps) -> Result<u32, Refusal>
         requires few { length self.old.jobs < MAX_JOBS }
         requires few_ops { length ops.now ≤ MAX_OPS }
-        ensures ok { OnOk result (self.new ≡ record {
+        ensures ok { OnOk result (self.new ≡ record self.old {
           jobs = self.old.jobs ++ job_of head.now ops.now ∷ [];
           reserve = reserve_after (length ops.now) self.old.reserve;
         }) }

@@ -53,10 +53,11 @@ impl Model for JobTable {
       ended = t.ended;
       jobs = t.jobs.jobs;
       reserve = t.jobs.reserve;
+      lasting = t.jobs.lasting;
     } };
 
     ghost invariant = { λ t. IsSoundTable t.jobs.jobs t.clock t.ended t.collecting.items t.queues t.worst
-        × HasQueueRoom t.jobs.reserve.arrivals t.queues };
+        × HasQueueRoom t.jobs.reserve.arrivals t.jobs.lasting.arrivals t.queues };
 }
 
 impl JobTable {
@@ -76,8 +77,8 @@ impl JobTable {
         })
     }
 
-    /// Takes all jobs and collections away, at slot 0 again. The table keeps its memory for those that come, and what is
-    /// reserved.
+    /// Takes all jobs and collections away, at slot 0 again. The table keeps its memory for those that come, and as much
+    /// is reserved again as ever was. It takes none.
     pub fn clear(&mut self)
         ensures { self.new ≡ cleared_table self.old }
     {
@@ -184,10 +185,12 @@ impl JobTable {
     }
 
     /// Reserves memory for so many more jobs and collections with so many operations in all, if it isn't for as many
-    /// already. Then this isn't refused. Refused with `NoMemory`, nothing changes.
+    /// already. Then this isn't refused. It lasts: each [`clear`](JobTable::clear) reserves as much again. Refused with
+    /// `NoMemory`, nothing changes.
     pub fn reserve(&mut self, arrivals: u32, operations: u32) -> Result<(), Refusal>
         ensures ok { OnOk result (self.new ≡ record self.old {
           reserve = reserve_with arrivals operations self.old.reserve;
+          lasting = reserve_with arrivals operations self.old.lasting;
         }) }
         ensures refused { FailsForMemory result }
         ensures succeeds { arrivals ≤ self.old.reserve.arrivals
@@ -203,6 +206,13 @@ impl JobTable {
         ensures { result ≡ self.now.reserve.arrivals }
     {
         self.jobs.reserved_arrivals()
+    }
+
+    /// For how many jobs and collections memory is reserved once all are taken away: for as many as it ever was.
+    pub fn lasting_arrivals(&self) -> u32
+        ensures { result ≡ self.now.lasting.arrivals }
+    {
+        self.jobs.lasting_arrivals()
     }
 
     /// For how many operations of these memory is reserved, in all.

@@ -21,7 +21,7 @@ pub(crate) struct Queues {
 }
 
 impl Model for Queues {
-    ghost use Rattle.std.specs.Prelude.{◌-◌, min, length};
+    ghost use Rattle.std.specs.Prelude.{◌+◌, ◌-◌, min, length};
     ghost use Rattle.job_table.specs.QueuedKeys.{Lines, IsRoomy};
 
     ghost Value = { Lines };
@@ -30,6 +30,7 @@ impl Model for Queues {
       waiting = q.waiting.keys;
       ready = q.ready.keys;
       room = min q.waiting.spare (q.ready.spare - length q.waiting.keys);
+      memory = min (q.waiting.spare + length q.waiting.keys) (q.ready.spare + length q.ready.keys);
     } };
 
     ghost invariant = { λ q. IsRoomy q.waiting.keys q.ready.keys q.ready.spare };
@@ -38,7 +39,7 @@ impl Model for Queues {
 impl Queues {
     /// Nobody waits. It takes no memory.
     pub(crate) fn new(alloc: Global) -> Queues
-        ensures { result ≡ record { waiting = []; ready = []; room = 0 } }
+        ensures { result ≡ record { waiting = []; ready = []; room = 0; memory = 0 } }
     {
         Queues {
             waiting: WaitList::new(alloc),
@@ -46,11 +47,12 @@ impl Queues {
         }
     }
 
-    /// Takes all keys away.
+    /// Takes all keys away. The memory stays, and all of it is room again.
     pub(crate) fn clear(&mut self)
         ensures waiting { self.new.waiting ≡ [] }
         ensures ready { self.new.ready ≡ [] }
-        ensures room { self.old.room ≤ self.new.room }
+        ensures room { self.new.room ≡ self.old.memory }
+        ensures memory { self.new.memory ≡ self.old.memory }
     {
         self.waiting.clear();
         self.ready.clear();
@@ -64,6 +66,8 @@ impl Queues {
         ensures refused { FailsForMemory result }
         ensures succeeds { count ≤ self.old.room → IsOk result }
         ensures room { self.old.room ≤ self.new.room }
+        ensures lasts { self.new.room ≤ self.new.memory }
+        ensures memory { self.old.memory ≤ self.new.memory }
         ensures waiting { self.new.waiting ≡ self.old.waiting }
         ensures ready { self.new.ready ≡ self.old.ready }
     {
@@ -86,6 +90,7 @@ impl Queues {
             ≡ (if nat_lt clock release then self.old.ready else with_key is_due_before
             (record { due = due; number = number }) self.old.ready) }
         ensures room { self.old.room ≤ self.new.room + 1 }
+        ensures memory { self.new.memory ≡ self.old.memory }
     {
         if clock < release {
             self.wait(WaitKey { release, number });
@@ -101,6 +106,7 @@ impl Queues {
         ensures waiting { self.new.waiting ≡ with_key is_released_before key self.old.waiting }
         ensures ready { self.new.ready ≡ self.old.ready }
         ensures taken { self.old.room ≤ self.new.room + 1 }
+        ensures memory { self.new.memory ≡ self.old.memory }
     {
         self.waiting.insert(key);
     }
@@ -112,6 +118,7 @@ impl Queues {
         ensures waiting { self.new.waiting ≡ self.old.waiting }
         ensures ready { self.new.ready ≡ with_key is_due_before key self.old.ready }
         ensures taken { self.old.room ≤ self.new.room + 1 }
+        ensures memory { self.new.memory ≡ self.old.memory }
     {
         self.ready.insert(key);
     }
@@ -123,6 +130,7 @@ impl Queues {
         ensures later { AreLater now self.new.waiting }
         ensures fewer { length self.new.waiting ≤ length self.old.waiting }
         ensures room { self.old.room ≤ self.new.room }
+        ensures memory { self.old.memory ≤ self.new.memory }
     {
         while let Some(key) = self.waiting.pop_released(now) {
             let number = key.number;
@@ -163,6 +171,7 @@ impl Queues {
         ensures waiting { self.new.waiting ≡ self.old.waiting }
         ensures ready { self.new.ready ≡ rest_of self.old.ready }
         ensures room { self.old.room ≤ self.new.room }
+        ensures memory { self.new.memory ≡ self.old.memory }
         ensures rising { IsRising is_due_before self.old.ready }
     {
         let _ = self.ready.pop_first();

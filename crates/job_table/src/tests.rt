@@ -433,16 +433,22 @@ fn reserved_arrivals_take_no_memory(rt: HostRuntime) -> Result<(), Fail> {
 }
 
 #[test]
-fn a_cleared_table_keeps_what_is_reserved(rt: HostRuntime) -> Result<(), Fail> {
+fn a_cleared_table_reserves_again_what_had_been(rt: HostRuntime) -> Result<(), Fail> {
     const STEPS: &[Step] = &[
         Step::Accepts(0, 9, &[R0, R1], 0),
         Step::Reserved(1, 2),
+        Step::Carries(0, &[0, 0]),
         Step::Clears,
-        Step::Reserved(1, 2),
+        Step::Reserved(2, 4),
         Step::Accepts(0, 9, &[R0, R1], 0),
+        // Job 1 waits for its release.
+        Step::Accepts(2, 9, &[R1, R2], 1),
         Step::Reserved(0, 0),
-        Step::Carries(0, &[0, 0, 99]),
+        Step::Carries(0, &[0, 0, 1, 1, 99]),
         Step::Gave(0, &[0, 1]),
+        Step::Gave(1, &[2, 3]),
+        Step::Clears,
+        Step::Reserved(2, 4),
     ];
     assert_eq!(rt;
         first_wrong_of_reserved(&rt, rt.alloc(), 2, 4, STEPS)?,

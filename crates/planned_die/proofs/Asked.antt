@@ -1,5 +1,5 @@
 -- What a die answers an ask, by what it remembers, is what its lives say; and what an ask leaves that the plan doesn't refuse.
-use Rattle.std.proofs.Common.{◌≡◌, ℕ, ◌+◌, ◌<◌, ◌≤◌, false, Bool, List, [], ◌∷◌, ◌++◌, length, get_or, set, map, drop, refl, ap, sym, subst, ◌∙◌, arith, inr}
+use Rattle.std.proofs.Common.{◌≡◌, ℕ, ◌+◌, ◌<◌, ◌≤◌, false, Bool, List, [], ◌∷◌, ◌++◌, length, get_or, set, map, drop, refl, ap, sym, subst, ◌∙◌, arith}
 use Rattle.std.proofs.Common.{Option, None, Ok, Err}
 use Rattle.std.specs.Prelude.{All}
 use Rattle.std.proofs.lemmas.List.{get_or-map, length-map, length-set}
@@ -19,16 +19,15 @@ use Rattle.die_log.specs.Model.Lives.{Lives}
 use Rattle.slot_core.specs.Core.{Core}
 use Rattle.slot_core.specs.Calls.{IsCall}
 use Rattle.planned_log.specs.declared.refusals.AskRefusal.{AskRefusal}
-use Rattle.planned_log.specs.declared.refusals.AskRefusal.TheVariants as asks
 use Rattle.planned_log.specs.Asks.{asked_by, ask_refusals, first_refusal}
 use Rattle.planned_die.specs.declared.memory.AskedJob.{AskedJob}
 use Rattle.planned_die.specs.declared.task_asks.TaskAsks.{TaskAsks}
 use Rattle.planned_die.specs.Remembered.{own_asks, jobs_of, AreKept}
 use Rattle.planned_die.specs.Planned.{Planned, HasLived, IsPlanned}
-use Rattle.planned_die.specs.PlannedCalls.{refusal_in, HasAsked, RefusesAsk}
+use Rattle.planned_die.specs.PlannedCalls.{refusal_in, HasAsked}
 use Rattle.planned_die.proofs.Passing.{kept_later}
 use Rattle.planned_die.proofs.Counting.{refused_alike}
-use Rattle.planned_die.proofs.Cores.{ask_entered, ask_keeps, ask_memory}
+use Rattle.planned_die.proofs.Cores.{ask_entered, ask_keeps, ask_stands, ask_reserved}
 use Rattle.planned_die.proofs.Lived.{ask_lived}
 
 -- the answer by what is remembered is the one by the lives
@@ -58,6 +57,7 @@ pub record IsUnrefused {N : Type 0} (die : Planned N) (task slot deadline : ℕ)
   pub none : (earlier : Lives) → HasLived die earlier → refusal_in die earlier task ops ≡ None
   pub present : slot ≡ now die.core.log
   pub terms : deadline ≡ (terms_of die.terms task).deadline
+  pub some : 1 ≤ length ops
 
 module _ {N : Type 0} (ends : N → NandCall → Bool → N → Type 0) (failures : N → ℕ) (never : Bool) (die : Planned N) (caller task slot deadline : ℕ)
     (ops : List Op) (u : IsUnrefused die task slot deadline ops) (after : Core N) (asked : List (List AskedJob)) where
@@ -106,6 +106,8 @@ module _ {N : Type 0} (ends : N → NandCall → Bool → N → Type 0) (failure
 
       pub asked_planned : IsPlanned die → IsPlanned next
       asked_planned p = record {
+        reserved = ask_reserved ends failures never die.core after die.terms p.earlier die.life die.entered caller task slot deadline ops
+            p.lived.kept u.runs (u.none p.earlier p.lived) u.present u.terms number u.some p.reserved call;
         earlier = p.earlier;
         lived = asked_lived p.earlier p.lived;
         early = p.early;
@@ -120,26 +122,11 @@ module _ {N : Type 0} (ends : N → NandCall → Bool → N → Type 0) (failure
           (omega (arith, ap (λ (k : AskedJob). k.at) job_is, clock_is, ap (λ (core : Core N). now core.log) (has_asked p.earlier p.lived).entered.logged))
           sums_now
 
-  -- it is refused
-  module _ (r : Refusal) (call : IsCall ends failures never caller entry (Err r) die.core after) (back : asked ≡ die.asked) (p : IsPlanned die) where
-    pub asked_stays : next ≡ die
-    asked_stays =
-        let stays : after ≡ die.core =
-        (ask_memory ends failures never die.core after die.terms p.earlier die.life die.entered caller task slot deadline ops p.lived.kept u.runs
-        (u.none p.earlier p.lived) u.present u.terms r call).1 in
-        ap (λ (l : List (List AskedJob)). record die { core = after; asked = l }) back ∙ ap (λ (core : Core N). record die { core = core }) stays
-
-    pub asked_again : IsPlanned next
-    asked_again = subst IsPlanned (sym asked_stays) p
-
-    pub no_memory : (earlier : Lives) → HasLived die earlier → (next ≡ die) × RefusesAsk task ops earlier asks.NoMemory die
-    no_memory earlier h = (asked_stays, inr (inr (u.runs, u.none earlier h, refl)))
-
-    pub still_lived : (earlier : Lives) → HasLived die earlier → HasLived next earlier
-    still_lived earlier h = subst (λ (d : Planned N). HasLived d earlier) (sym asked_stays) h
-
-    pub kept_again : (xs : List TaskAsks) → AreKept die.terms (die.first + now die.core.log) xs → AreKept die.terms (die.first + now after.log) xs
-    kept_again xs kept = subst (λ n. AreKept die.terms n xs) (sym (ap (λ (d : Planned N). d.first + now d.core.log) asked_stays)) kept
+  -- it is never refused
+  pub asked_stands : (r : Refusal) → IsPlanned die → IsCall ends failures never caller entry (Err r) die.core after → ⊥
+  asked_stands r p call =
+      ask_stands ends failures never die.core after die.terms p.earlier die.life die.entered caller task slot deadline ops p.lived.kept u.runs
+      (u.none p.earlier p.lived) u.present u.terms r u.some p.reserved call
 
 -- any of a list that has some
 pub some_of : (xs : List TaskAsks) → 0 < length xs → TaskAsks

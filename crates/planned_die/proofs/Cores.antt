@@ -1,4 +1,4 @@
--- A die that keeps its plan itself: what it takes isn't refused but out of memory, and it keeps its plan with it.
+-- A die that keeps its plan itself: what it takes isn't refused, and it keeps its plan with it.
 use Rattle.std.proofs.Common.{◌≡◌, ℕ, ◌+◌, ◌-◌, ◌<◌, ◌≤◌, Bool, true, false, List, [], ◌∷◌, length, length-append, None, Ok, Err, ap, sym, subst}
 use Rattle.std.proofs.Common.{◌∙◌, inl, inr, arith}
 use Rattle.std.proofs.lemmas.Bool.{true≢false}
@@ -7,7 +7,6 @@ use Rattle.slot_types.specs.declared.events.Op.{Op}
 use Rattle.slot_types.specs.declared.events.Event.{Event}
 use Rattle.slot_types.specs.declared.events.Event.TheVariants as events
 use Rattle.slot_types.specs.declared.refusals.Refusal.{Refusal}
-use Rattle.slot_types.specs.declared.refusals.Refusal.TheVariants.{NoMemory}
 use Rattle.slot_types.specs.declared.replies.Reply.{Reply}
 use Rattle.slot_types.specs.declared.replies.Reply.TheVariants as replies
 use Rattle.flash_die.specs.declared.nand.NandCall.{NandCall}
@@ -20,13 +19,16 @@ use Rattle.die_log.specs.Model.Answers.{answer, refusal_of, IsAccepted, with_ans
 use Rattle.die_log.proofs.Legality.{accepted_answer}
 use Rattle.die_log.proofs.Supply.Unrefused.{entered}
 use Rattle.slot_core.specs.Core.{Core}
-use Rattle.slot_core.specs.Calls.{IsCall, RefusesCall, HasEntered, reserved_after}
-use Rattle.slot_core.proofs.Calling.{has_entered, arrival_stays}
+use Rattle.slot_core.specs.Calls.{IsCall, IsCovered, RefusesCall, HasEntered, reserved_after}
+use Rattle.slot_core.proofs.Calling.{has_entered}
 use Rattle.planned_log.specs.Asks.{asked_job, ask_refusal}
 use Rattle.planned_log.specs.KeptLogs.{comes_at, own_collection}
 use Rattle.planned_log.specs.Laws.{IsKept}
-use Rattle.planned_log.proofs.Kept.{ask_accepted, ask_goes_on, collection_accepted, collection_goes_on, passed_goes_on}
+use Rattle.planned_log.specs.Lives.{most_arrivals, came_in}
+use Rattle.planned_log.proofs.Kept.{few_came, after_accepted, ask_accepted, ask_goes_on, collection_accepted, collection_goes_on, passed_goes_on}
 use Rattle.planned_die.specs.PlannedCalls.{own_calls, with_collections, with_own}
+use Rattle.planned_die.specs.Planned.{IsReservedFor}
+use Rattle.planned_die.proofs.Reserved.{job_covered, collection_covered, entered_reserved}
 use Rattle.planned_die.proofs.Own.{none_own, one_own, not_own, own_more, run_more}
 
 -- the die with another log
@@ -54,11 +56,11 @@ without_any {N} core calls none =
     ∙ ap (λ (l : List (ℕ × Event)). with_collections core l) (sym none)
 
 module _ {N : Type 0} (ends : N → NandCall → Bool → N → Type 0) (failures : N → ℕ) (never : Bool) where
-  -- what the log accepts is refused for memory alone
-  pub only_memory : (caller : ℕ) (event : Event) (before after : Core N) (r : Refusal) → IsArrival event → before.stopped ≡ false
-      → refusal_of before.start before.log event ≡ None
-      → IsCall ends failures never caller event (Err r) before after → r ≡ NoMemory
-  only_memory caller event before after r arrives runs none call = by call.ended
+  -- what the log accepts and memory is reserved for isn't refused
+  pub never_refused : (caller : ℕ) (event : Event) (before after : Core N) (r : Refusal) → IsArrival event → before.stopped ≡ false
+      → refusal_of before.start before.log event ≡ None → IsCovered event before.reserved
+      → IsCall ends failures never caller event (Err r) before after → ⊥
+  never_refused caller event before after r arrives runs none covered call = by call.ended
     where
       taken : IsAccepted (answer before.start before.log event)
       taken = subst IsAccepted (sym (accepted_answer before.start before.log event none)) (entered before.start before.log caller event).0
@@ -66,11 +68,11 @@ module _ {N : Type 0} (ends : N → NandCall → Bool → N → Type 0) (failure
       not_refused : (s : Reply) → IsAccepted s → s ≡ replies.Refused r → ⊥
       not_refused s is e = subst IsAccepted e is
 
-      by : RefusesCall event r before after → r ≡ NoMemory
-      by (inl h) = absurd (not_refused (answer before.start before.log event) taken h.answered)
-      by (inr (inl h)) = h.refusal_is
-      by (inr (inr (inl h))) = absurd (subst IsArrival h.slot arrives)
-      by (inr (inr (inr h))) = absurd (true≢false (sym h.was_stopped ∙ runs))
+      by : RefusesCall event r before after → ⊥
+      by (inl h) = not_refused (answer before.start before.log event) taken h.answered
+      by (inr (inl h)) = h.uncovered covered
+      by (inr (inr (inl h))) = subst IsArrival h.slot arrives
+      by (inr (inr (inr h))) = true≢false (sym h.was_stopped ∙ runs)
 
   -- Asks
 
@@ -98,15 +100,29 @@ module _ {N : Type 0} (ends : N → NandCall → Bool → N → Type 0) (failure
         call.start_stays (ap (λ (c : Core N). c.log) e)
         (ask_goes_on before.start terms earlier life entered_by before.log kept caller task ops none)
 
-    -- a refused one
-    pub ask_memory : (r : Refusal) → IsCall ends failures never caller (events.Submit task now_is (now_is + deadline) ops) (Err r) before after
-        → (r ≡ NoMemory) × (after ≡ before)
-    ask_memory r call =
-        let own = subst (λ (e : Event). IsCall ends failures never caller e (Err r) before after) job_is call in (
-          only_memory caller (asked_job terms before.log task ops) before after r tt runs
-              (ask_accepted before.start terms earlier life entered_by before.log kept task ops none) own,
-          arrival_stays ends failures never caller (asked_job terms before.log task ops) before after r tt own,
-        )
+    -- no more comes with it than a life may have
+    ask_fits : length ops + came_in before.log ≤ most_arrivals terms life
+    ask_fits = omega (
+      arith,
+      few_came before.start terms earlier life entered_by _
+          (ask_goes_on before.start terms earlier life entered_by before.log kept caller task ops none),
+      ap came_in (after_accepted before.start terms earlier life entered_by before.log kept caller (asked_job terms before.log task ops)
+          (ask_accepted before.start terms earlier life entered_by before.log kept task ops none)),
+    )
+
+    -- none is refused, where there is memory for a life
+    pub ask_stands : (r : Refusal) → 1 ≤ length ops → IsReservedFor terms life before
+        → IsCall ends failures never caller (events.Submit task now_is (now_is + deadline) ops) (Err r) before after → ⊥
+    ask_stands r some reserved call = never_refused caller (asked_job terms before.log task ops) before after r tt runs
+        (ask_accepted before.start terms earlier life entered_by before.log kept task ops none)
+        (job_covered terms life before task (now before.log) (now before.log + (terms_of terms task).deadline) ops reserved some ask_fits)
+        (subst (λ (e : Event). IsCall ends failures never caller e (Err r) before after) job_is call)
+
+    pub ask_reserved : (number : ℕ) → 1 ≤ length ops → IsReservedFor terms life before
+        → IsCall ends failures never caller (events.Submit task now_is (now_is + deadline) ops) (Ok (replies.Taken number)) before after
+        → IsReservedFor terms life after
+    ask_reserved number some reserved call = entered_reserved terms life caller (asked_job terms before.log task ops) number before after tt some
+        (ask_entered number call) reserved
 
   -- Collections
 
@@ -157,13 +173,26 @@ module _ {N : Type 0} (ends : N → NandCall → Bool → N → Type 0) (failure
       own_slot number call = ap (λ (c : Core N). now c.log)
           (has_entered ends failures never caller (own_collection terms before.log task) before after number tt (own_call _ call)).logged
 
-      pub own_memory : (r : Refusal) → IsCall ends failures never caller (events.Collect task slot (slot + deadline)) (Err r) before after
-          → (r ≡ NoMemory) × (after ≡ before)
-      own_memory r call = (
-        only_memory caller (own_collection terms before.log task) before after r tt runs
-            (collection_accepted before.start terms earlier life task before.log kept lt early (due_is true due)) (own_call _ call),
-        arrival_stays ends failures never caller (own_collection terms before.log task) before after r tt (own_call _ call),
+      own_fits : 1 + came_in before.log ≤ most_arrivals terms life
+      own_fits = omega (
+        arith,
+        few_came before.start terms earlier life (task + 1) _
+            (collection_goes_on before.start terms earlier life task before.log kept caller lt early (due_is true due)),
+        ap came_in (after_accepted before.start terms earlier life task before.log kept caller (own_collection terms before.log task)
+            (collection_accepted before.start terms earlier life task before.log kept lt early (due_is true due))),
       )
+
+      pub own_stands : (r : Refusal) → IsReservedFor terms life before
+          → IsCall ends failures never caller (events.Collect task slot (slot + deadline)) (Err r) before after → ⊥
+      own_stands r reserved call = never_refused caller (own_collection terms before.log task) before after r tt runs
+          (collection_accepted before.start terms earlier life task before.log kept lt early (due_is true due))
+          (collection_covered terms life before task (now before.log) (now before.log + (terms_of terms task).collect_deadline) reserved own_fits) (own_call _ call)
+
+      pub own_reserved : (number : ℕ) → IsReservedFor terms life before
+          → IsCall ends failures never caller (events.Collect task slot (slot + deadline)) (Ok (replies.Taken number)) before after
+          → IsReservedFor terms life after
+      own_reserved number reserved call = entered_reserved terms life caller (own_collection terms before.log task) number before after tt (omega arith)
+          (has_entered ends failures never caller (own_collection terms before.log task) before after number tt (own_call _ call)) reserved
 
     -- a task that has none
     module _ (not_due : comes_at period slot ≡ false) where

@@ -1,10 +1,12 @@
 mod Sums
 mod Passing
 mod AllAsks
+mod Lists
 mod Waits
 mod Ending
 mod Counting
 mod Own
+mod Reserved
 mod Cores
 mod Slotting
 mod Lived

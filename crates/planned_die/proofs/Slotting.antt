@@ -1,7 +1,9 @@
 -- A slot of a die that keeps its plan itself.
 use Rattle.std.proofs.Common.{◌≡◌, ℕ, ◌<◌, Bool, false, List, length, Ok, Err, refl, ap, sym, subst, ◌∙◌, inl, inr}
+use Rattle.std.proofs.lemmas.Bool.{true≢false}
 use Rattle.slot_types.specs.declared.events.Event.TheVariants as events
 use Rattle.slot_types.specs.declared.refusals.Refusal.{Refusal}
+use Rattle.slot_types.specs.declared.refusals.Refusal.TheVariants.{DeviceFault}
 use Rattle.slot_types.specs.declared.replies.Reply.{Reply}
 use Rattle.slot_types.specs.declared.replies.Reply.TheVariants as replies
 use Rattle.slot_types.specs.declared.replies.SlotReply.{SlotReply}
@@ -9,11 +11,15 @@ use Rattle.flash_die.specs.declared.nand.NandCall.{NandCall}
 use Rattle.demand_rules.specs.declared.terms.Terms.{Terms}
 use Rattle.die_log.specs.Model.Log.{now}
 use Rattle.die_log.specs.Model.Lives.{Lives}
-use Rattle.die_log.specs.Model.Answers.{with_answer, after_call}
+use Rattle.die_log.specs.Model.Answers.{answer, with_answer, after_call, IsAccepted}
 use Rattle.slot_core.specs.Core.{Core}
 use Rattle.slot_core.specs.Calls.{IsCall, RefusesCall}
 use Rattle.planned_log.specs.Laws.{IsKept}
-use Rattle.planned_log.proofs.Kept.{slot_goes_on}
+use Rattle.planned_log.proofs.Kept.{slot_goes_on, slot_accepted}
+use Rattle.die_log.proofs.Legality.{accepted_answer}
+use Rattle.die_log.proofs.Supply.Unrefused as answers
+use Rattle.planned_die.specs.Planned.{IsReservedFor}
+use Rattle.planned_die.proofs.Reserved.{slot_covered}
 use Rattle.planned_die.specs.declared.memory.AskedJob.{AskedJob}
 use Rattle.planned_die.specs.Planned.{Planned}
 use Rattle.planned_die.specs.PlannedCalls.{with_own, with_all_own, HasSlotted, RefusesSlot}
@@ -52,6 +58,27 @@ module _ {N : Type 0} (ends : N → NandCall → Bool → N → Type 0) (failure
   refused_keeps terms earlier life entered caller r between after kept call =
       core_kept between after terms earlier life entered between.log call.start_stays (refused_log caller r between after call) kept
 
+  -- where all collections have come, and memory is reserved, it is refused for a fault alone
+  pub only_fault : (terms : Terms) (earlier : Lives) (life entered caller : ℕ) (r : Refusal) (between after : Core N)
+      → IsKept between.start terms earlier life entered between.log → entered ≡ length between.start.plan.caps → now between.log < life
+      → between.stopped ≡ false → IsReservedFor terms life between
+      → IsCall ends failures never caller events.Slot (Err r) between after → r ≡ DeviceFault
+  only_fault terms earlier life entered caller r between after kept all early runs reserved call = by call.ended
+    where
+      taken : IsAccepted (answer between.start between.log events.Slot)
+      taken = subst IsAccepted
+          (sym (accepted_answer between.start between.log events.Slot (slot_accepted between.start terms earlier life entered between.log kept all early)))
+          (answers.entered between.start between.log caller events.Slot).0
+
+      not_refused : (s : Reply) → IsAccepted s → s ≡ replies.Refused r → ⊥
+      not_refused s is e = subst IsAccepted e is
+
+      by : RefusesCall events.Slot r between after → r ≡ DeviceFault
+      by (inl h) = absurd (not_refused (answer between.start between.log events.Slot) taken h.answered)
+      by (inr (inl h)) = absurd (h.uncovered (slot_covered terms life between reserved early))
+      by (inr (inr (inl h))) = h.refusal_is
+      by (inr (inr (inr h))) = absurd (true≢false (sym h.was_stopped ∙ runs))
+
   -- what the slot of the die below is, once all collections have come
   module _ (terms : Terms) (first : ℕ) (asked : List (List AskedJob)) (caller from to life : ℕ) (core between after : Core N)
       (is : between ≡ with_own caller terms core from to) (all : to ≡ length core.start.plan.caps) where
@@ -66,6 +93,7 @@ module _ {N : Type 0} (ends : N → NandCall → Bool → N → Type 0) (failure
         → HasSlotted ends failures never caller reply (planned core from) (planned after 0)
     slotted reply early call = record { early = early; carried = of_all _ call; stays = refl }
 
-    pub unslotted : (r : Refusal) → core.stopped ≡ false → now core.log < life → IsCall ends failures never caller events.Slot (Err r) between after
+    pub unslotted : (r : Refusal) → core.stopped ≡ false → now core.log < life → r ≡ DeviceFault
+        → IsCall ends failures never caller events.Slot (Err r) between after
         → RefusesSlot ends failures never caller r (planned core from) (planned after to)
-    unslotted r runs early call = inr (inr (inr (runs, early, of_all _ call, ap (planned after) all)))
+    unslotted r runs early fault call = inr (inr (runs, early, fault, of_all _ call, ap (planned after) all))

@@ -38,12 +38,11 @@ pub record HasAsked {N : Type 0} (caller task : ℕ) (ops : List Op) (earlier : 
   pub entered : HasEntered caller (asked_job before.terms before.core.log task ops) number before.core after.core
   pub stays : after ≡ record before { core = after.core; asked = after.asked }
 
--- a fault had stopped the die; or this is the first cause in the plan; or the plan refuses nothing, but memory is refused
+-- a fault had stopped the die; or this is the first cause in the plan. Memory is none.
 abbrev pub RefusesAsk : {N : Type 0} → ℕ → List Op → Lives → AskRefusal → Planned N → Type 0
 RefusesAsk task ops earlier refusal die =
     ((die.core.stopped ≡ true) × (refusal ≡ asks.DieStopped))
     ⊎ ((die.core.stopped ≡ false) × (refusal_in die earlier task ops ≡ Some refusal))
-    ⊎ ((die.core.stopped ≡ false) × (refusal_in die earlier task ops ≡ None) × (refusal ≡ asks.NoMemory))
 
 -- where it is refused nothing changes
 abbrev pub IsAsk : {N : Type 0} → ℕ → ℕ → List Op → Lives → Result ℕ AskRefusal → Planned N → Planned N → Type 0
@@ -78,18 +77,13 @@ pub record HasSlotted {N : Type 0} (ends : N → NandCall → Bool → N → Typ
   pub carried : IsCall ends failures never caller events.Slot (Ok (replies.Slot reply)) (with_all_own caller before) after.core
   pub stays : after ≡ record before { core = after.core; entered = 0 }
 
--- Why a slot is refused, and what it leaves: a fault had stopped the die, or the life has ended; or memory was refused for
--- a collection, and those before it have come; or all have come, and the die below refuses the slot.
+-- Why a slot is refused, and what it leaves: a fault had stopped the die, or the life has ended, and nothing changes; or
+-- all its collections have come, and the device fails, which stops the die. Memory is no cause.
 abbrev pub RefusesSlot : {N : Type 0} → (N → NandCall → Bool → N → Type 0) → (N → ℕ) → Bool → ℕ → Refusal → Planned N → Planned N → Type 0
 RefusesSlot ends failures never caller refusal before after =
     ((before.core.stopped ≡ true) × (refusal ≡ because.DieStopped) × (after ≡ before))
     ⊎ ((before.core.stopped ≡ false) × (before.life ≤ now before.core.log) × (refusal ≡ because.ClockEnd) × (after ≡ before))
-    ⊎ ((before.core.stopped ≡ false) × (now before.core.log < before.life) × (refusal ≡ because.NoMemory)
-    × (after ≡ record before {
-      core = with_own caller before.terms before.core before.entered after.entered;
-      entered = after.entered;
-    }))
-    ⊎ ((before.core.stopped ≡ false) × (now before.core.log < before.life)
+    ⊎ ((before.core.stopped ≡ false) × (now before.core.log < before.life) × (refusal ≡ because.DeviceFault)
     × IsCall ends failures never caller events.Slot (Err refusal) (with_all_own caller before) after.core
     × (after ≡ record before { core = after.core; entered = length before.core.start.plan.caps }))
 

@@ -1,6 +1,7 @@
 -- What a die remembers of its tasks' asks, to answer the next one.
 use Rattle.std.specs.Prelude.{◌≡◌, ℕ, ◌+◌, ◌-◌, ◌%◌, ◌≤◌, ◌<◌, ◌==◌, ◌||◌, nat_le, Bool, if◌then◌else◌, List, [], ◌∷◌, ◌++◌, length, slice_index_or, take, drop}
 use Rattle.std.specs.Prelude.{sum_by, All, Option, Some, None}
+use Rattle.std.specs.VecDeque.{deque_capacity}
 use Rattle.slot_types.specs.declared.plans.DiePlan.{DiePlan}
 use Rattle.demand_rules.specs.declared.terms.TaskTerms.{TaskTerms}
 use Rattle.demand_rules.specs.declared.terms.Terms.{Terms}
@@ -67,6 +68,21 @@ jobs_of t = t.jobs.items
 abbrev pub AreKept : Terms → ℕ → List TaskAsks → Type 0
 AreKept terms clock asked =
     (task : ℕ) (d : TaskAsks) → task < length asked → IsKeptFor (terms_of terms task).period clock (slice_index_or asked task d)
+
+-- Each job has an operation, those that count have no more of them than the task may ask for, and there is room for as
+-- many jobs as that.
+pub record HasMemory (work : ℕ) (t : TaskAsks) : Type 0 where
+  pub some : All (λ j. 1 ≤ j.operations) t.jobs.items
+  pub few : t.operations ≤ work
+  pub room : work ≤ deque_capacity t.jobs
+
+-- so it is of each task
+abbrev pub HaveMemory : Terms → List TaskAsks → Type 0
+HaveMemory terms asked = (task : ℕ) (d : TaskAsks) → task < length asked → HasMemory (terms_of terms task).work (slice_index_or asked task d)
+
+-- a job more may be noted, once those that count no more are dropped
+abbrev pub HasRoomForOne : TaskAsks → Type 0
+HasRoomForOne t = length (drop t.passed t.jobs.items) < deque_capacity t.jobs
 
 -- with so much more the sums are numbers still
 abbrev pub HasRoomFor : TaskAsks → (operations writes : ℕ) → Type 0

@@ -1,26 +1,32 @@
 //! What each task asked for.
 
 ghost use Rattle.std.specs.Prelude.{◌≡◌, ◌+◌, ◌≤◌, ◌<◌, ◌∷◌, ◌++◌, ℕ, List, [], length, slice_index_or, slice_set, drop, map, replicate};
-ghost use Rattle.std.specs.Prelude.{All, IfOk, IfNone, OnOk};
-ghost use Rattle.std.specs.VecDeque.{deque_len, deque_capacity};
-ghost use Rattle.demand_rules.specs.declared.terms.Terms.{Terms};
+ghost use Rattle.std.specs.Prelude.{All, IfOk, IfNone};
 ghost use Rattle.demand_rules.specs.Demand.{terms_of};
 ghost use Rattle.planned_die.specs.declared.task_asks.TaskAsks.{TaskAsks};
-ghost use Rattle.planned_die.specs.Remembered.{own_asks, next_room, jobs_of, AreKept, HasRoomFor};
+ghost use Rattle.planned_die.specs.Remembered.{own_asks, next_room, jobs_of, AreKept, HasRoomFor, HaveMemory, HasRoomForOne};
 
 use crate::memory::AskedJob;
 use crate::task_asks::TaskAsks;
-use demand_rules::TaskTerms;
+use crate::terms::terms_at;
+use demand_rules::{TaskTerms, Terms};
 use std::alloc::{AllocError, Global};
 
-/// Of so many tasks, none of which has asked for anything.
-pub(crate) fn new_asks(alloc: Global, tasks: usize) -> Result<Vec<TaskAsks>, AllocError>
+/// Of so many tasks, none of which has asked for anything, with memory for all that may count of each.
+pub(crate) fn new_asks(
+    alloc: Global,
+    own: &Terms,
+    tasks: usize,
+) -> Result<Vec<TaskAsks>, AllocError>
     ensures jobs { IfOk result (λ asked. map jobs_of asked.items ≡ replicate tasks []) }
     ensures kept { IfOk result (λ asked. (terms : Terms) (clock : ℕ) → AreKept terms clock asked.items) }
+    ensures memory { IfOk result (λ asked. HaveMemory own.now asked.items) }
 {
     let mut asked = Vec::with_capacity(alloc, tasks)?;
-    for _ in 0..tasks {
-        asked.push(TaskAsks::new(alloc))?;
+    for task in 0..tasks {
+        let work = terms_at(own, task).work;
+        let none = TaskAsks::new(alloc, work)?;
+        asked.push(none)?;
     }
     Ok(asked)
 }
@@ -46,36 +52,28 @@ pub(crate) fn too_soon(
     ensures jobs { map jobs_of asked.new.items ≡ map jobs_of asked.old.items }
     ensures kept { (terms : Terms) → own.now ≡ terms_of terms task → AreKept terms clock asked.old.items
         → AreKept terms clock asked.new.items }
+    ensures memory { (terms : Terms) → HaveMemory terms asked.old.items → HaveMemory terms asked.new.items }
     ensures room { IfNone result ((d : TaskAsks)
         → HasRoomFor (slice_index_or asked.new.items task d) ops writes) }
+    ensures few { IfNone result ((d : TaskAsks)
+        → (slice_index_or asked.new.items task d).operations + ops ≤ own.now.work) }
 {
     asked[task].pass(own.period, clock);
     asked[task].next_room(own, first, clock, ops, writes)
 }
 
-/// Takes the memory for a job more of the task.
-pub(crate) fn reserve_job(asked: &mut Vec<TaskAsks>, task: usize) -> Result<(), AllocError>
-    requires task { task < length asked.old.items }
-    ensures jobs { map jobs_of asked.new.items ≡ map jobs_of asked.old.items }
-    ensures kept { (terms : Terms) (clock : ℕ) → AreKept terms clock asked.old.items
-        → AreKept terms clock asked.new.items }
-    ensures same { (d : TaskAsks) (ops writes : ℕ) → HasRoomFor (slice_index_or asked.old.items task d) ops writes
-        → HasRoomFor (slice_index_or asked.new.items task d) ops writes }
-    ensures memory { OnOk result ((d : TaskAsks) → deque_len (slice_index_or asked.new.items task d).jobs
-        < deque_capacity (slice_index_or asked.new.items task d).jobs) }
-{
-    asked[task].reserve()
-}
-
-/// Notes a job of the task that comes now, and drops those that count no more.
+/// Notes a job of the task that comes now, and drops those that count no more. It takes no memory.
 pub(crate) fn note_job(asked: &mut Vec<TaskAsks>, task: usize, job: AskedJob)
     requires task { task < length asked.old.items }
-    requires memory { (d : TaskAsks) → deque_len (slice_index_or asked.old.items task d).jobs
-        < deque_capacity (slice_index_or asked.old.items task d).jobs }
+    requires memory { (d : TaskAsks) → HasRoomForOne (slice_index_or asked.old.items task d) }
     requires room { (d : TaskAsks) → HasRoomFor (slice_index_or asked.old.items task d) job.operations job.writes }
     ensures jobs { (d : TaskAsks) → let t = slice_index_or asked.old.items task d in
         map jobs_of asked.new.items ≡ slice_set (map jobs_of asked.old.items) task (drop t.passed t.jobs.items ++ job ∷ []) }
     ensures kept { (terms : Terms) → AreKept terms job.at asked.old.items → AreKept terms job.at asked.new.items }
+    ensures memory_stays { (terms : Terms) → 1 ≤ job.operations
+        → ((d : TaskAsks) → (slice_index_or asked.old.items task d).operations + job.operations
+        ≤ (terms_of terms task).work)
+        → HaveMemory terms asked.old.items → HaveMemory terms asked.new.items }
 {
     asked[task].note(job)
 }

@@ -4,7 +4,7 @@ ghost use Rattle.die_log.specs.Model.Lives.{Lives};
 ghost use Rattle.planned_die.specs.Planned.{HasLived};
 ghost use Rattle.planned_die.specs.PlannedCalls.{IsAsk};
 
-use crate::all_asks::{note_job, reserve_job};
+use crate::all_asks::note_job;
 use crate::memory::job_of;
 use crate::planned_die::PlannedDie;
 use crate::rooms::why_refused;
@@ -22,8 +22,8 @@ impl<N: Nand> PlannedDie<N> {
     /// `EmptyJob`; `TooManyOps`, above 64 or the task's `work`; `BadPage`, with the first page that the die doesn't
     /// have; `TooManyWrites`, above the task's `writes`; `TooSoon`, where with what the task asked for in the last
     /// `period` slots it would be more than its `work` or its `writes`, with the first slot in which it isn't; `LifeEnd`,
-    /// where the job would be due after the last slot of the die's life; `NoMemory`. There is no other: tokens, numbers
-    /// and deadlines are never lacking.
+    /// where the job would be due after the last slot of the die's life. There is no other: tokens, numbers, deadlines
+    /// and memory are never lacking, and it takes no memory.
     pub fn ask(
         &mut self,
         alloc: Global,
@@ -53,10 +53,6 @@ impl<N: Nand> PlannedDie<N> {
             None => {}
         }
         let own = task.0 as usize;
-        match reserve_job(&mut self.asked, own) {
-            Ok(()) => {}
-            Err(_) => return Err(AskRefusal::NoMemory),
-        }
         let deadline = terms_at(&self.terms, own).deadline;
         let clock = self.first + u64::from(now);
         match self
@@ -67,7 +63,8 @@ impl<N: Nand> PlannedDie<N> {
                 note_job(&mut self.asked, own, job_of(clock, ops));
                 Ok(number)
             }
-            Err(_) => Err(AskRefusal::NoMemory),
+            // What its task's part of the plan allows no plan refuses, and memory is reserved for it.
+            Err(_) => unreachable!(),
         }
     }
 }

@@ -3,7 +3,7 @@
 ghost use Rattle.std.specs.Prelude.{◌≡◌, ◌≤◌, ◌↔◌, ℕ, length, sum_by, All, IsTrue, IfSome, IfNone};
 ghost use Rattle.std.specs.List.{list_all};
 ghost use Rattle.demand_rules.specs.Demand.{IsTaskTerms, HasTerms, periods_within};
-ghost use Rattle.planned_log.specs.Lives.{task_arrivals, IsLife};
+ghost use Rattle.planned_log.specs.Lives.{task_arrivals, most_arrivals, IsLife};
 ghost use Rattle.planned_die.specs.Remembered.{ends_well};
 ghost use Rattle.planned_die.specs.NewPlans.{IsSomeLife};
 
@@ -56,6 +56,17 @@ fn is_well(task: &TaskTerms, slots: u32) -> bool
         None => slots,
     };
     past == 0 || task.collect_deadline <= past
+}
+
+/// How many jobs and collections may come in a life, with as many operations at most.
+pub(crate) fn most_arrivals(plan: &DiePlan, terms: &Terms, life: u32) -> u32
+    requires has { HasTerms plan.now terms.now }
+    requires few { length plan.now.caps ≤ 16 }
+    requires life { IsLife plan.now terms.now life }
+    ensures { result ≡ most_arrivals terms.now life }
+{
+    let _caps = &plan.caps;
+    count(terms.tasks.as_slice(), life) as u32
 }
 
 fn are_well(tasks: &[TaskTerms], slots: u32) -> bool

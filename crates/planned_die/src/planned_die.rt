@@ -10,14 +10,14 @@ ghost use Rattle.die_log.specs.Model.Start.{fresh};
 ghost use Rattle.die_log.specs.Model.Lives.{Lives};
 ghost use Rattle.die_log.specs.Results.InTime.{IsInTime};
 ghost use Rattle.die_log.specs.Results.Promises.{KeepsPromises};
-ghost use Rattle.slot_core.specs.Core.{nothing_reserved, with_slots};
+ghost use Rattle.slot_core.specs.Core.{nothing_reserved, with_slots, with_arrivals};
 ghost use Rattle.slot_core.specs.Outcomes.{worst_of};
 ghost use Rattle.planned_log.specs.Laws.{AreDoneInTime};
-ghost use Rattle.planned_die.specs.Planned.{HasLived};
+ghost use Rattle.planned_die.specs.Planned.{HasLived, IsReservedFor, with_life};
 ghost use Rattle.planned_die.specs.NewPlans.{RefusesPlan, IsSomeLife};
 
 use crate::all_asks::new_asks;
-use crate::life::life_of;
+use crate::life::{life_of, most_arrivals};
 use crate::refusals::PlanRefusal;
 use crate::task_asks::TaskAsks;
 use demand_rules::{Terms, terms_test};
@@ -52,7 +52,7 @@ impl<N: Nand> Model for PlannedDie<N> {
     ghost use Rattle.std.specs.Prelude.{◌+◌, map};
     ghost use Rattle.die_log.specs.Model.Log.{now};
     ghost use Rattle.planned_die.specs.Planned.{Planned, IsPlanned};
-    ghost use Rattle.planned_die.specs.Remembered.{jobs_of, AreKept};
+    ghost use Rattle.planned_die.specs.Remembered.{jobs_of, AreKept, HaveMemory};
 
     ghost Value = { Planned N };
 
@@ -72,15 +72,27 @@ impl<N: Nand> Model for PlannedDie<N> {
       entered = d.entered;
       first = d.first;
       asked = map jobs_of d.asked.items;
-    }) × AreKept d.terms (d.first + now d.core.log) d.asked.items };
+    }) × AreKept d.terms (d.first + now d.core.log) d.asked.items × HaveMemory d.terms d.asked.items };
+}
+
+/// Takes the memory for so many slots, and for so many jobs and collections with as many operations in all.
+fn reserve_life<N: Nand>(core: &mut DieCore<N>, slots: u32, most: u32) -> Result<(), Refusal>
+    ensures ok { OnOk result (core.new ≡ with_slots slots (with_arrivals most most core.old)) }
+    ensures refused { FailsForMemory result }
+{
+    core.reserve_arrivals(most, most)?;
+    core.reserve(slots)
 }
 
 impl<N: Nand> PlannedDie<N> {
-    /// A die on which nothing was done, at slot 0, with lives of at most so many slots: of the longest such life.
+    /// A die on which nothing was done, at slot 0, with lives of at most so many slots: of the longest such life. It takes
+    /// all memory that it ever needs: for the slots of a life, for as many jobs, collections and operations as may come in
+    /// it, and for as many jobs of each task as may count at once. Shorter lives take less.
     ///
     /// Refused as [`DieCore::new`] refuses it; else `Terms`, where the terms aren't the plan's, are out of their limits, or
     /// don't pass a test, with what [`terms_test`](demand_rules::terms_test) says; else `NoLife`, where no number of slots
-    /// up to `longest` is a life; it takes memory before that. Plan, terms and device are given up then.
+    /// up to `longest` is a life; else `NoMemory`, which may also come before these. Plan, terms and device are given up
+    /// then.
     pub fn new(
         alloc: Global,
         plan: DiePlan,
@@ -89,13 +101,14 @@ impl<N: Nand> PlannedDie<N> {
         nand: N,
     ) -> Result<PlannedDie<N>, PlanRefusal>
         requires fresh { IsFresh (N.shape_of nand) (N.blocks nand) (N.failures nand) }
-        ensures ok { IfOk result (λ die. die.core ≡ record {
+        ensures ok { IfOk result (λ die. die.core ≡ with_life terms die.life (record {
           start = fresh plan;
           device = nand;
           stopped = false;
           reserved = nothing_reserved;
+          lasting = nothing_reserved;
           log = [];
-        }) }
+        })) }
         ensures begins { IfOk result (λ die. (die.terms ≡ terms) × (die.entered ≡ 0)
             × (die.first ≡ 0) × (die.asked ≡ replicate (length plan.caps) [])) }
         ensures life { IfOk result (λ die. IsSomeLife plan terms longest die.life) }
@@ -105,7 +118,7 @@ impl<N: Nand> PlannedDie<N> {
         ensures lived { IfOk result (λ die. HasLived die []) }
         ensures refused { IfErr result (RefusesPlan plan terms longest (N.shape_of nand)) }
     {
-        let core = match DieCore::new(alloc, plan, nand) {
+        let mut core = match DieCore::new(alloc, plan, nand) {
             Ok(core) => core,
             Err(refusal) => return Err(PlanRefusal::Die(refusal)),
         };
@@ -118,7 +131,12 @@ impl<N: Nand> PlannedDie<N> {
             Some(life) => life,
             None => return Err(PlanRefusal::NoLife),
         };
-        let asked = match new_asks(alloc, core.plan().caps.len()) {
+        let most = most_arrivals(core.plan(), &terms, life);
+        match reserve_life(&mut core, life, most) {
+            Ok(()) => {}
+            Err(refusal) => return Err(PlanRefusal::Die(refusal)),
+        }
+        let asked = match new_asks(alloc, &terms, core.plan().caps.len()) {
             Ok(asked) => asked,
             Err(_) => return Err(PlanRefusal::Die(Refusal::NoMemory)),
         };
@@ -189,14 +207,11 @@ impl<N: Nand> PlannedDie<N> {
         self.first
     }
 
-    /// Takes the memory for this many later slots, as [`DieCore::reserve`].
-    pub fn reserve(&mut self, slots: u32) -> Result<(), Refusal>
-        ensures ok { OnOk result (self.new
-            ≡ record self.old { core = with_slots slots self.old.core }) }
-        ensures lived { (earlier : Lives) → HasLived self.old earlier → HasLived self.new earlier }
-        ensures refused { FailsForMemory result }
-        ensures unchanged { OnErr result (self.new ≡ self.old) }
+    /// Memory is reserved for all that is left of the present life, and lasts for each later one. This computes nothing;
+    /// its contract is the promise.
+    pub fn has_memory(&self)
+        ensures reserved { IsReservedFor self.now.terms self.now.life self.now.core }
     {
-        self.core.reserve(slots)
+        let _ = &self.life;
     }
 }

@@ -2,9 +2,10 @@
 
 ghost use Rattle.std.specs.Prelude.{◌≡◌, ◌+◌, ◌≤◌, ◌<◌, All, IfNone, length, map, slice_index_or};
 ghost use Rattle.slot_types.specs.Operations.{writes};
+ghost use Rattle.demand_rules.specs.Demand.{terms_of};
 ghost use Rattle.planned_log.specs.Asks.{ask_refusals, first_refusal, most_operations};
 ghost use Rattle.planned_die.specs.declared.task_asks.TaskAsks.{TaskAsks};
-ghost use Rattle.planned_die.specs.Remembered.{own_asks, jobs_of, AreKept, HasRoomFor};
+ghost use Rattle.planned_die.specs.Remembered.{own_asks, jobs_of, AreKept, HasRoomFor, HaveMemory};
 
 use crate::all_asks::too_soon;
 use crate::task_asks::TaskAsks;
@@ -25,7 +26,7 @@ fn most_ops(own: &TaskTerms) -> u32
 }
 
 /// Why an ask of a task is refused in slot `now` of a life that began in slot `first` of the clock of all lives, if it
-/// is, after these jobs. Never `DieStopped` or `NoMemory`. Those of the task that count no more are passed by.
+/// is, after these jobs. Never `DieStopped`. Those of the task that count no more are passed by.
 pub(crate) fn why_refused(
     plan: &DiePlan,
     terms: &Terms,
@@ -46,6 +47,10 @@ pub(crate) fn why_refused(
     ensures kept { AreKept terms.now (first + now) asked.new.items }
     ensures room { IfNone result ((d : TaskAsks)
         → HasRoomFor (slice_index_or asked.new.items task d) (length ops.now) (writes ops.now)) }
+    ensures memory { HaveMemory terms.now asked.old.items → HaveMemory terms.now asked.new.items }
+    ensures few { IfNone result ((d : TaskAsks) → (slice_index_or asked.new.items task d).operations
+        + length ops.now ≤ (terms_of terms.now task).work) }
+    ensures some { IfNone result (1 ≤ length ops.now) }
     ensures known { IfNone result (task < length plan.now.caps) }
 {
     if task.0 as usize >= plan.caps.len() {

@@ -15,8 +15,7 @@ impl<N: Nand> PlannedDie<N> {
     /// [`DieCore::slot`](slot_core::DieCore::slot) does.
     ///
     /// The refusals, in this order: `DieStopped`; `ClockEnd`, where the life has ended; these change nothing.
-    /// `NoMemory`, where memory is refused for a collection or for the slot: the collections that have come stay, and
-    /// the next call goes on from there. `DeviceFault`, which stops the die. There is no other.
+    /// `DeviceFault`, which stops the die, once the slot's collections have come. There is no other: it takes no memory.
     pub fn slot(&mut self, alloc: Global, caller: u32) -> Result<SlotReply, Refusal>
         ensures slot { IsSlot N.ends N.failures N.never_fails caller result self.old self.new }
         ensures lived { (earlier : Lives) → HasLived self.old earlier → HasLived self.new earlier }
@@ -27,17 +26,14 @@ impl<N: Nand> PlannedDie<N> {
         if self.core.now() >= self.life {
             return Err(Refusal::ClockEnd);
         }
-        match enter_rest(
+        enter_rest(
             &mut self.core,
             &self.terms,
             alloc,
             caller,
             self.life,
             &mut self.entered,
-        ) {
-            Ok(()) => {}
-            Err(refusal) => return Err(refusal),
-        }
+        );
         match self.core.slot(alloc, caller) {
             Ok(reply) => {
                 self.entered = 0;

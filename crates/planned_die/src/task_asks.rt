@@ -3,10 +3,10 @@
 //! The sums of what counts are kept, and what counts no more stands in front. So whether there is room is known at once,
 //! and a job is looked at once more when it counts no more.
 
-ghost use Rattle.std.specs.Prelude.{◌≡◌, ◌+◌, ◌≤◌, ◌<◌, ◌&&◌, nat_le, ◌∷◌, ◌++◌, ℕ, true, [], if◌then◌else◌, drop, All, IfNone, OnOk};
-ghost use Rattle.std.specs.VecDeque.{deque_len, deque_capacity};
+ghost use Rattle.std.specs.Prelude.{◌≡◌, ◌+◌, ◌≤◌, ◌&&◌, nat_le, ◌∷◌, ◌++◌, ℕ, true, [], if◌then◌else◌, drop, All, IfNone, IfOk};
+ghost use Rattle.std.specs.VecDeque.{deque_capacity};
 ghost use Rattle.planned_log.specs.Asks.{free_at};
-ghost use Rattle.planned_die.specs.Remembered.{amount_of, newest_first, next_room, AllCount, IsKeptFor, HasRoomFor};
+ghost use Rattle.planned_die.specs.Remembered.{amount_of, newest_first, next_room, AllCount, IsKeptFor, HasRoomFor, HasRoomForOne};
 
 use crate::memory::AskedJob;
 use demand_rules::TaskTerms;
@@ -16,7 +16,7 @@ use std::collections::VecDeque;
 /// The jobs that a task asked for.
 #[derive(Drop)]
 pub struct TaskAsks {
-    /// The oldest first. Those that count no more go when one is added.
+    /// The oldest first. Those that count no more go when one is added, so that there is room for all that may count.
     pub(crate) jobs: VecDeque<AskedJob>,
     /// How many of them, the oldest, are known to count no more.
     pub(crate) passed: usize,
@@ -37,24 +37,29 @@ fn amount(job: &AskedJob, of_writes: bool) -> u32
 }
 
 impl TaskAsks {
-    pub(crate) fn new(alloc: Global) -> TaskAsks
-        ensures jobs { result.jobs.items ≡ [] }
-        ensures passed { result.passed ≡ 0 }
-        ensures operations { result.operations ≡ 0 }
-        ensures writes { result.writes ≡ 0 }
+    /// Nothing asked for, and memory for the jobs of a task that may ask for so many operations in a period.
+    pub(crate) fn new(alloc: Global, work: u32) -> Result<TaskAsks, AllocError>
+        ensures jobs { IfOk result (λ t. t.jobs.items ≡ []) }
+        ensures passed { IfOk result (λ t. t.passed ≡ 0) }
+        ensures operations { IfOk result (λ t. t.operations ≡ 0) }
+        ensures writes { IfOk result (λ t. t.writes ≡ 0) }
+        ensures memory { IfOk result (λ t. work ≤ deque_capacity t.jobs) }
     {
-        TaskAsks {
-            jobs: VecDeque::new(alloc),
+        let jobs = VecDeque::with_capacity(alloc, work as usize)?;
+        Ok(TaskAsks {
+            jobs,
             passed: 0,
             operations: 0,
             writes: 0,
-        }
+        })
     }
 
     /// Passes by the jobs that count no more in this slot of the clock: by each once.
     pub(crate) fn pass(&mut self, period: u32, clock: u64)
         requires kept { IsKeptFor period clock self.old }
         ensures jobs { self.new.jobs.items ≡ self.old.jobs.items }
+        ensures list { self.new.jobs ≡ self.old.jobs }
+        ensures fewer { self.new.operations ≤ self.old.operations }
         ensures kept { IsKeptFor period clock self.new }
         ensures counts { AllCount period clock (drop self.new.passed self.new.jobs.items) }
     {
@@ -111,6 +116,7 @@ impl TaskAsks {
         ensures room { result ≡ (nat_le (self.now.operations + ops) own.now.work
             && nat_le (self.now.writes + writes) own.now.writes) }
         ensures fits { result ≡ true → HasRoomFor self.now ops writes }
+        ensures few { result ≡ true → self.now.operations + ops ≤ own.now.work }
     {
         u64::from(self.operations) + u64::from(ops) <= u64::from(own.work)
             && u64::from(self.writes) + u64::from(writes) <= u64::from(own.writes)
@@ -134,6 +140,7 @@ impl TaskAsks {
         requires first { first ≤ clock }
         ensures next { result ≡ next_room own.now first clock (newest_first self.now.jobs.items) ops writes }
         ensures room { IfNone result (HasRoomFor self.now ops writes) }
+        ensures few { IfNone result (self.now.operations + ops ≤ own.now.work) }
     {
         if self.has_room(own, ops, writes) {
             return None;
@@ -143,30 +150,21 @@ impl TaskAsks {
         Some(operations.max(written) - first)
     }
 
-    /// Takes the memory for a job more.
-    pub(crate) fn reserve(&mut self) -> Result<(), AllocError>
-        ensures jobs { self.new.jobs.items ≡ self.old.jobs.items }
-        ensures passed { self.new.passed ≡ self.old.passed }
-        ensures operations { self.new.operations ≡ self.old.operations }
-        ensures writes { self.new.writes ≡ self.old.writes }
-        ensures room { OnOk result (deque_len self.new.jobs < deque_capacity self.new.jobs) }
-    {
-        self.jobs.reserve(1)
-    }
-
-    /// Notes a job that comes now, and drops those that count no more.
+    /// Notes a job that comes now, and drops those that count no more. It takes no memory.
     pub(crate) fn note(&mut self, job: AskedJob)
-        requires room { deque_len self.old.jobs < deque_capacity self.old.jobs }
+        requires room { HasRoomForOne self.old }
         requires operations { self.old.operations + job.operations ≤ 4294967295 }
         requires writes { self.old.writes + job.writes ≤ 4294967295 }
         ensures jobs { self.new.jobs.items ≡ drop self.old.passed self.old.jobs.items ++ job ∷ [] }
         ensures kept { (period : ℕ) → IsKeptFor period job.at self.old → IsKeptFor period job.at self.new }
+        ensures operations { self.new.operations ≡ self.old.operations + job.operations }
+        ensures memory { deque_capacity self.new.jobs ≡ deque_capacity self.old.jobs }
     {
         while self.passed > 0 {
             let _ = self.jobs.pop_front();
             self.passed -= 1;
         }
-        let _ = self.jobs.push_back(job);
+        self.jobs.push_back_reserved(job);
         self.operations += job.operations;
         self.writes += job.writes;
     }

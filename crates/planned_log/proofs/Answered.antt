@@ -20,19 +20,19 @@ use Rattle.planned_log.proofs.Kept.{after_accepted, ask_accepted, slot_accepted}
 use Rattle.planned_log.proofs.Moving.{come, move_keeps}
 
 -- what the task has asked for after an ask that was answered so
-abbrev then_asked : List Asked → Asked → Option AskRefusal → List Asked
+abbrev pub then_asked : List Asked → Asked → Option AskRefusal → List Asked
 then_asked asked x None = x ∷ asked
 then_asked asked x (Some refusal) = asked
 
 module _ (plan : DiePlan) (terms : Terms) (life first task : ℕ) where
-  abbrev refused_now : ℕ → List Asked → List Op → Option AskRefusal
+  abbrev pub refused_now : ℕ → List Asked → List Op → Option AskRefusal
   refused_now slot asked ops = first_refusal (ask_refusals plan terms life first slot asked task ops)
 
-  abbrev asked_now : ℕ → List Op → Asked
+  abbrev pub asked_now : ℕ → List Op → Asked
   asked_now slot ops = record { at = first + slot; operations = length ops; writes = writes ops }
 
   -- the answers by what the task sees
-  abbrev seen_answers : ℕ → List Asked → List Seen → List Answer
+  abbrev pub seen_answers : ℕ → List Asked → List Seen → List Answer
   seen_answers slot asked [] = []
   seen_answers slot asked (Asks ops ∷ rest) =
       answer_by terms task slot (refused_now slot asked ops)
@@ -44,7 +44,7 @@ module _ (start : Start) (terms : Terms) (earlier : Lives) (life task : ℕ) whe
   first = all_slots earlier
 
   -- another task's ask leaves the slot and what this one asked for
-  other_ask : (log : Log) → IsKept start terms earlier life 0 log → (caller other : ℕ) (ops : List Op) → (other == task) ≡ false
+  pub other_ask : (log : Log) → IsKept start terms earlier life 0 log → (caller other : ℕ) (ops : List Op) → (other == task) ≡ false
       → (o : Option AskRefusal) → ask_refusal start.plan terms life earlier log other ops ≡ o
       → (now (after_ask start terms log caller other ops o) ≡ now log)
       × (asked_by task (after_ask start terms log caller other ops o ∷ earlier) ≡ asked_by task (log ∷ earlier))
@@ -58,7 +58,7 @@ module _ (start : Start) (terms : Terms) (earlier : Lives) (life task : ℕ) whe
             (asked_by task (log ∷ earlier))) away,
       )
 
-  own_ask : (log : Log) → IsKept start terms earlier life 0 log → (caller other : ℕ) (ops : List Op) → (other == task) ≡ true
+  pub own_ask : (log : Log) → IsKept start terms earlier life 0 log → (caller other : ℕ) (ops : List Op) → (other == task) ≡ true
       → (o : Option AskRefusal) → ask_refusal start.plan terms life earlier log other ops ≡ o
       → (now (after_ask start terms log caller other ops o) ≡ now log)
       × (asked_by task (after_ask start terms log caller other ops o ∷ earlier)
@@ -73,7 +73,7 @@ module _ (start : Start) (terms : Terms) (earlier : Lives) (life task : ℕ) whe
             (asked_by task (log ∷ earlier))) own,
       )
 
-  a_slot : (log : Log) → IsKept start terms earlier life 0 log → (caller : ℕ) (b : Bool) → nat_lt (now log) life ≡ b
+  pub a_slot : (log : Log) → IsKept start terms earlier life 0 log → (caller : ℕ) (b : Bool) → nat_lt (now log) life ≡ b
       → (now (cond b (after_call start (after_own start terms log caller) (caller, events.Slot)) log) ≡ cond b (now log + 1) (now log))
       × (asked_by task (cond b (after_call start (after_own start terms log caller) (caller, events.Slot)) log ∷ earlier)
       ≡ asked_by task (log ∷ earlier))

@@ -180,25 +180,43 @@ counted_events : (plan : DiePlan) (terms : Terms) (end : ℕ) (all : List TaskAr
 counted_events plan terms end [] h = tt
 counted_events plan terms end (a ∷ all) h = (counted_event plan terms end a a.collects h.0, counted_events plan terms end all h.1)
 
+-- what an arrival weighs
+abbrev pub weight : TaskArrival → ℕ
+weight a = cond a.collects 1 (length a.ops)
+
 -- each has a slot of work at least
 some_work : (plan : DiePlan) (terms : Terms) (end : ℕ) (a : TaskArrival) (b : Bool)
     → MatchBool b (IsDemandedCollection plan terms end a) (IsDemandedJob plan terms a) → 1 ≤ cond b 1 (length a.ops)
 some_work plan terms end a true h = omega arith
 some_work plan terms end a false h = h.some
 
-each_asks : (plan : DiePlan) (terms : Terms) (end life : ℕ) (all : List TaskArrival) → AllByRecursion (IsDemanded plan terms end) all
-    → AllByRecursion (λ a. a.due ≤ life) all → length all ≤ sum_by (asked_of (counting plan) 0 life) all
-each_asks plan terms end life [] h due = omega arith
-each_asks plan terms end life (a ∷ all) h due =
+each_asks : (plan : DiePlan) (life : ℕ) (all : List TaskArrival) → AllByRecursion (λ a. a.due ≤ life) all
+    → sum_by weight all ≤ sum_by (asked_of (counting plan) 0 life) all
+each_asks plan life [] due = omega arith
+each_asks plan life (a ∷ all) due =
     omega (
       arith,
+      sum_by-cons weight a all,
       sum_by-cons (asked_of (counting plan) 0 life) a all,
       here,
-      each_asks plan terms end life all h.1 due.1,
+      each_asks plan life all due.1,
     )
   where
-    here : 1 ≤ asked_of (counting plan) 0 life a
-    here = rw (le-leb 0 a.release (omega arith), le-leb a.due life due.0) (some_work plan terms end a a.collects h.0)
+    same : (b : Bool) → cond b 1 (length a.ops) ≤ cond b 1 (length a.ops)
+    same b = omega arith
+
+    here : weight a ≤ asked_of (counting plan) 0 life a
+    here = rw (le-leb 0 a.release (omega arith), le-leb a.due life due.0) (same a.collects)
+
+each_weighs : (plan : DiePlan) (terms : Terms) (end : ℕ) (all : List TaskArrival) → AllByRecursion (IsDemanded plan terms end) all
+    → length all ≤ sum_by weight all
+each_weighs plan terms end [] h = omega arith
+each_weighs plan terms end (a ∷ all) h = omega (
+  arith,
+  sum_by-cons weight a all,
+  some_work plan terms end a a.collects h.0,
+  each_weighs plan terms end all h.1,
+)
 
 same_demand : (plan : DiePlan) (slots : ℕ) (ts : List TaskTerms) → sum_by (task_demand_in (counting plan) slots) ts ≡ sum_by (task_arrivals slots) ts
 same_demand plan slots [] = refl
@@ -209,14 +227,14 @@ same_demand plan slots (t ∷ ts) = omega (
   same_demand plan slots ts,
 )
 
--- so no more come than a life may have
-pub few_come : (plan : DiePlan) (terms : Terms) (end life : ℕ) (came : List TaskArrival) → HasTerms plan terms
+-- so no more comes than a life may have
+pub few_weights : (plan : DiePlan) (terms : Terms) (end life : ℕ) (came : List TaskArrival) → HasTerms plan terms
     → AllByRecursion (IsDemanded plan terms end) came → AllByRecursion (λ a. a.due ≤ life) came
     → ((task slot : ℕ) → task < length plan.caps → sum_by (λ a. cond (is_released_in task slot (slot + (terms_of terms task).period) a) (length a.ops) 0) came
     ≤ (terms_of terms task).work)
     → ((task slot : ℕ) → task < length plan.caps → IsCollectSlot terms end task slot → count_by (is_collection_at task slot) came ≡ 1)
-    → length came ≤ most_arrivals terms life
-few_come plan terms end life came has planned due few once =
+    → sum_by weight came ≤ most_arrivals terms life
+few_weights plan terms end life came has planned due few once =
     let plain : DiePlan = counting plan in
     let own = counted_events plan terms end came planned in
     let whole : life - 0 ≡ life = omega arith in
@@ -224,7 +242,7 @@ few_come plan terms end life came has planned due few once =
     ap (λ (n : ℕ). sum_by (task_demand_in plain n) terms.tasks) whole in
     omega (
       arith,
-      each_asks plan terms end life came planned due,
+      each_asks plan life came due,
       asked_within plain terms 0 life end came (record { one_each = has.one_each; each = has.each }) own (record {
         jobs = λ task lt.
             bursts.inside_fit release_of due_of (is_job_of task) operations_of (terms_of terms task).period (terms_of terms task).deadline
@@ -240,3 +258,15 @@ few_come plan terms end life came has planned due few once =
       demand,
       same_demand plan life terms.tasks,
     )
+
+pub few_come : (plan : DiePlan) (terms : Terms) (end life : ℕ) (came : List TaskArrival) → HasTerms plan terms
+    → AllByRecursion (IsDemanded plan terms end) came → AllByRecursion (λ a. a.due ≤ life) came
+    → ((task slot : ℕ) → task < length plan.caps → sum_by (λ a. cond (is_released_in task slot (slot + (terms_of terms task).period) a) (length a.ops) 0) came
+    ≤ (terms_of terms task).work)
+    → ((task slot : ℕ) → task < length plan.caps → IsCollectSlot terms end task slot → count_by (is_collection_at task slot) came ≡ 1)
+    → length came ≤ most_arrivals terms life
+few_come plan terms end life came has planned due few once = omega (
+  arith,
+  each_weighs plan terms end came planned,
+  few_weights plan terms end life came has planned due few once,
+)

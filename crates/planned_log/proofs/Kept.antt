@@ -41,9 +41,10 @@ use Rattle.die_log.proofs.Supply.Covering.{never_late}
 use Rattle.die_log.proofs.Restocking.{goes_on, stocked_for_next}
 use Rattle.die_log.proofs.Supply.Owing.{come_by}
 use Rattle.planned_log.specs.Asks.{asked_job, ask_refusal, asked_by}
-use Rattle.planned_log.specs.Lives.{IsLife, all_came, IsWithinLife}
+use Rattle.planned_log.specs.Lives.{IsLife, all_came, IsWithinLife, most_arrivals, weight_of, came_in}
 use Rattle.planned_log.specs.KeptLogs.{comes_at, left_of_slot, left_of, KeepsSoFar, own_collection, amount_in, AskForFew}
 use Rattle.planned_log.specs.Laws.{IsKept, StartsFull}
+use Rattle.planned_log.proofs.Counts.{weight, few_weights}
 use Rattle.planned_log.proofs.Lefts.{AreTermsFrom, no_jobs, left_planned}
 use Rattle.planned_log.proofs.Asking.{IsTimelyAsk, timely_ask, all_joined, all_as, sum_mapped, prompt, joined_is}
 use Rattle.planned_log.proofs.Asking.{released_within, coming_within}
@@ -153,6 +154,24 @@ module _ (start : Start) (terms : Terms) (life : ℕ) (demand : PassesDemand sta
     each = All-from_recursion (IsWithinLife life) [] tt;
   }
 
+-- what came by a log weighs as its jobs and collections do
+came_weighs : (log : Log) → came_in log ≡ sum_by weight (arrivals 0 (events_of_log log))
+came_weighs [] = refl
+came_weighs (e ∷ past) = omega (
+  arith,
+  ap (λ (l : List TaskArrival). sum_by weight l) (arrivals_after (events_of_log past) (e.event ∷ [])),
+  sum_by-append weight (arrivals 0 (events_of_log past)) (arrivals (slots (events_of_log past)) (e.event ∷ [])),
+  one (slots (events_of_log past)) e.event,
+  came_weighs past,
+)
+  where
+    one : (at : ℕ) (event : Event) → sum_by weight (arrivals at (event ∷ [])) ≡ weight_of event
+    one at (events.Submit task release due ops) =
+        omega (arith, sum_by-cons weight (record { at = at; collects = false; task = task; release = release; due = due; ops = ops }) [])
+    one at (events.Collect task release due) =
+        omega (arith, sum_by-cons weight (record { at = at; collects = true; task = task; release = release; due = due; ops = [] }) [])
+    one at events.Slot = refl
+
 module _ (start : Start) (terms : Terms) (earlier : Lives) (life entered : ℕ) (log : Log) (k : IsKept start terms earlier life entered log) where
   abbrev xs : List Event
   xs = events_of_log log
@@ -181,6 +200,36 @@ module _ (start : Start) (terms : Terms) (earlier : Lives) (life entered : ℕ) 
 
       rest_length : length (drop entered terms.tasks) ≡ length terms.tasks - entered
       rest_length = length-drop entered terms.tasks
+
+  -- What came
+
+  -- with what is left of the slot, it is due by the end of the life
+  due_all : AllByRecursion (λ a. a.due ≤ life) (arrivals 0 (xs ++ left_at terms life entered (now log)))
+  due_all = all_as (IsWithinLife life) (λ a. a.due ≤ life) (λ a h. h.due) (arrivals 0 (xs ++ left_at terms life entered (now log)))
+      (subst (AllByRecursion (IsWithinLife life)) (sym (arrivals_append 0 (now log) xs (left_at terms life entered (now log)) (omega (arith, clock))))
+      (all_joined (IsWithinLife life) (arrivals 0 xs) (arrivals (now log) (left_at terms life entered (now log))) each left_due))
+    where
+      by_end : (b : Bool) → nat_lt (now log) life ≡ b
+          → AllByRecursion (IsWithinLife life) (arrivals (now log) (cond b (left_of_slot terms entered (now log)) []))
+      by_end true e = each_left (ltb-true (now log) life e)
+      by_end false e = tt
+
+      left_due : AllByRecursion (IsWithinLife life) (arrivals (now log) (left_at terms life entered (now log)))
+      left_due = by_end (nat_lt (now log) life) refl
+
+  -- no more than a life may have
+  pub few_came : came_in log ≤ most_arrivals terms life
+  few_came = omega (
+    arith,
+    came_weighs log,
+    sum_by-append weight (arrivals 0 xs) (arrivals (now log) (left_at terms life entered (now log))),
+    ap (λ (l : List TaskArrival). sum_by weight l)
+        (arrivals_append 0 (now log) xs (left_at terms life entered (now log)) (omega (arith, clock))),
+    few_weights start.plan terms (slots (xs ++ left_at terms life entered (now log))) life
+        (arrivals 0 (xs ++ left_at terms life entered (now log))) k.demand.has
+        (recursion_from_All _ (arrivals 0 (xs ++ left_at terms life entered (now log))) k.kept.keeps.planned) due_all
+        k.kept.keeps.few_operations k.kept.keeps.collected,
+  )
 
   -- the same start, and another log
   go_on : (more : ℕ) (next : Log) → IsExact start next → KeepsSoFar start.plan terms life more next → AskForFew start.plan terms (next ∷ earlier)

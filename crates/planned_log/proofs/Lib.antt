@@ -8,3 +8,5 @@ mod Moving
 mod Answered
 pub mod Waiting
 mod Numbers
+mod GoingOn
+mod OngoingAnswers

@@ -3,3 +3,4 @@ pub mod Lives
 pub mod KeptLogs
 pub mod Moves
 pub mod Laws
+pub mod Ongoing

@@ -1,6 +1,8 @@
 -- How long a life is, and what came in all lives, on one clock.
 use Rattle.std.specs.Prelude.{◌≡◌, ℕ, ◌+◌, ◌*◌, ◌%◌, ◌≤◌, ◌<◌, List, [], ◌∷◌, ◌++◌, map, length, sum_by, All}
 use Rattle.slot_types.specs.declared.limits.TheConstants.{MAX_SLOT, MAX_JOBS}
+use Rattle.slot_types.specs.declared.events.Event.{Event}
+use Rattle.slot_types.specs.declared.events.Event.TheVariants as events
 use Rattle.slot_types.specs.declared.plans.DiePlan.{DiePlan}
 use Rattle.plan_rules.specs.Keeping.{TaskArrival, arrivals, slots}
 use Rattle.demand_rules.specs.declared.terms.TaskTerms.{TaskTerms}
@@ -19,6 +21,18 @@ task_arrivals slots t = t.work * periods_within t.period t.deadline slots + peri
 -- and how many of all tasks
 abbrev pub most_arrivals : Terms → ℕ → ℕ
 most_arrivals terms slots = sum_by (task_arrivals slots) terms.tasks
+
+-- what an event counts for among what may come in a life: a job for its operations, of which it has one at least, and a
+-- collection for one
+abbrev pub weight_of : Event → ℕ
+weight_of (events.Submit task release due ops) = length ops
+weight_of (events.Collect task release due) = 1
+weight_of events.Slot = 0
+
+-- how much came by this log of a life
+abbrev pub came_in : Log → ℕ
+came_in [] = 0
+came_in (e ∷ past) = weight_of e.event + came_in past
 
 -- a life of so many slots: each collection that comes in it is due by its end, and there is a number for each job and
 -- each collection

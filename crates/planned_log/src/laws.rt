@@ -7,7 +7,7 @@ ghost use Rattle.slot_types.specs.declared.events.Event.TheVariants as events;
 ghost use Rattle.demand_rules.specs.declared.terms.Terms.{Terms};
 ghost use Rattle.demand_rules.specs.Demand.{terms_of, PassesDemand};
 ghost use Rattle.slot_types.specs.declared.limits.TheConstants.{MAX_SLOT};
-ghost use Rattle.planned_log.specs.Lives.{most_arrivals};
+ghost use Rattle.planned_log.specs.Lives.{most_arrivals, came_in};
 ghost use Rattle.die_log.specs.Model.Log.{Log, now};
 ghost use Rattle.die_log.specs.Model.Start.{Start};
 ghost use Rattle.die_log.specs.Model.Opening.{IsQuiet, renewed_start};
@@ -89,6 +89,14 @@ pub fn kept_lives_end_quiet()
 pub fn lives_have_no_more_arrivals_than_slots()
     ensures { (plan : DiePlan) (terms : Terms) (life : ℕ) → 1 ≤ plan.shape.erase_slots →
         PassesDemand plan terms → life ≤ MAX_SLOT → most_arrivals terms life ≤ life }
+{}
+
+/// No more comes in a life than the plan may ask for in it, by any log of it that keeps the plan: its collections, and the
+/// operations of its jobs, are at most so many together. So are its collections and jobs, since each of these has an
+/// operation.
+pub fn no_more_comes_than_a_life_has()
+    ensures { ForKeptLogs (λ start terms earlier life entered log.
+        came_in log ≤ most_arrivals terms life) }
 {}
 
 /// What a task is answered depends on the slots and on its own asks, and on nothing that other tasks do. Of two logs

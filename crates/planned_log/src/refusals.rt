@@ -1,6 +1,6 @@
 //! Why a task's ask is refused.
 
-/// Why a task's ask is refused. In the order in which the causes are looked at, but for memory, which comes last.
+/// Why a task's ask is refused, in the order in which the causes are looked at.
 #[derive(Clone, Copy, PartialEq, Eq, Debug, Drop)]
 pub enum AskRefusal {
     /// A fault of the device has stopped the die.
@@ -20,6 +20,4 @@ pub enum AskRefusal {
     TooSoon { next: u64 },
     /// The job would be due after the last slot of the die's life.
     LifeEnd,
-    /// Memory was asked for and not had.
-    NoMemory,
 }

@@ -1,5 +1,6 @@
--- Where the power goes at a moment of a mount's acts, a mount can recover the die again.
-use Rattle.std.proofs.Common.{◌≡◌, ◌⊎◌, ℕ, ◌<◌, List, [], ◌∷◌, ◌++◌, length, Some, refl, ap, sym, ◌∙◌, subst, inl, inr, arith}
+-- Where the power goes during a mount, the next one can go on from what it sees.
+use Rattle.std.proofs.Common.{◌≡◌, ◌⊎◌, ℕ, ◌<◌, List, [], ◌∷◌, ◌++◌, length, Some, refl, ap, sym, ◌∙◌, subst, inl, inr}
+use Rattle.std.proofs.Common.{arith}
 use Rattle.std.proofs.lemmas.Bool.{cases_lt}
 use Rattle.std.proofs.lemmas.List.{length-set}
 use Rattle.slot_types.specs.declared.plans.DiePlan.{DiePlan}
@@ -7,19 +8,22 @@ use Rattle.slot_types.specs.declared.pages.PageData.{PageData}
 use Rattle.slot_types.specs.declared.acts.Act.{Act}
 use Rattle.slot_types.specs.declared.acts.Act.TheVariants as does
 use Rattle.plan_rules.specs.Bound.{MeetsBound}
-use Rattle.die_log.specs.Model.Flash.{Cells, block_at, block_after_erase_slot, cells_after, valid}
+use Rattle.die_log.specs.Model.Flash.{Cells, block_at, block_after_erase_slot, cells_after}
 use Rattle.die_log.proofs.Cells.Steps.{within_blocks}
 use Rattle.die_log.proofs.Legal.Exact.{has_pages}
-use Rattle.power_loss.specs.Labels.{Label, Labels, labels_after}
-use Rattle.power_loss.specs.Laws.{ForAllRecoverable, RecoversAgain, RecoversAgainDuring}
-use Rattle.power_loss.specs.Recovery.{IsRecoverable, MayMount, cells_of, labels_of, AreMountActs, HasUnplaced, CanGoBack, RecoversFrom, without_block}
+use Rattle.power_loss.specs.Labels.{Labels, Shown, labels_after}
+use Rattle.power_loss.specs.Laws.{CutsInActs, ForAllMountable, ForAllRecoverable}
+use Rattle.power_loss.specs.Mounted.{mounted_contents}
+use Rattle.power_loss.specs.Recovery.{IsRecoverable, IsMountable, MayMount, cells_of, labels_of, AreMountActs}
+use Rattle.power_loss.specs.Recovery.{HasUnplaced, CanGoBack, IsSafe, without_block}
+use Rattle.power_loss.specs.Recovery.{remounted_cells, remounted_labels, MaySeeInErase, MaySeeInActs, MaySeeAgain}
 use Rattle.power_loss.specs.Seen.{MaySeeAfter, MaySeeDuring, MaySeePlaced}
+use Rattle.power_loss.proofs.Finding.{less_fit}
 use Rattle.power_loss.proofs.MountActs.{acts_are_seen, acts_go_on, all_go_on}
 use Rattle.power_loss.proofs.Recovering.{mounts_it}
-use Rattle.power_loss.proofs.Remounting.{free_unplaced}
+use Rattle.power_loss.proofs.Remounting.{cut_in_erase, remounts}
 use Rattle.power_loss.proofs.Seeing.{after_placed}
-use Rattle.power_loss.proofs.Undoing.{IsIntoOne, copies_into, sees_before, shows_newest, finds_none, none_placed, has_unplaced}
-use Rattle.power_loss.proofs.Starting.{recovers_with}
+use Rattle.power_loss.proofs.Undoing.{IsIntoOne, copies_into, sees_before, may_undo, finds_none, finds_places}
 
 -- Acts in two parts
 
@@ -45,27 +49,26 @@ may_parts plan c (x ∷ xs) ys may =
 
 -- a mount goes by all that it sees, where in some block no page is placed
 pub from_here : (plan : DiePlan) (c : Cells) (pages : List PageData) (l : Labels) (from : ℕ → ℕ) → MeetsBound plan → IsRecoverable plan c pages l from
-    → HasUnplaced c → (seen : List (List Label)) → MaySeePlaced c l.blocks seen → RecoversFrom plan pages from seen
-from_here plan c pages l from bound h u seen w = record {
-  c = c;
-  l = l;
-  recoverable = h;
-  unplaced = u;
-  kept = seen;
-  rule = record {
-    all = λ b lt none. refl;
-    undone = λ each. absurd (each u.b (omega (arith, u.stands, h.sound.blocks))
-        (finds_none plan c pages from seen u.b (mounts_it plan bound c pages l from h seen w) h.sound.places u.none));
-  };
-  sees = w;
-  recovers = recovers_with plan c pages l from bound h seen w;
-}
+    → HasUnplaced c → (seen : Shown) → MaySeePlaced c l.blocks seen → IsMountable plan pages from seen
+from_here plan c pages l from bound h u seen w =
+    let all = mounts_it plan bound c pages l from h seen w in record {
+      blocks = w.long ∙ (h.labelled.blocks ∙ h.sound.blocks);
+      fit = less_fit plan l.blocks seen w.remains h.labelled.fit;
+      found = ap (λ n. mounted_contents from n seen) (sym h.contents) ∙ all.contents;
+      room = inl (
+        u.b,
+        omega (arith, u.stands, h.sound.blocks),
+        finds_none plan c from seen u.b (finds_places plan c pages from seen all h.sound.places) u.none,
+      );
+    }
 
 -- else it undoes the block to which it copied last
-from_back : (plan : DiePlan) (c : Cells) (pages : List PageData) (l : Labels) (from : ℕ → ℕ) → MeetsBound plan → IsRecoverable plan c pages l from
-    → (acts : List Act) → AreMountActs plan c acts → CanGoBack plan c acts → (seen : List (List Label))
-    → MaySeeAfter (cells_of plan acts c) (labels_of plan pages acts c l) seen → RecoversFrom plan pages from seen
-from_back plan c pages l from bound h acts may back seen w = by_unplaced (has_unplaced e)
+pub from_back : (plan : DiePlan) (c : Cells) (pages : List PageData) (l : Labels) (from : ℕ → ℕ) → MeetsBound plan → IsRecoverable plan c pages l from
+    → (acts : List Act) → AreMountActs plan c acts → CanGoBack plan c acts → (seen : Shown)
+    → MaySeeAfter (cells_of plan acts c) (labels_of plan pages acts c l) seen → IsMountable plan pages from seen
+from_back plan c pages l from bound h acts may back seen w =
+    by_copies (copies_into plan d pages m from bound (all_go_on plan c pages l from bound h back.earlier parts.0) back.idle
+    back.none_open back.copies parts.1 back.are)
   where
     e : Cells
     e = cells_of plan acts c
@@ -93,52 +96,40 @@ from_back plan c pages l from bound h acts may back seen w = by_unplaced (has_un
         (subst (λ (x : Cells). IsIntoOne plan pages from x (labels_of plan pages (back.copies ++ back.earlier) c l)) (sym (cells_parts plan c back.copies back.earlier))
         (subst (λ (x : Labels). IsIntoOne plan pages from (cells_of plan back.copies d) x) (sym (labels_parts plan c pages l back.copies back.earlier)) one))
 
-    undo : ((b : ℕ) → b < length e.blocks → valid e b ≡ 0 → ⊥) → (one : IsIntoOne plan pages from e le) → RecoversFrom plan pages from seen
-    undo each one =
-        let v = sees_before plan pages from e le one seen w in
-        let room : HasUnplaced one.d = free_unplaced plan one.d one.o one.recoverable.sound one.stands one.free in
+    undo : (one : IsIntoOne plan pages from e le) → IsMountable plan pages from seen
+    undo one =
+        let v = mounts_it plan bound one.d pages one.m from one.recoverable (without_block one.o seen) (sees_before plan pages from e le one seen w) in
+        let all = mounts_it plan bound e pages le from here seen sees in
         record {
-          c = one.d;
-          l = one.m;
-          recoverable = one.recoverable;
-          unplaced = room;
-          kept = without_block one.o seen;
-          rule = record {
-            all = λ b lt none. absurd (each b (omega (arith, lt, here.sound.blocks))
-                (none_placed plan e pages from seen b (mounts_it plan bound e pages le from here seen sees) here.sound.places none));
-            undone = λ nowhere. (one.o, shows_newest plan pages from e le one seen w, refl);
-          };
-          sees = v;
-          recovers = recovers_with plan one.d pages one.m from bound one.recoverable (without_block one.o seen) v;
+          blocks = w.long ∙ (here.labelled.blocks ∙ here.sound.blocks);
+          fit = less_fit plan le.blocks seen w.remains here.labelled.fit;
+          found = ap (λ n. mounted_contents from n seen) (sym here.contents) ∙ all.contents;
+          room = inr (one.o, may_undo plan pages from e le one seen w (ap (λ n. mounted_contents from n (without_block one.o seen)) (sym h.contents) ∙ v.contents));
         }
 
     -- without a copy the block that had no page then has none now
     none_copied : back.copies ≡ [] → HasUnplaced e
     none_copied none = subst (λ (xs : List Act). HasUnplaced (cells_of plan xs c)) (sym (back.is ∙ ap (λ (xs : List Act). xs ++ back.earlier) none)) back.unplaced
 
-    by_copies : ((b : ℕ) → b < length e.blocks → valid e b ≡ 0 → ⊥)
-        → (back.copies ≡ []) ⊎ IsIntoOne plan pages from (cells_of plan back.copies d) (labels_of plan pages back.copies d m) → RecoversFrom plan pages from seen
-    by_copies each (inl none) = let u = none_copied none in absurd (each u.b u.stands u.none)
-    by_copies each (inr one) = undo each (as_parts one)
+    by_copies : (back.copies ≡ []) ⊎ IsIntoOne plan pages from (cells_of plan back.copies d) (labels_of plan pages back.copies d m) → IsMountable plan pages from seen
+    by_copies (inl none) = from_here plan e pages le from bound here (none_copied none) seen sees
+    by_copies (inr one) = undo (as_parts one)
 
-    by_unplaced : HasUnplaced e ⊎ ((b : ℕ) → b < length e.blocks → valid e b ≡ 0 → ⊥) → RecoversFrom plan pages from seen
-    by_unplaced (inl u) = from_here plan e pages le from bound here u seen sees
-    by_unplaced (inr each) = by_copies each (copies_into plan d pages m from bound (all_go_on plan c pages l from bound h back.earlier parts.0) back.idle
-        back.none_open back.copies parts.1 back.are)
-
-pub recovers_again : ForAllRecoverable RecoversAgain
-recovers_again plan bound c pages l from h acts may (inr back) seen w = from_back plan c pages l from bound h acts may back seen w
-recovers_again plan bound c pages l from h acts may (inl u) seen w =
+after_acts : (plan : DiePlan) (c : Cells) (pages : List PageData) (l : Labels) (from : ℕ → ℕ) → MeetsBound plan → IsRecoverable plan c pages l from
+    → (acts : List Act) → AreMountActs plan c acts → IsSafe plan c acts → (seen : Shown)
+    → MaySeeAfter (cells_of plan acts c) (labels_of plan pages acts c l) seen → IsMountable plan pages from seen
+after_acts plan c pages l from bound h acts may (inr back) seen w = from_back plan c pages l from bound h acts may back seen w
+after_acts plan c pages l from bound h acts may (inl u) seen w =
     let there = all_go_on plan c pages l from bound h acts may in
     from_here plan (cells_of plan acts c) pages (labels_of plan pages acts c l) from bound there u seen
     (after_placed plan (cells_of plan acts c) (labels_of plan pages acts c l) seen there.sound w)
 
 -- During an act
 
-erase_again : (plan : DiePlan) (c : Cells) (pages : List PageData) (l : Labels) (from : ℕ → ℕ) (b : ℕ) → MeetsBound plan → IsRecoverable plan c pages l from
-    → MayMount plan c (does.Erase b) → (seen : List (List Label)) → MaySeeDuring plan c pages l (Some (0, does.Erase b)) seen
-    → RecoversFrom plan pages from seen
-erase_again plan c pages l from b bound h may seen w = by_case (acts_are_seen plan bound c pages l from h (does.Erase b) may seen w)
+in_erase : (plan : DiePlan) (c : Cells) (pages : List PageData) (l : Labels) (from : ℕ → ℕ) (b : ℕ) → MeetsBound plan → IsRecoverable plan c pages l from
+    → MayMount plan c (does.Erase b) → (seen : Shown) → MaySeeDuring plan c pages l (Some (0, does.Erase b)) seen
+    → IsMountable plan pages from seen
+in_erase plan c pages l from b bound h may seen w = by_case (acts_are_seen plan bound c pages l from h (does.Erase b) may seen w)
   where
     stands : b < length c.blocks
     stands = within_blocks plan c b (let closed : (block_at c b).filled ≡ plan.shape.pages = may.0 in omega (arith, has_pages plan bound))
@@ -146,7 +137,7 @@ erase_again plan c pages l from b bound h may seen w = by_case (acts_are_seen pl
 
     by_case : MaySeePlaced c l.blocks seen
         ⊎ MaySeePlaced (cells_after plan (Some (0, does.Erase b)) c) (labels_after plan c pages (Some (0, does.Erase b)) l).blocks seen
-        → RecoversFrom plan pages from seen
+        → IsMountable plan pages from seen
     by_case (inl v) = from_here plan c pages l from bound h (record { b = b; stands = stands; none = may.1 }) seen v
     by_case (inr v) =
         let d : Cells = cells_after plan (Some (0, does.Erase b)) c in
@@ -154,15 +145,49 @@ erase_again plan c pages l from b bound h may seen w = by_case (acts_are_seen pl
         (acts_go_on plan bound c pages l from h (does.Erase b) may)
         (record { b = b; stands = omega (arith, stands, length-set c.blocks b (block_after_erase_slot plan (block_at c b))); none = may.1 }) seen v
 
-pub recovers_again_during : ForAllRecoverable RecoversAgainDuring
-recovers_again_during plan bound c pages l from h (does.Read page bytes) acts may safe then seen w = absurd may.1
-recovers_again_during plan bound c pages l from h (does.Write page bytes) acts may safe then seen w = absurd may.1
-recovers_again_during plan bound c pages l from h (does.Trim page) acts may safe then seen w = absurd may.1
-recovers_again_during plan bound c pages l from h (does.CopyRead page) acts may safe then seen w = absurd may.1
-recovers_again_during plan bound c pages l from h (does.CopyProgram page) acts may safe then seen (inl w) =
-    recovers_again plan bound c pages l from h acts may.0 safe seen w
-recovers_again_during plan bound c pages l from h (does.CopyProgram page) acts may safe then seen (inr w) =
-    recovers_again plan bound c pages l from h (does.CopyProgram page ∷ acts) may then seen w
-recovers_again_during plan bound c pages l from h (does.Erase b) acts may safe then seen w =
-    erase_again plan (cells_of plan acts c) pages (labels_of plan pages acts c l) from b bound (all_go_on plan c pages l from bound h acts may.0) may.1
+during_acts : (plan : DiePlan) (c : Cells) (pages : List PageData) (l : Labels) (from : ℕ → ℕ) → MeetsBound plan → IsRecoverable plan c pages l from
+    → (act : Act) (acts : List Act) → AreMountActs plan c acts → MayMount plan (cells_of plan acts c) act → IsSafe plan c acts → IsSafe plan c (act ∷ acts)
+    → (seen : Shown) → MaySeeDuring plan (cells_of plan acts c) pages (labels_of plan pages acts c l) (Some (0, act)) seen → IsMountable plan pages from seen
+during_acts plan c pages l from bound h (does.Read page bytes) acts earlier may safe then seen w = absurd may
+during_acts plan c pages l from bound h (does.Write page bytes) acts earlier may safe then seen w = absurd may
+during_acts plan c pages l from bound h (does.Trim page) acts earlier may safe then seen w = absurd may
+during_acts plan c pages l from bound h (does.CopyRead page) acts earlier may safe then seen w = absurd may
+during_acts plan c pages l from bound h (does.CopyProgram page) acts earlier may safe then seen (inl w) =
+    after_acts plan c pages l from bound h acts earlier safe seen w
+during_acts plan c pages l from bound h (does.CopyProgram page) acts earlier may safe then seen (inr w) =
+    after_acts plan c pages l from bound h (does.CopyProgram page ∷ acts) (earlier, may) then seen w
+during_acts plan c pages l from bound h (does.Erase b) acts earlier may safe then seen w =
+    in_erase plan (cells_of plan acts c) pages (labels_of plan pages acts c l) from b bound (all_go_on plan c pages l from bound h acts earlier) may
     seen w
+
+pub cut_in_acts : ForAllRecoverable CutsInActs
+cut_in_acts plan bound c pages l from h seen w = by_sees w.sees
+  where
+    by_sees : MaySeeAfter (cells_of plan w.acts c) (labels_of plan pages w.acts c l) seen
+        ⊎ ((act : Act) × MayMount plan (cells_of plan w.acts c) act × IsSafe plan c (act ∷ w.acts)
+        × MaySeeDuring plan (cells_of plan w.acts c) pages (labels_of plan pages w.acts c l) (Some (0, act)) seen)
+        → IsMountable plan pages from seen
+    by_sees (inl v) = after_acts plan c pages l from bound h w.acts w.may w.safe seen v
+    by_sees (inr v) = during_acts plan c pages l from bound h v.0 w.acts w.may v.1 w.safe v.2 seen v.3
+
+-- Where a mount is cut, the next one may go on
+
+pub in_first_erase : ForAllMountable (λ plan pages from seen erased. (later : Shown) → MaySeeInErase erased seen later → IsMountable plan pages from later)
+in_first_erase plan bound pages from seen h erased may later w = cut_in_erase plan pages from seen h erased may later w
+
+pub cut_again : (plan : DiePlan) → MeetsBound plan → (pages : List PageData) (from : ℕ → ℕ) (before seen : Shown) → IsMountable plan pages from before
+    → MaySeeAgain plan from before seen → IsMountable plan pages from seen
+cut_again plan bound pages from before seen h w = by_sees w.sees
+  where
+    there : IsRecoverable plan (remounted_cells plan from w.erased w.erases before) pages (remounted_labels w.erased before w.next) from
+    there = remounts plan pages from before h w.erased w.rule w.erases w.next w.above
+
+    by_sees : MaySeeInErase w.erased before seen
+        ⊎ MaySeeInActs plan (remounted_cells plan from w.erased w.erases before) (mounted_contents from plan.logical before)
+        (remounted_labels w.erased before w.next) seen
+        → IsMountable plan pages from seen
+    by_sees (inl v) = cut_in_erase plan pages from before h w.erased w.rule seen v
+    by_sees (inr v) =
+        cut_in_acts plan bound (remounted_cells plan from w.erased w.erases before) pages (remounted_labels w.erased before w.next) from there seen
+        (subst (λ (ps : List PageData). MaySeeInActs plan (remounted_cells plan from w.erased w.erases before) ps (remounted_labels w.erased before w.next) seen)
+        h.found v)

@@ -1,5 +1,6 @@
 -- What is known of an act that an exact log carries.
-use Rattle.std.proofs.Common.{◌≡◌, ℕ, ◌<◌, ◌≤◌, Bool, true, false, List, ◌∷◌, length, Option, Some, None, refl, sym, subst, ◌∙◌, slice_get}
+use Rattle.std.proofs.Common.{◌≡◌, ℕ, ◌<◌, ◌≤◌, Bool, true, false, List, ◌∷◌, length, Option, Some, None, refl, sym}
+use Rattle.std.proofs.Common.{subst, ◌∙◌, slice_get}
 use Rattle.std.proofs.Common.{inl, inr, ◌⊎◌, arith}
 use Rattle.std.specs.Prelude.{Contains}
 use Rattle.std.proofs.lemmas.Bool.{cases_lt}
@@ -17,29 +18,34 @@ use Rattle.slot_types.specs.declared.replies.Reply.{Reply}
 use Rattle.slot_types.specs.declared.replies.Entry.{Entry}
 use Rattle.slot_types.specs.declared.replies.Waived.{Waived}
 use Rattle.die_log.specs.Model.Log.{Log, Job, Carried, jobs, acts, work}
+use Rattle.slot_types.specs.Places.{place_of}
+use Rattle.slot_types.specs.declared.pages.Place.{Place}
 use Rattle.die_log.specs.Model.Flash.{Cells, block_of_page, cells, ran_by}
 use Rattle.die_log.specs.Model.Start.{Start}
 use Rattle.die_log.specs.Model.Opening.{IsOpening}
-use Rattle.die_log.specs.Model.Answers.{IsExact, IsAccepted, reply_if_accepted, act_for, act_of_op, choice, slot_reply, reply_with}
+use Rattle.die_log.specs.Model.Answers.{IsExact, IsAccepted, reply_if_accepted, act_for, act_of_op, choice, slot_reply}
+use Rattle.die_log.specs.Model.Answers.{reply_with}
 use Rattle.die_log.specs.Results.Legal.{changed_since}
-use Rattle.die_log.specs.Invariants.SoundCells.{IsClosed, IsUnplaced, HasFreePage, MayDo}
+use Rattle.die_log.specs.Invariants.SoundCells.{IsClosed, IsUnplaced, HasFreePage, MayDo, MayProgram}
 use Rattle.die_log.specs.Invariants.RunningCollections.{KeepsJobsAndCells}
 use Rattle.die_log.proofs.Cells.Acts.{of_block}
 use Rattle.die_log.proofs.Choices.{OfSome}
 use Rattle.die_log.proofs.Legality.{taken_answer}
 use Rattle.die_log.proofs.Legal.Exact.{stands_well, event_finds, has_slots}
 use Rattle.die_log.proofs.Limits.{keeps_limits}
-use Rattle.die_log.proofs.Standing.Actors.{job_erases_not, op_act, job_act, collection_may, may_erase, room_of}
+use Rattle.die_log.proofs.Standing.Actors.{IsJobAct, job_erases_not, op_act, job_act, collection_may, may_erase}
+use Rattle.die_log.proofs.Standing.Actors.{room_of}
 use Rattle.die_log.proofs.Standing.Finds.{FindsBy}
 use Rattle.die_log.proofs.Standing.Kept.{waiting_undone}
 use Rattle.die_log.proofs.Standing.Longer.{IsWaiting, waits}
 use Rattle.power_loss.specs.Labels.{Programs}
 
--- a program has a free page, and is of one of the die's pages; and an erase slot is of a closed block in which no page
--- is placed
+-- a program has a free page, and is of one of the die's pages; a copied page is placed; and an erase slot is of a
+-- closed block in which no page is placed
 pub record IsSoundAct (start : Start) (past : Log) (act : Act) : Type 0 where
   pub room : HasFreePage start.plan (cells start past) act
   pub within : (page : ℕ) → Programs act page → page < length (cells start past).places
+  pub copies : (page : ℕ) → act ≡ does.CopyProgram page → (q : Place) × (place_of (cells start past).places page ≡ Some q)
   pub erases : (b : ℕ) → act ≡ does.Erase b → IsClosed start.plan (cells start past) b × IsUnplaced (cells start past) b
 
 abbrev pub IsSoundCarried : Start → Log → Carried → Type 0
@@ -70,6 +76,13 @@ may_program plan c own fresh b (does.CopyRead p) page may h = absurd h
 may_program plan c own fresh b (does.CopyProgram p) page may h = subst (λ (x : ℕ). x < length c.places) h (placed_within c p b may.placed)
 may_program plan c own fresh b (does.Erase a) page may h = absurd h
 
+may_copy : (plan : DiePlan) (c : Cells) (own : List Act) (fresh : ℕ → Bool) (b : ℕ) (act : Act) (page : ℕ) → MayDo plan c own fresh b act
+    → act ≡ does.CopyProgram page → block_of_page c page ≡ Some b
+may_copy plan c own fresh b act page may is = placed (subst (MayDo plan c own fresh b) is may)
+  where
+    placed : MayProgram c own fresh b page → block_of_page c page ≡ Some b
+    placed k = k.placed
+
 -- a page that a job programs is one of the die's
 op_within : (start : Start) (past : Log) (j : Job) (act : Act) (page : ℕ) → IsExact start past → Contains (jobs past) j → (o : Option Op)
     → slice_get j.ops (work j.number past) ≡ o → act_of_op start past o ≡ Some act → Programs act page → page < start.plan.logical
@@ -96,6 +109,7 @@ head_sound start past j act bound exact s w e room = by_kind j.collects refl
             op_within start past j act page exact w.0 (slice_get j.ops (work j.number past)) refl is h,
             s.collects.sound.places,
           );
+          copies = λ page x. absurd (subst IsJobAct x op);
           erases = λ b x. absurd (job_erases_not act op b x);
         }
     by_kind true kind =
@@ -103,6 +117,10 @@ head_sound start past j act bound exact s w e room = by_kind j.collects refl
         record {
           room = room;
           within = λ page h. may_program start.plan (cells start past) (acts j.number past) (λ p. changed_since j.number p past) m.0 act page m.2 h;
+          copies = λ page x.
+              let k = may_copy start.plan (cells start past) (acts j.number past) (λ p. changed_since j.number p past) m.0 act page m.2 x in
+              let q = of_block (cells start past) page m.0 k in
+              (q.0, q.1);
           erases = λ b x.
               let k = may_erase start.plan (cells start past) (acts j.number past) (λ p. changed_since j.number p past) m.0 act m.2 b x in
               (k.1, k.2);

@@ -1,10 +1,11 @@
 -- A mount can put pages together until as many are free as all caps and reserves come to.
-use Rattle.std.proofs.Common.{◌≡◌, ◌≢◌, ◌⊎◌, ℕ, zero, suc, ◌+◌, ◌-◌, ◌*◌, ◌/◌, ◌<◌, ◌≤◌, ◌==◌, Bool, true, cond, List, [], ◌∷◌, length}
+use Rattle.std.proofs.Common.{◌≡◌, ◌≢◌, ◌⊎◌, ℕ, zero, suc, ◌+◌, ◌-◌, ◌*◌, ◌/◌, ◌<◌, ◌≤◌, ◌==◌, Bool, true, cond, List}
+use Rattle.std.proofs.Common.{[], ◌∷◌, length}
 use Rattle.std.proofs.Common.{Option, Some, None, refl, ap, sym, ◌∙◌, subst, inl, inr, arith}
-use Rattle.std.specs.Prelude.{sum_by}
+use Rattle.std.specs.Prelude.{sum_by, count_by}
 use Rattle.std.proofs.Math.Nat.{suc-mul, lt-div-mul-add}
 use Rattle.std.proofs.lemmas.Bool.{cases_eq, cases_lt, eq-eqb, ne_eqb}
-use Rattle.std.proofs.lemmas.List.Sums.{get_or-le-sum_by}
+use Rattle.std.proofs.lemmas.List.Sums.{get_or-le-sum_by, sum_by-cons}
 use Rattle.std.proofs.lemmas.Option.{slice_get-get_or}
 use Rattle.slot_types.specs.Places.{place_of}
 use Rattle.slot_types.specs.declared.plans.DiePlan.{DiePlan}
@@ -12,20 +13,45 @@ use Rattle.slot_types.specs.declared.pages.Place.{Place}
 use Rattle.slot_types.specs.declared.acts.Act.{Act}
 use Rattle.slot_types.specs.declared.acts.Act.TheVariants as does
 use Rattle.plan_rules.specs.Bound.{MeetsBound}
-use Rattle.die_log.specs.Model.Flash.{Cells, Block, free_block, open_block, block_at, free_in, valid, cells_after_program_in, cells_after_program, cells_after}
+use Rattle.die_log.specs.Model.Flash.{Cells, Block, free_block, open_block, block_at, free_in, valid}
+use Rattle.die_log.specs.Model.Flash.{cells_after_program_in, cells_after_program, cells_after}
+use Rattle.die_log.specs.Model.Work.{is_copy_program, is_erase}
 use Rattle.die_log.specs.Invariants.SoundCells.{AreSoundCells, IsClosed, IsProgram, IsEraseSlot, TakesNext}
 use Rattle.die_log.proofs.Cells.Acts.{in_block}
 use Rattle.die_log.proofs.Cells.FreePages.{free_idle, program_free, erase_free}
 use Rattle.die_log.proofs.Cells.Steps.{opens, open_is, program_is, erase_slot_is, within_blocks}
 use Rattle.die_log.proofs.Legal.Exact.{has_pages, has_slots}
 use Rattle.die_log.proofs.Tokens.Copying.{program_away}
-use Rattle.power_loss.specs.Recovery.{MayMount, cells_of, AreMountActs, AreIdle, AreSafe, CanGoBack, HasUnplaced, IsFreeBlock, IsSafe, NoneOpen, IsWorthIt, CanEnd, enough_of, most_rounds, most_acts}
+use Rattle.power_loss.specs.Recovery.{MayMount, cells_of, AreMountActs, AreIdle, AreSafe, CanGoBack, HasUnplaced}
+use Rattle.power_loss.specs.Recovery.{IsFreeBlock, IsSafe, NoneOpen, IsWorthIt, CanEnd, FitRounds, enough_of}
+use Rattle.power_loss.specs.Recovery.{most_rounds, most_acts}
 use Rattle.power_loss.proofs.Carrying.{placed_within}
 use Rattle.power_loss.proofs.MountActs.{mount_act, after_sound}
 use Rattle.power_loss.proofs.MountedStarts.{finds_block}
 use Rattle.power_loss.proofs.Remounting.{placed_in, free_unplaced}
 
 -- Acts, one after the other
+
+-- how many of them are copies, and slots of erases
+abbrev copies_in : List Act → ℕ
+copies_in acts = count_by is_copy_program acts
+
+abbrev slots_in : List Act → ℕ
+slots_in acts = count_by is_erase acts
+
+copy_counts : (page : ℕ) (acts : List Act)
+    → (copies_in (does.CopyProgram page ∷ acts) ≡ copies_in acts + 1) × (slots_in (does.CopyProgram page ∷ acts) ≡ slots_in acts)
+copy_counts page acts = (
+  omega (arith, sum_by-cons (λ (a : Act). cond (is_copy_program a) 1 0) (does.CopyProgram page) acts),
+  omega (arith, sum_by-cons (λ (a : Act). cond (is_erase a) 1 0) (does.CopyProgram page) acts),
+)
+
+slot_counts : (b : ℕ) (acts : List Act)
+    → (copies_in (does.Erase b ∷ acts) ≡ copies_in acts) × (slots_in (does.Erase b ∷ acts) ≡ slots_in acts + 1)
+slot_counts b acts = (
+  omega (arith, sum_by-cons (λ (a : Act). cond (is_copy_program a) 1 0) (does.Erase b) acts),
+  omega (arith, sum_by-cons (λ (a : Act). cond (is_erase a) 1 0) (does.Erase b) acts),
+)
 
 abbrev free_of : DiePlan → Cells → ℕ
 free_of plan c = sum_by (free_in plan) c.blocks
@@ -156,12 +182,14 @@ record IsEmptied (plan : DiePlan) (first c : Cells) (r : Reaches plan first c) (
   none : valid d b ≡ 0
   free : free_of plan c ≤ free_of plan d + valid c b
   took : length reached.acts ≤ length r.acts + valid c b
+  copies : copies_in reached.acts ≤ copies_in r.acts + valid c b
+  slots : slots_in reached.acts ≤ slots_in r.acts
 
 copies_out : (plan : DiePlan) (first c : Cells) (b n : ℕ) → MeetsBound plan → (r : Reaches plan first c) → MayCopyOn plan first c r.acts → AreIdle c
     → IsClosed plan c b → valid c b ≤ n → valid c b ≤ free_of plan c → IsEmptied plan first c r b
 unfolding further
 copies_out plan first c b zero bound r on idle closed few room =
-    record { d = c; reached = r; idle = idle; closed = closed; none = omega arith; free = omega arith; took = omega arith }
+    record { d = c; reached = r; idle = idle; closed = closed; none = omega arith; free = omega arith; took = omega arith; copies = omega arith; slots = omega arith }
 copies_out plan first c b (suc n) bound r on idle closed few room = by_case (λ d. copies_out plan first d b n bound) (cases_eq (valid c b) 0)
   where
     Again : Type 0
@@ -169,7 +197,7 @@ copies_out plan first c b (suc n) bound r on idle closed few room = by_case (λ 
         → valid d b ≤ free_of plan d → IsEmptied plan first d q b
 
     by_case : Again → (valid c b ≡ 0) ⊎ (valid c b ≡ 0 → ⊥) → IsEmptied plan first c r b
-    by_case again (inl none) = record { d = c; reached = r; idle = idle; closed = closed; none = none; free = omega arith; took = omega arith }
+    by_case again (inl none) = record { d = c; reached = r; idle = idle; closed = closed; none = none; free = omega arith; took = omega arith; copies = omega arith; slots = omega arith }
     by_case again (inr some) =
         let p = placed_in c b some in
         let free : 0 < free_of plan c = omega arith in
@@ -189,6 +217,8 @@ copies_out plan first c b (suc n) bound r on idle closed few room = by_case (λ 
           none = e.none;
           free = omega (arith, e.free, k.fewer, k.free);
           took = omega (arith, e.took, k.fewer);
+          copies = omega (arith, e.copies, k.fewer, (copy_counts p.0 r.acts).0);
+          slots = omega (arith, e.slots, (copy_counts p.0 r.acts).1);
         }
 
 -- Erases
@@ -200,6 +230,8 @@ record IsErased (plan : DiePlan) (first c : Cells) (r : Reaches plan first c) (s
   whole : IsWhollyFree d
   free : free_of plan c + plan.shape.pages ≤ free_of plan d
   took : length reached.acts ≤ length r.acts + slots
+  copies : copies_in reached.acts ≤ copies_in r.acts
+  slots_too : slots_in reached.acts ≤ slots_in r.acts + slots
 
 abbrev after_erase : DiePlan → ℕ → Cells → Cells
 after_erase plan b c = cells_after plan (Some (0, does.Erase b)) c
@@ -227,6 +259,8 @@ erases_out plan first c b zero bound r others closed none left =
       whole = record { b = b; stands = omega (arith, stands, w.blocks); none = unfilled w };
       free = omega (arith, erase_free plan 0 b c more closed, ap (λ (t : Bool). cond t plan.shape.pages 0) last);
       took = omega arith;
+      copies = omega (arith, (slot_counts b r.acts).0);
+      slots_too = omega (arith, (slot_counts b r.acts).1);
     }
   where
     unfilled : IsEraseSlot plan b c (after_erase plan b c) → (block_at (after_erase plan b c) b).filled ≡ 0
@@ -275,6 +309,8 @@ erases_out plan first c b (suc k) bound r others closed none left =
         ap (λ (t : Bool). cond t plan.shape.pages 0) (ne_eqb ((block_at c b).erasing + 1) plan.shape.erase_slots not_last),
       );
       took = omega (arith, e.took);
+      copies = omega (arith, e.copies, (slot_counts b r.acts).0);
+      slots_too = omega (arith, e.slots_too, (slot_counts b r.acts).1);
     }
   where
     slot_is : IsEraseSlot plan b c (after_erase plan b c)
@@ -307,6 +343,8 @@ record HasGained (plan : DiePlan) (first c : Cells) (r : Reaches plan first c) :
   whole : IsWhollyFree d
   free : free_of plan c + plan.alpha ≤ free_of plan d
   took : length reached.acts ≤ length r.acts + round_of plan
+  copies : copies_in reached.acts ≤ copies_in r.acts + (plan.shape.pages - plan.alpha)
+  slots : slots_in reached.acts ≤ slots_in r.acts + plan.shape.erase_slots
 
 -- its pages are copied, and it is erased
 gains : (plan : DiePlan) (first c : Cells) (b : ℕ) → MeetsBound plan → (r : Reaches plan first c) → AreIdle c → IsWorthIt plan c b → IsWhollyFree c
@@ -325,37 +363,54 @@ gains plan first c b bound r idle worth free =
       whole = x.whole;
       free = omega (arith, x.free, e.free, worth.few);
       took = omega (arith, x.took, e.took, worth.few);
+      copies = omega (arith, x.copies, e.copies, worth.few);
+      slots = omega (arith, x.slots_too, e.slots, slots);
     }
 
 rounded : (x a : ℕ) → 0 < a → x ≤ (x + a - 1) / a * a
 rounded x a some = omega (arith, lt-div-mul-add {a = x + a - 1} {b = a} some, some)
 
-ended : (plan : DiePlan) (first c : Cells) → (r : Reaches plan first c) → AreIdle c → length r.acts ≤ most_acts plan → enough_of plan ≤ free_of plan c
-    → CanEnd plan first
-ended plan first c r idle few enough = record {
+ended : (plan : DiePlan) (first c : Cells) → (r : Reaches plan first c) → AreIdle c → length r.acts ≤ most_acts plan
+    → FitRounds plan (most_rounds plan) r.acts → enough_of plan ≤ free_of plan c → CanEnd plan first
+ended plan first c r idle few rounds enough = record {
   acts = r.acts;
   few = few;
+  rounds = rounds;
   may = r.may;
   safe = r.safe;
   idle = subst AreIdle (sym r.is) idle;
   enough = subst (λ (x : Cells). enough_of plan ≤ free_of plan x) (sym r.is) enough;
 }
 
+-- with n more rounds these acts are as many rounds as may be
+record LeavesRounds (plan : DiePlan) (acts : List Act) (n : ℕ) : Type 0 where
+  few : length acts + n * round_of plan ≤ most_acts plan
+  copies : copies_in acts + n * (plan.shape.pages - plan.alpha) ≤ most_rounds plan * (plan.shape.pages - plan.alpha)
+  slots : slots_in acts + n * plan.shape.erase_slots ≤ most_rounds plan * plan.shape.erase_slots
+
+fits_rounds : (plan : DiePlan) (acts : List Act) (n : ℕ) → LeavesRounds plan acts n → FitRounds plan (most_rounds plan) acts
+fits_rounds plan acts n h = record { copies = omega (arith, h.copies); slots = omega (arith, h.slots) }
+
 -- n rounds are left
 ends_by : (plan : DiePlan) (first c : Cells) (n : ℕ) → MeetsBound plan → (r : Reaches plan first c) → AreIdle c → IsWhollyFree c
-    → enough_of plan ≤ free_of plan c + n * plan.alpha → length r.acts + n * round_of plan ≤ most_acts plan → CanEnd plan first
-ends_by plan first c zero bound r idle free lacks few = ended plan first c r idle (omega (arith, few)) (omega (arith, lacks))
+    → enough_of plan ≤ free_of plan c + n * plan.alpha → LeavesRounds plan r.acts n → CanEnd plan first
+ends_by plan first c zero bound r idle free lacks few =
+    ended plan first c r idle (omega (arith, few.few)) (fits_rounds plan r.acts zero few) (omega (arith, lacks))
 ends_by plan first c (suc n) bound r idle free lacks few = by_case (λ d. ends_by plan first d n bound) (cases_lt (free_of plan c) (enough_of plan))
   where
     by_case : ((d : Cells) → (q : Reaches plan first d) → AreIdle d → IsWhollyFree d → enough_of plan ≤ free_of plan d + n * plan.alpha
-        → length q.acts + n * round_of plan ≤ most_acts plan → CanEnd plan first)
+        → LeavesRounds plan q.acts n → CanEnd plan first)
         → (free_of plan c < enough_of plan) ⊎ (enough_of plan ≤ free_of plan c) → CanEnd plan first
     by_case again (inl short) =
         let some = bound.limits.some_alpha in
         let f = finds_block plan c bound r.sound idle (omega arith) in
         let g = gains plan first c f.0 bound r idle f.1 free in
-        again g.d g.reached g.idle g.whole (omega (arith, g.free, lacks, suc-mul n plan.alpha)) (omega (arith, g.took, few, suc-mul n (round_of plan)))
-    by_case again (inr enough) = ended plan first c r idle (omega (arith, few)) enough
+        again g.d g.reached g.idle g.whole (omega (arith, g.free, lacks, suc-mul n plan.alpha)) (record {
+          few = omega (arith, g.took, few.few, suc-mul n (round_of plan));
+          copies = omega (arith, g.copies, few.copies, suc-mul n (plan.shape.pages - plan.alpha));
+          slots = omega (arith, g.slots, few.slots, suc-mul n plan.shape.erase_slots);
+        })
+    by_case again (inr enough) = ended plan first c r idle (omega (arith, few.few)) (fits_rounds plan r.acts (suc n) few) enough
 
 -- a mount that has a wholly free block can end
 pub can_end : (plan : DiePlan) (c : Cells) (b : ℕ) → MeetsBound plan → AreSoundCells plan c → AreIdle c → IsFreeBlock c b → CanEnd plan c
@@ -368,4 +423,4 @@ can_end plan c b bound s idle f =
       safe = inl (free_unplaced plan c b s f.stands f.unfilled);
       is = refl;
       sound = s;
-    }) idle free (omega (arith, lacks, free_pages plan c idle free)) (omega arith)
+    }) idle free (omega (arith, lacks, free_pages plan c idle free)) (record { few = omega arith; copies = omega arith; slots = omega arith })

@@ -1,5 +1,6 @@
 -- One act keeps which labels count.
-use Rattle.std.proofs.Common.{◌≡◌, ◌≢◌, ◌⊎◌, ℕ, ◌+◌, ◌<◌, ◌≤◌, ◌==◌, Bool, true, false, cond, List, [], ◌∷◌, Option, Some, None, is_some}
+use Rattle.std.proofs.Common.{◌≡◌, ◌≢◌, ◌⊎◌, ℕ, ◌+◌, ◌<◌, ◌≤◌, ◌==◌, Bool, true, false, cond, List, [], ◌∷◌, Option}
+use Rattle.std.proofs.Common.{Some, None, is_some}
 use Rattle.std.proofs.Common.{refl, ap, sym, ◌∙◌, subst, inl, inr, arith, length, slice_set}
 use Rattle.std.specs.Prelude.{sum_by, slice_index_or}
 use Rattle.std.proofs.lemmas.Bool.{cases_eq, cases_lt, eq-eqb, ne_eqb}
@@ -12,11 +13,14 @@ use Rattle.slot_types.specs.declared.pages.Place.{Place}
 use Rattle.slot_types.specs.declared.acts.Act.{Act}
 use Rattle.slot_types.specs.declared.acts.Act.TheVariants as does
 use Rattle.die_log.specs.Model.Log.{Log, Carried}
-use Rattle.die_log.specs.Model.Flash.{Cells, Block, block_at, open_block, free_in, cells, contents, cells_after_program_in, cells_after_program, cells_after, ran_by}
+use Rattle.die_log.specs.Model.Flash.{Cells, Block, block_at, open_block, free_in, cells, contents}
+use Rattle.die_log.specs.Model.Flash.{cells_after_program_in, cells_after_program, cells_after, ran_by}
 use Rattle.die_log.specs.Model.Start.{Start, blank_page}
 use Rattle.die_log.specs.Invariants.SoundCells.{IsClosed, IsUnplaced, AreSoundCells, IsProgram, IsTrim, HasFreePage}
 use Rattle.die_log.proofs.Cells.Steps.{opens, open_is, program_is, step_is, within_blocks}
-use Rattle.power_loss.specs.Labels.{Label, Labels, label_at, Programs, labels, labels_after_program, labels_after_erase_slot, labels_after, counts_after, counts_from, AreLabelled, CountFrom}
+use Rattle.power_loss.specs.Labels.{Label, Labels, label_at, Programs, labels, labels_after_program}
+use Rattle.power_loss.specs.Labels.{labels_after_erase_slot, labels_after, counts_after, counts_from, AreLabelled}
+use Rattle.power_loss.specs.Labels.{CountFrom}
 use Rattle.power_loss.proofs.Steps.{new_label, IsNewOr, label_cases, label_stays, new_stands, cleared_cases}
 
 abbrev nowhere : Option Place

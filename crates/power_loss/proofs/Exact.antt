@@ -7,7 +7,8 @@ use Rattle.die_log.specs.Model.Opening.{IsOpening}
 use Rattle.die_log.specs.Model.Answers.{IsExact}
 use Rattle.die_log.proofs.Legal.Exact.{stands_well, has_pages}
 use Rattle.die_log.proofs.Renewal.{contents_len}
-use Rattle.power_loss.specs.Labels.{Labels, labels, labels_after, counts_after, counts_from, AreLabelled, CountFrom, HaveBytes, IsLabelled}
+use Rattle.power_loss.specs.Labels.{Labels, labels, labels_after, counts_after, counts_from, AreLabelled, CountFrom}
+use Rattle.power_loss.specs.Labels.{HaveBytes, IsLabelled}
 use Rattle.power_loss.proofs.Carrying.{IsSoundCarried, carried_sound}
 use Rattle.power_loss.proofs.Counting.{step_counts, counts_below, first_count}
 use Rattle.power_loss.proofs.Having.{step_has}
@@ -37,7 +38,7 @@ follows start first bound past exact (Some (n, act)) k h =
     let sound = (stands_well start bound past exact).0.collects.sound in
     let l : Labels = labels start first past in
     record {
-      labelled = step_labelled start.plan n act (cells start past) (contents start past) l pages sound k.room k.erases h.labelled;
+      labelled = step_labelled start.plan n act (cells start past) (contents start past) l pages sound k.room k.within k.erases h.labelled;
       bytes = step_has start.plan n act (cells start past) (contents start past) l pages sound k.room
           (λ page own. omega (arith, k.within page own, sound.places, contents_len start past, bound.pages)) k.erases h.labelled h.bytes;
       counts = step_counts start.plan n act (cells start past) (contents start past) l (counts_from start first past) pages sound k.room k.within k.erases

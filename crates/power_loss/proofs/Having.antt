@@ -1,5 +1,6 @@
 -- One act keeps the bytes of the cells in which pages are placed.
-use Rattle.std.proofs.Common.{◌≡◌, ◌≢◌, ◌⊎◌, ℕ, ◌<◌, List, Option, Some, refl, ap, sym, ◌∙◌, subst, inl, inr, arith, length, get_or, slice_set}
+use Rattle.std.proofs.Common.{◌≡◌, ◌≢◌, ◌⊎◌, ℕ, ◌<◌, List, Option, Some, refl, ap, sym, ◌∙◌, subst, inl, inr, arith}
+use Rattle.std.proofs.Common.{length, get_or, slice_set}
 use Rattle.std.specs.Prelude.{sum_by}
 use Rattle.std.proofs.lemmas.Bool.{cases_eq, cases_lt}
 use Rattle.std.proofs.lemmas.Option.{same_Some, none-some}
@@ -9,7 +10,8 @@ use Rattle.slot_types.specs.declared.plans.DiePlan.{DiePlan}
 use Rattle.slot_types.specs.declared.pages.PageData.{PageData}
 use Rattle.slot_types.specs.declared.acts.Act.{Act}
 use Rattle.slot_types.specs.declared.acts.Act.TheVariants as does
-use Rattle.die_log.specs.Model.Flash.{Cells, block_at, open_block, free_in, cells_after_program_in, cells_after_program, cells_after, contents_after}
+use Rattle.die_log.specs.Model.Flash.{Cells, block_at, open_block, free_in, cells_after_program_in, cells_after_program}
+use Rattle.die_log.specs.Model.Flash.{cells_after, contents_after}
 use Rattle.die_log.specs.Model.Start.{blank_page}
 use Rattle.die_log.specs.Invariants.SoundCells.{IsClosed, IsUnplaced, AreSoundCells, IsProgram, IsTrim, HasFreePage}
 use Rattle.die_log.proofs.Cells.Steps.{opens, open_is, program_is, step_is, within_blocks}

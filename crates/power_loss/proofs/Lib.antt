@@ -5,6 +5,7 @@ pub mod Having
 pub mod Exact
 pub mod Seeing
 pub mod Mounting
+pub mod Finding
 pub mod Recovering
 pub mod Opening
 pub mod Programming
@@ -16,6 +17,10 @@ mod Worked
 pub mod Compacting
 pub mod Starting
 pub mod Aside
+pub mod Numbers
+pub mod Written
+pub mod Trimming
+pub mod Knowing
 pub mod Losing
 pub mod Undoing
 pub mod Again

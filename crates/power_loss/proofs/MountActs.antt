@@ -1,5 +1,6 @@
 -- The acts of a mount keep a die recoverable, also where the power goes during one.
-use Rattle.std.proofs.Common.{[], ◌∷◌, ◌≡◌, ◌⊎◌, ℕ, ◌<◌, List, length, Some, None, ap, sym, ◌∙◌, subst, inl, inr, arith, get_or}
+use Rattle.std.proofs.Common.{[], ◌∷◌, ◌≡◌, ◌⊎◌, ℕ, ◌<◌, List, length, Some, None, ap, sym, ◌∙◌, subst, inl, inr, arith}
+use Rattle.std.proofs.Common.{get_or}
 use Rattle.std.specs.Prelude.{sum_by}
 use Rattle.std.proofs.lemmas.Bool.{cases_eq}
 use Rattle.std.proofs.lemmas.List.{get_or-set_same, get_or-set_other}
@@ -16,16 +17,16 @@ use Rattle.die_log.specs.Invariants.SoundCells.{IsClosed, IsUnplaced, AreSoundCe
 use Rattle.die_log.proofs.Cells.Steps.{opens, step_is, step_sound}
 use Rattle.die_log.proofs.Cells.Valid.{unplaced_is}
 use Rattle.die_log.proofs.Legal.Exact.{has_pages, has_slots}
-use Rattle.power_loss.specs.Labels.{Label, Labels, labels_in, labels_after, Programs}
-use Rattle.power_loss.specs.Laws.{Remounts, GoesOn, GoesOnDuring, ForAllRecoverable}
+use Rattle.power_loss.specs.Labels.{Labels, Shown, labels_after, Programs}
+use Rattle.power_loss.specs.Laws.{Remounts, GoesOn, GoesOnDuring, ForAllMountable, ForAllRecoverable}
 use Rattle.power_loss.specs.Recovery.{IsRecoverable, IsAbove, MayMount, cells_of, labels_of, AreMountActs}
 use Rattle.power_loss.specs.Seen.{MaySeePlaced}
 use Rattle.power_loss.proofs.Carrying.{placed_within}
 use Rattle.power_loss.proofs.Counting.{after_below, step_counts}
 use Rattle.power_loss.proofs.Having.{step_has}
-use Rattle.power_loss.proofs.Remounting.{free_remounted, remounts, remounted_idle}
-use Rattle.power_loss.proofs.Seeing.{during_placed, contains_at, at_contains}
-use Rattle.power_loss.proofs.Steps.{cell, step_labelled}
+use Rattle.power_loss.proofs.Remounting.{erased_within, free_remounted, remounts, remounted_idle}
+use Rattle.power_loss.proofs.Seeing.{during_placed}
+use Rattle.power_loss.proofs.Steps.{step_labelled}
 
 -- what is known of an act of a mount
 pub record IsMountAct (plan : DiePlan) (c : Cells) (act : Act) : Type 0 where
@@ -86,7 +87,7 @@ goes_on plan c pages l from (does.CopyProgram page) bound h may =
     let lt = placed_within c page may.1.0 may.1.1 in
     let more = has_pages plan bound in record {
       sound = after_sound plan c act bound h.sound k;
-      labelled = step_labelled plan 0 act c pages l more h.sound k.room k.erases h.labelled;
+      labelled = step_labelled plan 0 act c pages l more h.sound k.room k.within k.erases h.labelled;
       bytes = step_has plan 0 act c pages l more h.sound k.room (λ p own. omega (arith, k.within p own, h.sound.places, h.contents)) k.erases
           h.labelled h.bytes;
       counts = step_counts plan 0 act c pages l from more h.sound k.room k.within k.erases h.labelled h.below h.counts;
@@ -99,7 +100,7 @@ goes_on plan c pages l from (does.Erase b) bound h may =
     let k = mount_act plan c act may in
     let more = has_pages plan bound in record {
       sound = after_sound plan c act bound h.sound k;
-      labelled = step_labelled plan 0 act c pages l more h.sound k.room k.erases h.labelled;
+      labelled = step_labelled plan 0 act c pages l more h.sound k.room k.within k.erases h.labelled;
       bytes = step_has plan 0 act c pages l more h.sound k.room (λ p own. absurd own) k.erases h.labelled h.bytes;
       counts = step_counts plan 0 act c pages l from more h.sound k.room k.within k.erases h.labelled h.below h.counts;
       below = λ p. after_below p plan c pages l (Some (0, act)) (from p) (h.below p);
@@ -125,15 +126,16 @@ acts_are_seen plan bound c pages l from h act may seen w =
     (λ n b e. (k.erases b (ap (λ (p : ℕ × Act). p.1) (same_Some {A = ℕ × Act} (0, act) (n, does.Erase b) e))).1) w
 
 -- there is a number that it may take as the next
-pub has_above : ForAllRecoverable (λ plan c pages l from. (seen : List (List Label)) → MaySeePlaced c l.blocks seen → IsAbove seen from l.next)
+pub has_above : ForAllRecoverable (λ plan c pages l from. (seen : Shown) → MaySeePlaced c l.blocks seen → IsAbove seen from l.next)
 has_above plan bound c pages l from h seen w = record {
-  labels = λ q x e.
-      let y = w.remains q.block x (at_contains (labels_in seen q.block) x q.page e) in
-      let k = contains_at (labels_in l.blocks q.block) y.0 y.1 in
-      omega (arith, y.3, h.labelled.below (cell q.block k.0) y.0 k.1);
+  labels = λ q x e. h.labelled.below q x (w.remains q x e);
   counts = h.below;
 }
 
-pub all_remount : ForAllRecoverable Remounts
-all_remount plan bound c pages l from h seen erased next w u above =
-    (remounts plan c pages l from h seen erased next w u above, remounted_idle plan erased c, free_remounted plan c erased u)
+pub all_remount : ForAllMountable Remounts
+all_remount plan bound pages from seen h erased may erases next above =
+    let lt = erased_within plan pages from seen erased h may in (
+      remounts plan pages from seen h erased may erases next above,
+      remounted_idle plan from erased erases seen,
+      free_remounted plan from erased erases seen (omega (arith, lt, h.blocks)),
+    )

@@ -1,5 +1,6 @@
 -- Where a log may start again.
-use Rattle.std.proofs.Common.{◌≡◌, ◌⊎◌, ℕ, ◌+◌, ◌-◌, ◌*◌, ◌<◌, ◌≤◌, List, length, Option, Some, None, refl, ap, sym, ◌∙◌, inl, inr}
+use Rattle.std.proofs.Common.{◌≡◌, ◌⊎◌, ℕ, ◌+◌, ◌-◌, ◌*◌, ◌<◌, ◌≤◌, List, length, Option, Some, None, refl, ap, sym}
+use Rattle.std.proofs.Common.{◌∙◌, inl, inr}
 use Rattle.std.proofs.Common.{arith, replicate, sum, position, nat_lt, true, false}
 use Rattle.std.specs.Prelude.{sum_by}
 use Rattle.std.proofs.lemmas.Bool.{true≢false, cases_lt, cases_Bool, and_parts, and_from, ltb-true, lt-ltb}

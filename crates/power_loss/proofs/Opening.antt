@@ -1,5 +1,6 @@
 -- A fresh die has no labels, and a renewed one goes on with those that it has.
-use Rattle.std.proofs.Common.{◌≡◌, ℕ, zero, suc, List, [], length, Option, Some, None, refl, ap, sym, ◌∙◌, replicate, get_or, slice_get}
+use Rattle.std.proofs.Common.{◌≡◌, ℕ, zero, suc, List, [], length, Option, Some, None, refl, ap, sym, ◌∙◌, replicate}
+use Rattle.std.proofs.Common.{get_or}
 use Rattle.std.proofs.lemmas.List.{length-replicate}
 use Rattle.std.proofs.lemmas.Option.{none-some}
 use Rattle.slot_types.specs.Places.{place_of}
@@ -19,7 +20,7 @@ none_in (suc n) zero = refl
 none_in (suc n) (suc b) = none_in n b
 
 pub none_at : (n : ℕ) (q : Place) (x : Label) → label_at (replicate n []) q ≡ Some x → ⊥
-none_at n q x e = none-some x (sym (ap (λ (xs : List Label). slice_get xs q.page) (none_in n q.block)) ∙ e)
+none_at n q x e = none-some x (sym (ap (λ (xs : List (Option Label)). get_or xs q.page None) (none_in n q.block)) ∙ e)
 
 unfilled : (n b : ℕ) → (get_or (replicate n free_block) b free_block).filled ≡ 0
 unfilled zero b = refl
@@ -37,7 +38,12 @@ unplaced (suc n) (suc p) = unplaced n p
 pub fresh_labelled : (plan : DiePlan) → IsLabelled (fresh plan) (fresh_labels plan)
 fresh_labelled plan = record {
   labelled = record {
-    blocks = length-replicate {A = List Label} plan.shape.blocks [] ∙ sym (length-replicate {A = Block} plan.shape.blocks free_block);
+    fit = record {
+      cells = λ q x e. absurd (none_at plan.shape.blocks q x e);
+      pages = λ q x e. absurd (none_at plan.shape.blocks q x e);
+      apart = λ q r x y e f. absurd (none_at plan.shape.blocks q x e);
+    };
+    blocks = length-replicate {A = List (Option Label)} plan.shape.blocks [] ∙ sym (length-replicate {A = Block} plan.shape.blocks free_block);
     filled = λ b room. ap length (none_in plan.shape.blocks b) ∙ sym (unfilled plan.shape.blocks b);
     below = λ q x e. absurd (none_at plan.shape.blocks q x e);
     newest = λ p q e. absurd (none-some q (sym (unplaced plan.logical p) ∙ e));

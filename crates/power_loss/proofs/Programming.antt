@@ -1,5 +1,6 @@
 -- Each label was there when the log began, or a program of the log left it.
-use Rattle.std.proofs.Common.{◌≡◌, ◌⊎◌, ℕ, ◌<◌, List, [], ◌∷◌, length, Some, None, refl, ap, sym, ◌∙◌, subst, inl, inr, arith, get_or}
+use Rattle.std.proofs.Common.{◌≡◌, ◌⊎◌, ℕ, ◌<◌, List, [], ◌∷◌, length, Some, None, refl, ap, sym, ◌∙◌, subst, inl, inr}
+use Rattle.std.proofs.Common.{arith, get_or}
 use Rattle.std.specs.Prelude.{sum_by}
 use Rattle.std.proofs.lemmas.Bool.{cases_lt}
 use Rattle.std.proofs.lemmas.List.{get_or-set_same}
@@ -18,21 +19,22 @@ use Rattle.die_log.specs.Invariants.SoundCells.{IsClosed, IsUnplaced, AreSoundCe
 use Rattle.die_log.proofs.Cells.Steps.{opens, open_is, within_blocks}
 use Rattle.die_log.proofs.Legal.Exact.{stands_well, has_pages}
 use Rattle.die_log.proofs.Renewal.{contents_len}
-use Rattle.power_loss.specs.Labels.{Label, Labels, label_at, labels, labels_after, labels_after_program, Programs, WasProgrammed, AreLabelled, IsLabelled}
+use Rattle.power_loss.specs.Labels.{Label, Labels, label_at, labels, labels_after, labels_after_program, Programs}
+use Rattle.power_loss.specs.Labels.{WasProgrammed, AreLabelled, IsLabelled}
 use Rattle.power_loss.specs.Laws.{OfPrograms}
 use Rattle.power_loss.proofs.Carrying.{IsSoundCarried, carried_sound}
 use Rattle.power_loss.proofs.Counting.{erase_back}
 use Rattle.power_loss.proofs.Exact.{stands_labelled}
 use Rattle.power_loss.proofs.Steps.{IsNewOr, label_cases}
 
-abbrev bytes_of : List PageData → ℕ → PageData
+abbrev pub bytes_of : List PageData → ℕ → PageData
 bytes_of pages page = get_or pages page blank_page
 
 -- this act left it
-record IsLeft (act : Act) (l : Labels) (after : List PageData) (x : Label) : Type 0 where
-  programs : Programs act x.page
-  serial : x.serial ≡ l.next
-  bytes : x.bytes ≡ bytes_of after x.page
+pub record IsLeft (act : Act) (l : Labels) (after : List PageData) (x : Label) : Type 0 where
+  pub programs : Programs act x.page
+  pub serial : x.serial ≡ l.next
+  pub bytes : x.bytes ≡ bytes_of after x.page
 
 program_left : (plan : DiePlan) (page : ℕ) (bytes : PageData) (act : Act) (c : Cells) (l : Labels) (after : List PageData) → 0 < plan.shape.pages
     → AreSoundCells plan c → 0 < sum_by (free_in plan) c.blocks → AreLabelled plan c l → Programs act page → bytes_of after page ≡ bytes
@@ -54,7 +56,8 @@ program_left plan page bytes act c l after more s room h programs own q x e =
           bytes = sym (ap (λ (y : Label). y.bytes) n.2) ∙ (sym own ∙ ap (bytes_of after) of_page);
         })
 
-act_left : (plan : DiePlan) (n : ℕ) (act : Act) (c : Cells) (pages : List PageData) (l : Labels) → 0 < plan.shape.pages → AreSoundCells plan c
+-- a label after an act was there before it, or the act left it
+pub act_left : (plan : DiePlan) (n : ℕ) (act : Act) (c : Cells) (pages : List PageData) (l : Labels) → 0 < plan.shape.pages → AreSoundCells plan c
     → HasFreePage plan c act → ((page : ℕ) → Programs act page → page < length pages)
     → ((b : ℕ) → act ≡ does.Erase b → IsClosed plan c b × IsUnplaced c b) → AreLabelled plan c l → (q : Place) (x : Label)
     → label_at (labels_after plan c pages (Some (n, act)) l).blocks q ≡ Some x

@@ -1,9 +1,7 @@
 -- What a mount sees shows the pages.
-use Rattle.std.proofs.Common.{◌≡◌, ◌≢◌, ◌⊎◌, ℕ, ◌<◌, ◌==◌, ◌&&◌, not, Bool, true, false, List, ◌∷◌, Some, None, refl, ap, sym}
-use Rattle.std.proofs.Common.{◌∙◌, subst, inl, inr, arith, slice_get}
-use Rattle.std.specs.Prelude.{Contains}
+use Rattle.std.proofs.Common.{◌≡◌, ◌⊎◌, ℕ, ◌==◌, ◌&&◌, not, Bool, true, false, List, ◌∷◌, Some, None, refl, ap}
+use Rattle.std.proofs.Common.{◌∙◌, subst, inl, inr, arith}
 use Rattle.std.proofs.lemmas.Bool.{cases_eq, eq-eqb, ne_eqb}
-use Rattle.std.proofs.lemmas.Option.{slice_get-get_or, slice_get_within, get_or_from_slice_get}
 use Rattle.slot_types.specs.Places.{place_of}
 use Rattle.slot_types.specs.declared.plans.DiePlan.{DiePlan}
 use Rattle.slot_types.specs.declared.pages.PageData.{PageData}
@@ -18,72 +16,46 @@ use Rattle.die_log.specs.Model.Answers.{IsExact}
 use Rattle.die_log.specs.Invariants.SoundCells.{IsUnplaced, AreSoundCells}
 use Rattle.die_log.proofs.Cells.Acts.{in_block}
 use Rattle.die_log.proofs.Legal.Exact.{stands_well}
-use Rattle.power_loss.specs.Labels.{Label, Labels, labels_in, label_at, labels, labels_after, counts_from, IsNewest, AreLabelled, CountFrom, HaveBytes, IsLabelled}
+use Rattle.power_loss.specs.Labels.{Labels, Shown, labels, labels_after, counts_from, IsNewest, AreLabelled, CountFrom}
+use Rattle.power_loss.specs.Labels.{HaveBytes, IsLabelled}
 use Rattle.power_loss.specs.Seen.{MaySee, is_whole, MaySeeAfter, MaySeeDuring, MaySeePlaced}
 use Rattle.power_loss.specs.Laws.{ShowsPages}
 use Rattle.power_loss.proofs.Carrying.{IsSoundCarried, carried_sound}
 use Rattle.power_loss.proofs.Exact.{stands_labelled}
-use Rattle.power_loss.proofs.Steps.{cell}
 
 -- Labels seen, and labels there
 
-pub contains_at : (xs : List Label) (x : Label) → Contains xs x → (k : ℕ) × (slice_get xs k ≡ Some x)
-contains_at xs x h = (h.0, slice_get-get_or xs h.0 x h.1 ∙ ap Some h.2)
-
-pub at_contains : (xs : List Label) (x : Label) (k : ℕ) → slice_get xs k ≡ Some x → Contains xs x
-at_contains xs x k e = (k, slice_get_within xs k x e, get_or_from_slice_get xs k x x e)
-
--- a label that is seen is one of its block, but for the bytes
-behind : (c : Cells) (blocks seen : List (List Label)) → MaySeePlaced c blocks seen → (r : Place) (x : Label) → label_at seen r ≡ Some x
-    → (y : Label) × (k : ℕ) × (label_at blocks (cell r.block k) ≡ Some y) × (y.page ≡ x.page) × (y.serial ≡ x.serial)
-behind c blocks seen w r x e =
-    let y = w.remains r.block x (at_contains (labels_in seen r.block) x r.page e) in
-    let k = contains_at (labels_in blocks r.block) y.0 y.1 in
-    (y.0, k.0, k.1, y.2, y.3)
-
--- and one in a block in which a page is placed is the one there
-pub there : (c : Cells) (blocks seen : List (List Label)) → MaySeePlaced c blocks seen → (page : ℕ) (q : Place) → place_of c.places page ≡ Some q
-    → (r : Place) → r.block ≡ q.block → label_at seen r ≡ label_at blocks r
-there c blocks seen w page q e r is =
-    ap (λ b. slice_get (labels_in seen b) r.page) is
-    ∙ (ap (λ (xs : List Label). slice_get xs r.page) (w.whole page q e) ∙ sym (ap (λ b. slice_get (labels_in blocks b) r.page) is))
-
-pub seen_newest : (plan : DiePlan) (c : Cells) (l : Labels) (seen : List (List Label)) → MaySeePlaced c l.blocks seen → AreLabelled plan c l → (page : ℕ)
+pub seen_newest : (plan : DiePlan) (c : Cells) (l : Labels) (seen : Shown) → MaySeePlaced c l.blocks seen → AreLabelled plan c l → (page : ℕ)
     (q : Place) → place_of c.places page ≡ Some q → IsNewest seen page q
 seen_newest plan c l seen w h page q e =
     let n : IsNewest l.blocks page q = h.newest page q e in record {
       label = n.label;
-      stands = there c l.blocks seen w page q e q refl ∙ n.stands;
+      stands = w.whole page q e q refl ∙ n.stands;
       own = n.own;
-      newest = λ r x f own other. by_block n r x f own other (cases_eq r.block q.block);
+      newest = λ r x f own other. n.newest r x (w.remains r x f) own other;
     }
-  where
-    by_block : (n : IsNewest l.blocks page q) (r : Place) (x : Label) → label_at seen r ≡ Some x → x.page ≡ page → r ≢ q
-        → (r.block ≡ q.block) ⊎ (r.block ≡ q.block → ⊥) → x.serial < n.label.serial
-    by_block n r x f own other (inl is) = n.newest r x (sym (there c l.blocks seen w page q e r is) ∙ f) own other
-    by_block n r x f own other (inr apart) =
-        let y = behind c l.blocks seen w r x f in
-        omega (arith, y.4, n.newest (cell r.block y.1) y.0 y.2 (y.3 ∙ own) (λ same. apart (ap (λ (p : Place). p.block) same)))
 
 -- labels of which those in blocks with placed pages are whole show the pages
-pub shows : (plan : DiePlan) (c : Cells) (pages : List PageData) (l : Labels) (from : ℕ → ℕ) (seen : List (List Label))
+pub shows : (plan : DiePlan) (c : Cells) (pages : List PageData) (l : Labels) (from : ℕ → ℕ) (seen : Shown)
     → MaySeePlaced c l.blocks seen → AreLabelled plan c l → HaveBytes c l.blocks pages → CountFrom c l.blocks from → ShowsPages c pages from seen
 shows plan c pages l from seen w h bytes counts = record {
   placed = λ page q e. seen_newest plan c l seen w h page q e;
-  bytes = λ page q x e f. bytes page q x e (sym (there c l.blocks seen w page q e q refl) ∙ f);
+  bytes = λ page q x e f. bytes page q x e (w.remains q x f);
   counts = record {
-    placed = λ page q x e f. counts.placed page q x e (sym (there c l.blocks seen w page q e q refl) ∙ f);
-    unplaced = λ page none r x f own.
-        let y = behind c l.blocks seen w r x f in
-        omega (arith, y.4, counts.unplaced page none (cell r.block y.1) y.0 y.2 (y.3 ∙ own));
+    placed = λ page q x e f. counts.placed page q x e (w.remains q x f);
+    unplaced = λ page none r x f own. counts.unplaced page none r x (w.remains r x f) own;
   };
 }
 
 -- A block in erase has no placed page
 
-placed_seen : (c : Cells) (whole : ℕ → Bool) (blocks seen : List (List Label)) → ((page : ℕ) (q : Place) → place_of c.places page ≡ Some q
+placed_seen : (c : Cells) (whole : ℕ → Bool) (blocks seen : Shown) → ((page : ℕ) (q : Place) → place_of c.places page ≡ Some q
     → whole q.block ≡ true) → MaySee whole blocks seen → MaySeePlaced c blocks seen
-placed_seen c whole blocks seen ok w = record { whole = λ page q e. w.whole q.block (ok page q e); remains = w.remains }
+placed_seen c whole blocks seen ok w = record {
+  long = w.long;
+  whole = λ page q e place is. w.whole place (ap whole is ∙ ok page q e);
+  remains = w.remains;
+}
 
 idle_whole : (plan : DiePlan) (c : Cells) → AreSoundCells plan c → (page : ℕ) (q : Place) → place_of c.places page ≡ Some q → is_whole c q.block ≡ true
 idle_whole plan c s page q e = by_case (cases_eq (block_at c q.block).erasing 0)
@@ -92,11 +64,11 @@ idle_whole plan c s page q e = by_case (cases_eq (block_at c q.block).erasing 0)
     by_case (inl idle) = eq-eqb (block_at c q.block).erasing 0 idle
     by_case (inr busy) = absurd ((s.erasing q.block (omega arith)).2 page (in_block c page q.block q e refl))
 
-pub after_placed : (plan : DiePlan) (c : Cells) (l : Labels) (seen : List (List Label)) → AreSoundCells plan c → MaySeeAfter c l seen
+pub after_placed : (plan : DiePlan) (c : Cells) (l : Labels) (seen : Shown) → AreSoundCells plan c → MaySeeAfter c l seen
     → MaySeePlaced c l.blocks seen
 after_placed plan c l seen s w = placed_seen c (is_whole c) l.blocks seen (idle_whole plan c s) w
 
-erase_placed : (plan : DiePlan) (c : Cells) (b : ℕ) (l : Labels) (seen : List (List Label)) → AreSoundCells plan c → IsUnplaced c b
+erase_placed : (plan : DiePlan) (c : Cells) (b : ℕ) (l : Labels) (seen : Shown) → AreSoundCells plan c → IsUnplaced c b
     → MaySee (λ a. is_whole c a && not (a == b)) l.blocks seen → MaySeePlaced c l.blocks seen
 erase_placed plan c b l seen s none w = placed_seen c (λ a. is_whole c a && not (a == b)) l.blocks seen other w
   where
@@ -107,7 +79,7 @@ erase_placed plan c b l seen s none w = placed_seen c (λ a. is_whole c a && not
         rw (whole, apart) refl
 
 -- what may be seen during an act is what may be seen before it, or after it
-pub during_placed : (plan : DiePlan) (c : Cells) (pages : List PageData) (l : Labels) (ran : Carried) (seen : List (List Label)) → AreSoundCells plan c
+pub during_placed : (plan : DiePlan) (c : Cells) (pages : List PageData) (l : Labels) (ran : Carried) (seen : Shown) → AreSoundCells plan c
     → AreSoundCells plan (cells_after plan ran c) → ((n b : ℕ) → ran ≡ Some (n, does.Erase b) → IsUnplaced c b) → MaySeeDuring plan c pages l ran seen
     → MaySeePlaced c l.blocks seen ⊎ MaySeePlaced (cells_after plan ran c) (labels_after plan c pages ran l).blocks seen
 during_placed plan c pages l ran seen s t none w = by_carried ran none t w
@@ -132,10 +104,10 @@ during_placed plan c pages l ran seen s t none w = by_carried ran none t w
 
 -- Logs
 
-abbrev ShowsAfter : Start → Labels → Log → List (List Label) → Type 0
+abbrev ShowsAfter : Start → Labels → Log → Shown → Type 0
 ShowsAfter start first log seen = ShowsPages (cells start log) (contents start log) (counts_from start first log) seen
 
-shows_by : (start : Start) (first : Labels) → IsOpening start → IsLabelled start first → (log : Log) → IsExact start log → (seen : List (List Label))
+shows_by : (start : Start) (first : Labels) → IsOpening start → IsLabelled start first → (log : Log) → IsExact start log → (seen : Shown)
     → MaySeePlaced (cells start log) (labels start first log).blocks seen → ShowsAfter start first log seen
 shows_by start first bound labelled log exact seen w =
     let h = stands_labelled start first bound labelled log exact in
@@ -146,7 +118,7 @@ cells_sound start bound log exact = (stands_well start bound log exact).0.collec
 
 -- what may be seen after an exact log shows its pages
 pub seen_after : (start : Start) (first : Labels) → IsOpening start → IsLabelled start first → (log : Log) → IsExact start log
-    → (seen : List (List Label)) → MaySeeAfter (cells start log) (labels start first log) seen → ShowsAfter start first log seen
+    → (seen : Shown) → MaySeeAfter (cells start log) (labels start first log) seen → ShowsAfter start first log seen
 seen_after start first bound labelled log exact seen w =
     shows_by start first bound labelled log exact seen
     (after_placed start.plan (cells start log) (labels start first log) seen (cells_sound start bound log exact) w)
@@ -156,7 +128,7 @@ erases_unplaced : (start : Start) (past : Log) (ran : Carried) → IsSoundCarrie
 erases_unplaced start past ran k n b is = ((subst (IsSoundCarried start past) is k).erases b refl).1
 
 -- what may be seen during a slot is what may be seen before it, or after it
-pub placed_during : (start : Start) → IsOpening start → (first : Labels) (e : Entry) (past : Log) → IsExact start (e ∷ past) → (seen : List (List Label))
+pub placed_during : (start : Start) → IsOpening start → (first : Labels) (e : Entry) (past : Log) → IsExact start (e ∷ past) → (seen : Shown)
     → MaySeeDuring start.plan (cells start past) (contents start past) (labels start first past) (ran_by e.reply) seen
     → MaySeePlaced (cells start past) (labels start first past).blocks seen
     ⊎ MaySeePlaced (cells start (e ∷ past)) (labels start first (e ∷ past)).blocks seen
@@ -167,7 +139,7 @@ placed_during start bound first e past exact seen w =
 
 -- so it shows the pages as they were, or as they are
 pub seen_during : (start : Start) (first : Labels) → IsOpening start → IsLabelled start first → (e : Entry) (past : Log)
-    → IsExact start (e ∷ past) → (seen : List (List Label))
+    → IsExact start (e ∷ past) → (seen : Shown)
     → MaySeeDuring start.plan (cells start past) (contents start past) (labels start first past) (ran_by e.reply) seen
     → ShowsAfter start first past seen ⊎ ShowsAfter start first (e ∷ past) seen
 seen_during start first bound labelled e past exact seen w = by_case (placed_during start bound first e past exact seen w)

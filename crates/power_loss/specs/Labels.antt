@@ -1,7 +1,7 @@
 -- The labels of a die's cells: each program leaves, with the bytes, its logical page and its own number.
 use Rattle.std.specs.Prelude.{◌≡◌, ◌≢◌, ℕ, ◌+◌, ◌<◌, ◌≤◌, ◌==◌, if◌then◌else◌, List, [], ◌∷◌, ◌++◌}
 use Rattle.std.specs.Prelude.{Option, Some, None, length, replicate, is_some}
-use Rattle.std.specs.Prelude.{slice_get, slice_index_or, slice_set}
+use Rattle.std.specs.Prelude.{slice_index_or, slice_set}
 use Rattle.slot_types.specs.Places.{place_of}
 use Rattle.slot_types.specs.declared.plans.DiePlan.{DiePlan}
 use Rattle.slot_types.specs.declared.pages.PageData.{PageData}
@@ -20,16 +20,21 @@ pub record Label : Type 0 where
   pub serial : ℕ
   pub bytes : PageData
 
--- by block the labels of its programmed cells, in the order of the cells; and the number of the next program
+-- by block and by cell, from the first one on, the label there: none where nothing was programmed, or where a program
+-- was cut, or an erase. A cell past the end of its block's list has none. A mount sees the cells of a part in this form
+abbrev pub Shown : Type 0
+Shown = List (List (Option Label))
+
+-- the labels of a die, and the number of the next program
 pub record Labels : Type 0 where
-  pub blocks : List (List Label)
+  pub blocks : Shown
   pub next : ℕ
 
-abbrev pub labels_in : List (List Label) → ℕ → List Label
+abbrev pub labels_in : Shown → ℕ → List (Option Label)
 labels_in blocks b = slice_index_or blocks b []
 
-abbrev pub label_at : List (List Label) → Place → Option Label
-label_at blocks place = slice_get (labels_in blocks place.block) place.page
+abbrev pub label_at : Shown → Place → Option Label
+label_at blocks place = slice_index_or (labels_in blocks place.block) place.page None
 
 -- a die on which nothing was written
 abbrev pub fresh_labels : DiePlan → Labels
@@ -41,7 +46,7 @@ fresh_labels plan = record { blocks = replicate plan.shape.blocks []; next = 0 }
 abbrev pub labels_after_program : ℕ → PageData → Option ℕ → Labels → Labels
 labels_after_program page bytes None l = l
 labels_after_program page bytes (Some b) l = record {
-  blocks = slice_set l.blocks b (labels_in l.blocks b ++ record { page = page; serial = l.next; bytes = bytes } ∷ []);
+  blocks = slice_set l.blocks b (labels_in l.blocks b ++ Some (record { page = page; serial = l.next; bytes = bytes }) ∷ []);
   next = l.next + 1;
 }
 
@@ -104,30 +109,44 @@ pub record WasProgrammed (start : Start) (first : Labels) (log : Log) (x : Label
 -- What stands of them
 
 -- the cell bears the newest label of the page: any other label of the page has a smaller number
-pub record IsNewest (blocks : List (List Label)) (page : ℕ) (place : Place) : Type 0 where
+pub record IsNewest (blocks : Shown) (page : ℕ) (place : Place) : Type 0 where
   pub label : Label
   pub stands : label_at blocks place ≡ Some label
   pub own : label.page ≡ page
   pub newest : (other : Place) (x : Label) → label_at blocks other ≡ Some x → x.page ≡ page → other ≢ place → x.serial < label.serial
 
--- in a block with room each programmed cell has a label (of one that a mount has closed they may be fewer, or doubled);
--- each number is below the next; and where a page is placed, its newest label is
+-- labels as programs on a die of this plan leave them: each is in a cell of its block, and of one of the die's pages,
+-- and no two have the same number
+pub record FitPlan (plan : DiePlan) (blocks : Shown) : Type 0 where
+  pub cells : (place : Place) (x : Label) → label_at blocks place ≡ Some x → place.page < plan.shape.pages
+  pub pages : (place : Place) (x : Label) → label_at blocks place ≡ Some x → x.page < plan.logical
+  pub apart : (q r : Place) (x y : Label) → label_at blocks q ≡ Some x → label_at blocks r ≡ Some y → x.serial ≡ y.serial → q ≡ r
+
+-- they fit the plan; in a block with room they are known of each programmed cell and of no other (one that a mount has
+-- closed has cells without a label); each number is below the next; and where a page is placed, its newest label is
 pub record AreLabelled (plan : DiePlan) (c : Cells) (l : Labels) : Type 0 where
+  pub fit : FitPlan plan l.blocks
   pub blocks : length l.blocks ≡ length c.blocks
   pub filled : (b : ℕ) → (block_at c b).filled < plan.shape.pages → length (labels_in l.blocks b) ≡ (block_at c b).filled
   pub below : (place : Place) (x : Label) → label_at l.blocks place ≡ Some x → x.serial < l.next
   pub newest : (page : ℕ) (place : Place) → place_of c.places page ≡ Some place → IsNewest l.blocks page place
 
 -- the cell in which a page is placed has its bytes
-abbrev pub HaveBytes : Cells → List (List Label) → List PageData → Type 0
+abbrev pub HaveBytes : Cells → Shown → List PageData → Type 0
 HaveBytes c blocks pages = (page : ℕ) (place : Place) (x : Label) → place_of c.places page ≡ Some place → label_at blocks place ≡ Some x
     → x.bytes ≡ slice_index_or pages page blank_page
 
 -- where the page is placed its label counts, and else none of its labels does
-pub record CountFrom (c : Cells) (blocks : List (List Label)) (from : ℕ → ℕ) : Type 0 where
+pub record CountFrom (c : Cells) (blocks : Shown) (from : ℕ → ℕ) : Type 0 where
   pub placed : (page : ℕ) (place : Place) (x : Label) → place_of c.places page ≡ Some place → label_at blocks place ≡ Some x → from page ≤ x.serial
   pub unplaced : (page : ℕ) → place_of c.places page ≡ None → (place : Place) (x : Label) → label_at blocks place ≡ Some x → x.page ≡ page
       → x.serial < from page
+
+-- from these numbers on a mount may count labels: those of placed pages count; and so will those that are programmed
+-- next. It may know of fewer trims than there were, as of none
+pub record MayCountFrom (c : Cells) (l : Labels) (from : ℕ → ℕ) : Type 0 where
+  pub placed : (page : ℕ) (place : Place) (x : Label) → place_of c.places page ≡ Some place → label_at l.blocks place ≡ Some x → from page ≤ x.serial
+  pub below : (page : ℕ) → from page ≤ l.next
 
 -- a start whose cells bear these labels
 pub record IsLabelled (start : Start) (first : Labels) : Type 0 where

@@ -1,6 +1,7 @@
 -- What stands on a die that can be recovered, and what a mount makes of it before another log starts.
 use Rattle.std.specs.Prelude.{◌≡◌, ◌≢◌, ◌⊎◌, ℕ, ◌++◌, ◌+◌, ◌-◌, ◌*◌, ◌/◌, ◌<◌, ◌≤◌, ◌==◌}
-use Rattle.std.specs.Prelude.{if◌then◌else◌, List, [], ◌∷◌, Some, None, map, length, sum, sum_by, slice_index_or, slice_set}
+use Rattle.std.specs.Prelude.{if◌then◌else◌, not, List, [], ◌∷◌, Some, None, map, length, sum, sum_by, count_by}
+use Rattle.std.specs.Prelude.{slice_index_or, slice_set}
 use Rattle.std.specs.List.{range_with_len}
 use Rattle.slot_types.specs.Places.{place_of}
 use Rattle.slot_types.specs.declared.plans.DiePlan.{DiePlan}
@@ -11,11 +12,13 @@ use Rattle.slot_types.specs.declared.acts.Act.TheVariants as does
 use Rattle.plan_rules.specs.Accounts.{Accounts, opening_accounts}
 use Rattle.die_log.specs.Model.Flash.{Block, Cells, block_at, block_of_page, free_in, valid, cells_after}
 use Rattle.die_log.specs.Model.Opening.{IsOpening}
+use Rattle.die_log.specs.Model.Work.{is_copy_program, is_erase}
 use Rattle.die_log.specs.Model.Start.{Start, blank_page}
 use Rattle.die_log.specs.Invariants.SoundCells.{AreSoundCells, IsClosed}
-use Rattle.power_loss.specs.Mounted.{mounted_place}
-use Rattle.power_loss.specs.Seen.{MaySeePlaced}
-use Rattle.power_loss.specs.Labels.{Label, Labels, label_at, labels_in, labels_after, AreLabelled, CountFrom, HaveBytes, IsLabelled}
+use Rattle.power_loss.specs.Labels.{Label, Labels, Shown, label_at, labels_after, AreLabelled, CountFrom, FitPlan}
+use Rattle.power_loss.specs.Labels.{HaveBytes, IsLabelled}
+use Rattle.power_loss.specs.Mounted.{mounted_place, mounted_places, mounted_contents}
+use Rattle.power_loss.specs.Seen.{MaySee, MaySeeAfter, MaySeeDuring}
 
 -- cells that fit the plan, their labels, and the numbers from which these count; and a page that is placed nowhere is
 -- blank
@@ -28,35 +31,72 @@ pub record IsRecoverable (plan : DiePlan) (c : Cells) (pages : List PageData) (l
   pub contents : length pages ≡ plan.logical
   pub blank : (page : ℕ) → place_of c.places page ≡ None → slice_index_or pages page blank_page ≡ blank_page
 
--- A mount first erases one block in which it finds no page. It counts each other one as closed, whatever it looks like:
--- one that was open, since its next cell may be torn; and one in which it finds no page, since that may have been in erase
+-- By what a mount goes of what it sees
 
-abbrev pub remounted_block : DiePlan → Cells → (erased b : ℕ) → Block
-remounted_block plan c erased b =
-    let s = block_at c b in
+-- it finds no page in this block
+abbrev pub FindsNoneIn : DiePlan → (ℕ → ℕ) → Shown → ℕ → Type 0
+FindsNoneIn plan from seen b = (page : ℕ) → page < plan.logical → (q : Place) → mounted_place (from page) page seen ≡ Some q → q.block ≢ b
+
+-- the block with the greatest number that is seen
+pub record IsNewestBlock (seen : Shown) (b : ℕ) : Type 0 where
+  pub place : Place
+  pub label : Label
+  pub own : place.block ≡ b
+  pub stands : label_at seen place ≡ Some label
+  pub newest : (other : Place) (x : Label) → label_at seen other ≡ Some x → other.block ≢ b → x.serial < label.serial
+
+-- what is seen of the other blocks
+abbrev pub without_block : ℕ → Shown → Shown
+without_block b seen = slice_set seen b []
+
+-- which block it erases first: any one in which it finds no page; else the block with the greatest number, which it
+-- undoes
+abbrev pub MayErase : DiePlan → (ℕ → ℕ) → Shown → ℕ → Type 0
+MayErase plan from seen b =
+    ((b < plan.shape.blocks) × FindsNoneIn plan from seen b)
+    ⊎ (((a : ℕ) → a < plan.shape.blocks → FindsNoneIn plan from seen a → ⊥) × IsNewestBlock seen b)
+
+-- this block may be undone: its labels are newer than any other's, and bear the bytes that their pages have; and each
+-- page is found without it as with it
+pub record CanUndo (plan : DiePlan) (pages : List PageData) (from : ℕ → ℕ) (seen : Shown) (b : ℕ) : Type 0 where
+  pub stands : b < plan.shape.blocks
+  pub newer : (q r : Place) (x y : Label) → label_at seen q ≡ Some x → label_at seen r ≡ Some y → q.block ≡ b → r.block ≢ b → y.serial < x.serial
+  pub copies : (q : Place) (x : Label) → label_at seen q ≡ Some x → q.block ≡ b → x.bytes ≡ slice_index_or pages x.page blank_page
+  pub others : mounted_contents from plan.logical (without_block b seen) ≡ pages
+
+-- What is seen is a state from which a mount can go on, with these pages: labels that fit the plan, by which just these
+-- pages are found; and a block in which no page is, or one that may be undone
+pub record IsMountable (plan : DiePlan) (pages : List PageData) (from : ℕ → ℕ) (seen : Shown) : Type 0 where
+  pub blocks : length seen ≡ plan.shape.blocks
+  pub fit : FitPlan plan seen
+  pub found : mounted_contents from plan.logical seen ≡ pages
+  pub room : ((b : ℕ) × (b < plan.shape.blocks) × FindsNoneIn plan from seen b) ⊎ ((b : ℕ) × CanUndo plan pages from seen b)
+
+-- Then it erases that block, and counts each other one as closed, whatever it looks like: one that was open, since its
+-- next cell may be torn; and one in which it finds no page, since that may have been in erase. How often each was
+-- erased it takes to be anything
+
+abbrev pub remounted_block : DiePlan → (erased : ℕ) → (erases : ℕ → ℕ) → ℕ → Block
+remounted_block plan erased erases b =
     if b == erased
-    then record { filled = 0; erasing = 0; erases = s.erases + 1 }
-    else record { filled = plan.shape.pages; erasing = 0; erases = s.erases }
+    then record { filled = 0; erasing = 0; erases = erases b }
+    else record { filled = plan.shape.pages; erasing = 0; erases = erases b }
 
-abbrev pub remounted_cells : DiePlan → (erased : ℕ) → Cells → Cells
-remounted_cells plan erased c = record { blocks = map (remounted_block plan c erased) (range_with_len 0 (length c.blocks)); places = c.places }
-
-abbrev pub remounted_labels_in : (erased : ℕ) → List (List Label) → ℕ → List Label
-remounted_labels_in erased seen b = if b == erased then [] else labels_in seen b
+-- each page is placed where the newest of its labels is that are left
+abbrev pub remounted_cells : DiePlan → (from : ℕ → ℕ) → (erased : ℕ) → (erases : ℕ → ℕ) → Shown → Cells
+remounted_cells plan from erased erases seen = record {
+  blocks = map (remounted_block plan erased erases) (range_with_len 0 plan.shape.blocks);
+  places = mounted_places from plan.logical (without_block erased seen);
+}
 
 -- the labels that are left of those seen, and the number that the mount takes as the next
-abbrev pub remounted_labels : (erased : ℕ) → Cells → List (List Label) → ℕ → Labels
-remounted_labels erased c seen next = record { blocks = map (remounted_labels_in erased seen) (range_with_len 0 (length c.blocks)); next = next }
+abbrev pub remounted_labels : (erased : ℕ) → Shown → ℕ → Labels
+remounted_labels erased seen next = record { blocks = without_block erased seen; next = next }
 
 -- above all numbers that are seen, and not below those from which labels count
-pub record IsAbove (seen : List (List Label)) (from : ℕ → ℕ) (next : ℕ) : Type 0 where
+pub record IsAbove (seen : Shown) (from : ℕ → ℕ) (next : ℕ) : Type 0 where
   pub labels : (place : Place) (x : Label) → label_at seen place ≡ Some x → x.serial < next
   pub counts : (page : ℕ) → from page ≤ next
-
--- a block of the cells in which no page is placed
-pub record IsUnplacedBlock (c : Cells) (b : ℕ) : Type 0 where
-  pub stands : b < length c.blocks
-  pub none : valid c b ≡ 0
 
 -- Then it may copy pages together: it programs a page that is placed, where a page is free, and does slots of the erase
 -- of a closed block in which no page is placed
@@ -157,11 +197,17 @@ most_rounds plan = (enough_of plan - plan.shape.pages + plan.alpha - 1) / plan.a
 abbrev pub most_acts : DiePlan → ℕ
 most_acts plan = most_rounds plan * (plan.shape.pages - plan.alpha + plan.shape.erase_slots)
 
+-- so many rounds do for these acts, each of so many copies and the slots of one erase
+pub record FitRounds (plan : DiePlan) (rounds : ℕ) (acts : List Act) : Type 0 where
+  pub copies : count_by is_copy_program acts ≤ rounds * (plan.shape.pages - plan.alpha)
+  pub slots : count_by is_erase acts ≤ rounds * plan.shape.erase_slots
+
 -- acts of a mount, not too many, after which no erase is under way, and as many pages are free as all caps and reserves
 -- come to; and at each moment of them the power may go again
 pub record CanEnd (plan : DiePlan) (c : Cells) : Type 0 where
   pub acts : List Act
   pub few : length acts ≤ most_acts plan
+  pub rounds : FitRounds plan (most_rounds plan) acts
   pub may : AreMountActs plan c acts
   pub safe : AreSafe plan c acts
   pub idle : AreIdle (cells_of plan acts c)
@@ -181,42 +227,29 @@ pub record CanStart (plan : DiePlan) (c : Cells) (pages : List PageData) (l : La
   pub start : Start
   pub starts : StartsAfter plan c pages l acts start
 
--- it erases such a block, closes the others, and goes on from there
-abbrev pub CanRecover : DiePlan → Cells → List PageData → (ℕ → ℕ) → List (List Label) → Type 0
-CanRecover plan c pages from seen =
-    (erased next : ℕ) → IsUnplacedBlock c erased → IsAbove seen from next
-    → CanStart plan (remounted_cells plan erased c) pages (remounted_labels erased c seen next)
+-- Where the power goes during a mount
 
--- By what a mount goes of what it sees
+-- Looks don't change by themselves: what a mount saw, the next one sees again, but for what the first one did. Where
+-- the power goes in the erase of its first block, that one isn't whole
+abbrev pub MaySeeInErase : (erased : ℕ) → (before seen : Shown) → Type 0
+MaySeeInErase erased before seen = MaySee (λ b. not (b == erased)) before seen
 
--- it finds no page in this block
-abbrev pub FindsNoneIn : DiePlan → (ℕ → ℕ) → List (List Label) → ℕ → Type 0
-FindsNoneIn plan from seen b = (page : ℕ) → page < plan.logical → (q : Place) → mounted_place (from page) page seen ≡ Some q → q.block ≢ b
+-- after acts of a mount, or during the next one
+pub record MaySeeInActs (plan : DiePlan) (c : Cells) (pages : List PageData) (l : Labels) (seen : Shown) : Type 0 where
+  pub acts : List Act
+  pub may : AreMountActs plan c acts
+  pub safe : IsSafe plan c acts
+  pub sees : MaySeeAfter (cells_of plan acts c) (labels_of plan pages acts c l) seen
+      ⊎ ((act : Act) × MayMount plan (cells_of plan acts c) act × IsSafe plan c (act ∷ acts)
+      × MaySeeDuring plan (cells_of plan acts c) pages (labels_of plan pages acts c l) (Some (0, act)) seen)
 
--- the block with the greatest number that is seen
-pub record IsNewestBlock (seen : List (List Label)) (b : ℕ) : Type 0 where
-  pub place : Place
-  pub label : Label
-  pub own : place.block ≡ b
-  pub stands : label_at seen place ≡ Some label
-  pub newest : (other : Place) (x : Label) → label_at seen other ≡ Some x → other.block ≢ b → x.serial < label.serial
-
--- what is seen of the other blocks
-abbrev pub without_block : ℕ → List (List Label) → List (List Label)
-without_block b seen = slice_set seen b []
-
--- of all, where it finds no page in some block; else of all but the block with the greatest number, which it undoes
-pub record GoesBy (plan : DiePlan) (from : ℕ → ℕ) (seen kept : List (List Label)) : Type 0 where
-  pub all : (b : ℕ) → b < plan.shape.blocks → FindsNoneIn plan from seen b → kept ≡ seen
-  pub undone : ((b : ℕ) → b < plan.shape.blocks → FindsNoneIn plan from seen b → ⊥) → (b : ℕ) × IsNewestBlock seen b × (kept ≡ without_block b seen)
-
--- a die that can be recovered, with the same pages, and what a mount may go by of what it sees
-pub record RecoversFrom (plan : DiePlan) (pages : List PageData) (from : ℕ → ℕ) (seen : List (List Label)) : Type 0 where
-  pub c : Cells
-  pub l : Labels
-  pub recoverable : IsRecoverable plan c pages l from
-  pub unplaced : HasUnplaced c
-  pub kept : List (List Label)
-  pub rule : GoesBy plan from seen kept
-  pub sees : MaySeePlaced c l.blocks kept
-  pub recovers : CanRecover plan c pages from kept
+-- what may be seen after a mount that went by what was seen before, and was cut
+pub record MaySeeAgain (plan : DiePlan) (from : ℕ → ℕ) (before seen : Shown) : Type 0 where
+  pub erased : ℕ
+  pub rule : MayErase plan from before erased
+  pub next : ℕ
+  pub above : IsAbove before from next
+  pub erases : ℕ → ℕ
+  pub sees : MaySeeInErase erased before seen
+      ⊎ MaySeeInActs plan (remounted_cells plan from erased erases before) (mounted_contents from plan.logical before)
+      (remounted_labels erased before next) seen

@@ -1,6 +1,7 @@
 //! What holds of the labels of every exact log. Each law is a function that does nothing.
 
-ghost use Rattle.std.specs.Prelude.{◌≡◌, ℕ, ◌⊎◌, ◌∷◌, ◌+◌, ◌-◌, ◌*◌, ◌≤◌, List, Some, length, sum, sum_by, slice_index_or};
+ghost use Rattle.std.specs.Prelude.{◌≡◌, ℕ, ◌⊎◌, ◌∷◌, ◌+◌, ◌-◌, ◌*◌, ◌≤◌, List, Some, length, sum, sum_by};
+ghost use Rattle.std.specs.Prelude.{slice_index_or};
 ghost use Rattle.slot_types.specs.declared.pages.PageData.{PageData};
 ghost use Rattle.slot_types.specs.declared.acts.Act.TheVariants as does;
 ghost use Rattle.slot_types.specs.declared.replies.SlotReply.{SlotReply};
@@ -9,7 +10,7 @@ ghost use Rattle.die_log.specs.Results.Supply.{AreStocked};
 ghost use Rattle.die_log.specs.Results.Promises.{HasSlot};
 ghost use Rattle.slot_types.specs.declared.plans.DiePlan.{DiePlan};
 ghost use Rattle.slot_types.specs.declared.replies.Entry.{Entry};
-ghost use Rattle.plan_rules.specs.Bound.{fmax_of};
+ghost use Rattle.plan_rules.specs.Bound.{MeetsBound, fmax_of};
 ghost use Rattle.die_log.specs.Model.Answers.{IsExact};
 ghost use Rattle.die_log.specs.Model.Flash.{cells, contents, free_in, ran_by};
 ghost use Rattle.die_log.specs.Model.Log.{Log};
@@ -17,13 +18,18 @@ ghost use Rattle.die_log.specs.Model.Opening.{IsOpening, renewed_start};
 ghost use Rattle.die_log.specs.Model.Start.{Start, fresh, blank_page};
 ghost use Rattle.die_log.specs.Invariants.TrueAccounts.{AccountsAgree};
 ghost use Rattle.die_log.specs.Results.Laws.{ForEveryExactLog};
-ghost use Rattle.power_loss.specs.Labels.{Label, Labels, labels, counts_from, fresh_labels, AreLabelled, IsLabelled};
-ghost use Rattle.power_loss.specs.Recovery.{IsRecoverable, AreIdle, mounted_start, full_accounts, remounted_cells, IsAbove};
-ghost use Rattle.power_loss.specs.Recovery.{IsWorthIt, CanEnd, CanRecover, HasUnplaced, IsFreeBlock};
+ghost use Rattle.power_loss.specs.Labels.{Labels, Shown, labels, counts_from, fresh_labels, AreLabelled, IsLabelled};
+ghost use Rattle.power_loss.specs.Mounted.{all_count};
+ghost use Rattle.power_loss.specs.Recovery.{IsRecoverable, IsMountable, MayErase, AreIdle, mounted_start};
+ghost use Rattle.power_loss.specs.Recovery.{full_accounts, IsAbove};
+ghost use Rattle.power_loss.specs.Recovery.{remounted_cells, remounted_labels, IsWorthIt, CanEnd, CanStart};
+ghost use Rattle.power_loss.specs.Recovery.{IsFreeBlock};
+ghost use Rattle.power_loss.specs.Recovery.{MaySeeInErase, MaySeeAgain};
 ghost use Rattle.power_loss.specs.Seen.{MaySeeAfter, MaySeeDuring, MaySeePlaced};
-ghost use Rattle.power_loss.specs.Laws.{ForEveryLabelledLog, ForAllSeen, ForAllSeenDuring, ShowsPages, OfPrograms, MountsAll};
-ghost use Rattle.power_loss.specs.Laws.{MountsPlaced, ForAllRecoverable, Remounts, GoesOn};
-ghost use Rattle.power_loss.specs.Laws.{GoesOnDuring, Opens, RecoversAgain, RecoversAgainDuring};
+ghost use Rattle.power_loss.specs.Laws.{ForEveryLabelledLog, ForAllSeen, ForAllSeenDuring, ShowsPages, OfPrograms};
+ghost use Rattle.power_loss.specs.Laws.{MountsAll};
+ghost use Rattle.power_loss.specs.Laws.{MountsPlaced, ForAllRecoverable, ForAllMountable, Remounts, GoesOn, From};
+ghost use Rattle.power_loss.specs.Laws.{GoesOnDuring, Opens, CutsInActs};
 
 /// A fresh die has no labels, and is labelled. A die that is renewed goes on with those that it has.
 pub fn starts_are_labelled()
@@ -61,10 +67,10 @@ pub fn a_mount_finds_all()
 {}
 
 /// A mount that goes by the labels alone finds the place and the content of each page that is placed. A page that was
-/// trimmed, or never written, it finds nowhere, or as an earlier program of it left it.
+/// trimmed, or never written, it finds nowhere, or as an earlier program of it left it: with the bytes of that program.
 pub fn a_mount_finds_what_is_placed()
-    ensures after { ForAllSeen MountsPlaced }
-    ensures during { ForAllSeenDuring MountsPlaced }
+    ensures after { ForAllSeen (λ c pages from. MountsPlaced c pages all_count from) }
+    ensures during { ForAllSeenDuring (λ c pages from. MountsPlaced c pages all_count from) }
 {}
 
 /// After each exact log that starts at a labelled opening the die can be recovered; and all that a mount may see, where
@@ -73,32 +79,36 @@ pub fn logs_can_be_recovered()
     ensures after { ForEveryLabelledLog (λ start first log.
         IsRecoverable start.plan (cells start log) (contents start log) (labels start first log)
         (counts_from start first log)) }
-    ensures seen { ForEveryLabelledLog (λ start first log. (seen : List (List Label))
+    ensures seen { ForEveryLabelledLog (λ start first log. (seen : Shown)
         → MaySeeAfter (cells start log) (labels start first log) seen
         → MaySeePlaced (cells start log) (labels start first log).blocks seen) }
     ensures during { (start : Start) (first : Labels) → IsOpening start → IsLabelled start first
-        → (e : Entry) (past : Log) → IsExact start (e ∷ past) → (seen : List (List Label))
-        → MaySeeDuring start.plan (cells start past) (contents start past) (labels start first past) (ran_by e.reply) seen
+        → (e : Entry) (past : Log) → IsExact start (e ∷ past) → (seen : Shown)
+        → MaySeeDuring start.plan (cells start past) (contents start past) (labels start first past) (ran_by e.reply)
+        seen
         → MaySeePlaced (cells start past) (labels start first past).blocks seen
         ⊎ MaySeePlaced (cells start (e ∷ past)) (labels start first (e ∷ past)).blocks seen }
 {}
 
 /// What a mount sees of a die that can be recovered shows all of it.
 pub fn what_can_be_recovered_is_seen()
-    ensures shows { ForAllRecoverable (λ plan c pages l from. (seen : List (List Label))
+    ensures shows { ForAllRecoverable (λ plan c pages l from. (seen : Shown)
         → MaySeePlaced c l.blocks seen → ShowsPages c pages from seen) }
-    ensures mounts { ForAllRecoverable (λ plan c pages l from. (seen : List (List Label))
+    ensures mounts { ForAllRecoverable (λ plan c pages l from. (seen : Shown)
         → MaySeePlaced c l.blocks seen → MountsAll c pages from seen) }
 {}
 
-/// A mount that erases a block in which it finds no page, and counts the others as closed, leaves a die that can be
-/// recovered, with the same pages at the same places, and with a block that is wholly free. So does each copy, and each slot of an erase, by which it then
-/// puts pages together; and where the power goes during one of these, the die can be recovered as it was before, or as
-/// it is after.
+/// A mount that erases a block in which it finds no page, or undoes the newest one where it finds one in each, and
+/// counts the others as closed, leaves a die that can be recovered, with just the pages that it found, and with that
+/// block wholly free. Each copy, and each slot of an erase, by which it then puts pages together leaves a die that can
+/// be recovered, with the same pages; and where the power goes during one of these, the die can be recovered as it was
+/// before, or as it is after.
 pub fn a_mount_keeps_all()
-    ensures above { ForAllRecoverable (λ plan c pages l from. (seen : List (List Label))
+    ensures above { ForAllRecoverable (λ plan c pages l from. (seen : Shown)
         → MaySeePlaced c l.blocks seen → IsAbove seen from l.next) }
-    ensures remounts { ForAllRecoverable Remounts }
+    ensures erases { (plan : DiePlan) (pages : List PageData) (from : From) (seen : Shown)
+        → IsMountable plan pages from seen → (erased : ℕ) × MayErase plan from seen erased }
+    ensures remounts { ForAllMountable Remounts }
     ensures goes_on { ForAllRecoverable GoesOn }
     ensures during { ForAllRecoverable GoesOnDuring }
 {}
@@ -118,17 +128,23 @@ pub fn a_mount_ends()
         → sum_by (free_in plan) c.blocks ≤ fmax_of plan → (b : ℕ) × IsWorthIt plan c b) }
 {}
 
-/// A mount that has a wholly free block can go on until full accounts share out the free pages. It has one as soon as it
-/// has erased a block in which it finds no page.
+/// A mount that has a wholly free block can go on until full accounts share out the free pages. It has one as soon as
+/// it has erased its first block, whichever it was; so a log can start.
 pub fn a_mount_can_end()
-    ensures { ForAllRecoverable (λ plan c pages l from. AreIdle c → (b : ℕ) → IsFreeBlock c b
+    ensures ends { ForAllRecoverable (λ plan c pages l from. AreIdle c → (b : ℕ) → IsFreeBlock c b
         → CanEnd plan c) }
+    ensures starts { ForAllMountable (λ plan pages from seen erased. (erases : ℕ → ℕ) (next : ℕ)
+        → IsAbove seen from next → CanStart plan (remounted_cells plan from erased erases seen) pages
+        (remounted_labels erased seen next)) }
 {}
 
-/// Where the power goes at a safe moment of a mount's acts, or between two such, a mount can recover the die again, with
-/// the same pages: by all that it sees, where it finds no page in some block; else by all but what the block with the
-/// greatest number shows, to which it copied last. Each moment of the acts by which a mount can end (`CanEnd`) is safe.
+/// Where the power goes during a mount, the next one can go on from what it sees, with the same pages: in the erase of
+/// its first block; and at each safe moment of its acts, or during the act after it. Each moment of the acts by which a
+/// mount can end (`CanEnd`) is safe.
 pub fn a_mount_can_lose_power()
-    ensures after { ForAllRecoverable RecoversAgain }
-    ensures during { ForAllRecoverable RecoversAgainDuring }
+    ensures in_erase { ForAllMountable (λ plan pages from seen erased. (later : Shown)
+        → MaySeeInErase erased seen later → IsMountable plan pages from later) }
+    ensures in_acts { ForAllRecoverable CutsInActs }
+    ensures again { (plan : DiePlan) → MeetsBound plan → (pages : List PageData) (from : From) (before seen : Shown)
+        → IsMountable plan pages from before → MaySeeAgain plan from before seen → IsMountable plan pages from seen }
 {}

@@ -24,5 +24,6 @@ pub use laws::{
 };
 pub use losses::{
     a_mount_may_be_cut, a_mount_starts_a_log, a_part_shows_its_die, counts_of_erases_may_be_any,
-    losses_of_power_lose_nothing, next_lives_are_stocked, untrimmed_logs_leave_no_old_labels,
+    each_life_keeps_promises, labels_bear_what_was_written, losses_of_power_lose_nothing,
+    next_lives_are_stocked, renewals_are_lives, untrimmed_logs_leave_no_old_labels,
 };

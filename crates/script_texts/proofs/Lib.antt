@@ -6,3 +6,4 @@ pub mod OneReading
 pub mod OneItem
 pub mod OneRow
 pub mod RowFaults
+pub mod RowLists

@@ -16,8 +16,8 @@ use Rattle.script_texts.specs.declared.script_rows.ScriptItem.{ScriptItem}
 use Rattle.script_texts.specs.Heads.{row_of, row_read}
 use Rattle.script_texts.specs.RowTexts.{RowText, item_in, item_with, row_text}
 use Rattle.script_texts.specs.ScriptRows.{event_of, fault}
-use Rattle.script_texts.specs.Script.{EndsFit, Gives, Reading, Yields, items_from, items_in, items_or, reading_of, script_at, script_of, whole}
-use Rattle.script_texts.specs.Script.{with_first, with_front}
+use Rattle.script_texts.specs.Script.{EndsFit, Gives, Reading, Yields, items_from, items_in, items_or, reading_of, rows_in, script_at, script_of}
+use Rattle.script_texts.specs.Script.{whole, with_first, with_front}
 
 -- Operations
 
@@ -129,9 +129,15 @@ pub whole-of : (dies slots : ℕ) (text : Option (List ℕ)) (left : Option (Rea
 whole-of dies slots None left is = ap (option_map whole) is
 whole-of dies slots (Some bytes) left is = ap (option_map whole) is
 
--- the rows of a text are read as its items
-pub reading-of : (dies slots : ℕ) (lasts : List ℕ) (text : Option (List ℕ)) (records : Option (List Fields)) → lasts ≡ replicate dies 0
+-- the records of a text are its rows
+pub rows-of : (dies slots : ℕ) (lasts : List ℕ) (text : Option (List ℕ)) (records : Option (List Fields)) → lasts ≡ replicate dies 0
     → records ≡ option_map rows_of text
-    → option_map items_in (option_map (script_at slots lasts 1) records) ≡ option_map (reading_of dies slots) text
-reading-of dies slots lasts None records start is = rw is refl
-reading-of dies slots lasts (Some bytes) records start is = rw (start, is) refl
+    → option_map (script_at slots lasts 1) records ≡ option_map (rows_in dies slots) text
+rows-of dies slots lasts None records start is = rw is refl
+rows-of dies slots lasts (Some bytes) records start is = rw (start, is) refl
+
+-- the rows of a text are read as its items
+pub reading-of : (dies slots : ℕ) (text : Option (List ℕ)) (rows : Option (Reading RowText)) → rows ≡ option_map (rows_in dies slots) text
+    → option_map items_in rows ≡ option_map (reading_of dies slots) text
+reading-of dies slots None rows is = ap (option_map items_in) is
+reading-of dies slots (Some bytes) rows is = ap (option_map items_in) is

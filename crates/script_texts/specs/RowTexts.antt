@@ -1,5 +1,5 @@
 -- Rows of a script as they stand: their operations are still a text.
-use Rattle.std.specs.Prelude.{ℕ, List, Option, Some, None, Result, Ok, Err}
+use Rattle.std.specs.Prelude.{ℕ, List, [], ◌∷◌, Option, Some, None, Result, Ok, Err}
 use Rattle.slot_types.specs.declared.events.Event.{Event}
 use Rattle.slot_types.specs.declared.refusals.Refusal.{Refusal}
 use Rattle.text_base.specs.Fields.{field_or}
@@ -15,6 +15,11 @@ pub record RowText : Type 0 where
 
 abbrev pub row_text : RowHead → List ℕ → RowText
 row_text head ops = record { head = head; ops = ops }
+
+-- rows of these heads, and these texts of their operations
+abbrev pub rows_with : List RowHead → List (List ℕ) → List RowText
+rows_with (head ∷ heads) (text ∷ texts) = row_text head text ∷ rows_with heads texts
+rows_with _ _ = []
 
 -- the row of a record, by the slots to run, the last slot of a row by die, and the number of the record
 abbrev pub row_at : ℕ → List ℕ → ℕ → List (List ℕ) → Result RowText Refusal

@@ -53,10 +53,6 @@ script_from slots lasts (fields ∷ records) =
 abbrev pub script_at : ℕ → List ℕ → ℕ → List Fields → Reading RowText
 script_at slots lasts line records = if line == 1 then script_from slots lasts records else rows_from slots lasts line records
 
--- the rows of a text that goes on at the record of this number
-abbrev pub rows_on : ℕ → List ℕ → ℕ → List ℕ → Reading RowText
-rows_on slots lasts line text = script_at slots lasts line (rows_of text)
-
 -- the items of rows: those up to the first whose operations are at fault
 unfoldable pub items_from : List RowText → Option Refusal → Reading ScriptItem
 items_from [] fault = record { items = []; fault = fault }

@@ -15,8 +15,8 @@ ghost use Rattle.script_texts.specs.declared.scripts.ScriptReader.{ScriptReader}
 ghost use Rattle.script_texts.specs.Heads.{HasOwnOps, row_of, row_read};
 ghost use Rattle.script_texts.specs.NextItem.{ReadsRow};
 ghost use Rattle.script_texts.specs.RowTexts.{RowText, item_in, row_text};
-ghost use Rattle.script_texts.specs.Script.{EndsFit, Gives, Reading, reading_of, script_of};
-ghost use Rattle.script_texts.specs.ScriptLeft.{Recalls, dies_of, ops_text, reading_left, script_fits, script_left, script_rows_left, slots_of};
+ghost use Rattle.script_texts.specs.Script.{EndsFit, Gives, Reading, reading_of, rows_in, script_of};
+ghost use Rattle.script_texts.specs.ScriptLeft.{Recalls, dies_of, line_of, ops_text, reading_left, script_fits, script_left, script_rows_left, slots_of};
 
 use slot_types::Refusal;
 use std::io::Read;
@@ -28,6 +28,11 @@ pub fn making_a_reader_has_one_answer<R: Read>()
         IfOk one (λ script. dies_of script ≡ dies) → IfOk other (λ script. dies_of script ≡ dies) →
         IfOk one (λ script. slots_of script ≡ slots) →
         IfOk other (λ script. slots_of script ≡ slots) →
+        IfOk one (λ script. line_of script ≡ 1) → IfOk other (λ script. line_of script ≡ 1) →
+        IfOk one (λ script. script_rows_left R.remaining script
+        ≡ option_map (rows_in dies slots) (R.remaining reader)) →
+        IfOk other (λ script. script_rows_left R.remaining script
+        ≡ option_map (rows_in dies slots) (R.remaining reader)) →
         IfOk one (λ script. reading_left R.remaining script
         ≡ option_map (reading_of dies slots) (R.remaining reader)) →
         IfOk other (λ script. reading_left R.remaining script
@@ -43,6 +48,8 @@ pub fn making_a_reader_has_one_answer<R: Read>()
         FailsForMemory one → FailsForMemory other →
         IfOk one (λ left. IfOk other (λ right.
         (dies_of left ≡ dies_of right) × (slots_of left ≡ slots_of right)
+        × (line_of left ≡ line_of right)
+        × (script_rows_left R.remaining left ≡ script_rows_left R.remaining right)
         × (reading_left R.remaining left ≡ reading_left R.remaining right)
         × (script_left R.remaining left ≡ script_left R.remaining right)
         × (script_fits R.remaining left ≡ script_fits R.remaining right)))

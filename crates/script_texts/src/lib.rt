@@ -2,9 +2,11 @@
 #![tactic(auto)]
 
 pub mod laws;
+mod row_texts;
 mod script_rows;
 mod scripts;
 mod steps;
 
+pub use row_texts::RowTexts;
 pub use script_rows::{RowHead, ScriptItem, read_ops};
 pub use scripts::ScriptReader;

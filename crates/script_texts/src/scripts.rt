@@ -1,6 +1,6 @@
 //! Scripts, row by row.
 
-ghost use Rattle.std.specs.Prelude.{◌≡◌, ◌<◌, ◌^◌, ◌≤◌, IfOk, IfSome, None, Some, false, true, length, option_map};
+ghost use Rattle.std.specs.Prelude.{◌≡◌, ◌<◌, ◌≤◌, IfOk, IfSome, None, Some, false, true, length, option_map};
 ghost use Rattle.csv.specs.Reading.{has_failed};
 ghost use Rattle.slot_types.specs.Refusal.{FailsForMemory};
 ghost use Rattle.slot_types.specs.declared.refusals.Refusal.TheVariants.{ReadFault};
@@ -12,7 +12,7 @@ use csv::{ByteRecord, Reader};
 use slot_types::{Op, OpList, Refusal, StorePlan};
 use std::alloc::Global;
 use std::io::Read;
-use text_base::{Bounded, WordSink, field_in, rows_in, rows_up_to};
+use text_base::{Bounded, WordSink, field_in, rows_in};
 
 /// Reads a script, row by row, in the memory of its longest row.
 ///
@@ -42,7 +42,7 @@ pub struct ScriptReader<R> {
 }
 
 impl<R: Read> ScriptReader<R> {
-    ghost use Rattle.script_texts.specs.Script.{reading_of, rows_on, script_of};
+    ghost use Rattle.script_texts.specs.Script.{reading_of, rows_in, script_of};
     ghost use Rattle.script_texts.specs.Heads.{HasOwnOps, row_read};
     ghost use Rattle.script_texts.specs.NextItem.{ReadsNext, ReadsRow};
     ghost use Rattle.script_texts.specs.ScriptLeft.{dies_of, line_of, ops_text, reader_failed, reading_left, script_fits, script_left, script_rows_left, slots_of};
@@ -59,6 +59,9 @@ impl<R: Read> ScriptReader<R> {
         R: Drop,
         ensures dies { IfOk result (λ script. dies_of script ≡ length plan.now) }
         ensures slots { IfOk result (λ script. slots_of script ≡ slots) }
+        ensures line { IfOk result (λ script. line_of script ≡ 1) }
+        ensures rows { IfOk result (λ script. script_rows_left R.remaining script
+            ≡ option_map (rows_in (length plan.now) slots) (R.remaining reader)) }
         ensures reading { IfOk result (λ script. reading_left R.remaining script
             ≡ option_map (reading_of (length plan.now) slots) (R.remaining reader)) }
         ensures script { IfOk result (λ script. script_left R.remaining script
@@ -79,39 +82,6 @@ impl<R: Read> ScriptReader<R> {
             ended: false,
             refused: None,
         })
-    }
-
-    /// A reader that goes on in a script, where the next record has this number: 1 is the header's. By die this is the
-    /// `at` of its last row; a byte order mark at the start is passed over here, too. No more of the text is read than
-    /// so many bytes, in at most one call more.
-    pub fn resume(
-        alloc: Global,
-        reader: R,
-        lasts: Vec<u32>,
-        slots: u32,
-        line: u32,
-        most: usize,
-    ) -> ScriptReader<R>
-        requires counted { 0 < line }
-        requires bounded { line ≤ 1000002 }
-        requires most { most < 2 ^ 32 }
-        ensures dies { dies_of result ≡ length lasts.items }
-        ensures slots { slots_of result ≡ slots }
-        ensures line { line_of result ≡ line }
-        ensures rows { script_rows_left R.remaining result
-            ≡ option_map (rows_on slots lasts.items line) (R.remaining reader) }
-        ensures fresh { reader_failed result ≡ false }
-    {
-        ScriptReader {
-            alloc,
-            rows: rows_up_to(alloc, reader, most),
-            row: ByteRecord::new(alloc),
-            lasts,
-            slots,
-            line,
-            ended: false,
-            refused: None,
-        }
     }
 
     /// The next item, or none at the end. It is the next of the text also where a later record is at fault: the fault

@@ -114,9 +114,9 @@ used ends failures never needed reply (Err r) before after m f = record {
   never = λ yes is. let well = f.never yes in absurd cc;
 }
 
-same_core : {N : Type 0} (a b : Core N) → a.start ≡ b.start → a.device ≡ b.device → a.stopped ≡ b.stopped → a.reserved ≡ b.reserved → a.log ≡ b.log
-    → a ≡ b
-same_core a b s d t r l = rw s (rw d (rw t (rw r (rw l refl))))
+same_core : {N : Type 0} (a b : Core N) → a.start ≡ b.start → a.device ≡ b.device → a.stopped ≡ b.stopped → a.reserved ≡ b.reserved
+    → a.lasting ≡ b.lasting → a.log ≡ b.log → a ≡ b
+same_core a b s d t r k l = rw s (rw d (rw t (rw r (rw k (rw l refl)))))
 
 pub err_uncovered : {C : Type 0} (r : Result ℕ Refusal) → (C → IsOk r) → IfErr r (λ _. ¬ C)
 err_uncovered (Ok number) h = tt
@@ -132,6 +132,7 @@ module _ {N : Type 0} (ends : N → NandCall → Bool → N → Type 0) (failure
   unchanged r other same ended = record {
     ended = ended;
     start_stays = ap (λ (c : Core N). c.start) same;
+    lasting_stays = ap (λ (c : Core N). c.lasting) same;
     device = unused ends failures never (call_for event before.start before.log) r before.device after.device other
         (ap (λ (c : Core N). c.device) same);
   }
@@ -160,6 +161,7 @@ module _ {N : Type 0} (ends : N → NandCall → Bool → N → Type 0) (failure
       used = ap (λ (c : Core N). c.reserved) h.logged;
     };
     start_stays = ap (λ (c : Core N). c.start) h.logged;
+    lasting_stays = ap (λ (c : Core N). c.lasting) h.logged;
     device = rw (arrival_calls event before.start before.log arrives)
         (without_call ends failures never (Taken number) before.device after.device (ap (λ (c : Core N). c.device) h.logged));
   }
@@ -180,7 +182,7 @@ module _ {N : Type 0} (ends : N → NandCall → Bool → N → Type 0) (failure
     }) call.start_stays
         (subst (λ (o : Option NandCall). UsesDevice ends failures never o (Ok (Taken number)) before.device after.device)
         (arrival_calls event before.start before.log arrives) call.device).made
-        (call.ended.runs ∙ sym call.ended.ran) call.ended.used call.ended.logged;
+        (call.ended.runs ∙ sym call.ended.ran) call.ended.used call.lasting_stays call.ended.logged;
   }
 
   -- a die refuses a call as stopped exactly where it was

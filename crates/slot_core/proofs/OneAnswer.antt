@@ -70,14 +70,15 @@ decided {N} caller event (Err refusal) before after ended = by ended
     })
 
 alike : {N : Type 0} (caller : ℕ) (event : Event) (one other : Result Reply Refusal) (here there left right : Core N) → AreAlike here there
-    → left.start ≡ here.start → right.start ≡ there.start
+    → left.start ≡ here.start → right.start ≡ there.start → left.lasting ≡ here.lasting → right.lasting ≡ there.lasting
     → IsReported caller event one here left → IsReported caller event other there right → (one ≡ other) × AreAlike left right
-alike caller event one other here there left right same starts begins a b = (
+alike caller event one other here there left right same starts begins lasts goes_on a b = (
   a.result_is ∙ (rw (same.stopped_is, same.start_is, same.log_is) refl ∙ sym b.result_is),
   record {
     start_is = starts ∙ (same.start_is ∙ sym begins);
     stopped_is = a.stopped_is ∙ (same.stopped_is ∙ sym b.stopped_is);
     reserved_is = a.reserved_is ∙ (rw (same.stopped_is, same.start_is, same.log_is, same.reserved_is) refl ∙ sym b.reserved_is);
+    lasting_is = lasts ∙ (same.lasting_is ∙ sym goes_on);
     log_is = a.log_is ∙ (rw (same.stopped_is, same.start_is, same.log_is) refl ∙ sym b.log_is);
   },
 )
@@ -109,7 +110,7 @@ module _ {N : Type 0} (ends : N → NandCall → Bool → N → Type 0) (failure
           → ((one ≡ other) × AreAlike left right) ⊎ IsByChance one ⊎ IsByChance other
       by (inl chance) d = inr (inl chance)
       by (inr d) (inl chance) = inr (inr chance)
-      by (inr d) (inr e) = inl (alike caller event one other here there left right same a.start_stays b.start_stays d e)
+      by (inr d) (inr e) = inl (alike caller event one other here there left right same a.start_stays b.start_stays a.lasting_stays b.lasting_stays d e)
 
   each_answer : (events : List Event) (one other : List Reply) (here there left right : Core N) → AreAlike here there
       → IsRun ends failures never here events one left → IsRun ends failures never there events other right

@@ -40,7 +40,7 @@ renewed_flash start log f bound exact quiet k = record {
 
 -- an empty table of as many tasks, with memory for so much
 abbrev pub emptied : Table → Reserve → Table
-emptied t kept = record (empty_table t.tasks) { reserve = kept }
+emptied t kept = record (empty_table t.tasks) { reserve = kept; lasting = kept }
 
 -- the fields of a die that is renewed: its table and its log are empty, and its flash stays
 pub keeps_renewed : (start : Start) (log : Log) (present : ℕ) (t : Table) (kept : Reserve) (f : FlashState) → AgreeWithLog start log present t false f

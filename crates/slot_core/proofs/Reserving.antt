@@ -1,4 +1,5 @@
--- Room for waivers: how many collections are neither done nor waived, as a die's jobs come and go.
+-- Room that is kept beforehand: for a waiver of each collection that is neither done nor waived, as a die's jobs come and go,
+-- and for what is reserved, now and from the beginning of a log on.
 use Rattle.std.proofs.Common.{◌≡◌, ℕ, zero, suc, ◌+◌, ◌-◌, ◌≤◌, ◌&&◌, not, Bool, true, false, cond, List, [], ◌∷◌, ◌++◌, Some, refl, ap}
 use Rattle.std.proofs.Common.{sym, ◌∙◌, subst, length, map, filter, count_by, slice_get, arith}
 use Rattle.std.proofs.lemmas.Bool.{true≢false}
@@ -15,7 +16,7 @@ use Rattle.slot_types.specs.declared.acts.Act.{Act}
 use Rattle.slot_types.specs.declared.acts.Act.TheVariants as does
 use Rattle.job_table.specs.declared.stages.Stage.TheVariants.{Done, Waived as Gone}
 use Rattle.job_table.specs.Jobs.{JobRecord, new_job, new_collection, is_pending, with_one_more_slot, with_stage}
-use Rattle.job_table.specs.Reserves.{Reserve, reserve_with}
+use Rattle.job_table.specs.Reserves.{Reserve, no_reserve, reserve_with}
 use Rattle.job_table.specs.Table.{Table, with_job, changed_at}
 use Rattle.die_log.specs.Model.Log.{Log, Job, jobs, acts, waived_collections, is_waived}
 use Rattle.die_log.specs.Model.Work.{is_done}
@@ -26,7 +27,8 @@ use Rattle.event_log.specs.Notes.{Note}
 use Rattle.slot_core.specs.Agreement.{AgreeWithLog}
 use Rattle.slot_core.specs.Device.{FlashState}
 use Rattle.slot_core.specs.TableLog.{SaysLog}
-use Rattle.slot_core.specs.ReservedSlots.{is_open, open_collections, HasReservedRoom}
+use Rattle.slot_core.specs.Core.{Reserved, IsWithin}
+use Rattle.slot_core.specs.ReservedSlots.{is_open, open_collections, HasReservedRoom, HasLastingRoom}
 use Rattle.slot_core.specs.declared.head_step.HeadStep.{HeadStep}
 use Rattle.slot_core.specs.HeadSteps.{after_read, table_after_step}
 use Rattle.slot_core.proofs.Slotting.{turned, turn_change}
@@ -101,6 +103,9 @@ pub step_keeps_reserve : (t : Table) (n : ℕ) (turn : HeadStep) (completion : �
     → (table_after_step t n turn completion).reserve.arrivals ≡ t.reserve.arrivals
 step_keeps_reserve t n turn completion = ap (λ (x : Table). x.reserve.arrivals) (turn_change t n turn completion)
 
+pub step_keeps_lasting : (t : Table) (n : ℕ) (turn : HeadStep) (completion : ℕ) → (table_after_step t n turn completion).lasting ≡ t.lasting
+step_keeps_lasting t n turn completion = ap (λ (x : Table). x.lasting) (turn_change t n turn completion)
+
 -- A collection is waived
 
 pub waiver_closes : (js : List JobRecord) (n given : ℕ) (r : JobRecord) → slice_get js n ≡ Some r → is_open r ≡ true
@@ -134,11 +139,11 @@ collect_uses t u task release due h =
 
 -- More is reserved
 
-pub reserved_says : {A : Type 0} (r : Result A Refusal) (start : Start) (present : ℕ) (t u : Table) (x : Reserve) (notes : List Note) (failed : Bool)
-    (f : FlashState) → OnOk r (u ≡ record t { reserve = x }) → OnErr r (u ≡ t) → SaysLog start present t notes failed f
-    → SaysLog start present u notes failed f
-reserved_says (Ok a) start present t u x notes failed f made stays says =
-    subst (λ (y : Table). SaysLog start present y notes failed f) (sym made)
+pub reserved_says : {A : Type 0} (r : Result A Refusal) (start : Start) (present : ℕ) (t u : Table) (x y : Reserve) (notes : List Note)
+    (failed : Bool) (f : FlashState) → OnOk r (u ≡ record t { reserve = x; lasting = y }) → OnErr r (u ≡ t)
+    → SaysLog start present t notes failed f → SaysLog start present u notes failed f
+reserved_says (Ok a) start present t u x y notes failed f made stays says =
+    subst (λ (v : Table). SaysLog start present v notes failed f) (sym made)
     (record {
       kept = record {
         exact = says.kept.exact;
@@ -154,16 +159,21 @@ reserved_says (Ok a) start present t u x notes failed f made stays says =
       };
       fits = says.fits;
     })
-reserved_says (Err e) start present t u x notes failed f made stays says =
-    subst (λ (y : Table). SaysLog start present y notes failed f) (sym stays) says
+reserved_says (Err e) start present t u x y notes failed f made stays says =
+    subst (λ (v : Table). SaysLog start present v notes failed f) (sym stays) says
 
-pub reserved_jobs : {A : Type 0} (r : Result A Refusal) (t u : Table) (x : Reserve) → OnOk r (u ≡ record t { reserve = x }) → OnErr r (u ≡ t)
-    → u.jobs ≡ t.jobs
-reserved_jobs (Ok a) t u x made stays = ap (λ (y : Table). y.jobs) made
-reserved_jobs (Err e) t u x made stays = ap (λ (y : Table). y.jobs) stays
+pub reserved_jobs : {A : Type 0} (r : Result A Refusal) (t u : Table) (x y : Reserve) → OnOk r (u ≡ record t { reserve = x; lasting = y })
+    → OnErr r (u ≡ t) → u.jobs ≡ t.jobs
+reserved_jobs (Ok a) t u x y made stays = ap (λ (v : Table). v.jobs) made
+reserved_jobs (Err e) t u x y made stays = ap (λ (v : Table). v.jobs) stays
+
+-- the table with so much more reserved
+abbrev pub reserved_table : ℕ → ℕ → Table → Table
+reserved_table arrivals operations t =
+    record t { reserve = reserve_with arrivals operations t.reserve; lasting = reserve_with arrivals operations t.lasting }
 
 more_reserved : {A : Type 0} (r : Result A Refusal) (t u : Table) (arrivals operations : ℕ)
-    → OnOk r (u ≡ record t { reserve = reserve_with arrivals operations t.reserve }) → OnErr r (u ≡ t)
+    → OnOk r (u ≡ reserved_table arrivals operations t) → OnErr r (u ≡ t)
     → (u.reserve.arrivals ≡ max t.reserve.arrivals arrivals) ⊎ (u.reserve.arrivals ≡ t.reserve.arrivals)
 more_reserved (Ok a) t u arrivals operations made stays = inl (ap (λ (y : Table). y.reserve.arrivals) made)
 more_reserved (Err e) t u arrivals operations made stays = inr (ap (λ (y : Table). y.reserve.arrivals) stays)
@@ -175,13 +185,13 @@ not_lt_of : (m n : ℕ) → nat_lt m n ≡ false → n ≤ m
 not_lt_of m n h = grind (arith, nat_tests)
 
 pub arrivals_room : {A : Type 0} (r : Result A Refusal) (t u : Table) (slots arrivals operations room waiver_room before : ℕ)
-    → OnOk r (u ≡ record t { reserve = reserve_with arrivals operations t.reserve }) → OnErr r (u ≡ t)
+    → OnOk r (u ≡ reserved_table arrivals operations t) → OnErr r (u ≡ t)
     → slots + max t.reserve.arrivals arrivals ≤ room
     → cond (nat_lt t.reserve.arrivals arrivals) (t.tasks + arrivals) 0 ≤ waiver_room
     → open_collections t.jobs + t.reserve.arrivals ≤ before → before ≤ waiver_room → open_collections t.jobs ≤ t.tasks
     → HasReservedRoom slots u.reserve.arrivals u.jobs room waiver_room
 arrivals_room r t u slots arrivals operations room waiver_room before made stays roomy waived had more few =
-    subst (λ (js : List JobRecord). HasReservedRoom slots u.reserve.arrivals js room waiver_room) (sym (reserved_jobs r t u _ made stays)) (record {
+    subst (λ (js : List JobRecord). HasReservedRoom slots u.reserve.arrivals js room waiver_room) (sym (reserved_jobs r t u _ _ made stays)) (record {
       entries = by_entries (more_reserved r t u arrivals operations made stays);
       waivers = by_waivers (nat_lt t.reserve.arrivals arrivals) refl (more_reserved r t u arrivals operations made stays);
     })
@@ -199,6 +209,120 @@ arrivals_room r t u slots arrivals operations room waiver_room before made stays
         omega (arith, is, few, below, subst (λ (b : Bool). cond b (t.tasks + arrivals) 0 ≤ waiver_room) e waived)
     by_waivers false e (inl is) = omega (arith, is, had, more, not_lt_of t.reserve.arrivals arrivals e)
     by_waivers b e (inr is) = omega (arith, is, had, more)
+
+-- Of slots or arrivals so many more are reserved, beside those of the other kind: so there is room for both, and memory
+-- for both from the beginning of a log on
+pub room_ahead : (before lasting wanted other beside room after memory memory_after : ℕ) → before + other ≤ room → room ≤ after
+    → cond (nat_lt before wanted) (wanted + beside) 0 ≤ after → before ≤ lasting → other ≤ beside → lasting + beside ≤ memory
+    → memory ≤ memory_after → after ≤ memory_after
+    → (max before wanted + other ≤ after) × (max lasting wanted + beside ≤ memory_after)
+room_ahead before lasting wanted other beside room after memory memory_after had more asked most fewer lasts kept within =
+    by (nat_lt before wanted) refl
+  where
+    by : (b : Bool) → nat_lt before wanted ≡ b → (max before wanted + other ≤ after) × (max lasting wanted + beside ≤ memory_after)
+    by true e =
+        let below : before < wanted = lt_of before wanted e in
+        let asks : wanted + beside ≤ after = subst (λ (b : Bool). cond b (wanted + beside) 0 ≤ after) e asked in
+        (omega (arith, below, asks, fewer), omega (arith, below, asks, lasts, kept, within))
+    by false e =
+        let above : wanted ≤ before = not_lt_of before wanted e in
+        (omega (arith, above, had, more), omega (arith, above, most, lasts, kept))
+
+-- and for a waiver of each arrival
+pub waivers_last : (before lasting arrivals tasks after memory memory_after : ℕ) → cond (nat_lt before arrivals) (tasks + arrivals) 0 ≤ after
+    → before ≤ lasting → lasting ≤ memory → memory ≤ memory_after → after ≤ memory_after → max lasting arrivals ≤ memory_after
+waivers_last before lasting arrivals tasks after memory memory_after asked most lasts kept within = by (nat_lt before arrivals) refl
+  where
+    by : (b : Bool) → nat_lt before arrivals ≡ b → max lasting arrivals ≤ memory_after
+    by true e = omega (arith, lasts, kept, within, subst (λ (b : Bool). cond b (tasks + arrivals) 0 ≤ after) e asked)
+    by false e = omega (arith, most, lasts, kept, not_lt_of before arrivals e)
+
+-- for what a die has reserved beside its table
+abbrev pub reserved_of : ℕ → Reserve → Reserved
+reserved_of slots reserve = record { slots = slots; arrivals = reserve.arrivals; operations = reserve.operations }
+
+pub arrivals_last : {A : Type 0} (r : Result A Refusal) (t u : Table) (slots lasting arrivals operations memory waiver_memory : ℕ)
+    → OnOk r (u ≡ reserved_table arrivals operations t) → OnErr r (u ≡ t) → IsWithin (reserved_of slots t.reserve) (reserved_of lasting t.lasting)
+    → max t.lasting.arrivals arrivals + lasting ≤ memory → max t.lasting.arrivals arrivals ≤ waiver_memory
+    → HasLastingRoom (reserved_of slots u.reserve) (reserved_of lasting u.lasting) memory waiver_memory
+arrivals_last (Ok a) t u slots lasting arrivals operations memory waiver_memory made stays within roomy waived =
+    subst (λ (v : Table). HasLastingRoom (reserved_of slots v.reserve) (reserved_of lasting v.lasting) memory waiver_memory) (sym made) (record {
+      within = record {
+        slots = within.slots;
+        arrivals = omega (arith, within.arrivals);
+        operations = omega (arith, within.operations);
+      };
+      entries = omega (arith, roomy);
+      waivers = waived;
+    })
+arrivals_last (Err e) t u slots lasting arrivals operations memory waiver_memory made stays within roomy waived =
+    subst (λ (v : Table). HasLastingRoom (reserved_of slots v.reserve) (reserved_of lasting v.lasting) memory waiver_memory) (sym stays) (record {
+      within = within;
+      entries = omega (arith, roomy);
+      waivers = omega (arith, waived);
+    })
+
+-- What comes uses up what is reserved, and none of what lasts
+
+pub job_lasts : (t u : Table) (job : JobRecord) (slots lasting memory after waiver_memory waivers_after : ℕ) → u ≡ with_job t job
+    → memory ≤ after → waiver_memory ≤ waivers_after
+    → HasLastingRoom (reserved_of slots t.reserve) (reserved_of lasting t.lasting) memory waiver_memory
+    → HasLastingRoom (reserved_of slots u.reserve) (reserved_of lasting u.lasting) after waivers_after
+job_lasts t u job slots lasting memory after waiver_memory waivers_after is more waives h =
+    subst (λ (v : Table). HasLastingRoom (reserved_of slots v.reserve) (reserved_of lasting v.lasting) after waivers_after) (sym is) (record {
+      within = record {
+        slots = h.within.slots;
+        arrivals = omega (arith, h.within.arrivals);
+        operations = omega (arith, h.within.operations);
+      };
+      entries = omega (arith, h.entries, more);
+      waivers = omega (arith, h.waivers, waives);
+    })
+
+-- also where it is refused
+pub collect_lasts : (r : Result ℕ Refusal) (t u : Table) (job : JobRecord) (slots lasting memory after waiver_memory waivers_after : ℕ)
+    → OnOk r (u ≡ with_job t job) → OnErr r (u ≡ t) → memory ≤ after → waiver_memory ≤ waivers_after
+    → HasLastingRoom (reserved_of slots t.reserve) (reserved_of lasting t.lasting) memory waiver_memory
+    → HasLastingRoom (reserved_of slots u.reserve) (reserved_of lasting u.lasting) after waivers_after
+collect_lasts (Ok number) t u job slots lasting memory after waiver_memory waivers_after is same more waives h =
+    job_lasts t u job slots lasting memory after waiver_memory waivers_after is more waives h
+collect_lasts (Err refusal) t u job slots lasting memory after waiver_memory waivers_after is same more waives h =
+    subst (λ (v : Table). HasLastingRoom (reserved_of slots v.reserve) (reserved_of lasting v.lasting) after waivers_after) (sym same) (record {
+      within = h.within;
+      entries = omega (arith, h.entries, more);
+      waivers = omega (arith, h.waivers, waives);
+    })
+
+-- a die that is renewed has reserved all that lasts
+pub renewed_room : (u : Table) (lasting : Reserve) (slots memory waiver_memory room waiver_room memory_after waivers_after : ℕ)
+    → u.reserve ≡ lasting → u.lasting ≡ lasting → u.jobs ≡ [] → slots + lasting.arrivals ≤ memory → lasting.arrivals ≤ waiver_memory
+    → room ≡ memory → waiver_room ≡ waiver_memory → memory_after ≡ memory → waivers_after ≡ waiver_memory
+    → HasReservedRoom slots u.reserve.arrivals u.jobs room waiver_room
+    × HasLastingRoom (reserved_of slots u.reserve) (reserved_of slots u.lasting) memory_after waivers_after
+renewed_room u lasting slots memory waiver_memory room waiver_room memory_after waivers_after reserve lasts none entries waivers all all_waivers kept
+    kept_waivers =
+    rw (reserve, lasts, none) (
+      record { entries = omega (arith, entries, all); waivers = omega (arith, waivers, all_waivers) },
+      record {
+        within = record { slots = omega arith; arrivals = omega arith; operations = omega arith };
+        entries = omega (arith, entries, kept);
+        waivers = omega (arith, waivers, kept_waivers);
+      },
+    )
+
+-- a table and a log without memory have reserved nothing
+pub empty_room : (u : Table) → u.reserve ≡ no_reserve → u.lasting ≡ no_reserve → u.jobs ≡ [] → (room waiver_room memory waiver_memory : ℕ)
+    → HasReservedRoom 0 u.reserve.arrivals u.jobs room waiver_room
+    × HasLastingRoom (reserved_of 0 u.reserve) (reserved_of 0 u.lasting) memory waiver_memory
+empty_room u reserve lasts none room waiver_room memory waiver_memory =
+    rw (reserve, lasts, none) (
+      record { entries = omega arith; waivers = omega arith },
+      record {
+        within = record { slots = omega arith; arrivals = omega arith; operations = omega arith };
+        entries = omega arith;
+        waivers = omega arith;
+      },
+    )
 
 -- At most one collection a task
 

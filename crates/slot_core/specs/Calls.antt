@@ -86,12 +86,13 @@ abbrev pub call_for : Event → Start → Log → Option NandCall
 call_for events.Slot start log = needed_call start log
 call_for _ start log = None
 
--- A call of a die ends in one of these ways, and leaves its start as it was. The device has had the one call that the
--- event needs, and no other.
+-- A call of a die ends in one of these ways, and leaves its start as it was, and what is reserved from the beginning of
+-- a log on. The device has had the one call that the event needs, and no other.
 pub record IsCall {N : Type 0} (ends : N → NandCall → Bool → N → Type 0) (failures : N → ℕ) (never_fails : Bool) (caller : ℕ) (event : Event)
     (result : Result Reply Refusal) (before after : Core N) : Type 0 where
   pub ended : EndsCall caller event result before after
   pub start_stays : after.start ≡ before.start
+  pub lasting_stays : after.lasting ≡ before.lasting
   pub device : UsesDevice ends failures never_fails (call_for event before.start before.log) result before.device after.device
 
 -- the result of a call, with what it hands back as a reply
@@ -133,4 +134,5 @@ pub record AreAlike {N : Type 0} (one other : Core N) : Type 0 where
   pub start_is : one.start ≡ other.start
   pub stopped_is : one.stopped ≡ other.stopped
   pub reserved_is : one.reserved ≡ other.reserved
+  pub lasting_is : one.lasting ≡ other.lasting
   pub log_is : one.log ≡ other.log

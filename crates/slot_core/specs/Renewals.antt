@@ -53,6 +53,7 @@ pub record MayBeRenewed {N : Type 0} (core : Core N) : Type 0 where
   pub quiet : IsQuiet core.start core.log
   pub unworn : CanBeErased (renewed_start core.start core.log)
 
--- The log starts anew at what stood after it. The device, the pages, the accounts and what is reserved stay.
+-- The log starts anew at what stood after it, and as much is reserved again as ever was. The device, the pages and the
+-- accounts stay.
 abbrev pub renewed_core : {N : Type 0} → Core N → Core N
-renewed_core core = record core { start = renewed_start core.start core.log; log = [] }
+renewed_core core = record core { start = renewed_start core.start core.log; reserved = core.lasting; log = [] }

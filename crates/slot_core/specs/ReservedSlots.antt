@@ -1,6 +1,7 @@
 -- Room that a die keeps beforehand, so that its slots take no memory, and neither does what arrives while that is reserved.
 use Rattle.std.specs.Prelude.{ℕ, ◌+◌, ◌≤◌, ◌&&◌, Bool, List, count_by}
 use Rattle.job_table.specs.Jobs.{JobRecord, is_pending}
+use Rattle.slot_core.specs.Core.{Reserved, IsWithin}
 
 -- a collection that is neither done nor waived
 abbrev pub is_open : JobRecord → Bool
@@ -14,3 +15,10 @@ open_collections jobs = count_by is_open jobs
 pub record HasReservedRoom (slots arrivals : ℕ) (jobs : List JobRecord) (room waiver_room : ℕ) : Type 0 where
   pub entries : slots + arrivals ≤ room
   pub waivers : open_collections jobs + arrivals ≤ waiver_room
+
+-- no more is reserved than is from the beginning of a log on, and an empty log has memory for that: for the slots and the
+-- arrivals, and for a waiver of each of these
+pub record HasLastingRoom (reserved lasting : Reserved) (memory waiver_memory : ℕ) : Type 0 where
+  pub within : IsWithin reserved lasting
+  pub entries : lasting.slots + lasting.arrivals ≤ memory
+  pub waivers : lasting.arrivals ≤ waiver_memory

@@ -72,6 +72,8 @@ fn enter(
     ensures waiver_room { OnOk result (table.old.reserve.arrivals ≡ 0
         → (if head.collects then table.old.tasks else 0) ≤ events.new.waiver_room) }
     ensures waiver_room_stays { events.old.waiver_room ≤ events.new.waiver_room }
+    ensures memory { events.old.memory ≤ events.new.memory }
+    ensures waiver_memory { events.old.waiver_memory ≤ events.new.waiver_memory }
 {
     let collects = head.collects;
     let arrivals = table.reserved_arrivals();

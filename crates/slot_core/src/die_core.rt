@@ -24,7 +24,7 @@ use std::marker::Model;
 /// One die: its flash, its jobs and collections, and the log of the calls that it accepted.
 ///
 /// Contracts see where its log starts (with its plan), its device, whether a fault has stopped it, for how many slots,
-/// arrivals and operations memory is reserved, and its log.
+/// arrivals and operations memory is reserved, for how many it is from the beginning of a log on, and its log.
 #[derive(Drop)]
 pub struct DieCore<N: Nand> {
     /// The pages and the accounts of free pages, on the device.
@@ -39,6 +39,9 @@ pub struct DieCore<N: Nand> {
     /// For how many slots there is room in the log, beside that for jobs and collections: for how many of these memory is
     /// reserved, the table knows.
     pub(crate) reserved: u32,
+    /// For how many slots there is room from the beginning of a log on, beside that for jobs and collections: for as many
+    /// as were ever reserved.
+    pub(crate) lasting: u32,
     /// Where its log started, which only clauses read.
     pub(crate) start: LogStart,
 }
@@ -46,7 +49,7 @@ pub struct DieCore<N: Nand> {
 impl<N: Nand> Model for DieCore<N> {
     ghost use Rattle.slot_core.specs.Core.{Core};
     ghost use Rattle.slot_core.specs.TableLog.{log_of, SaysLog};
-    ghost use Rattle.slot_core.specs.ReservedSlots.{HasReservedRoom};
+    ghost use Rattle.slot_core.specs.ReservedSlots.{HasReservedRoom, HasLastingRoom};
     ghost use Rattle.slot_core.specs.MarkedWorst.{MarksWorst};
     ghost use Rattle.slot_core.specs.Device.{flash_of};
     ghost use Rattle.die_log.specs.Model.Start.{over};
@@ -62,13 +65,34 @@ impl<N: Nand> Model for DieCore<N> {
         arrivals = c.table.reserve.arrivals;
         operations = c.table.reserve.operations;
       };
+      lasting = record {
+        slots = c.lasting;
+        arrivals = c.table.lasting.arrivals;
+        operations = c.table.lasting.operations;
+      };
       log = log_of c.table c.events.notes;
     } };
 
     ghost invariant = { λ c.
         SaysLog (over c.volume.accounts.plan c.start) c.present c.table c.events.notes c.volume.failed (flash_of N.blocks c.volume)
         × HasReservedRoom c.reserved c.table.reserve.arrivals c.table.jobs c.events.room c.events.waiver_room
-        × MarksWorst c.table.jobs c.events.marked };
+        × MarksWorst c.table.jobs c.events.marked
+        × HasLastingRoom
+        (record { slots = c.reserved; arrivals = c.table.reserve.arrivals; operations = c.table.reserve.operations })
+        (record { slots = c.lasting; arrivals = c.table.lasting.arrivals; operations = c.table.lasting.operations })
+        c.events.memory c.events.waiver_memory };
+}
+
+/// For how many entries there has to be room so that so many more slots or arrivals are reserved, if they aren't, beside as
+/// many of the other kind as last.
+fn entries_ahead(reserved: u32, wanted: u32, beside: u32) -> usize
+    ensures { result ≡ (if nat_lt reserved wanted then wanted + beside else 0) }
+{
+    if reserved < wanted {
+        wanted as usize + beside as usize
+    } else {
+        0
+    }
 }
 
 /// For how many waivers there has to be room so that so many more arrivals are reserved, if they aren't: each may be a
@@ -99,6 +123,7 @@ impl<N: Nand> DieCore<N> {
               device = nand;
               stopped = false;
               reserved = nothing_reserved;
+              lasting = nothing_reserved;
               log = [];
             }) }
         ensures bad_shape { (result ≡ Err Refusal.BadShape)
@@ -122,6 +147,7 @@ impl<N: Nand> DieCore<N> {
             events: EventLog::new(alloc),
             present: 0,
             reserved: 0,
+            lasting: 0,
             start,
         })
     }
@@ -136,6 +162,7 @@ impl<N: Nand> DieCore<N> {
               device = nand;
               stopped = false;
               reserved = nothing_reserved;
+              lasting = nothing_reserved;
               log = [];
             }) }
         ensures bad_shape { (result ≡ Err Refusal.BadShape)
@@ -155,7 +182,7 @@ impl<N: Nand> DieCore<N> {
 
     /// Takes the memory for this many later slots, beside that which jobs and collections take when they come: so many
     /// slots, and those that were reserved before, are never refused with `NoMemory`. Each slot that is answered uses
-    /// one of them up, and nothing else does.
+    /// one of them up, and nothing else does. Each [renewal](DieCore::renew) reserves as many again.
     ///
     /// The only refusal is `NoMemory`, where nothing changes; so many as are reserved already are never refused.
     pub fn reserve(&mut self, slots: u32) -> Result<(), Refusal>
@@ -164,15 +191,19 @@ impl<N: Nand> DieCore<N> {
         ensures succeeds { slots ≤ self.old.reserved.slots → IsOk result }
         ensures unchanged { OnErr result (self.new ≡ self.old) }
     {
-        let arrivals = self.table.reserved_arrivals() as usize;
-        self.events.reserve(slots as usize + arrivals, 0)?;
-        self.reserved = self.reserved.max(slots);
+        let entries = entries_ahead(self.reserved, slots, self.table.lasting_arrivals());
+        self.events.reserve(entries, 0)?;
+        let most = self.reserved.max(slots);
+        let lasting = self.lasting.max(slots);
+        self.reserved = most;
+        self.lasting = lasting;
         Ok(())
     }
 
     /// Takes the memory for this many later jobs and collections, with so many operations in all: as long as that
     /// suffices, none of them is refused with `NoMemory`, and none takes memory. Each one that is accepted uses one of
-    /// them up, with as many operations as it has, and nothing else does. Slots are [reserved](DieCore::reserve) apart.
+    /// them up, with as many operations as it has, and nothing else does. Each [renewal](DieCore::renew) reserves as many
+    /// again. Slots are [reserved](DieCore::reserve) apart.
     ///
     /// The only refusal is `NoMemory`, where nothing changes; so many of both as are reserved already are never refused.
     pub fn reserve_arrivals(&mut self, arrivals: u32, operations: u32) -> Result<(), Refusal>
@@ -182,10 +213,9 @@ impl<N: Nand> DieCore<N> {
             → operations ≤ self.old.reserved.operations → IsOk result }
         ensures unchanged { OnErr result (self.new ≡ self.old) }
     {
-        let most = self.table.reserved_arrivals().max(arrivals);
+        let entries = entries_ahead(self.table.reserved_arrivals(), arrivals, self.lasting);
         let waivers = waivers_ahead(&self.table, arrivals);
-        self.events
-            .reserve(self.reserved as usize + most as usize, waivers)?;
+        self.events.reserve(entries, waivers)?;
         self.table.reserve(arrivals, operations)
     }
 

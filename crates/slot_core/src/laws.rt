@@ -75,9 +75,9 @@ pub fn telling_a_job_has_one_answer()
 pub fn making_a_die_in_a_box_has_one_answer<N: Nand>()
     ensures { (plan : DiePlan) (nand : N) (one other : Result (Core N) Refusal) →
         IfOk one (λ core. core
-        ≡ record { start = fresh plan; device = nand; stopped = false; reserved = nothing_reserved; log = [] }) →
+        ≡ record { start = fresh plan; device = nand; stopped = false; reserved = nothing_reserved; lasting = nothing_reserved; log = [] }) →
         IfOk other (λ core. core
-        ≡ record { start = fresh plan; device = nand; stopped = false; reserved = nothing_reserved; log = [] }) →
+        ≡ record { start = fresh plan; device = nand; stopped = false; reserved = nothing_reserved; lasting = nothing_reserved; log = [] }) →
         ((one ≡ Err Refusal.BadShape) ↔ ¬ (IsShape plan.shape × (N.shape_of nand ≡ plan.shape))) →
         ((other ≡ Err Refusal.BadShape)
         ↔ ¬ (IsShape plan.shape × (N.shape_of nand ≡ plan.shape))) →

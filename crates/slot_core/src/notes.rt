@@ -57,6 +57,8 @@ pub(crate) fn log_step(
         ≡ record { caller = caller; deed = deed; waived = waived.now } ∷ events.old.notes }
     ensures room { events.old.room ≡ events.new.room + 1 }
     ensures waiver_room { events.old.waiver_room ≡ events.new.waiver_room + length waived.now }
+    ensures memory { events.new.memory ≡ events.old.memory }
+    ensures waiver_memory { events.new.waiver_memory ≡ events.old.waiver_memory }
     ensures marked { events.new.marked
         ≡ (if is_worst then length (carried_in events.new.notes) else events.old.marked) }
 {

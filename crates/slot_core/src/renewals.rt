@@ -63,8 +63,9 @@ fn next_in(table: &mut JobTable, present: u32) -> Option<JobNo>
 
 impl<N: Nand> DieCore<N> {
     /// Starts the log anew at a quiet moment, one at which all that was accepted is done or was waived: `now` is 0
-    /// again, and numbers begin at 0. The device, the pages, the accounts, the erases of the blocks and what is
-    /// reserved stay. It takes no memory, and keeps that of the log so far; it looks at no page.
+    /// again, and numbers begin at 0. The device, the pages, the accounts and the erases of the blocks stay. It keeps the
+    /// memory of the log so far, and reserves again as many slots, arrivals and operations as ever were reserved. It
+    /// takes no memory, and looks at no page.
     ///
     /// Refused with the first cause that stands, as [`RenewalRefusal`] lists them; nothing changes then.
     pub fn renew(&mut self) -> Result<(), RenewalRefusal>
@@ -78,10 +79,12 @@ impl<N: Nand> DieCore<N> {
         Ok(())
     }
 
-    /// As [`renew`](DieCore::renew), and gives back the memory of the log so far, that which is reserved too.
+    /// As [`renew`](DieCore::renew), and gives back the memory of the log so far, that which is reserved too: then nothing
+    /// is reserved, now or by a later renewal, until it is asked for again.
     pub fn renew_giving_back(&mut self, alloc: Global) -> Result<(), RenewalRefusal>
         ensures ok { OnOk result (self.new ≡ record (renewed_core self.old) {
           reserved = nothing_reserved;
+          lasting = nothing_reserved;
         }) }
         ensures may { OnOk result (MayBeRenewed self.old) }
         ensures refused { IfErr result (RefusesRenewal self.old) }
@@ -124,7 +127,10 @@ impl<N: Nand> DieCore<N> {
     /// Puts an empty table and an empty log in place of the old ones.
     fn start_small(&mut self, alloc: Global)
         requires may { MayBeRenewed self.old }
-        ensures { self.new ≡ record (renewed_core self.old) { reserved = nothing_reserved } }
+        ensures { self.new ≡ record (renewed_core self.old) {
+          reserved = nothing_reserved;
+          lasting = nothing_reserved;
+        } }
     {
         let start = start_of(&self.volume, &self.table, &self.events, &self.start);
         self.table.give_back(alloc);
@@ -132,9 +138,10 @@ impl<N: Nand> DieCore<N> {
         self.start = start;
         self.present = 0;
         self.reserved = 0;
+        self.lasting = 0;
     }
 
-    /// Clears the table and the log.
+    /// Clears the table and the log, and reserves again what ever was.
     fn start_anew(&mut self)
         requires may { MayBeRenewed self.old }
         ensures { self.new ≡ renewed_core self.old }
@@ -144,5 +151,6 @@ impl<N: Nand> DieCore<N> {
         self.events.clear();
         self.start = start;
         self.present = 0;
+        self.reserved = self.lasting;
     }
 }

@@ -131,6 +131,7 @@ impl<N: Nand> DieCore<N> {
           device = device;
           stopped = false;
           reserved = nothing_reserved;
+          lasting = nothing_reserved;
           log = [];
         }) }
         ensures fits { OnOk result (Fits plan checkpoint.now) }
@@ -174,6 +175,7 @@ impl<N: Nand> DieCore<N> {
                 events: EventLog::new(alloc),
                 present: 0,
                 reserved: 0,
+                lasting: 0,
                 start,
             }),
         }

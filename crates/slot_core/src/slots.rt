@@ -57,6 +57,7 @@ fn choose<N: Nand>(
     ensures closed { open_collections table.new.jobs + length said.new
         ≤ open_collections table.old.jobs + length said.old }
     ensures reserve { table.new.reserve ≡ table.old.reserve }
+    ensures lasting { table.new.lasting ≡ table.old.lasting }
     ensures plan { volume.new.accounts.plan ≡ volume.old.accounts.plan }
     ensures alive { volume.new.failed ≡ false }
     ensures device { volume.new.device ≡ volume.old.device }
@@ -126,6 +127,9 @@ fn carry_out<N: Nand>(
     ensures waiver_room { open_collections table.new.jobs + table.new.reserve.arrivals
         ≤ events.new.waiver_room }
     ensures reserve { table.new.reserve ≡ table.old.reserve }
+    ensures lasting { table.new.lasting ≡ table.old.lasting }
+    ensures memory { events.new.memory ≡ events.old.memory }
+    ensures waiver_memory { events.new.waiver_memory ≡ events.old.waiver_memory }
     ensures room_stays { OnErr result (events.new.room ≡ events.old.room) }
     ensures marked { MarksWorst table.new.jobs events.new.marked }
     ensures calls { MakesCall N.ends N.failures

@@ -2,11 +2,14 @@
 use Rattle.std.specs.Prelude.{ℕ, ◌+◌, ◌≤◌, List}
 use Rattle.slot_types.specs.declared.events.Op.{Op}
 
--- operations, and for how many more memory is reserved
+-- operations, for how many more memory is reserved, and for how many there is memory where none stands
 pub record Arena : Type 0 where
   pub ops : List Op
   pub room : ℕ
+  pub lasting : ℕ
 
--- a list of this length and capacity takes so many items more
-abbrev pub HasRoom : ℕ → ℕ → ℕ → Type 0
-HasRoom room len capacity = len + room ≤ capacity
+-- a list of this length and capacity takes so many items more, and so many, which are no fewer, once it is empty
+pub record HasRoom (room lasting len capacity : ℕ) : Type 0 where
+  pub for_more : len + room ≤ capacity
+  pub for_all : lasting ≤ capacity
+  pub most : room ≤ lasting

@@ -15,7 +15,8 @@ use std::alloc::Global;
 use std::marker::Model;
 
 /// Operations as [`PackedOps`](crate::PackedOps) keeps them, in memory that can be reserved. Contracts see the list of
-/// operations, and for how many more, whatever they do, memory is reserved.
+/// operations, for how many more, whatever they do, memory is reserved, and for how many there is memory once all are
+/// taken away: as many as were ever reserved.
 #[derive(Drop)]
 pub struct OpArena {
     kinds: Vec<OpKind>,
@@ -23,6 +24,8 @@ pub struct OpArena {
     bytes: Vec<PageData>,
     /// For how many more operations memory is reserved.
     room: usize,
+    /// For how many there is memory where none stands.
+    lasting: usize,
 }
 
 impl Model for OpArena {
@@ -32,40 +35,49 @@ impl Model for OpArena {
 
     ghost Value = { Arena };
 
-    ghost view = { λ p. record { ops = ops_of p.kinds.items p.pages.items p.bytes.items; room = p.room } };
+    ghost view = { λ p. record {
+      ops = ops_of p.kinds.items p.pages.items p.bytes.items;
+      room = p.room;
+      lasting = p.lasting;
+    } };
 
     ghost invariant = { λ p. ArePacked p.kinds.items p.pages.items p.bytes.items (ops_of p.kinds.items p.pages.items p.bytes.items)
-        × HasRoom p.room (vec_len p.kinds) (vec_capacity p.kinds)
-        × HasRoom p.room (vec_len p.pages) (vec_capacity p.pages)
-        × HasRoom p.room (vec_len p.bytes) (vec_capacity p.bytes) };
+        × HasRoom p.room p.lasting (vec_len p.kinds) (vec_capacity p.kinds)
+        × HasRoom p.room p.lasting (vec_len p.pages) (vec_capacity p.pages)
+        × HasRoom p.room p.lasting (vec_len p.bytes) (vec_capacity p.bytes) };
 }
 
 impl OpArena {
     /// No operation, and memory for none. It takes no memory.
     pub fn new(alloc: Global) -> OpArena
-        ensures { result ≡ record { ops = []; room = 0 } }
+        ensures { result ≡ record { ops = []; room = 0; lasting = 0 } }
     {
         OpArena {
             kinds: Vec::new(alloc),
             pages: Vec::new(alloc),
             bytes: Vec::new(alloc),
             room: 0,
+            lasting: 0,
         }
     }
 
-    /// Takes all operations away. The memory stays, and so does what is reserved.
+    /// Takes all operations away. The memory stays, and is reserved again for as many as it ever was. It takes none.
     pub fn clear(&mut self)
-        ensures { self.new ≡ record self.old { ops = [] } }
+        ensures { self.new ≡ record self.old { ops = []; room = self.old.lasting } }
     {
         self.kinds.clear();
         self.pages.clear();
         self.bytes.clear();
+        self.room = self.lasting;
     }
 
     /// Reserves memory for so many more operations, if it isn't for as many already. Then this isn't refused. Refused
     /// with `NoMemory`, nothing changes.
     pub fn reserve(&mut self, count: usize) -> Result<(), Refusal>
-        ensures ok { OnOk result (self.new ≡ record self.old { room = max self.old.room count }) }
+        ensures ok { OnOk result (self.new ≡ record self.old {
+          room = max self.old.room count;
+          lasting = max self.old.lasting count;
+        }) }
         ensures refused { FailsForMemory result }
         ensures succeeds { count ≤ self.old.room → IsOk result }
         ensures err { OnErr result (self.new ≡ self.old) }
@@ -77,6 +89,7 @@ impl OpArena {
         self.pages.reserve(count)?;
         self.bytes.reserve(count)?;
         self.room = count;
+        self.lasting = self.lasting.max(count);
         Ok(())
     }
 
@@ -85,6 +98,15 @@ impl OpArena {
         ensures { result ≡ self.now.room }
     {
         self.room
+    }
+
+    /// For how many operations there is memory once all are taken away: as many as were ever reserved, and never fewer
+    /// than are now.
+    pub fn lasting(&self) -> usize
+        ensures lasting { result ≡ self.now.lasting }
+        ensures most { self.now.room ≤ self.now.lasting }
+    {
+        self.lasting
     }
 
     /// How many operations there are.
@@ -153,7 +175,10 @@ impl OpArena {
     pub fn push_all(&mut self, ops: &LentOps, write_count: usize) -> Result<(), Refusal>
         requires { write_count ≡ writes ops.now }
         ensures ok { OnOk result (self.new
-            ≡ record { ops = self.old.ops ++ ops.now; room = self.old.room - length ops.now }) }
+            ≡ record self.old {
+              ops = self.old.ops ++ ops.now;
+              room = self.old.room - length ops.now;
+            }) }
         ensures refused { FailsForMemory result }
         ensures succeeds { length ops.now ≤ self.old.room → IsOk result }
         ensures err { OnErr result (self.new ≡ self.old) }

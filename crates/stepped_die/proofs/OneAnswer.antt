@@ -227,9 +227,9 @@ pub record Ends (ok : Bool) (bytes : PageData) (result : Result (Unit {0}) StepR
       ⊎ (((refusal ≡ refuses.Die DieStopped) ⊎ (refusal ≡ refuses.NotBegun)) × (after ≡ before)))
 
 pub same_core : (left right : Core Mirror) → left.start ≡ right.start → left.device ≡ right.device → left.stopped ≡ right.stopped
-    → left.reserved ≡ right.reserved → left.log ≡ right.log → left ≡ right
-same_core left right start device stopped reserved log =
-    λ i. record { start = start i; device = device i; stopped = stopped i; reserved = reserved i; log = log i }
+    → left.reserved ≡ right.reserved → left.lasting ≡ right.lasting → left.log ≡ right.log → left ≡ right
+same_core left right start device stopped reserved lasting log =
+    λ i. record { start = start i; device = device i; stopped = stopped i; reserved = reserved i; lasting = lasting i; log = log i }
 
 one_slot : (o : Option Begun) (b c : Begun) → o ≡ Some b → o ≡ Some c → b ≡ c
 one_slot o b c is also = cc
@@ -261,7 +261,7 @@ module _ (ok : Bool) (bytes : PageData) (before : Stepped) where
         same_die left right
             (same_core left.core right.core (a.start_stays ∙ sym b.start_stays)
             (same_device left.core.device right.core.device memory)
-            (a.carried.runs ∙ sym b.carried.runs) (a.carried.used ∙ sym b.carried.used)
+            (a.carried.runs ∙ sym b.carried.runs) (a.carried.used ∙ sym b.carried.used) (a.lasting_stays ∙ sym b.lasting_stays)
             (a.carried.logged ∙ (λ i. with_entry (slot i).caller events.Slot (Slot (reply i)) before.core.log) ∙ sym b.carried.logged))
             (a.idle ∙ sym b.idle),
         reply,

@@ -107,6 +107,7 @@ same_resumed : (plan : DiePlan) (c : Checkpoint) (names : List PageData) (left r
     → left ≡ right
 same_resumed plan c names left right a b = same_die left right
     (same_core left.core right.core (a.start ∙ sym b.start) (a.device ∙ sym b.device) (a.runs ∙ sym b.runs) (a.reserves ∙ sym b.reserves)
+    (a.lasts ∙ sym b.lasts)
     (a.log ∙ sym b.log))
     (a.idle ∙ sym b.idle)
 
@@ -148,6 +149,7 @@ one_resuming plan c names (Err d) (Err e) a b f g h k = both_unresumed plan c d 
 same_new : (plan : DiePlan) (left right : Stepped) → IsNew plan left → IsNew plan right → left ≡ right
 same_new plan left right a b = same_die left right
     (same_core left.core right.core (a.start ∙ sym b.start) (a.device ∙ sym b.device) (a.runs ∙ sym b.runs) (a.reserves ∙ sym b.reserves)
+    (a.lasts ∙ sym b.lasts)
     (a.log ∙ sym b.log))
     (a.idle ∙ sym b.idle)
 

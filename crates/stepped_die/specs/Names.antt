@@ -64,6 +64,7 @@ pub record GoesOn (plan : DiePlan) (c : Checkpoint) (names : List PageData) (die
   pub device : die.core.device ≡ record { memory = memory_left plan.shape c names }
   pub runs : die.core.stopped ≡ false
   pub reserves : die.core.reserved ≡ nothing_reserved
+  pub lasts : die.core.lasting ≡ nothing_reserved
   pub log : die.core.log ≡ []
   pub idle : die.begun ≡ None
 

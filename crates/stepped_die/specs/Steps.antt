@@ -32,6 +32,7 @@ pub record IsNew (plan : DiePlan) (die : Stepped) : Type 0 where
   pub device : die.core.device ≡ record { memory = fresh_memory plan.shape }
   pub runs : die.core.stopped ≡ false
   pub reserves : die.core.reserved ≡ nothing_reserved
+  pub lasts : die.core.lasting ≡ nothing_reserved
   pub log : die.core.log ≡ []
   pub idle : die.begun ≡ None
 
@@ -62,6 +63,7 @@ pub record HasEnded (ok : Bool) (bytes : PageData) (reply : SlotReply) (before a
   pub carried : IsAnswered begun.caller events.Slot (Slot reply) before.core after.core
   pub called : Changes (mirror_of before.core) begun.call (mirror_of after.core)
   pub start_stays : after.core.start ≡ before.core.start
+  pub lasting_stays : after.core.lasting ≡ before.core.lasting
   pub idle : after.begun ≡ None
 
 -- A slot has failed: the driver didn't do what it was asked, or a read gave other bytes than its cell was programmed with. The

@@ -241,6 +241,7 @@ impl SteppedDie {
     }
 
     /// Takes the memory for this many later slots, as [`DieCore::reserve`]. A slot that has begun is the first of them.
+    /// Each [renewal](SteppedDie::renew) reserves as many again.
     pub fn reserve(&mut self, slots: u32) -> Result<(), Refusal>
         ensures ok { OnOk result (self.new
             ≡ record self.old { core = with_slots slots self.old.core }) }
@@ -281,8 +282,8 @@ impl SteppedDie {
         Ok(())
     }
 
-    /// Starts the log anew at a quiet moment, as [`DieCore::renew`]. `DieStopped` where a fault has stopped the die;
-    /// else `Begun` where a slot has begun. Every refusal changes nothing.
+    /// Starts the log anew at a quiet moment, as [`DieCore::renew`]: what ever was reserved is reserved again.
+    /// `DieStopped` where a fault has stopped the die; else `Begun` where a slot has begun. Every refusal changes nothing.
     pub fn renew(&mut self) -> Result<(), StepRenewalRefusal>
         ensures begun { self.old.core.stopped ≡ false
             → ((result ≡ Err StepRenewalRefusal.Begun) ↔ IsSome self.old.begun) }
@@ -303,7 +304,10 @@ impl SteppedDie {
         ensures begun { self.old.core.stopped ≡ false
             → ((result ≡ Err StepRenewalRefusal.Begun) ↔ IsSome self.old.begun) }
         ensures ok { OnOk result ((self.new ≡ record self.old {
-          core = record (renewed_core self.old.core) { reserved = nothing_reserved };
+          core = record (renewed_core self.old.core) {
+            reserved = nothing_reserved;
+            lasting = nothing_reserved;
+          };
         }) × MayBeRenewed self.old.core) }
         ensures cause { IfErr result (RefusesRenewing self.old) }
         ensures unchanged { OnErr result (self.new ≡ self.old) }

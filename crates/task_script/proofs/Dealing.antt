@@ -16,8 +16,7 @@ use Rattle.script_texts.specs.Arrivals.{IsHeadFor}
 use Rattle.script_texts.specs.RowTexts.{RowText}
 use Rattle.script_texts.specs.Script.{Gives, Reading}
 use Rattle.task_script.specs.Feeds.{rows_dealt}
-use Rattle.script_chunks.specs.Rows.{rows_then}
-use Rattle.task_script.specs.RowTexts.{AreDealt, Ascend, HasReadTexts, LeavesOff, texts_of}
+use Rattle.task_script.specs.RowTexts.{AreDealt, Ascend, HasReadTexts, LeavesOff, rows_then, texts_of}
 use Rattle.task_script.specs.declared.feeds.ReadEnd.{ReadEnd}
 use Rattle.task_script.specs.declared.feeds.ReadEnd.TheVariants.{More, Ended, Refused}
 

@@ -9,8 +9,7 @@ use Rattle.script_texts.specs.RowTexts.{RowText}
 use Rattle.script_texts.specs.Script.{Reading, Script, items_in, rows_in, script_of, whole}
 use Rattle.script_texts.proofs.RowItems.{no-read-fault}
 use Rattle.script_texts.specs.declared.script_rows.ScriptItem.{ScriptItem}
-use Rattle.script_chunks.specs.Rows.{rows_then}
-use Rattle.task_script.specs.RowTexts.{AreRead, FailsToRead, HasReadTexts, LeavesOff, read_of}
+use Rattle.task_script.specs.RowTexts.{AreRead, FailsToRead, HasReadTexts, LeavesOff, read_of, rows_then}
 use Rattle.task_script.proofs.ReadSoFar.{FailsIn, IsDealt, with_items}
 use Rattle.task_script.specs.declared.feeds.ReadEnd.{ReadEnd}
 use Rattle.task_script.specs.declared.feeds.ReadEnd.TheVariants.{Ended, Refused}

@@ -24,7 +24,6 @@ pub use Rattle.plan_texts.specs.PlanText
 pub use Rattle.plan_texts.specs.Stores
 pub use Rattle.script_texts.specs.Script
 pub use Rattle.script_texts.specs.ScriptLeft
-pub use Rattle.script_chunks.specs.ChunkedLeft
 pub use Rattle.script_texts.specs.Arrivals
 pub use Rattle.script_texts.specs.AskedPages
 pub use Rattle.report_texts.specs.JobRows

@@ -1,10 +1,9 @@
 -- Rows of a script as they stand, by die, and what reading their operations gives.
-use Rattle.std.specs.Prelude.{◌≡◌, ◌==◌, ◌⊎◌, ⊤, ℕ, ◌<◌, ◌≤◌, ◌+◌, Bool, true, List, [], ◌∷◌}
+use Rattle.std.specs.Prelude.{◌≡◌, ◌==◌, ◌⊎◌, ⊤, ℕ, ◌<◌, ◌≤◌, ◌+◌, Bool, true, List, [], ◌∷◌, ◌++◌}
 use Rattle.std.specs.Prelude.{All, filter, get_or, length, map, Option, Some, None, IfSome, Ok, Err}
 use Rattle.slot_types.specs.declared.refusals.Refusal.{Refusal}
 use Rattle.slot_types.specs.declared.refusals.Refusal.TheVariants.{NoMemory, ReadFault, ScriptRow}
 use Rattle.script_texts.specs.Arrivals.{IsHeadFor}
-use Rattle.script_chunks.specs.Rows.{rows_then}
 use Rattle.script_texts.specs.RowTexts.{RowText}
 use Rattle.script_texts.specs.Script.{Reading, Script, at_end, at_fault, items_from, whole}
 use Rattle.script_texts.specs.declared.script_rows.ScriptItem.{ScriptItem}
@@ -41,6 +40,10 @@ pub record AreDealt (dies slots from behind : ℕ) (rows : List RowText) (texts 
   pub ascend : Ascend from rows behind
 
 -- While a script is read
+
+-- these rows, and then what is left
+abbrev pub rows_then : List RowText → Reading RowText → Reading RowText
+rows_then rows more = record { items = rows ++ more.items; fault = more.fault }
 
 -- how the reading goes on: something may be left, or nothing is, or a fault comes next
 abbrev pub LeavesOff : Option (Reading RowText) → Reading RowText → ReadEnd → Type 0

@@ -2,14 +2,13 @@
 
 ghost use Rattle.std.specs.Prelude.{◌≡◌, ◌≤◌, [], replicate, IfOk};
 ghost use Rattle.slot_types.specs.Refusal.{FailsForMemory};
-ghost use Rattle.script_chunks.specs.ChunkedLeft.{chunked_dies, chunked_failed, chunked_left, chunked_line, chunked_slots};
+ghost use Rattle.script_texts.specs.ScriptLeft.{dies_of, line_of, reader_failed, script_rows_left, slots_of};
 ghost use Rattle.task_script.specs.Feeds.{rows_dealt};
 ghost use Rattle.task_script.specs.RowTexts.{EndsWithReader, GoesOn, HasReadTexts};
 
-use script_chunks::{ChunkedReader, RowTexts};
+use script_texts::{RowTexts, ScriptReader};
 use slot_types::Refusal;
 use std::io::Read;
-use std::thread::Threads;
 
 /// How many rows are read of a script before they are sent to their dies, at most.
 pub const BATCH_ROWS: u32 = 8_192;
@@ -40,28 +39,27 @@ pub struct ReadRows {
 /// and no further one once they have 1 MiB of operations. Their operations aren't read yet.
 /// `end` says what came then: where it is `More`, a row was read, and where it is ReadFault, csv's reader has failed.
 /// The only refusal of this call is NoMemory.
-pub fn read_rows<T: Threads, R: Read + Drop>(
-    rt: &T,
-    script: &mut ChunkedReader<R>,
+pub fn read_rows<R: Read>(
+    script: &mut ScriptReader<R>,
     empty: Vec<RowTexts>,
 ) -> Result<ReadRows, Refusal>
-    requires empty { empty.items ≡ replicate (chunked_dies script.old) [] }
+    requires empty { empty.items ≡ replicate (dies_of script.old) [] }
     ensures rows { IfOk result (λ rows.
-        HasReadTexts (chunked_left R.remaining script.old)
-        (chunked_left R.remaining script.new) (chunked_dies script.old) (chunked_slots script.old)
-        (chunked_line script.old) (chunked_line script.new) rows.dies.items rows.end) }
+        HasReadTexts (script_rows_left R.remaining script.old)
+        (script_rows_left R.remaining script.new) (dies_of script.old) (slots_of script.old)
+        (line_of script.old) (line_of script.new) rows.dies.items rows.end) }
     ensures few { IfOk result (λ rows. rows_dealt rows.dies.items ≤ 8192) }
     ensures more { IfOk result (λ rows.
-        GoesOn (chunked_line script.old) (chunked_line script.new) rows.end) }
-    ensures failed { IfOk result (λ rows. EndsWithReader (chunked_failed script.new) rows.end) }
+        GoesOn (line_of script.old) (line_of script.new) rows.end) }
+    ensures failed { IfOk result (λ rows. EndsWithReader (reader_failed script.new) rows.end) }
     ensures refused { FailsForMemory result }
-    ensures dies { chunked_dies script.new ≡ chunked_dies script.old }
-    ensures slots { chunked_slots script.new ≡ chunked_slots script.old }
+    ensures dies { dies_of script.new ≡ dies_of script.old }
+    ensures slots { slots_of script.new ≡ slots_of script.old }
 {
     let mut rows = empty;
     let mut left = BATCH_BYTES;
     for _ in 0..BATCH_ROWS {
-        match script.next_row(rt) {
+        match script.next_row() {
             Ok(Some(head)) => {
                 let ops = script.ops_text();
                 let size = ops.len();

@@ -31,7 +31,6 @@ pub use report_texts::{
     read_report, reports_come_back, write_report,
 };
 pub use run_counts::RunCount;
-pub use script_chunks::ChunkedReader;
 pub use script_texts::{ScriptItem, ScriptReader};
 pub use text_base::number;
 pub use text_runs::{RefusedRun, run_text};

@@ -4,7 +4,7 @@ ghost use Rattle.std.specs.Prelude.{◌≡◌, ◌∷◌, ◌++◌, []};
 ghost use Rattle.task_script.specs.RowBatches.{IsSameSender, MayFollow, sent_by};
 
 use rtrb::{Consumer, Producer, Protocol, PushError};
-use script_chunks::RowTexts;
+use script_texts::RowTexts;
 use std::alloc::Global;
 use std::sync::Wait;
 use std::thread::Parker;

@@ -9,8 +9,7 @@ ghost use Rattle.script_texts.specs.Heads.{row_of};
 ghost use Rattle.text_base.specs.Readings.{GivesReading};
 
 use die_service::Feed;
-use script_chunks::RowTexts;
-use script_texts::{RowHead, read_ops};
+use script_texts::{RowHead, RowTexts, read_ops};
 use slot_types::{Items, LentOps, PackedOps, Refusal};
 use std::alloc::Global;
 use std::marker::Model;

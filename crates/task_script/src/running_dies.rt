@@ -13,7 +13,7 @@ use crate::die_stores::DieStore;
 use crate::row_batches::{BATCHES_AHEAD, BatchSender, Emptied, InOrder, LISTS_BACK, RowBatch};
 use crate::rows::DieRows;
 use rtrb::{Consumer, Producer, RingBuffer};
-use script_chunks::RowTexts;
+use script_texts::RowTexts;
 use slot_types::{DiePlan, Refusal};
 use std::alloc::Global;
 use std::mem;

@@ -5,7 +5,7 @@ ghost use Rattle.std.specs.List.{AllZip};
 ghost use Rattle.rtrb.specs.Ring.{received};
 ghost use Rattle.slot_types.specs.Refusal.{FailsForMemory};
 ghost use Rattle.plan_rules.specs.Bound.{MeetsBound};
-ghost use Rattle.script_chunks.specs.ChunkedLeft.{chunked_dies, chunked_failed, chunked_left, chunked_line, chunked_slots};
+ghost use Rattle.script_texts.specs.ScriptLeft.{dies_of, line_of, reader_failed, script_rows_left, slots_of};
 ghost use Rattle.task_script.specs.RowBatches.{IsSameSender, sent_by, until_of};
 ghost use Rattle.task_script.specs.RowTexts.{EndsWithReader, HasReadTexts};
 ghost use Rattle.task_script.specs.RunningDies.{AllRan, rows_received};
@@ -21,7 +21,7 @@ use crate::running_dies::RunningDie;
 use crate::sent_rows::SentRows;
 use crate::shares::Share;
 use crate::workers::{ReaderSignal, Signal, end_all, gather, run_here, share_out, signals};
-use script_chunks::{ChunkedReader, RowTexts};
+use script_texts::{RowTexts, ScriptReader};
 use slot_types::{DiePlan, Refusal};
 use std::alloc::Global;
 use std::io::Read;
@@ -33,7 +33,7 @@ use std::thread::{Parker, Scope, Threads};
 /// What became of a script that was read: its reader, its dies, which have run all rows, and how reading ended.
 #[derive(Drop)]
 pub struct RanRows<S> {
-    pub script: ChunkedReader<S>,
+    pub script: ScriptReader<S>,
     pub dies: Vec<RunningDie>,
     pub end: ReadEnd,
 }
@@ -75,29 +75,29 @@ fn send_rows<R: Wait>(
 fn send_all<R: Threads + Wait + Sync, S: Read + Drop>(
     rt: &R,
     alloc: Global,
-    script: &mut ChunkedReader<S>,
+    script: &mut ScriptReader<S>,
     senders: &mut [BatchSender],
     shares: &mut [Share],
     signals: &[Signal],
     reader: &ReaderSignal,
     slots: u32,
 ) -> Result<ReadEnd, Refusal>
-    requires dies { length senders.old ≡ chunked_dies script.old }
-    requires first { 1 ≤ chunked_line script.old }
+    requires dies { length senders.old ≡ dies_of script.old }
+    requires first { 1 ≤ line_of script.old }
     requires none { All (λ sender. sent_by sender ≡ []) senders.old }
-    ensures rows { IfOk result (HasReadTexts (chunked_left S.remaining script.old)
-        (chunked_left S.remaining script.new) (chunked_dies script.old) (chunked_slots script.old)
-        (chunked_line script.old) (chunked_line script.new) (rows_sent senders.new)) }
+    ensures rows { IfOk result (HasReadTexts (script_rows_left S.remaining script.old)
+        (script_rows_left S.remaining script.new) (dies_of script.old) (slots_of script.old)
+        (line_of script.old) (line_of script.new) (rows_sent senders.new)) }
     ensures last { result ≡ Ok Ended → All (λ sender. until_of (sent_by sender) ≡ slots) senders.new }
     ensures few { IfOk result (λ _. All (λ sender. length (sent_by sender) ≤ 1000003) senders.new) }
-    ensures failed { IfOk result (EndsWithReader (chunked_failed script.new)) }
+    ensures failed { IfOk result (EndsWithReader (reader_failed script.new)) }
     ensures same { IfOk result (λ _. AllZip IsSameSender senders.old senders.new) }
     ensures shares { IfOk result (λ _. AllZip StaysShare shares.old shares.new) }
     ensures refused { FailsForMemory result }
 {
     for _ in 0..u32::MAX {
         let empty = empty_lists(alloc, senders)?;
-        let read = read_rows(rt, script, empty)?;
+        let read = read_rows(script, empty)?;
         let until = match read.end {
             ReadEnd::Ended => slots,
             _ => 0,
@@ -123,15 +123,15 @@ fn send_by<'s, 'e: 's, R: Threads + Wait + Sync, S: Read + Drop>(
     scope: &Scope<'s, &'e ()>,
     rt: &'e R,
     alloc: Global,
-    script: ChunkedReader<S>,
+    script: ScriptReader<S>,
     senders: Vec<BatchSender>,
     dies: Vec<RunningDie>,
     signals: &'e [Signal],
     reader: &'e ReaderSignal,
     slots: u32,
 ) -> Result<SentRows<S>, Refusal>
-    requires dies { length senders.items ≡ chunked_dies script }
-    requires first { 1 ≤ chunked_line script }
+    requires dies { length senders.items ≡ dies_of script }
+    requires first { 1 ≤ line_of script }
     requires none { All (λ sender. sent_by sender ≡ []) senders.items }
     ensures sent { IfOk result
         (HasSentRows S.remaining slots script senders.items dies.items) }
@@ -173,23 +173,23 @@ pub fn send_script<R: Threads + Wait + Sync, S: Read + Drop>(
     rt: &R,
     alloc: Global,
     plans: &[DiePlan],
-    script: ChunkedReader<S>,
+    script: ScriptReader<S>,
     slots: u32,
     workers: u32,
 ) -> Result<RanRows<S>, Refusal>
-    requires dies { length plans.now ≡ chunked_dies script }
-    requires first { 1 ≤ chunked_line script }
+    requires dies { length plans.now ≡ dies_of script }
+    requires first { 1 ≤ line_of script }
     requires bound { All MeetsBound plans.now }
     ensures ran { IfOk result (λ sent. AllRan plans.now sent.dies.items) }
     ensures rows { IfOk result (λ sent.
-        HasReadTexts (chunked_left S.remaining script)
-        (chunked_left S.remaining sent.script) (chunked_dies script) (chunked_slots script)
-        (chunked_line script) (chunked_line sent.script) (rows_received sent.dies.items) sent.end) }
+        HasReadTexts (script_rows_left S.remaining script)
+        (script_rows_left S.remaining sent.script) (dies_of script) (slots_of script)
+        (line_of script) (line_of sent.script) (rows_received sent.dies.items) sent.end) }
     ensures last { IfOk result (λ sent. sent.end ≡ Ended →
         All (λ running. until_of (received running.batches) ≡ slots) sent.dies.items) }
     ensures few { IfOk result (λ sent.
         All (λ running. length (received running.batches) ≤ 1000003) sent.dies.items) }
-    ensures failed { IfOk result (λ sent. EndsWithReader (chunked_failed sent.script) sent.end) }
+    ensures failed { IfOk result (λ sent. EndsWithReader (reader_failed sent.script) sent.end) }
     ensures refused { FailsForMemory result }
 {
     let (senders, dies) = running_dies(alloc, plans)?;
@@ -200,7 +200,7 @@ pub fn send_script<R: Threads + Wait + Sync, S: Read + Drop>(
         thread::scope_env(),
         rt,
         move |scope| -> Result<SentRows<S>, Refusal>
-            requires { (length senders.items ≡ chunked_dies script) × (1 ≤ chunked_line script) × All (λ sender. sent_by sender ≡ []) senders.items }
+            requires { (length senders.items ≡ dies_of script) × (1 ≤ line_of script) × All (λ sender. sent_by sender ≡ []) senders.items }
             ensures { FailsForMemory result × IfOk result
                 (HasSentRows S.remaining slots script senders.items dies.items) }
         {

@@ -3,12 +3,12 @@
 use crate::feeds::ReadEnd;
 use crate::row_batches::BatchSender;
 use crate::running_dies::RunningDie;
-use script_chunks::ChunkedReader;
+use script_texts::ScriptReader;
 
 /// The reader of a script, the senders of its rows, the dies, which have run those that they took, and how reading ended.
 #[derive(Drop)]
 pub struct SentRows<S> {
-    pub script: ChunkedReader<S>,
+    pub script: ScriptReader<S>,
     pub senders: Vec<BatchSender>,
     pub dies: Vec<RunningDie>,
     pub end: ReadEnd,

@@ -1,7 +1,7 @@
 //! Scripts that are run on the dies of a store.
 
 ghost use Rattle.std.specs.Prelude.{◌≡◌, ◌<◌, ◌≤◌, ◌^◌, All, length, true, IfOk, IfErr, IsSomeAnd, OnOk};
-ghost use Rattle.script_chunks.specs.ChunkedLeft.{chunked_failed};
+ghost use Rattle.script_texts.specs.ScriptLeft.{reader_failed};
 ghost use Rattle.slot_types.specs.Refusal.{FailsForMemory};
 ghost use Rattle.slot_types.specs.declared.refusals.Refusal.TheVariants.{ReadFault};
 ghost use Rattle.plan_rules.specs.Bound.{MeetsBound};
@@ -22,16 +22,13 @@ use crate::run_dies::{first_refusal, ran_dies};
 use crate::sending::{RanRows, send_script};
 use die_service::close;
 use report_texts::{ReportText, write_parts};
-use script_chunks::ChunkedReader;
+use script_texts::ScriptReader;
 use slot_types::{MAX_SLOT, Refusal, StorePlan};
 use std::alloc::Global;
 use std::io::Read;
 use std::sync::Wait;
 use std::thread::Threads;
 use text_base::Output;
-
-/// How many chunks of a script are read at a time, where any are.
-const CHUNKS: usize = 4;
 
 /// Dies that carried out their slots: the parts of their report, and how many of their rows were accepted and refused.
 #[derive(Drop)]
@@ -45,7 +42,7 @@ struct RanStore {
 pub struct RefusedRun<S> {
     pub refusal: Refusal,
     /// The script's reader, where it is the script that was refused.
-    pub reader: Option<ChunkedReader<S>>,
+    pub reader: Option<ScriptReader<S>>,
 }
 
 /// Memory ran out, or the operations of rows are at fault.
@@ -121,17 +118,6 @@ fn finish<R: Threads + Wait + Sync>(
     Ok(RanStore { parts, count })
 }
 
-/// How many chunks of a script are read at a time: four, where four dies and four workers without one are there at least.
-/// With fewer dies reading isn't what takes longest, and with fewer workers chunks cost more than they save.
-fn chunks_of(workers: u32, dies: usize) -> usize {
-    let spare = (workers as usize).saturating_sub(dies);
-    if dies < CHUNKS || spare < CHUNKS {
-        0
-    } else {
-        CHUNKS
-    }
-}
-
 /// Runs a script on fresh dies in memory.
 ///
 /// Refused as the first fault of the script, as NoMemory, or as ReadFault: that comes only together with the script's
@@ -152,10 +138,9 @@ fn run_script<R: Threads + Wait + Sync, S: Read + Drop>(
     ensures refused { IfErr result (λ run.
         RefusesScript (S.remaining script) (length plan.now) slots run.refusal) }
     ensures failed { IfErr result (λ run. run.refusal ≡ ReadFault →
-        IsSomeAnd run.reader (λ reader. chunked_failed reader ≡ true)) }
+        IsSomeAnd run.reader (λ reader. reader_failed reader ≡ true)) }
 {
-    let chunks = chunks_of(workers, plan.len());
-    let reader = ChunkedReader::new(alloc, script, plan, slots, chunks)?;
+    let reader = ScriptReader::new(alloc, script, plan, slots)?;
     let sent = send_script(rt, alloc, plan.as_slice(), reader, slots, workers)?;
     let RanRows { script, dies, end } = sent;
     match first_refusal(dies.as_slice()) {
@@ -185,16 +170,16 @@ fn run_script<R: Threads + Wait + Sync, S: Read + Drop>(
 /// What is written is proved to be the report read off the exact logs of the accepted rows and the slots, whatever the
 /// number of workers. By one worker no thread is started. By more, each that has dies is a thread for the whole run: it
 /// reads the operations of their rows and runs these, while this thread takes further rows off the script and sends
-/// them. Where there are four dies at least, and four workers more than dies, four threads at a time read chunks of the
-/// script. At the end so many make the lines of the report. A thread that can't be started is done without: its work is
-/// done by this one. May wait for the workers.
+/// them. It alone reads the script, within the bounds of [`ScriptReader`](crate::ScriptReader) on bytes and on calls,
+/// which so are the same by any workers. At the end so many make the lines of the report. A thread that can't be started
+/// is done without: its work is done by this one. May wait for the workers.
 ///
 /// So is this: on a die whose rows keep its plan, with times that pass their test, no lateness in the report is above
 /// 0, and no row is refused but out of memory, or after one that was.
 ///
 /// Rows are read and run batch by batch, so that the script is never kept whole: what is kept of it are the rows of
-/// four batches, in four lists of each die, which keep the memory of the die's largest batch, and the chunks that are
-/// read. A die is given up once its lines are made.
+/// four batches, in four lists of each die, which keep the memory of the die's largest batch. A die is given up once its
+/// lines are made.
 ///
 /// It ends with the first fault of the script, as [`ScriptReader`](crate::ScriptReader) says it; with `ReadFault`,
 /// where reading the script fails, and only together with the script's reader, whose csv reader has failed; or with
@@ -227,7 +212,7 @@ pub fn run_text<R: Threads + Wait + Sync, S: Read + Drop, W: Output>(
         (RefusesScript (S.remaining script) (length plan.now) slots)
         (RunsSo (S.remaining script) plan.now slots) writer.old writer.new run.refusal) }
     ensures failed { IfErr result (λ run. run.refusal ≡ ReadFault →
-        IsSomeAnd run.reader (λ reader. chunked_failed reader ≡ true)) }
+        IsSomeAnd run.reader (λ reader. reader_failed reader ≡ true)) }
 {
     let ran = run_script(rt, alloc, plan, script, slots, workers)?;
     match write_parts(writer, ran.parts.as_slice()) {

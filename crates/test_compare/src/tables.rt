@@ -99,7 +99,7 @@ const PLAIN_NAMES: &str = "\
 <text x=\"614\" y=\"152\">edf</text>
 <text x=\"614\" y=\"170\">edf-back</text>
 <text x=\"614\" y=\"188\">edf-step</text>
-<text class=\"e\" x=\"748\" y=\"98\">25.00 % late</text>
+<text class=\"e\" x=\"808\" y=\"98\">25.0 % late</text>
 ";
 
 fn compared(alloc: Global, from: u32, form: Form) -> Result<Vec<u8>, CompareFault> {

@@ -1,6 +1,6 @@
-//! Calls of a die that may need memory. Where memory is scarce, one that is refused for lack of it is made again, and
-//! has to be answered then as without the refusal. So every table may be played with each allocation refused in turn.
-//! Where it is ample, no call is made twice.
+//! Calls of a die. What it needs for its life it has from its birth on: no ask and no slot is made again, whatever
+//! allocation is refused. An outcome may need memory for what its reads gave. Where memory is scarce, one that is refused
+//! for lack of it is asked for again, and has to be answered then as without the refusal.
 
 use crate::memory::Memory;
 use flash_die::Nand;
@@ -11,28 +11,17 @@ use std::alloc::Global;
 
 /// What becomes of an ask: the number of its job, or why it is refused.
 pub(crate) fn ask<N: Nand>(
-    memory: Memory,
     die: &mut PlannedDie<N>,
     alloc: Global,
     task: u32,
     ops: &[Op],
 ) -> Result<JobNo, AskRefusal> {
-    match die.ask(alloc, task, TaskNo(task), ops) {
-        Err(AskRefusal::NoMemory) if memory.asks_again() => die.ask(alloc, task, TaskNo(task), ops),
-        answer => answer,
-    }
+    die.ask(alloc, task, TaskNo(task), ops)
 }
 
 /// Carries out the present slot.
-pub(crate) fn carry<N: Nand>(
-    memory: Memory,
-    die: &mut PlannedDie<N>,
-    alloc: Global,
-) -> Result<SlotReply, Refusal> {
-    match die.slot(alloc, 9) {
-        Err(Refusal::NoMemory) if memory.asks_again() => die.slot(alloc, 9),
-        answer => answer,
-    }
+pub(crate) fn carry<N: Nand>(die: &mut PlannedDie<N>, alloc: Global) -> Result<SlotReply, Refusal> {
+    die.slot(alloc, 9)
 }
 
 pub(crate) fn outcome_of<N: Nand>(

@@ -38,7 +38,7 @@ fn carries<N: Nand, R: Abort>(
     jobs: &[Option<u32>],
 ) {
     for job in jobs {
-        let got = carry(said.memory, die, alloc);
+        let got = carry(die, alloc);
         said.fits(is_of(&got, *job), &got, job);
     }
 }
@@ -51,7 +51,7 @@ fn slots<N: Nand, R: Abort>(
     count: u32,
 ) {
     for _ in 0..count {
-        let got = carry(said.memory, die, alloc);
+        let got = carry(die, alloc);
         said.fits(got.is_ok(), &got, &"a slot");
     }
 }
@@ -75,9 +75,9 @@ fn babbles<N: Nand, R: Abort>(
     count: u32,
 ) {
     for _ in 0..count {
-        let got = ask(said.memory, die, alloc, 1, TOO_MUCH);
+        let got = ask(die, alloc, 1, TOO_MUCH);
         said.same(&numbered(got), &Err(AskRefusal::TooManyOps { most: 4 }));
-        let _ = ask(said.memory, die, alloc, 1, ALL);
+        let _ = ask(die, alloc, 1, ALL);
         slots(said, die, alloc, 1);
     }
 }
@@ -180,13 +180,13 @@ fn goes<N: Nand, R: Abort>(
 ) {
     match step {
         Step::Asks { task, ops, want } => {
-            said.same(&numbered(ask(said.memory, die, alloc, *task, *ops)), want)
+            said.same(&numbered(ask(die, alloc, *task, *ops)), want)
         }
         Step::Carries { jobs } => carries(said, die, alloc, *jobs),
         Step::Slots { count } => slots(said, die, alloc, *count),
         Step::Babbles { slots } => babbles(said, die, alloc, *slots),
         Step::NoSlot { want } => {
-            let got = carry(said.memory, die, alloc);
+            let got = carry(die, alloc);
             said.same(&got, &Err(*want))
         }
         Step::Renews { want } => said.same(&die.renew(), want),

@@ -10,7 +10,7 @@ use std::process::Abort;
 /// The most bytes of a script or of a report.
 const MAX_BYTES: usize = 67_108_864;
 
-const SCRIPT_HEADER: &str = "at,die,task,kind,release,due,ops\n";
+pub const SCRIPT_HEADER: &str = "at,die,task,kind,release,due,ops\n";
 
 const REPORT_HEADER: &str = "row,die,job,task,release,due,work,completion,lateness,given,items\n";
 

@@ -12,11 +12,11 @@ mod audits;
 #[cfg(test)]
 mod bounds;
 #[cfg(test)]
-mod chunked;
-#[cfg(test)]
 mod faults;
 #[cfg(test)]
 mod interrupted;
+#[cfg(test)]
+mod long_scripts;
 #[cfg(test)]
 mod memory;
 #[cfg(test)]

@@ -114,7 +114,7 @@ fn a_refused_run_gives_its_reader_back(rt: HostRuntime) -> Result<(), Fail> {
         };
         assert!(rt; refusal == Refusal::ReadFault, "{call}");
         assert!(rt;
-            reader.next_row(&rt).err() == Some(Refusal::ReadFault),
+            reader.next_row().err() == Some(Refusal::ReadFault),
             "{call}"
         );
     }

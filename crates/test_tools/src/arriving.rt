@@ -12,7 +12,7 @@ use std::sync::Wait;
 use std::test::Fail;
 use std::thread::Threads;
 use task_script::{ReportReader, read_plan, run_text};
-use tool_plan_arrivals::{Fault, Manner, arrivals, full_from};
+use tool_plan_arrivals::{Fault, Filling, Manner, arrivals, fillings_of};
 
 /// How many plans are tried.
 const PLANS: u32 = 10;
@@ -278,6 +278,12 @@ const FILLED: [&str; 2] = [
     "40,0,2,job,40,80,W7=00000028000000020000000700000000 W9=00000028000000020000000900000001 W",
 ];
 
+/// In 40 slots come four jobs and four collections, so 65,536 of them in 327,680.
+const FILLING: Filling = Filling {
+    from: Some(80),
+    life: 327_680,
+};
+
 #[test]
 fn a_die_is_filled_in_order_and_never_trimmed(rt: HostRuntime) -> Result<(), Fail> {
     let alloc = rt.alloc();
@@ -297,6 +303,6 @@ fn a_die_is_filled_in_order_and_never_trimmed(rt: HostRuntime) -> Result<(), Fai
     assert!(rt; !text.contains("T"));
     assert!(rt; text.contains(FILLED[0]));
     assert!(rt; text.contains(FILLED[1]));
-    assert_eq!(rt; full_from(alloc, &plan)?.as_slice(), [80u32].as_slice());
+    assert_eq!(rt; fillings_of(alloc, &plan)?.as_slice(), [FILLING].as_slice());
     Ok(())
 }

@@ -25,35 +25,38 @@ const PICTURE: &str = "<title>Die 0, slots 19 to 25 of 25</title>
 <use href=\"#waiver\" x=\"950\" y=\"74\"/><text x=\"960\" y=\"87\">waived</text>
 <path class=\"wait\" d=\"M1018,83h14\"/><text x=\"1038\" y=\"87\">waits</text>
 <rect class=\"end\" x=\"1088\" y=\"77\" width=\"13\" height=\"12\"/><text x=\"1106\" y=\"87\">done</text>
-<rect class=\"lane\" x=\"0\" y=\"122\" width=\"390\" height=\"18\"/>
-<text class=\"l\" x=\"142\" y=\"115\">slot</text>
-<path class=\"tick\" d=\"M150,122V158\"/><text class=\"n\" x=\"150\" y=\"115\">19</text>
-<path class=\"tick\" d=\"M190,122V158\"/><text class=\"n\" x=\"190\" y=\"115\">20</text>
-<path class=\"tick\" d=\"M390,122V158\"/><text class=\"n\" x=\"390\" y=\"115\">25</text>
-<text class=\"l\" x=\"142\" y=\"183\">spare (bold), tokens:</text><text class=\"l\" x=\"142\" y=\"197\">0 to 2 pages</text>
-<path class=\"spare\" d=\"M150,210H350V188H390\"><title>spare pages</title></path>
-<path class=\"tokens\" d=\"M150,210H350V166H390\"><title>tokens of task 0</title></path>
-<path class=\"wait\" d=\"M150,131H390\"/>
-<path class=\"wait\" d=\"M270,149H310\"/>
-<path class=\"gap\" d=\"M270,131H310\"><title>the erase of block 1 by collection 11 is suspended</title></path>
-<rect class=\"out\" x=\"150\" y=\"125\" width=\"39\" height=\"12\"><title>slot 19: collection 11 of task 0 reads, to copy it, page 2</title></rect>
-<text class=\"p\" x=\"170\" y=\"134\">2</text>
-<rect class=\"in\" x=\"190\" y=\"125\" width=\"39\" height=\"12\"><title>slot 20: collection 11 of task 0 programs the copy of page 2</title></rect>
-<text class=\"p\" x=\"210\" y=\"134\">2</text>
-<rect class=\"erase\" x=\"230\" y=\"125\" width=\"39\" height=\"12\"><title>slot 21: collection 11 of task 0 erases block 1</title></rect>
-<text class=\"p w\" x=\"250\" y=\"134\">1</text>
-<rect class=\"read\" x=\"270\" y=\"143\" width=\"39\" height=\"12\"><title>slot 22: job 12 of task 0 reads page 2, and is done</title></rect>
-<rect class=\"end\" x=\"307\" y=\"143\" width=\"3\" height=\"12\"/>
-<text class=\"p\" x=\"290\" y=\"152\">2</text>
-<rect class=\"erase\" x=\"310\" y=\"125\" width=\"39\" height=\"12\"><title>slot 23: collection 11 of task 0 erases block 1</title></rect>
-<text class=\"p w\" x=\"330\" y=\"134\">1</text>
-<rect class=\"erase\" x=\"350\" y=\"125\" width=\"39\" height=\"12\"><title>slot 24: collection 11 of task 0 erases block 1, and is done</title></rect>
-<rect class=\"end\" x=\"387\" y=\"125\" width=\"3\" height=\"12\"/>
-<text class=\"p w\" x=\"370\" y=\"134\">1</text>
-<use href=\"#release\" x=\"150\" y=\"122\"><title>collection 11 of task 0 is released in slot 19</title></use>
-<use href=\"#release\" x=\"270\" y=\"140\"><title>job 12 of task 0 is released in slot 22</title></use>
-<text class=\"l\" x=\"142\" y=\"135\">collection 11, task 0<title>release 19, due 40, completed 25, lateness -15</title></text>
-<text class=\"l\" x=\"142\" y=\"153\">job 12, task 0<title>release 22, due 30, completed 23, lateness -7</title></text>
+<path class=\"spare\" d=\"M10,103h16\"/><text x=\"30\" y=\"107\">spare pages</text>
+<text x=\"112\" y=\"107\">tokens of task</text>
+<path class=\"tokens t0\" d=\"M196,103h16\"/><text x=\"216\" y=\"107\">0</text>
+<rect class=\"lane\" x=\"0\" y=\"142\" width=\"390\" height=\"18\"/>
+<text class=\"l\" x=\"122\" y=\"135\">slot</text>
+<path class=\"tick\" d=\"M150,142V178\"/><text class=\"n\" x=\"150\" y=\"135\">19</text>
+<path class=\"tick\" d=\"M190,142V178\"/><text class=\"n\" x=\"190\" y=\"135\">20</text>
+<path class=\"tick\" d=\"M390,142V178\"/><text class=\"n\" x=\"390\" y=\"135\">25</text>
+<text class=\"l\" x=\"142\" y=\"203\">spare pages: 0 to 1</text><text class=\"l\" x=\"142\" y=\"217\">tokens: 0 to 2</text>
+<path class=\"spare\" d=\"M150,230H350V186H390\"><title>spare pages</title></path>
+<path class=\"tokens t0\" d=\"M150,230H350V186H390\"><title>tokens of task 0</title></path>
+<path class=\"wait\" d=\"M150,151H390\"/>
+<path class=\"wait\" d=\"M270,169H310\"/>
+<path class=\"gap\" d=\"M270,151H310\"><title>the erase of block 1 by collection 11 is suspended</title></path>
+<rect class=\"out\" x=\"150\" y=\"145\" width=\"39\" height=\"12\"><title>slot 19: collection 11 of task 0 reads, to copy it, page 2</title></rect>
+<text class=\"p\" x=\"170\" y=\"154\">2</text>
+<rect class=\"in\" x=\"190\" y=\"145\" width=\"39\" height=\"12\"><title>slot 20: collection 11 of task 0 programs the copy of page 2</title></rect>
+<text class=\"p\" x=\"210\" y=\"154\">2</text>
+<rect class=\"erase\" x=\"230\" y=\"145\" width=\"39\" height=\"12\"><title>slot 21: collection 11 of task 0 erases block 1</title></rect>
+<text class=\"p w\" x=\"250\" y=\"154\">1</text>
+<rect class=\"read\" x=\"270\" y=\"163\" width=\"39\" height=\"12\"><title>slot 22: job 12 of task 0 reads page 2, and is done</title></rect>
+<rect class=\"end\" x=\"307\" y=\"163\" width=\"3\" height=\"12\"/>
+<text class=\"p\" x=\"290\" y=\"172\">2</text>
+<rect class=\"erase\" x=\"310\" y=\"145\" width=\"39\" height=\"12\"><title>slot 23: collection 11 of task 0 erases block 1</title></rect>
+<text class=\"p w\" x=\"330\" y=\"154\">1</text>
+<rect class=\"erase\" x=\"350\" y=\"145\" width=\"39\" height=\"12\"><title>slot 24: collection 11 of task 0 erases block 1, and is done</title></rect>
+<rect class=\"end\" x=\"387\" y=\"145\" width=\"3\" height=\"12\"/>
+<text class=\"p w\" x=\"370\" y=\"154\">1</text>
+<use href=\"#release\" x=\"150\" y=\"142\"><title>collection 11 of task 0 is released in slot 19</title></use>
+<use href=\"#release\" x=\"270\" y=\"160\"><title>job 12 of task 0 is released in slot 22</title></use>
+<text class=\"l\" x=\"142\" y=\"155\">collection 11, task 0<title>release 19, due 40, completed 25, lateness -15</title></text>
+<text class=\"l\" x=\"142\" y=\"173\">job 12, task 0<title>release 22, due 30, completed 23, lateness -7</title></text>
 </svg>
 ";
 
@@ -71,6 +74,7 @@ fn what_each_slot_carried_is_drawn(rt: HostRuntime) -> Result<(), Fail> {
         to: 25,
         worst: false,
         as_text: false,
+        all: false,
     };
     assert!(rt; is_drawn(rt.alloc(), shown, PICTURE)?);
     Ok(())
@@ -94,6 +98,7 @@ fn what_each_slot_carried_is_written_as_lines(rt: HostRuntime) -> Result<(), Fai
         to: 25,
         worst: false,
         as_text: true,
+        all: false,
     };
     let plan = read_plan(rt.alloc(), PLAN.as_bytes())?;
     let said = draw(rt.alloc(), plan, SCRIPT.as_bytes(), 25, 0, shown, None)?;
@@ -121,6 +126,7 @@ fn what_waits_past_its_deadline_is_marked(rt: HostRuntime) -> Result<(), Fail> {
         to: 6,
         worst: false,
         as_text: true,
+        all: false,
     };
     let plan = read_plan(rt.alloc(), PLAN.as_bytes())?;
     let said = draw(rt.alloc(), plan, LATE.as_bytes(), 6, 0, shown, None)?;
@@ -138,6 +144,7 @@ fn the_worst_is_drawn(rt: HostRuntime) -> Result<(), Fail> {
         to: 25,
         worst: true,
         as_text: false,
+        all: false,
     };
     let said = draw(rt.alloc(), plan, SCRIPT.as_bytes(), 25, 0, shown, None)?;
     let text = String::from_utf8(said.text)?;

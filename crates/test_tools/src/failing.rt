@@ -29,6 +29,9 @@ const FAILED: Failure = Failure {
 const REFUSED: RefusedRows = RefusedRows {
     count: 9,
     first: Some((7, 16)),
+    kinds: [
+        0, 0, 0, 0, 0, 0, 0, 0, 0, 0, 0, 0, 0, 0, 0, 0, 9, 0, 0, 0, 0, 0, 0, 0, 0,
+    ],
 };
 
 /// Two jobs of four and two writes were done, 96 slots early and at their deadline. Two collections were waived in slots 4 and
@@ -82,6 +85,7 @@ const WHOLE: Shown = Shown {
     to: 25,
     worst: false,
     as_text: true,
+    all: false,
 };
 
 /// In which slot the run of the script fails at a call.

@@ -43,50 +43,72 @@ work = 8
 writes = 0
 ";
 
-/// What stands in the datasheet, what comes in its place, and why there is no plan.
-const NONE: [(&str, &str, &str); 8] = [
+/// What stands in the datasheet, what comes in its place, and why there is no plan. What would do was found by a script
+/// that tries the plans by the rules alone.
+const NONE: [(&str, &str, &str); 10] = [
     // With alpha 1, 37 pages are free at most, and nine closed blocks hold 72.
     (
         "logical = 24",
         "logical = 80",
-        "no alpha meets the bound: `logical` may be 71 at most, or there have to be more blocks",
+        "no alpha meets the bound
+with a logical of at most 47 a plan is found
+with blocks of at least 22 a plan is found",
     ),
     // Only alpha 1 meets the bound. A collection takes 20 slots, and one comes each 28, 16 and 31,808.
     (
         "logical = 24",
         "logical = 60",
-        "the tasks need too much: with slots of 700 us 68356 of each 31808 slots",
+        "the tasks need too much: with slots of 700 us 68356 of each 31808 slots
+with a logical of at most 47 a plan is found
+with blocks of at least 19 a plan is found
+with a period_ms of 482 in [[task]] 2 a plan is found",
     ),
     // The longest slot is 10 ms.
     (
         "erase_us = 3000",
         "erase_us = 3000000",
-        "an erase takes 307 slots, and may take 64",
+        "an erase takes 307 slots, and may take 64
+with no other logical or blocks, and no longer period of one task, a plan is found",
     ),
     (
         "program_us = 700",
         "program_us = 30000",
-        "a period is shorter than the shortest slot, 30000 us",
+        "a period is shorter than the shortest slot, 30000 us
+with no other logical or blocks, and no longer period of one task, a plan is found",
+    ),
+    // A slot of 1 ms, or of 700 us, is the whole period, and no collection gives back nine pages of eight.
+    (
+        "period_ms = 20\nreads = 1\nwrites = 1",
+        "period_ms = 1\nreads = 0\nwrites = 9",
+        "the tasks need too much: with slots of 1000 us 34252 of each 1600 slots
+with a period_ms of 42 in [[task]] 1 a plan is found",
     ),
     (
         "pages = 8",
         "pages = 1",
-        "the datasheet needs `pages`, a whole number from 2 to 256",
+        "line 8, column 1: the datasheet needs `pages`, a whole number from 2 to 256",
     ),
     (
         "reads = 8",
         "reads = 0",
-        "[[task]] 3: `reads` and `writes` have to sum to 1 to 64",
+        "line 23, column 1: [[task]] 3: `reads` and `writes` have to sum to 1 to 64",
     ),
+    // A key that is misspelt is unknown, and not missing.
     (
         "reads = 8",
-        "cap = 3",
-        "[[task]] 3 needs `reads`, a whole number from 0 to 64",
+        "  Reads = 8",
+        "line 23, column 3: [[task]] 3 has the key `Reads`, which no datasheet has",
+    ),
+    // One that isn't there stands where its task begins.
+    (
+        "reads = 8\n",
+        "",
+        "line 21, column 1: [[task]] 3 needs `reads`, a whole number from 0 to 64",
     ),
     (
         "blocks = 16",
         "blocks = 16\nalpha = 4",
-        "the datasheet has a key that isn't a datasheet's",
+        "line 8, column 1: the datasheet has the key `alpha`, which no datasheet has",
     ),
 ];
 
@@ -96,7 +118,7 @@ fn reason(alloc: Global, sheet: &str) -> Result<String, Fail> {
         Ok(_) => "a plan".to_string(alloc)?,
         Err(FitFault::Refused(refusal)) => refusal.to_string(alloc)?,
         Err(FitFault::Sheet(fault)) => fault.to_string(alloc)?,
-        Err(FitFault::NotFound(reason)) => reason.to_string(alloc)?,
+        Err(FitFault::NotFound(unfound)) => unfound.to_string(alloc)?,
     })
 }
 

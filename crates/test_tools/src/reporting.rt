@@ -19,7 +19,7 @@ const UNKNOWN: Life = Life {
 };
 
 const NAMES: &str =
-    "die,task,done,waiting,refused,worst,mean,p99,collected,waived,collecting,uncollected,job_slots,\
+    "die,task,done,waiting,refused,late,worst,mean,p99,collected,waived,collecting,uncollected,job_slots,\
 copy_slots,erase_slots,idle_slots,written,copied,amplification,least_balance,balance_slot,least_spare,spare_slot,erases,\
 least_erases,mean_erases,most_erases,years
 ";
@@ -27,13 +27,26 @@ least_erases,mean_erases,most_erases,years
 /// Six jobs that write have lateness -96 and five times 0, the read -7: -103 / 7. The last row is refused. Each of five
 /// waived collections gives 2 of 10 spare pages, the last in slot 16; the sixth copies one page and erases a block. At
 /// that pace a block lasts 25,000,000 seconds.
-const FIGURES: &str = "0,,7,0,1,0,-14.72,0,1,5,0,0,15,2,3,5,14,1,1.071,,,0,16,1,0,0.25,1,0.79
-0,0,7,0,1,0,-14.72,0,1,5,0,0,15,2,3,,14,1,1.071,0,0,,,,,,,
+const FIGURES: &str = "0,,7,0,1,0,0,-14.72,0,1,5,0,0,15,2,3,5,14,1,1.071,,,0,16,1,0,0.25,1,0.79
+0,0,7,0,1,0,0,-14.72,0,1,5,0,0,15,2,3,,14,1,1.071,0,0,,,,,,,
 ";
 
 /// Nothing happens in three slots: of 16 pages 4 are the task's, 2 its collector's.
-const NOTHING: &str = "0,,0,0,0,,,,0,0,0,0,0,0,0,3,0,0,,,,10,0,0,0,0.00,0,
-0,0,0,0,0,,,,0,0,0,0,0,0,0,,0,0,,4,0,,,,,,,
+const NOTHING: &str = "0,,0,0,0,0,,,,0,0,0,0,0,0,0,3,0,0,,,,10,0,0,0,0.00,0,
+0,0,0,0,0,0,,,,0,0,0,0,0,0,0,,0,0,,4,0,,,,,,,
+";
+
+/// In three slots the first job is done a slot late; the second and the third wait past their deadlines; the fourth may
+/// still be done by its own.
+const LATE: &str = "at,die,task,kind,release,due,ops
+0,0,0,job,0,1,R0 R0
+0,0,0,job,0,2,R0 R0
+0,0,0,job,0,3,R0
+0,0,0,job,0,4,R0
+";
+
+const LATE_FIGURES: &str = "0,,1,3,0,3,1,1.00,1,0,0,0,0,3,0,0,0,0,0,,,,10,0,0,0,0.00,0,
+0,0,1,3,0,3,1,1.00,1,0,0,0,0,3,0,0,,0,0,,4,0,,,,,,,
 ";
 
 /// The front of the table, and its end.
@@ -41,6 +54,7 @@ const FRONT: &str = "die 0                            all    task  0
 jobs done                          7          7
 jobs waiting                       0          0
 jobs refused                       1          1
+jobs late                          0          0
 lateness: worst                    0          0
 lateness: mean                -14.72     -14.72
 ";
@@ -72,6 +86,7 @@ fn is_reported(
 fn figures_are_reported_by_die_and_task(rt: HostRuntime) -> Result<(), Fail> {
     assert!(rt; is_reported(rt.alloc(), SCRIPT, 25, LIFE, FIGURES)?);
     assert!(rt; is_reported(rt.alloc(), HEADER, 3, UNKNOWN, NOTHING)?);
+    assert!(rt; is_reported(rt.alloc(), LATE, 3, UNKNOWN, LATE_FIGURES)?);
     Ok(())
 }
 

@@ -11,6 +11,9 @@ use tool_watched_runs::{RefusedRows, wear};
 const ONE_REFUSED: RefusedRows = RefusedRows {
     count: 1,
     first: Some((15, 9)),
+    kinds: [
+        0, 0, 0, 0, 0, 0, 0, 0, 0, 1, 0, 0, 0, 0, 0, 0, 0, 0, 0, 0, 0, 0, 0, 0, 0,
+    ],
 };
 
 /// The script, how many slots are run, what is reported, and which rows were refused.

@@ -1,8 +1,9 @@
 -- What a command asks for that clap met.
-use Rattle.std.specs.Prelude.{ℕ, ◌&&◌, ◌||◌, List, codes, Option, Some, None, is_some, option_map, if◌then◌else◌}
+use Rattle.std.specs.Prelude.{ℕ, ◌&&◌, ◌||◌, List, codes, Option, Some, None, is_some, if◌then◌else◌}
 use Rattle.std.specs.Str.{bytes_eq}
 use Rattle.clap.specs.Words.{Row, Text, all_of, first_of}
-use Rattle.tool_command_words.specs.RequestTexts.{CommandText, Explain, Fit, Arrivals, Keeps, Wear, Report, Draw, Compare, Run, RequestText, One, Listed}
+use Rattle.tool_command_words.specs.RequestTexts.{CommandText, Explain, Fit, Arrivals, Keeps, Wear, Report, Draw, Compare, Run, RequestText, Listed}
+use Rattle.tool_command_words.specs.Together.{asked_together}
 use Rattle.tool_command_words.specs.Values.{◌>>=◌, fail_of, number_upto}
 use Rattle.tool_command_words.specs.declared.asked.ListCommand.{ListCommand}
 use Rattle.tool_command_words.specs.declared.asked.ListCommand.TheVariants as listed
@@ -66,8 +67,10 @@ draw_from rows plan script slots = do
   end ← first_of (codes "to") rows >>= number_upto
   worst ← first_of (codes "worst") rows
   as_text ← first_of (codes "text") rows
+  all ← first_of (codes "all") rows
   fail ← fail_of rows
-  Some (Draw plan script slots die first end (bytes_eq worst (codes "true")) (bytes_eq as_text (codes "true")) fail)
+  Some (Draw plan script slots die first end (bytes_eq worst (codes "true")) (bytes_eq as_text (codes "true"))
+      (bytes_eq all (codes "true")) fail)
 
 abbrev pub draw_of : List Row → Option CommandText
 draw_of rows = on_script rows (draw_from rows)
@@ -129,4 +132,4 @@ abbrev pub request_named : Text → List Row → Option RequestText
 request_named name rows =
     if bytes_eq name (codes "audit") then audit_of rows
     else if bytes_eq name (codes "import") then import_of rows
-    else option_map One (command_named name rows)
+    else asked_together (command_named name rows)

@@ -18,7 +18,7 @@ pub data CommandText : Type 0 where
   Keeps : (plan script : Text) (slots : ℕ) → CommandText
   Wear : (plan script : Text) (slots : ℕ) → CommandText
   Report : (plan script : Text) (slots endurance slot_us : ℕ) (as_csv : Bool) (fail : Option FailingDie) → CommandText
-  Draw : (plan script : Text) (slots die first end : ℕ) (worst as_text : Bool) (fail : Option FailingDie) → CommandText
+  Draw : (plan script : Text) (slots die first end : ℕ) (worst as_text all : Bool) (fail : Option FailingDie) → CommandText
   Compare : (plan script : Text) (slots first pool : ℕ) (as_csv draws : Bool) (die task : ℕ) → CommandText
   Run : (plan script : Text) (slots : ℕ) (from to : Option Text) (fail : Option FailingDie) → CommandText
 
@@ -38,8 +38,8 @@ text_of_command (command.Arrivals plan slots seed fills phases jitter load) = Ar
 text_of_command (command.Keeps plan script slots) = Keeps plan.now script.now slots
 text_of_command (command.Wear plan script slots) = Wear plan.now script.now slots
 text_of_command (command.Report plan script slots endurance slot_us as_csv fail) = Report plan.now script.now slots endurance slot_us as_csv fail
-text_of_command (command.Draw plan script slots die first end worst as_text fail) =
-    Draw plan.now script.now slots die first end worst as_text fail
+text_of_command (command.Draw plan script slots die first end worst as_text all fail) =
+    Draw plan.now script.now slots die first end worst as_text all fail
 text_of_command (command.Compare plan script slots first pool as_csv draws die task) =
     Compare plan.now script.now slots first pool as_csv draws die task
 text_of_command (command.Run plan script slots from to fail) = Run plan.now script.now slots (name_of from) (name_of to) fail
@@ -54,7 +54,7 @@ FitsRun (command.Arrivals plan slots seed fills phases jitter load) = slots ≤ 
 FitsRun (command.Keeps plan script slots) = slots ≤ 1048576
 FitsRun (command.Wear plan script slots) = slots ≤ 1048576
 FitsRun (command.Report plan script slots endurance slot_us as_csv fail) = slots ≤ 1048576
-FitsRun (command.Draw plan script slots die first end worst as_text fail) = slots ≤ 1048576
+FitsRun (command.Draw plan script slots die first end worst as_text all fail) = slots ≤ 1048576
 FitsRun (command.Compare plan script slots first pool as_csv draws die task) = slots ≤ 1048576
 FitsRun (command.Run plan script slots from to fail) = slots ≤ 1048576
 FitsRun _ = ⊤
@@ -63,6 +63,9 @@ abbrev pub RequestFits : Request → Type 0
 RequestFits (request.One command) = FitsRun command
 RequestFits (request.Listed command files) = ⊤
 
--- what is asked for, the name of the file that is written, and whether no progress is shown
-abbrev pub text_of_asked : Asked → RequestText × (Text × Bool)
-text_of_asked asked = (text_of_request asked.request, (asked.output.now, asked.quiet))
+-- what is asked for, the name of the file that is written, and whether no progress is shown, and the run is strict
+abbrev pub AskedText : Type 0
+AskedText = RequestText × (Text × (Bool × Bool))
+
+abbrev pub text_of_asked : Asked → AskedText
+text_of_asked asked = (text_of_request asked.request, (asked.output.now, (asked.quiet, asked.strict)))

@@ -54,6 +54,10 @@ list_rule id = record (required_rule id) { action = Some Append }
 abbrev pub fail_rule : Rule
 fail_rule = option_rule (codes "fail-at")
 
+-- `--strict`
+abbrev pub strict_rule : Rule
+strict_rule = flag_rule (codes "strict")
+
 -- a command on a plan and a script
 abbrev pub on_files : App → App
 on_files command = with_rule (with_rule command (required_rule (codes "PLAN"))) (required_rule (codes "SCRIPT"))
@@ -109,8 +113,11 @@ draw_run_app = with_rule (with_rule draw_files_app slots_rule) die_rule
 abbrev pub draw_window_app : App
 draw_window_app = with_rule (with_rule draw_run_app from_rule) to_rule
 
+abbrev pub draw_forms_app : App
+draw_forms_app = with_rule (with_rule draw_window_app (flag_rule (codes "worst"))) (flag_rule (codes "text"))
+
 abbrev pub draw_app : App
-draw_app = with_rule (with_rule (with_rule draw_window_app (flag_rule (codes "worst"))) (flag_rule (codes "text"))) fail_rule
+draw_app = with_rule (with_rule draw_forms_app (flag_rule (codes "all"))) fail_rule
 
 abbrev pub compare_files_app : App
 compare_files_app = on_files (new_app (codes "compare"))
@@ -128,10 +135,10 @@ abbrev pub run_files_app : App
 run_files_app = on_files (new_app (codes "run"))
 
 abbrev pub run_app : App
-run_app = with_rule (with_rule (with_rule (with_rule run_files_app slots_rule) (option_rule (codes "from"))) (option_rule (codes "to"))) fail_rule
+run_app = with_rule (with_rule (with_rule (with_rule (with_rule run_files_app slots_rule) (option_rule (codes "from"))) (option_rule (codes "to"))) fail_rule) strict_rule
 
 abbrev pub audit_app : App
-audit_app = with_rule (new_app (codes "audit")) (list_rule (codes "REPORT"))
+audit_app = with_rule (with_rule (new_app (codes "audit")) (list_rule (codes "REPORT"))) strict_rule
 
 -- the program alone, which has a version
 abbrev pub named_app : App

@@ -80,6 +80,8 @@ pub enum Command<'a> {
         worst: bool,
         /// Whether lines for a terminal are written.
         as_text: bool,
+        /// Whether all slots are drawn, however many they are.
+        all: bool,
         fail: Option<FailingDie>,
     },
     /// Run a script on a store and by plain layers.
@@ -137,10 +139,12 @@ pub enum Request<'a> {
     Listed(ListCommand, Vec<&'a str>),
 }
 
-/// What is asked for, the name of the file that is written (`-` is standard output), and whether no progress is shown.
+/// What is asked for, the name of the file that is written (`-` is standard output), whether no progress is shown, and
+/// whether a run that isn't as it should be has a status of its own.
 #[derive(Drop)]
 pub struct Asked<'a> {
     pub request: Request<'a>,
     pub output: &'a str,
     pub quiet: bool,
+    pub strict: bool,
 }

@@ -7,6 +7,7 @@ ghost use Rattle.tool_command_words.specs.Commands.{arrivals_of, audit_of, comma
 ghost use Rattle.tool_command_words.specs.Commands.{keeps_of, on_script, report_of, request_named, run_of, wear_of};
 
 use crate::asked::{Command, ListCommand, Request};
+use crate::together::goes_together;
 use crate::values::{fail, number_at, value, values};
 use clap::ArgMatches;
 use slot_types::MAX_SLOT;
@@ -126,6 +127,7 @@ fn draw<'a>(met: &ArgMatches<'a>) -> Option<Command<'a>>
     let to = number_at(met, "to")?;
     let worst = value(met, "worst")? == "true";
     let as_text = value(met, "text")? == "true";
+    let all = value(met, "all")? == "true";
     let fail = fail(met)?;
     Some(Command::Draw {
         plan,
@@ -136,6 +138,7 @@ fn draw<'a>(met: &ArgMatches<'a>) -> Option<Command<'a>>
         to,
         worst,
         as_text,
+        all,
         fail,
     })
 }
@@ -257,7 +260,7 @@ fn command_named<'a>(name: &str, met: &ArgMatches<'a>) -> Option<Command<'a>>
     }
 }
 
-/// What was asked for, by the command's name.
+/// What was asked for, by the command's name; nothing where its options don't go together.
 pub(crate) fn request_named<'a>(
     alloc: Global,
     name: &str,
@@ -273,8 +276,8 @@ pub(crate) fn request_named<'a>(
         import(alloc, met)
     } else {
         match command_named(name, met) {
-            Some(command) => Ok(Some(Request::One(command))),
-            None => Ok(None),
+            Some(command) if goes_together(command) => Ok(Some(Request::One(command))),
+            _ => Ok(None),
         }
     }
 }

@@ -3,9 +3,11 @@
 
 mod asked;
 mod commands;
+mod conflicts;
 mod number_faults;
 mod reading;
 mod syntax;
+mod together;
 mod values;
 mod word_faults;
 

@@ -1,6 +1,7 @@
 //! Which option's value is no number within its range.
 
 use crate::values::number_in;
+use command_arguments::value_at;
 
 /// The options that have a number from 0 to 1,048,576. The last two are files of `run` and of `explain`.
 const NUMBERS: [&str; 12] = [
@@ -29,26 +30,6 @@ fn numbers_in(words: &[String]) -> &'static [&'static str] {
         }
         _ => &NUMBERS,
     }
-}
-
-/// The value that an option has in the word at a place, or in the word after it.
-fn value_at<'a>(words: &'a [String], place: usize, option: &str) -> Option<&'a str> {
-    let rest = words.get(place)?.as_str().strip_prefix(option)?;
-    if rest.is_empty() {
-        Some(words.get(place.saturating_add(1))?.as_str())
-    } else {
-        rest.strip_prefix("=")
-    }
-}
-
-/// The value that an option has in the words, where it stands in them.
-pub(crate) fn value_of<'a>(words: &'a [String], option: &str) -> Option<&'a str> {
-    for place in 0..words.len() {
-        if let Some(value) = value_at(words, place, option) {
-            return Some(value);
-        }
-    }
-    None
 }
 
 /// The first option in the words whose value is no number from 0 to 1,048,576, and that value.

@@ -5,7 +5,7 @@ ghost use Rattle.clap.specs.Words.{app_of, found_of, rows_of, subcommand_rows_of
 ghost use Rattle.clap.specs.Kinds.{FailsBy};
 ghost use Rattle.clap.specs.Faults.{fault_of};
 ghost use Rattle.tool_command_words.specs.RequestTexts.{RequestFits, text_of_asked, text_of_request};
-ghost use Rattle.tool_command_words.specs.Reading.{asked_by, command_asked, command_asked_by, words_fault};
+ghost use Rattle.tool_command_words.specs.Reading.{asked_by, strict_in, command_asked, command_asked_by, words_fault};
 ghost use Rattle.tool_command_words.specs.Syntax.{flashplan_app};
 
 use crate::asked::{Asked, Request};
@@ -16,7 +16,17 @@ use crate::word_faults::command_error;
 use clap::{ArgMatches, Error};
 use std::alloc::{AllocError, Global};
 
-/// A request of a command, with the file that it writes, and whether it is quiet.
+/// Whether a command is to be strict, which not all may be.
+fn is_strict(met: &ArgMatches<'_>) -> bool
+    ensures { result ≡ strict_in (rows_of (found_of met.now)) }
+{
+    match value(met, "strict") {
+        Some(strict) => strict == "true",
+        None => false,
+    }
+}
+
+/// A request of a command, with the file that it writes, and whether it is quiet, and strict.
 fn asked_of<'a>(request: Option<Request<'a>>, met: &ArgMatches<'a>) -> Option<Asked<'a>>
     requires { IfSome request RequestFits }
     ensures asked { option_map text_of_asked result
@@ -26,10 +36,12 @@ fn asked_of<'a>(request: Option<Request<'a>>, met: &ArgMatches<'a>) -> Option<As
     let request = request?;
     let output = value(met, "output")?;
     let quiet = value(met, "quiet")? == "true";
+    let strict = is_strict(met);
     Some(Asked {
         request,
         output,
         quiet,
+        strict,
     })
 }
 
@@ -66,7 +78,7 @@ fn parsed<'a>(
 }
 
 /// What the words ask for, the first of them being the program's name. Each command takes `-o FILE`, which is `-` if
-/// left out, and `--quiet`.
+/// left out, and `--quiet`; `run` and `audit` take `--strict`.
 ///
 /// The words are `explain PLAN --from CHECKPOINT`, `fit DATASHEET`, `arrivals PLAN --slots N --seed S --fill --phases
 /// --jitter J --load L`, where S and J are 0 and L is 100 if left out, `keeps PLAN SCRIPT --slots N`, `wear PLAN SCRIPT
@@ -78,7 +90,8 @@ fn parsed<'a>(
 /// --fail-at DIE:K`, where the last goes with neither checkpoint; or `audit REPORT..`. A checkpoint may be left out,
 /// and so may `--fail-at`, with a call K from 1. A number is 1 to 10 decimal digits, and at most 1,048,576. The error
 /// is that of clap, which prints itself: a call for help, a fault of the words, or out of memory; and ValueValidation
-/// where there is no command, or a number that is none or too great.
+/// where there is no command, a number that is none or too great, or options don't go together: one of them would say
+/// nothing.
 #[tactic(auto, using(crate::proofs::KindLemmas::has_kind_in_first))]
 pub fn read_words<'a>(alloc: Global, words: &'a [String]) -> Result<Asked<'a>, Error>
     ensures ok { IfOk result (λ c.

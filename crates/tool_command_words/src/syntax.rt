@@ -45,9 +45,9 @@ fn name<'a>(alloc: Global) -> Command<'a>
         .after_help(
             "Ends with 0 where all went well, 1 where a plan isn't accepted, or something was refused or failed,\n\
              2 for a fault of the words, 3 where a script breaks its plan, no plan was found, no checkpoint may\n\
-             be taken, or a certificate is refused.\n\n\
+             be taken, or a certificate is refused, 4 where a strict run or audit isn't as it should be.\n\n\
              Example: flashplan explain plan.toml\n\
-             docs/DESIGNING.md walks through a recorder's plan, docs/TEXTS.md has the texts",
+             man maulgreen-texts has the texts; share/doc/maulgreen/docs/DESIGNING.md walks through a recorder's plan",
         )
 }
 
@@ -61,7 +61,9 @@ fn output<'a>(alloc: Global) -> Arg<'a>
         .long("output")
         .value_name("FILE")
         .default_value("-")
-        .help("Write to a file, whole or not at all; - is standard output")
+        .help(
+            "Write to a file, whole or not at all, or through a device or a pipe; - is standard output",
+        )
 }
 
 /// Whether no progress is shown.

@@ -4,34 +4,56 @@ ghost use Rattle.std.specs.Prelude.{None};
 ghost use Rattle.clap.specs.Kinds.{HasKind};
 ghost use Rattle.tool_command_words.specs.Reading.{range_fault};
 
-use crate::number_faults::{bad_number, value_of};
+use crate::conflicts::conflict_in;
+use crate::number_faults::bad_number;
 use crate::values::fail_in;
 use clap::Error;
 use clap::error::ErrorKind;
+use command_arguments::value_in;
 use slot_types::MAX_SLOT;
 use std::alloc::{AllocError, Global};
 
-/// What is reported of words that name no command, or of a number that is none or too great.
+/// A failing device that can't be read, or that goes with a checkpoint, as a sentence.
+fn failing_fault(alloc: Global, words: &[String]) -> Result<Option<String>, AllocError> {
+    let Some(value) = value_in(words, "--fail-at") else {
+        return Ok(None);
+    };
+    if fail_in(value.as_bytes()).is_none() {
+        return Ok(Some(format!(in alloc;
+            "--fail-at is {value:?}, and has to be DIE:K, a die and a call of its device from 1, as 0:7"
+        )?));
+    }
+    let is_run = words
+        .get(1)
+        .is_some_and(|command| command.as_str() == "run");
+    if is_run {
+        return Ok(Some(format!(in alloc;
+            "--fail-at is of fresh dies, and goes with neither --from nor --to"
+        )?));
+    }
+    Ok(None)
+}
+
+/// What is reported of words that name no command, of a number that is none or too great, or of options that don't go
+/// together.
 fn reported_of(alloc: Global, words: &[String]) -> Result<String, AllocError> {
-    match bad_number(words) {
-        Some((option, value)) => format!(in alloc;
+    if let Some((option, value)) = bad_number(words) {
+        return format!(in alloc;
             "{option} is {value:?}, and has to be a whole number from 0 to {MAX_SLOT}"
+        );
+    }
+    if let Some(said) = failing_fault(alloc, words)? {
+        return Ok(said);
+    }
+    match conflict_in(words) {
+        Some(conflict) => format!(in alloc; "{conflict}"),
+        None => format!(in alloc;
+            "a command is wanted: explain, fit, arrivals, keeps, wear, report, draw, compare, import, run or audit"
         ),
-        None => match value_of(words, "--fail-at") {
-            Some(value) if fail_in(value.as_bytes()).is_none() => format!(in alloc;
-                "--fail-at is {value:?}, and has to be DIE:K, a die and a call of its device from 1, as 0:7"
-            ),
-            Some(_) => format!(in alloc;
-                "--fail-at is of fresh dies, and goes with neither --from nor --to"
-            ),
-            None => format!(in alloc;
-                "a command is wanted: explain, fit, arrivals, keeps, wear, report, draw, compare, import, run or audit"
-            ),
-        },
     }
 }
 
-/// The error for words that name no command, or a number that is none or too great.
+/// The error for words that name no command, a number that is none or too great, or options that don't go together.
 pub(crate) fn command_error(
     alloc: Global,
     mut program: clap::Command<'_>,

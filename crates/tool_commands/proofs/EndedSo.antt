@@ -3,9 +3,10 @@ use Rattle.std.proofs.Common.{◌≡◌, ◌⊎◌, ℕ, Bool, true, false, List
 use Rattle.std.specs.Prelude.{if◌then◌else◌}
 use Rattle.slot_types.specs.declared.refusals.Refusal.{Refusal}
 use Rattle.text_base.specs.Writing.{IsNotWhole}
+use Rattle.tool_plan_fit.specs.Fits.{IsPlanFor}
 use Rattle.tool_plan_fit.specs.declared.faults.FitFault.{FitFault}
 use Rattle.tool_plan_fit.specs.declared.faults.FitFault.TheVariants.{NotFound, Refused, Sheet}
-use Rattle.tool_commands.specs.Acts.{Ends, EndsFit, EndsSaying, IsUnfound, PrintsPassingPlan, Says, accepted_status, explained_status}
+use Rattle.tool_commands.specs.Acts.{Ends, EndsFit, EndsSaying, IsFoundFor, IsReadOf, IsUnfound, PrintsPlanFor, Says, accepted_status, explained_status}
 use Rattle.tool_commands.specs.Acts.{fit_status, kept_status, verdict_status}
 
 pub ends : {W A E : Type 0} (contents : W → Option (List ℕ)) (has_failed : W → Option Bool)
@@ -32,11 +33,15 @@ ends_kept contents has_failed prints old new (Ok (Some false)) status printed as
 ends_kept contents has_failed prints old new (Ok None) status printed astray part is = inr (inl (astray refl), is)
 ends_kept contents has_failed prints old new (Err e) status printed astray part is = inr (part, is)
 
-pub ends_fit : {W : Type 0} (contents : W → Option (List ℕ)) (has_failed : W → Option Bool) (old new : W)
+pub ends_fit : {W : Type 0} (contents : W → Option (List ℕ)) (has_failed : W → Option Bool) (sheet : Option (List ℕ)) (old new : W)
     (fitted : Result (Unit {0}) FitFault) (status : ℕ)
-    → OnOk fitted (PrintsPassingPlan (contents old) (contents new)) → OnErr fitted (IsNotWhole contents has_failed PrintsPassingPlan old new)
-    → (IsUnfound fitted → new ≡ old) → status ≡ fit_status fitted → EndsFit contents has_failed old new status
-ends_fit contents has_failed old new (Ok x) status printed part unfound is = inl (inl (printed, is))
-ends_fit contents has_failed old new (Err (NotFound reason)) status printed part unfound is = inr (unfound tt, is)
-ends_fit contents has_failed old new (Err (Refused refusal)) status printed part unfound is = inl (inr (part, is))
-ends_fit contents has_failed old new (Err (Sheet fault)) status printed part unfound is = inl (inr (part, is))
+    → OnOk fitted (PrintsPlanFor sheet (contents old) (contents new))
+    → OnErr fitted (IsNotWhole contents has_failed (PrintsPlanFor sheet) old new)
+    → (IsUnfound fitted → new ≡ old) → status ≡ fit_status fitted → EndsFit contents has_failed sheet old new status
+ends_fit contents has_failed sheet old new (Ok x) status printed part unfound is = inl (inl (printed, is))
+ends_fit contents has_failed sheet old new (Err (NotFound reason)) status printed part unfound is = inr (unfound tt, is)
+ends_fit contents has_failed sheet old new (Err (Refused refusal)) status printed part unfound is = inl (inr (part, is))
+ends_fit contents has_failed sheet old new (Err (Sheet fault)) status printed part unfound is = inl (inr (part, is))
+
+pub found_for : (sheet : Option (List ℕ)) (text plan : List ℕ) → IsReadOf sheet text → IsPlanFor text plan → IsFoundFor sheet plan
+found_for sheet text plan read found = record { text = text; read = read; found = found }

@@ -13,7 +13,7 @@ use Rattle.text_base.specs.Writing.{IsNotWhole}
 use Rattle.tool_watched_runs.specs.WearText.{IsWearText}
 use Rattle.tool_plan_arrivals.specs.PlannedScripts.{IsPlannedScript}
 use Rattle.tool_plan_design.specs.AcceptedPlans.{IsAccepted}
-use Rattle.tool_plan_fit.specs.Fits.{IsPassingPlan}
+use Rattle.tool_plan_fit.specs.Fits.{IsPlanFor}
 use Rattle.tool_plan_fit.specs.declared.faults.FitFault.{FitFault}
 use Rattle.tool_plan_fit.specs.declared.faults.FitFault.TheVariants.{NotFound}
 use Rattle.tool_plan_breaches.specs.declared.breaches.Breach.{Breach}
@@ -55,10 +55,20 @@ pub record PrintsArrivals (plan : Option (List ℕ)) (slots : ℕ) (old new : Op
   pub planned : IsPlannedScript store slots script
   pub written : Appends old new script
 
--- the plan that was found for a datasheet is printed: it passes its test
-pub record PrintsPassingPlan (old new : Option (List ℕ)) : Type 0 where
+-- what was read of a datasheet: all of it, or its first 1,048,577 bytes
+abbrev pub IsReadOf : Option (List ℕ) → List ℕ → Type 0
+IsReadOf sheet text = IfSome sheet (λ bytes. text ≡ take 1048577 bytes)
+
+-- the text is a plan of the datasheet that was read, and passes its test
+pub record IsFoundFor (sheet : Option (List ℕ)) (plan : List ℕ) : Type 0 where
+  pub text : List ℕ
+  pub read : IsReadOf sheet text
+  pub found : IsPlanFor text plan
+
+-- such a plan is printed
+pub record PrintsPlanFor (sheet old new : Option (List ℕ)) : Type 0 where
   pub plan : List ℕ
-  pub passing : IsPassingPlan plan
+  pub found : IsFoundFor sheet plan
   pub written : Appends old new plan
 
 -- the status of a search for a plan
@@ -183,9 +193,9 @@ EndsSaying contents has_failed prints status_of old new status =
     ⊎ IsRefused contents has_failed (Says prints) old new status
 
 -- a plan that passes is printed, or refused; or none was found, and nothing written
-abbrev pub EndsFit : {W : Type 0} → (W → Option (List ℕ)) → (W → Option Bool) → W → W → ℕ → Type 0
-EndsFit contents has_failed old new status =
-    Ends contents has_failed PrintsPassingPlan old new status ⊎ ((new ≡ old) × (status ≡ 3))
+abbrev pub EndsFit : {W : Type 0} → (W → Option (List ℕ)) → (W → Option Bool) → Option (List ℕ) → W → W → ℕ → Type 0
+EndsFit contents has_failed sheet old new status =
+    Ends contents has_failed (PrintsPlanFor sheet) old new status ⊎ ((new ≡ old) × (status ≡ 3))
 
 -- the status of a run whose report is printed: where a checkpoint of its end is wanted, that may fail, or none may be taken
 abbrev pub IsRunStatus : Bool → ℕ → Type 0
@@ -201,7 +211,7 @@ abbrev pub EndsSo : {W : Type 0} → (W → Option (List ℕ)) → (W → Option
     → Type 0
 EndsSo contents has_failed (command.Explain plan from) text rows old new status =
     EndsSaying contents has_failed (Explains text) accepted_status old new status
-EndsSo contents has_failed (command.Fit sheet) text rows old new status = EndsFit contents has_failed old new status
+EndsSo contents has_failed (command.Fit sheet) text rows old new status = EndsFit contents has_failed text old new status
 EndsSo contents has_failed (command.Arrivals plan slots seed fills phases jitter load) text rows old new status =
     Ends contents has_failed (PrintsArrivals text slots) old new status
 EndsSo contents has_failed (command.Keeps plan script slots) text rows old new status =
@@ -210,7 +220,7 @@ EndsSo contents has_failed (command.Wear plan script slots) text rows old new st
     Ends contents has_failed (PrintsWear text) old new status
 EndsSo contents has_failed (command.Report plan script slots endurance slot_us as_csv fail) text rows old new status =
     Ends contents has_failed PrintsText old new status
-EndsSo contents has_failed (command.Draw plan script slots die first end worst as_text fail) text rows old new status =
+EndsSo contents has_failed (command.Draw plan script slots die first end worst as_text all fail) text rows old new status =
     Ends contents has_failed PrintsText old new status
 EndsSo contents has_failed (command.Compare plan script slots first pool as_csv draws die task) text rows old new status =
     Ends contents has_failed PrintsText old new status

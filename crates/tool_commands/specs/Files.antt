@@ -13,7 +13,7 @@ plan_name (command.Arrivals plan slots seed fills phases jitter load) = plan.now
 plan_name (command.Keeps plan script slots) = plan.now
 plan_name (command.Wear plan script slots) = plan.now
 plan_name (command.Report plan script slots endurance slot_us as_csv fail) = plan.now
-plan_name (command.Draw plan script slots die first end worst as_text fail) = plan.now
+plan_name (command.Draw plan script slots die first end worst as_text all fail) = plan.now
 plan_name (command.Compare plan script slots first pool as_csv draws die task) = plan.now
 plan_name (command.Run plan script slots from to fail) = plan.now
 
@@ -22,7 +22,7 @@ abbrev pub script_name : Command → Option (List ℕ)
 script_name (command.Keeps plan script slots) = Some script.now
 script_name (command.Wear plan script slots) = Some script.now
 script_name (command.Report plan script slots endurance slot_us as_csv fail) = Some script.now
-script_name (command.Draw plan script slots die first end worst as_text fail) = Some script.now
+script_name (command.Draw plan script slots die first end worst as_text all fail) = Some script.now
 script_name (command.Compare plan script slots first pool as_csv draws die task) = Some script.now
 script_name (command.Run plan script slots from to fail) = Some script.now
 script_name _ = None

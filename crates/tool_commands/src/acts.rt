@@ -4,12 +4,13 @@ ghost use Rattle.tool_command_words.specs.RequestTexts.{FitsRun};
 ghost use Rattle.tool_commands.specs.Acts.{EndsSo};
 
 use crate::arriving::act_arrivals;
-use crate::checkpoint_acts::{Kept, Shelf, act_failing, act_run};
+use crate::checkpoint_acts::{Kept, act_failing, act_run};
 use crate::comparing::act_compare;
 use crate::explaining::act_explain;
 use crate::fitting::act_fit;
 use crate::keeping::act_keeps;
 use crate::runs::{act_draw, act_report, act_wear};
+use crate::shelves::Shelf;
 use std::alloc::Global;
 use std::io::{Read, Write};
 use text_base::Output;
@@ -125,6 +126,7 @@ pub fn act<P: Read + Drop, S: Read + Drop, C: Read + Drop, K: Shelf, W: Output, 
             to,
             worst,
             as_text,
+            all,
             fail,
             ..
         } => {
@@ -133,6 +135,7 @@ pub fn act<P: Read + Drop, S: Read + Drop, C: Read + Drop, K: Shelf, W: Output, 
                 to,
                 worst,
                 as_text,
+                all,
             };
             let fail = failing_in(fail);
             act_draw(alloc, plan, script, slots, die, shown, fail, out, err)

@@ -10,7 +10,7 @@ use slot_types::{MAX_SLOT, Refusal, StorePlan};
 use std::alloc::Global;
 use std::io::{Read, Write};
 use text_base::{FlaggedReader, Output, write_whole};
-use tool_plan_arrivals::{Fault as Unplanned, Manner, arrivals, full_from};
+use tool_plan_arrivals::{Fault as Unplanned, Filling, Manner, arrivals, fillings_of};
 
 /// What is reported beside a plan that has no arrivals.
 const WANTED: &str =
@@ -37,14 +37,37 @@ fn print_arrivals<R: Read + Drop, W: Output>(
     Ok(store)
 }
 
-/// Reports from which slots on the dies are full. A writer that fails is passed over, and so is lack of memory.
-fn report_full<E: Write>(alloc: Global, err: &mut E, store: &StorePlan) {
-    let Ok(full) = full_from(alloc, store) else {
+/// Says from which slot on a die is full in so many slots; or that it isn't, and what would be needed. A writer that fails is
+/// passed over.
+fn report_filling<E: Write>(err: &mut E, die: usize, filling: Filling, slots: u32) {
+    let life = filling.life;
+    let _ = match filling.from {
+        None => writeln!(
+            err,
+            "die {die} is never full: none of its tasks writes, and one has to"
+        ),
+        Some(from) if from <= u64::from(slots) => {
+            writeln!(err, "die {die} is full from slot {from} on")
+        }
+        Some(from) if from <= u64::from(life) => writeln!(
+            err,
+            "die {die} isn't full in {slots} slots: it would be from slot {from} on, so --slots has to be {from} at least"
+        ),
+        Some(from) => writeln!(
+            err,
+            "die {die} isn't full in its life of {life} slots: that would take {from}, so it has to have fewer logical pages, \
+             or its tasks to write more"
+        ),
+    };
+}
+
+/// Reports of each die from which slot on it is full in so many slots. Lack of memory is passed over.
+fn report_full<E: Write>(alloc: Global, err: &mut E, store: &StorePlan, slots: u32) {
+    let Ok(fillings) = fillings_of(alloc, store) else {
         return;
     };
-    for die in 0..full.len() {
-        let slot = full[die];
-        let _ = writeln!(err, "die {die} is full from slot {slot} on");
+    for die in 0..fillings.len() {
+        report_filling(err, die, fillings[die], slots);
     }
 }
 
@@ -52,6 +75,7 @@ fn report_full<E: Write>(alloc: Global, err: &mut E, store: &StorePlan) {
 fn end_arrivals<E: Write>(
     alloc: Global,
     err: &mut E,
+    slots: u32,
     manner: Manner,
     made: Result<StorePlan, Unplanned>,
 ) -> u8
@@ -60,7 +84,7 @@ fn end_arrivals<E: Write>(
     match made {
         Ok(store) => {
             if manner.fills {
-                report_full(alloc, err, &store);
+                report_full(alloc, err, &store, slots);
             }
             0
         }
@@ -102,5 +126,5 @@ pub fn act_arrivals<R: Read + Drop, W: Output, E: Write>(
         result }
 {
     let made = print_arrivals(alloc, plan, slots, manner, out);
-    end_arrivals(alloc, err, manner, made)
+    end_arrivals(alloc, err, slots, manner, made)
 }

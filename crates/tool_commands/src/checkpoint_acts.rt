@@ -5,6 +5,8 @@ ghost use Rattle.text_base.specs.Writing.{IsNotWhole};
 ghost use Rattle.tool_commands.specs.Acts.{Ends, EndsRun, PrintsFailing, PrintsReport, PrintsRun};
 
 use crate::endings::{end_refused, report_failure, report_refused};
+use crate::outputs::written_path;
+use crate::shelves::{Shelf, report_unput};
 use checkpoint_texts::{CheckpointReader, SavedStore, TextFault};
 use plan_texts::read_plan_from;
 use slot_types::{MAX_SLOT, Refusal};
@@ -15,13 +17,6 @@ use tool_checkpoint_runs::{
     FailingRun, RunFault, StoreDies, StoreRun, Unsaved, run_failing, run_script, save,
 };
 use tool_watched_runs::{FailAt, Failure, RefusedRows};
-
-/// Where texts are put, by the names of files.
-pub trait Shelf {
-    /// Puts a text into the file of a name, whole, in place of what it had; or else leaves that as it was, and what it
-    /// had.
-    fn put(&self, name: &str, text: &[u8]) -> Result<(), Refusal>;
-}
 
 /// The checkpoints of a command: the one from which dies go on, if there is one, and where the one of their end is put.
 #[derive(Drop)]
@@ -145,10 +140,10 @@ fn put_checkpoint<K: Shelf, E: Write>(
             return 3;
         }
     };
-    match shelf.put(name, &text) {
+    match shelf.put(written_path(name), &text) {
         Ok(()) => 0,
-        Err(refusal) => {
-            let _ = writeln!(err, "error {} {refusal}: {name:?}", refusal.number());
+        Err(unput) => {
+            report_unput(err, name, &unput);
             1
         }
     }

@@ -2,7 +2,7 @@
 
 ghost use Rattle.std.specs.Prelude.{◌≡◌, if◌then◌else◌, is_ok};
 
-use flash_commands::{Fault, end};
+use flash_commands::{Fault, end, refusal_name};
 use slot_types::Refusal;
 use std::io::Write;
 use tool_watched_runs::{FailAt, Failure, RefusedRows};
@@ -36,11 +36,28 @@ pub fn report_failure<E: Write>(err: &mut E, failure: Option<Failure>) {
     };
 }
 
-/// Reports the rows that were refused, if there are any. A writer that fails is passed over.
+/// Reports how many rows were refused with a refusal, by its name. A writer that fails is passed over.
+fn report_kind<E: Write>(err: &mut E, number: u8, count: u32) {
+    if let Some(named) = refusal_name(number) {
+        let (name, meaning) = (named.name, named.meaning);
+        let _ = writeln!(err, "{count} with {number} {name}: {meaning}");
+    }
+}
+
+/// Reports the rows that were refused, if there are any: how many, the first of them, and then a line a refusal. A
+/// writer that fails is passed over.
 pub fn report_refused<E: Write>(err: &mut E, refused: RefusedRows) {
-    if let Some((line, number)) = refused.first {
-        let count = refused.count;
-        let _ = writeln!(err, "refused {count} first line {line} with {number}");
+    let Some((line, number)) = refused.first else {
+        return;
+    };
+    let all = refused.count;
+    let _ = writeln!(err, "refused {all} first line {line} with {number}");
+    let mut number: u8 = 0;
+    for count in refused.kinds {
+        if count > 0 {
+            report_kind(err, number, count);
+        }
+        number = number.saturating_add(1);
     }
 }
 

@@ -10,9 +10,13 @@ pub mod explaining;
 pub mod fitting;
 pub mod keeping;
 pub mod listed_acts;
+pub mod outputs;
 mod requests;
 pub mod runs;
+pub mod shelves;
+pub mod strict;
 
 pub use acts::act;
-pub use checkpoint_acts::{Kept, Shelf};
+pub use checkpoint_acts::Kept;
 pub use requests::{act_asked, slots_of, texts_of};
+pub use shelves::{Shelf, Unput};

@@ -5,14 +5,17 @@ ghost use Rattle.tool_command_words.specs.RequestTexts.{FitsRun, RequestFits, na
 ghost use Rattle.tool_commands.specs.Files.{EndsOnFiles, IsOpened, plan_name, script_name};
 
 use crate::acts::act;
-use crate::checkpoint_acts::{Kept, Shelf};
+use crate::checkpoint_acts::Kept;
 use crate::listed_acts::{act_audits, act_imports};
-use flash_commands::{Fault, Folder, Texts, end, inputs_among, inputs_in};
+use crate::outputs::{clash_in, saved_to, written_path};
+use crate::shelves::{Later, STDOUT, Shelf, report_unput};
+use crate::strict::{Amiss, STRICT_STATUS, amiss_of};
+use flash_commands::{Fault, Folder, Heard, Texts, end, inputs_among, inputs_in};
 use slot_types::Refusal;
 use std::alloc::Global;
 use std::io;
 use std::io::Write;
-use text_base::Output;
+use text_base::{Output, write_whole};
 use tool_command_words::{Asked, Command, ListCommand, Request};
 use tool_trace_import::Measure;
 
@@ -38,19 +41,43 @@ fn files_of<'a>(command: Command<'a>) -> (&'a str, Option<&'a str>, Option<&'a s
     }
 }
 
-/// The file that gets what is printed; none where that is standard output.
-fn output_of<'a>(asked: &Asked<'a>) -> Option<&'a str> {
-    if asked.output == "-" {
-        None
-    } else {
-        Some(asked.output)
+/// The die and the task that the options of a command name, each with its option. Of two dies it is the greater one,
+/// which isn't there where one isn't.
+fn parts_of(command: Command<'_>) -> (Option<(&'static str, u32)>, Option<(&'static str, u32)>) {
+    match command {
+        Command::Draw {
+            die,
+            fail: Some(fail),
+            ..
+        } if fail.die <= die => (Some(("--die", die)), None),
+        Command::Draw {
+            fail: Some(fail),
+            ..
+        }
+        | Command::Report {
+            fail: Some(fail),
+            ..
+        }
+        | Command::Run {
+            fail: Some(fail),
+            ..
+        } => (Some(("the die of --fail-at", fail.die)), None),
+        Command::Draw { die, .. } => (Some(("--die", die)), None),
+        Command::Compare { die, task, .. } => (Some(("--die", die)), Some(("--task", task))),
+        _ => (None, None),
     }
 }
 
-/// The files of what is asked for, by what they have, which a terminal is shown where one is at fault.
+/// The files of what is asked for, by what they have, and the numbers that options name, for what is reported.
 pub fn texts_of<'a>(asked: &'a Asked<'a>) -> Texts<'a> {
+    let (die, task) = match &asked.request {
+        Request::One(command) => parts_of(*command),
+        Request::Listed(..) => (None, None),
+    };
     Texts {
-        output: output_of(asked),
+        slots: slots_of(&asked.request),
+        die,
+        task,
         ..files_read(&asked.request)
     }
 }
@@ -190,32 +217,107 @@ fn act_on<D: Folder, K: Shelf, W: Output, E: Write>(
     }
 }
 
-/// Carries out a request whose text goes to a file: whole, where one is made, which a refusal doesn't. Answers the
-/// status. WriteFault, and nothing is done, where the file is also to get a checkpoint.
-fn act_to_file<D: Folder, K: Shelf, E: Write>(
+/// Puts a text into the file of a name, and reports why not. Answers whether it stands there.
+fn put_text<K: Shelf, E: Write>(shelf: &K, name: &str, text: &[u8], err: &mut E) -> bool {
+    match shelf.put(name, text) {
+        Ok(()) => true,
+        Err(unput) => {
+            let _ = end(err, Err(Fault::Refused(unput.refusal())));
+            let _ = writeln!(err, "{name}: {unput}");
+            false
+        }
+    }
+}
+
+/// Puts the checkpoint that was kept, if one was, into the file of its name. Answers the status, which is `status` where
+/// nothing is refused.
+fn put_later<K: Shelf, E: Write>(
+    shelf: &K,
+    request: &Request<'_>,
+    later: Later,
+    status: u8,
+    err: &mut E,
+) -> u8 {
+    let (Some(name), Some(text)) = (saved_to(request), later.text()) else {
+        return status;
+    };
+    let path = written_path(name);
+    match shelf.put(path, &text) {
+        Ok(()) => status,
+        Err(unput) => {
+            report_unput(err, name, &unput);
+            1
+        }
+    }
+}
+
+/// Whether what is asked for is printed, and not put into a file.
+fn is_printed<K: Shelf>(shelf: &K, output: &str) -> bool {
+    output == "-" || output == STDOUT || shelf.is_one(output, STDOUT)
+}
+
+/// Prints a text, or puts it into the file that is to get it, and reports why not. Answers whether it stands there.
+fn give_text<K: Shelf, W: Output, E: Write>(
+    shelf: &K,
+    output: &str,
+    text: &[u8],
+    out: &mut W,
+    err: &mut E,
+) -> bool {
+    if is_printed(shelf, output) {
+        write_whole(out, text).is_ok()
+    } else {
+        put_text(shelf, output, text, err)
+    }
+}
+
+/// Reports what isn't as `--strict` wants it of what ended with 0, and answers the status.
+fn end_strictly<E: Write>(err: &mut E, amiss: Option<Amiss>) -> u8 {
+    match amiss {
+        Some(amiss) => {
+            let _ = writeln!(err, "strict: {amiss}");
+            STRICT_STATUS
+        }
+        None => 0,
+    }
+}
+
+/// Carries out a request, and then prints its text or puts it into its file, whole, where one is made, which a refusal
+/// doesn't. Answers the status. A checkpoint is put once the text stands in its file, and not where that fails.
+fn act_whole<D: Folder, K: Shelf, W: Output, E: Write>(
     alloc: Global,
     folder: &D,
     shelf: &K,
     asked: &Asked<'_>,
+    out: &mut W,
     err: &mut E,
 ) -> Result<u8, Refusal>
     requires { RequestFits asked.now.request }
 {
-    if let Request::One(Command::Run { to: Some(to), .. }) = &asked.request
-        && *to == asked.output
-    {
-        return Err(Refusal::WriteFault);
-    }
+    let later = Later::new(alloc);
     let mut text = Vec::new(alloc);
-    let status = act_on(alloc, folder, shelf, &asked.request, &mut text, err)?;
-    if !text.is_empty() {
-        shelf.put(asked.output, &text)?;
+    let mut heard = Heard::new(&mut *err, false);
+    let status = act_on(alloc, folder, &later, &asked.request, &mut text, &mut heard)?;
+    let amiss = if asked.strict && status == 0 {
+        amiss_of(alloc, &asked.request, &text, heard.lines())?
+    } else {
+        None
+    };
+    let is_made = status == 0 || !text.is_empty();
+    if is_made && !give_text(shelf, asked.output, &text, out, err) {
+        return Ok(1);
+    }
+    let status = put_later(shelf, &asked.request, later, status, err);
+    if status == 0 {
+        return Ok(end_strictly(err, amiss));
     }
     Ok(status)
 }
 
-/// Carries out what is asked for, prints it or writes it to its file, and answers the status. Where a file can't be
-/// opened or written, `err` gets a line, as `error 21 ReadFault`, and the status is 1.
+/// Carries out what is asked for, prints it or writes it to its file, and answers the status, which is 4 where it was
+/// to be strict, and a row was refused, something was late, or a certificate is refused. Where a file can't be
+/// opened or written, or one of two names of a file would be written over the other, `err` gets a line, as `error 21
+/// ReadFault`, and the status is 1; of two such names nothing is done, and both are reported.
 pub fn act_asked<D: Folder, K: Shelf, W: Output, E: Write>(
     alloc: Global,
     folder: &D,
@@ -226,10 +328,15 @@ pub fn act_asked<D: Folder, K: Shelf, W: Output, E: Write>(
 ) -> u8
     requires { RequestFits asked.now.request }
 {
-    let acted = if asked.output == "-" {
+    if let Some(clash) = clash_in(shelf, asked, files_read(&asked.request)) {
+        let status = end(err, Err(Fault::Refused(Refusal::WriteFault)));
+        let _ = writeln!(err, "{clash}");
+        return status;
+    }
+    let acted = if !asked.strict && is_printed(shelf, asked.output) {
         act_on(alloc, folder, shelf, &asked.request, out, err)
     } else {
-        act_to_file(alloc, folder, shelf, asked, err)
+        act_whole(alloc, folder, shelf, asked, out, err)
     };
     match acted {
         Ok(status) => status,

@@ -11,7 +11,9 @@ use std::alloc::Global;
 use std::io::{Read, Write};
 use text_base::{FlaggedReader, Output, write_whole};
 use tool_run_figures::Life;
-use tool_watched_runs::{FailAt, Failure, RefusedRows, Shown, Sights, draw, report, wear};
+use tool_watched_runs::{
+    FailAt, Failure, MOST_SLOTS, RefusedRows, Shown, Sights, TooMany, draw, report, wear,
+};
 
 /// Prints what a run wore.
 fn print_wear<P: Read + Drop, S: Read + Drop, W: Output>(
@@ -139,6 +141,51 @@ fn print_drawn<P: Read + Drop, S: Read + Drop, W: Output>(
     })
 }
 
+/// Why nothing is drawn.
+#[derive(Clone, Copy, Drop)]
+enum Undrawn {
+    /// The picture would have too many slots.
+    TooMany(TooMany),
+    Refused(Refusal),
+}
+
+/// Prints the picture of what the slots of a die carried, unless it would have too many: then nothing is read.
+fn print_bounded<P: Read + Drop, S: Read + Drop, W: Output>(
+    alloc: Global,
+    plan: P,
+    script: S,
+    slots: u32,
+    die: u32,
+    shown: Shown,
+    fail: Option<FailAt>,
+    out: &mut W,
+) -> Result<Drawn, Undrawn>
+    requires slots { slots ≤ MAX_SLOT }
+    ensures printed { OnOk result (PrintsText (W.contents out.old) (W.contents out.new)) }
+    ensures part { OnErr result (IsNotWhole W.contents W.has_failed PrintsText out.old out.new) }
+{
+    if let Some(many) = shown.too_many(slots) {
+        return Err(Undrawn::TooMany(many));
+    }
+    match print_drawn(alloc, plan, script, slots, die, shown, fail, out) {
+        Ok(drawn) => Ok(drawn),
+        Err(refusal) => Err(Undrawn::Refused(refusal)),
+    }
+}
+
+/// Reports that a picture would have too many slots, and answers the status. A writer that fails is passed over.
+fn end_many<E: Write>(err: &mut E, many: TooMany) -> u8
+    ensures { result ≡ 1 }
+{
+    let TooMany { slots, from, to } = many;
+    let _ = writeln!(
+        err,
+        "error: the picture would have {slots} slots, and may have {MOST_SLOTS}: --from {from} --to {to} would do, or --worst; \
+         --all draws them all"
+    );
+    1
+}
+
 /// The most slots of a picture that is drawn without a warning.
 const MANY_SLOTS: u32 = 5_000;
 
@@ -161,7 +208,7 @@ fn warn_many<E: Write>(err: &mut E, slots: u32, sights: Sights) {
 }
 
 /// Reports what was drawn, and answers the status.
-fn end_drawn<E: Write>(err: &mut E, slots: u32, drawn: Result<Drawn, Refusal>) -> u8
+fn end_drawn<E: Write>(err: &mut E, slots: u32, drawn: Result<Drawn, Undrawn>) -> u8
     ensures { result ≡ (if is_ok drawn then 0 else 1) }
 {
     match drawn {
@@ -170,7 +217,8 @@ fn end_drawn<E: Write>(err: &mut E, slots: u32, drawn: Result<Drawn, Refusal>) -
             report_failure(err, drawn.failure);
             end_run(err, Ok(drawn.refused))
         }
-        Err(refusal) => end_refused(err, refusal),
+        Err(Undrawn::Refused(refusal)) => end_refused(err, refusal),
+        Err(Undrawn::TooMany(many)) => end_many(err, many),
     }
 }
 
@@ -184,7 +232,8 @@ fn many_of(shown: Shown, slots: u32) -> u32 {
 }
 
 /// Prints the picture of what the slots of a die carried, whole. Answers the status: 0, or 1 where something was refused,
-/// which is reported: nothing was written then, or not the whole.
+/// which is reported: nothing was written then, or not the whole. A picture that would have too many slots is refused
+/// before anything is read.
 #[tactic(auto, using(crate::proofs::EndedSo::ends))]
 pub fn act_draw<P: Read + Drop, S: Read + Drop, W: Output, E: Write>(
     alloc: Global,
@@ -201,6 +250,6 @@ pub fn act_draw<P: Read + Drop, S: Read + Drop, W: Output, E: Write>(
     ensures { Ends W.contents W.has_failed PrintsText out.old out.new result }
 {
     let many = many_of(shown, slots);
-    let drawn = print_drawn(alloc, plan, script, slots, die, shown, fail, out);
+    let drawn = print_bounded(alloc, plan, script, slots, die, shown, fail, out);
     end_drawn(err, many, drawn)
 }

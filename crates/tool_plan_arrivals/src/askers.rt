@@ -87,7 +87,7 @@ fn add_askers(askers: &mut Vec<Asker>, die: u32, plan: &DiePlan, fills: bool) ->
 }
 
 /// For how many slots the numbers of a die last.
-fn life(plan: &DiePlan) -> u32 {
+pub fn life(plan: &DiePlan) -> u32 {
     match &plan.times {
         Some(times) if are_tasks(times.tasks.as_slice()) => life_of(times.tasks.as_slice()),
         _ => MAX_SLOT,

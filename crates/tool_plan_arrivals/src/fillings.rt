@@ -1,26 +1,59 @@
 //! From when on a die is full, where its tasks fill it.
 
-use crate::askers::askers_of;
+use crate::askers::{askers_of, life};
 use crate::faults::Fault;
 use crate::jobs::Asker;
 use slot_types::StorePlan;
-use std::alloc::Global;
+use std::alloc::{AllocError, Global};
 
-/// The slot by which a task that is never late has written each of its pages once; 0 where it writes none.
-fn filled_by(asker: &Asker) -> u32 {
-    let jobs = asker.to_fill.div_ceil(asker.times.writes.max(1));
-    jobs.saturating_mul(asker.times.period)
+/// How the tasks of a die fill it, where none is late.
+#[derive(Clone, Copy, PartialEq, Eq, Debug, Drop)]
+pub struct Filling {
+    /// From which slot on each of its pages is written; none where no task writes. It may lie beyond the die's life.
+    pub from: Option<u64>,
+    /// For how many slots the die's numbers for jobs and collections last, 1,048,576 at most.
+    pub life: u32,
 }
 
-/// By die, from which slot on each of its pages is written, where its tasks fill it and none is late; 0 where none writes.
-pub fn full_from(alloc: Global, plan: &StorePlan) -> Result<Vec<u32>, Fault> {
-    let askers = askers_of(alloc, plan, 0, true)?;
-    let mut full = vec![in alloc; 0u32; plan.len()]?;
-    for asker in &askers {
-        let die = asker.die as usize;
-        if die < full.len() {
-            full[die] = full[die].max(filled_by(asker));
+/// The slot by which a task that writes, and is never late, has written each of its pages once; none where it writes none.
+fn filled_by(asker: &Asker) -> Option<u64> {
+    let writes = asker.times.writes;
+    if writes == 0 {
+        return None;
+    }
+    let jobs = u64::from(asker.to_fill.div_ceil(writes));
+    Some(jobs.saturating_mul(u64::from(asker.times.period)))
+}
+
+impl Filling {
+    /// Adds a task of the die.
+    fn add(&mut self, asker: &Asker) {
+        if let Some(slot) = filled_by(asker) {
+            self.from = Some(self.from.unwrap_or(0).max(slot));
         }
     }
-    Ok(full)
+}
+
+/// Adds for each die that no task was seen yet that fills it.
+fn put_dies(fillings: &mut Vec<Filling>, plan: &StorePlan) -> Result<(), AllocError> {
+    for own in plan.as_slice() {
+        fillings.push(Filling {
+            from: None,
+            life: life(own),
+        })?;
+    }
+    Ok(())
+}
+
+/// By die, how its tasks fill it.
+pub fn fillings_of(alloc: Global, plan: &StorePlan) -> Result<Vec<Filling>, Fault> {
+    let askers = askers_of(alloc, plan, 0, true)?;
+    let mut fillings = Vec::new(alloc);
+    put_dies(&mut fillings, plan)?;
+    for asker in &askers {
+        if let Some(filling) = fillings.get_mut(asker.die as usize) {
+            filling.add(asker);
+        }
+    }
+    Ok(fillings)
 }

@@ -16,7 +16,7 @@ mod scripts;
 
 pub use die_events::{Events, events_on};
 pub use faults::Fault;
-pub use fillings::full_from;
+pub use fillings::{Filling, fillings_of};
 pub use keeping::keeps_plans;
 pub use laws::planned_scripts_go_as_planned;
 pub use manners::Manner;

@@ -1,1 +1,2 @@
+pub mod Sheets
 pub mod Fits

@@ -1,5 +1,10 @@
 //! What a datasheet says.
 
+ghost use Rattle.std.specs.Prelude.{◌≡◌, ◌+◌, ◌*◌, ◌≤◌, IfSome};
+ghost use Rattle.tool_plan_fit.specs.Fits.{HoldsCommands, erasing};
+
+use slot_types::Items;
+
 /// A part, and how many of its pages are to be held. Times are in microseconds.
 #[derive(Clone, Copy, Drop)]
 pub struct Part {
@@ -24,11 +29,24 @@ impl Part {
             .max(turn.saturating_add(1))
     }
 
-    /// How many slots of a length an erase takes.
-    pub fn erase_slots(&self, slot_us: u32) -> u32 {
-        let turn = self.suspend_us.saturating_add(self.resume_us);
-        let erasing = slot_us.saturating_sub(turn).max(1);
-        self.erase_us.div_ceil(erasing).max(1)
+    /// What a slot of a length has of an erase, in microseconds.
+    pub fn erasing(&self, slot_us: u32) -> u32
+        ensures { result ≡ erasing self.now slot_us }
+    {
+        slot_us
+            .saturating_sub(self.suspend_us)
+            .saturating_sub(self.resume_us)
+    }
+
+    /// How many slots of a length an erase takes; none where such a slot doesn't hold each command.
+    pub fn erase_slots(&self, slot_us: u32) -> Option<u32>
+        ensures { IfSome result (HoldsCommands self.now slot_us) }
+    {
+        let erasing = self.erasing(slot_us);
+        if slot_us < self.read_us || slot_us < self.program_us || erasing == 0 {
+            return None;
+        }
+        Some(self.erase_us.div_ceil(erasing).max(1))
     }
 }
 
@@ -37,19 +55,33 @@ impl Part {
 #[derive(Clone, Copy, Drop)]
 pub struct Need {
     pub period_ms: u32,
-    pub reads: u32,
-    pub writes: u32,
+    pub reads: u8,
+    pub writes: u8,
 }
 
 impl Need {
-    /// How many slots of a length its period has.
-    pub fn period(&self, slot_us: u32) -> u32 {
-        let period = u64::from(self.period_ms).saturating_mul(1000) / u64::from(slot_us.max(1));
+    /// How many slots of a length its period has at most.
+    pub fn period(&self, slot_us: u32) -> u32
+        ensures { result * slot_us ≤ self.now.period_ms * 1000 }
+    {
+        let period = u64::from(self.period_ms) * 1000 / u64::from(slot_us.max(1));
         u32::try_from(period).unwrap_or(u32::MAX)
     }
 
     /// How many operations a job has.
-    pub fn work(&self) -> u32 {
-        self.reads.saturating_add(self.writes)
+    pub fn work(&self) -> u32
+        ensures { result ≡ self.now.reads + self.now.writes }
+    {
+        u32::from(self.reads) + u32::from(self.writes)
     }
+}
+
+/// What the tasks of a die need, in the order of the text.
+pub type Needs = Items<Need>;
+
+/// A part, and what its tasks need.
+#[derive(Drop)]
+pub struct Sheet {
+    pub part: Part,
+    pub needs: Needs,
 }

@@ -1,33 +1,11 @@
 //! Why a datasheet has no plan.
 
+use crate::sheet_faults::SheetFault;
 use slot_types::Refusal;
 use std::fmt;
 use std::fmt::{Display, Formatter, Write};
 
-/// What is wrong with the text of a datasheet.
-#[derive(Clone, Copy, Drop)]
-pub enum SheetFault {
-    NotToml,
-    /// A key isn't there, or a number is out of its range, on top or in a `[[task]]`, of which the first is 1.
-    Number {
-        key: &'static str,
-        nth: u32,
-        least: u32,
-        most: u32,
-    },
-    /// There is a key beside those of a datasheet.
-    ExtraKey {
-        nth: u32,
-    },
-    /// There have to be 1 to 16 tasks.
-    Tasks,
-    /// A job has 1 to 64 operations.
-    Work {
-        nth: u32,
-    },
-}
-
-/// Why no plan was found.
+/// Why no plan was found: what stood against the closest that was tried.
 #[derive(Clone, Copy, Drop)]
 pub enum Reason {
     /// Even with the longest slot that was tried an erase takes more than 64.
@@ -38,10 +16,8 @@ pub enum Reason {
     Period {
         slot_us: u32,
     },
-    /// No alpha meets the bound; the most logical pages that one would allow.
-    Bound {
-        logical: u32,
-    },
+    /// No alpha meets the bound.
+    Bound,
     /// With the least demand that was found so many of `common` slots are taken.
     Demand {
         demand: u64,
@@ -50,61 +26,42 @@ pub enum Reason {
     },
 }
 
-/// Why there is no plan.
+/// A period of a task with which a plan is found.
 #[derive(Clone, Copy, Drop)]
+pub struct LongerPeriod {
+    /// The task's place in the text, the first being 1.
+    pub nth: u32,
+    pub period_ms: u32,
+}
+
+/// With which numbers, one at a time, a plan is found. Each was tried.
+#[derive(Drop)]
+pub struct Advice {
+    /// The greatest such.
+    pub logical: Option<u32>,
+    /// The least such.
+    pub blocks: Option<u32>,
+    pub periods: Vec<LongerPeriod>,
+}
+
+/// Why no plan was found, and what would do.
+#[derive(Drop)]
+pub struct Unfound {
+    pub reason: Reason,
+    pub advice: Advice,
+}
+
+/// Why there is no plan.
+#[derive(Drop)]
 pub enum FitFault {
     Refused(Refusal),
     Sheet(SheetFault),
-    NotFound(Reason),
+    NotFound(Unfound),
 }
 
 impl From<Refusal> for FitFault {
     fn from(refusal: Refusal) -> FitFault {
         FitFault::Refused(refusal)
-    }
-}
-
-/// Where something stands: on top, or in a task.
-#[derive(Clone, Copy, Drop)]
-struct Place(u32);
-
-impl Display for Place {
-    fn fmt<W: Write>(&self, f: &mut Formatter<W>) -> fmt::Result {
-        match self.0 {
-            0 => f.write_str("the datasheet"),
-            nth => write!(f, "[[task]] {nth}"),
-        }
-    }
-}
-
-impl Display for SheetFault {
-    fn fmt<W: Write>(&self, f: &mut Formatter<W>) -> fmt::Result {
-        match *self {
-            SheetFault::NotToml => f.write_str("the datasheet isn't TOML"),
-            SheetFault::Number {
-                key,
-                nth,
-                least,
-                most,
-            } => {
-                let place = Place(nth);
-                write!(
-                    f,
-                    "{place} needs `{key}`, a whole number from {least} to {most}"
-                )
-            }
-            SheetFault::ExtraKey { nth } => {
-                let place = Place(nth);
-                write!(f, "{place} has a key that isn't a datasheet's")
-            }
-            SheetFault::Tasks => f.write_str("the datasheet needs 1 to 16 [[task]]"),
-            SheetFault::Work { nth } => {
-                write!(
-                    f,
-                    "[[task]] {nth}: `reads` and `writes` have to sum to 1 to 64"
-                )
-            }
-        }
     }
 }
 
@@ -120,10 +77,7 @@ impl Display for Reason {
                     "a period is shorter than the shortest slot, {slot_us} us"
                 )
             }
-            Reason::Bound { logical } => write!(
-                f,
-                "no alpha meets the bound: `logical` may be {logical} at most, or there have to be more blocks"
-            ),
+            Reason::Bound => f.write_str("no alpha meets the bound"),
             Reason::Demand {
                 demand,
                 common,
@@ -133,5 +87,36 @@ impl Display for Reason {
                 "the tasks need too much: with slots of {slot_us} us {demand} of each {common} slots"
             ),
         }
+    }
+}
+
+impl Display for Advice {
+    fn fmt<W: Write>(&self, f: &mut Formatter<W>) -> fmt::Result {
+        if self.logical.is_none() && self.blocks.is_none() && self.periods.is_empty() {
+            return f.write_str(
+                "\nwith no other logical or blocks, and no longer period of one task, a plan is found",
+            );
+        }
+        if let Some(logical) = self.logical {
+            write!(f, "\nwith a logical of at most {logical} a plan is found")?;
+        }
+        if let Some(blocks) = self.blocks {
+            write!(f, "\nwith blocks of at least {blocks} a plan is found")?;
+        }
+        for longer in self.periods.as_slice() {
+            let (nth, period_ms) = (longer.nth, longer.period_ms);
+            write!(
+                f,
+                "\nwith a period_ms of {period_ms} in [[task]] {nth} a plan is found"
+            )?;
+        }
+        Ok(())
+    }
+}
+
+impl Display for Unfound {
+    fn fmt<W: Write>(&self, f: &mut Formatter<W>) -> fmt::Result {
+        let (reason, advice) = (&self.reason, &self.advice);
+        write!(f, "{reason}{advice}")
     }
 }

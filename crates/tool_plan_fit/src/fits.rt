@@ -1,57 +1,61 @@
 //! From a datasheet to the text of a plan.
 
-ghost use Rattle.std.specs.Prelude.{IfOk, IsTrue};
-ghost use Rattle.tool_plan_fit.specs.Fits.{IsPassingPlan};
+ghost use Rattle.std.specs.Prelude.{ℕ, IfOk, IsTrue, List};
+ghost use Rattle.tool_plan_fit.specs.Fits.{IsPlanFor, IsTextOfPlan};
+ghost use Rattle.tool_plan_fit.specs.Sheets.{IsSheetOf};
 
-use crate::faults::{FitFault, Reason};
-use crate::plans::put_plan;
-use crate::searches::{Found, search};
+use crate::advices::advice_of;
+use crate::datasheets::Sheet;
+use crate::faults::{FitFault, Unfound};
+use crate::found_texts::text_of;
+use crate::plan_checks::is_plan_of;
+use crate::searches::{Aim, Found, search};
 use crate::sheet_texts::read_sheet;
 use plan_rules::plan_test;
 use plan_texts::read_plan;
 use slot_types::Refusal;
 use std::alloc::Global;
 
-/// Whether a text is a plan of one die that meets its bound and passes its test.
-fn passes(alloc: Global, text: &[u8]) -> Result<bool, Refusal>
-    ensures { IfOk result (λ passes. IsTrue passes → IsPassingPlan text.now) }
+/// Whether a text is a plan of one die, a plan of the datasheet, which meets its bound and passes its test.
+fn is_text_of_plan(alloc: Global, sheet: &Sheet, slot_us: u32, text: &[u8]) -> Result<bool, Refusal>
+    ensures { IfOk result (λ is_it. IsTrue is_it → IsTextOfPlan sheet.now slot_us text.now) }
 {
     let store = read_plan(alloc, text)?;
     let [die] = store.as_slice() else {
         return Ok(false);
     };
-    Ok(plan_test(die).is_ok())
+    Ok(is_plan_of(sheet, slot_us, die) && plan_test(die).is_ok())
 }
 
-/// The text of a plan that was found.
-fn text_of(alloc: Global, found: &Found) -> Result<Vec<u8>, Refusal> {
-    let mut text = Vec::new(alloc);
-    match put_plan(&mut text, &found.plan, found.slot_us) {
-        Ok(()) => Ok(text),
-        Err(_) => Err(Refusal::NoMemory),
-    }
-}
-
-/// The text of the plan of a datasheet, or why none was found.
-fn found_text(alloc: Global, sheet: &[u8]) -> Result<Vec<u8>, FitFault> {
-    let (part, needs) = read_sheet(alloc, sheet)?;
-    let searched = search(alloc, &part, needs.as_slice())?;
-    match &searched.found {
-        Some(found) => Ok(text_of(alloc, found)?),
-        None => Err(FitFault::NotFound(searched.reason)),
-    }
-}
-
-/// The text of a plan for a datasheet, which is a TOML text: a plan of one die that meets its bound and passes its test. It says
-/// how long a slot is and what is to spare. Else why there is none: the datasheet's fault, or what stands against each plan
-/// that was tried, or NoMemory.
-pub fn fit(alloc: Global, sheet: &[u8]) -> Result<Vec<u8>, FitFault>
-    ensures { IfOk result (λ text. IsPassingPlan text.items) }
+/// The text of a plan that was found. It is read again, since what is promised is promised of the text.
+fn checked_text(alloc: Global, sheet: &Sheet, found: &Found) -> Result<Vec<u8>, Refusal>
+    ensures { IfOk result (λ text. (bytes : List ℕ) → IsSheetOf bytes sheet.now → IsPlanFor bytes text.items) }
 {
-    let text = found_text(alloc, sheet)?;
-    if passes(alloc, text.as_slice())? {
+    let text = text_of(alloc, found)?;
+    if is_text_of_plan(alloc, sheet, found.slot_us, &text)? {
         Ok(text)
     } else {
-        Err(FitFault::Refused(Refusal::BadPlan))
+        Err(Refusal::BadPlan)
+    }
+}
+
+/// The text of a plan for a datasheet, which is a TOML text: a plan of one die that is a plan of the datasheet, meets its
+/// bound and passes its test. It begins with how long a slot is, says what is to spare, and where no life is long enough
+/// for its periods to end. Else why there is none: the datasheet's fault, and where; or what stood against the closest
+/// plan that was tried, and with which other numbers, one at a time, a plan is found; or NoMemory.
+pub fn fit(alloc: Global, sheet: &[u8]) -> Result<Vec<u8>, FitFault>
+    ensures { IfOk result (λ text. IsPlanFor sheet.now text.items) }
+{
+    let read = read_sheet(alloc, sheet)?;
+    let searched = search(alloc, &read, Aim::Best)?;
+    match &searched.found {
+        Some(found) => Ok(checked_text(alloc, &read, found)?),
+        None => {
+            let advice = advice_of(alloc, &read)?;
+            Err(FitFault::NotFound(Unfound {
+                reason: searched.reason,
+                advice,
+            }))
+        }
     }
 }

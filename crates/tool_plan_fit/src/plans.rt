@@ -1,16 +1,19 @@
 //! Plans that are tried.
 
-use crate::datasheets::{Need, Part};
+ghost use Rattle.std.specs.Prelude.{IfOk, IfSome};
+ghost use Rattle.std.specs.List.{AllZip};
+ghost use Rattle.tool_plan_fit.specs.Fits.{IsPlanOf, IsTaskOf};
+
+use crate::datasheets::{Need, Part, Sheet};
 use crate::slots::greatest_upto;
 use slot_types::{Caps, DiePlan, Refusal, Shape, TaskTimes, Times, TimesList};
 use std::alloc::Global;
-use std::io;
-use std::io::Write;
 
 /// What is chosen for a part and its tasks.
 #[derive(Clone, Copy)]
 pub struct Choice<'a> {
     pub slot_us: u32,
+    /// By task, in slots.
     pub periods: &'a [u32],
     pub common: u32,
     /// The divisors of `common`, rising.
@@ -19,7 +22,7 @@ pub struct Choice<'a> {
 }
 
 /// The longest collect period of a task that divides `common` and gives back what its jobs write.
-fn collect_period(choice: &Choice<'_>, period: u32, writes: u32) -> Option<u32> {
+pub fn collect_period(choice: &Choice<'_>, period: u32, writes: u32) -> Option<u32> {
     let given = u64::from(choice.alpha).saturating_mul(u64::from(period));
     match given.checked_div(u64::from(writes)) {
         None => Some(choice.common),
@@ -27,32 +30,80 @@ fn collect_period(choice: &Choice<'_>, period: u32, writes: u32) -> Option<u32> 
     }
 }
 
-/// The plan of a choice; none where a task's collections can't give back what it writes.
-pub fn plan_of(
+/// The most slots that a collection takes.
+pub fn collection_work(part: &Part, erase_slots: u32, alpha: u32) -> u32 {
+    part.pages
+        .saturating_sub(alpha)
+        .saturating_mul(2)
+        .saturating_add(erase_slots)
+}
+
+/// The times of a task, whose period is this at most; none where its collections can't give back what it writes.
+fn task_of(need: &Need, period: u32, choice: &Choice<'_>) -> Option<TaskTimes>
+    ensures { IfSome result (IsTaskOf choice.now.slot_us need.now) }
+{
+    let period = period.min(need.period(choice.slot_us));
+    let collect_period = collect_period(choice, period, u32::from(need.writes))?;
+    Some(TaskTimes {
+        period,
+        collect_period,
+        work: need.work(),
+        writes: u32::from(need.writes),
+    })
+}
+
+/// The times of all tasks; none where a task's collections can't give back what it writes.
+fn tasks_of(
     alloc: Global,
-    part: &Part,
     needs: &[Need],
     choice: &Choice<'_>,
-) -> Result<Option<DiePlan>, Refusal> {
-    let mut caps = Caps::new(alloc);
+) -> Result<Option<TimesList>, Refusal>
+    ensures { IfOk result (λ made. IfSome made (AllZip (IsTaskOf choice.now.slot_us) needs.now)) }
+{
     let mut tasks = TimesList::new(alloc);
-    for (need, period) in needs.iter().zip(choice.periods) {
-        let Some(collect_period) = collect_period(choice, *period, need.writes) else {
+    for i in 0..needs.len() {
+        let period = choice.periods.get(i).copied().unwrap_or(0);
+        let Some(task) = task_of(&needs[i], period, choice) else {
             return Ok(None);
         };
-        caps.push(need.writes.saturating_add(choice.alpha).saturating_mul(2))?;
-        tasks.push(TaskTimes {
-            period: *period,
-            collect_period,
-            work: need.work(),
-            writes: need.writes,
-        })?;
+        tasks.push(task)?;
     }
+    Ok(Some(tasks))
+}
+
+/// The least caps that do for so much given by a collection: each covers two jobs and two collections.
+pub fn caps_of(alloc: Global, needs: &[Need], alpha: u32) -> Result<Caps, Refusal> {
+    let mut caps = Caps::new(alloc);
+    for need in needs {
+        let given = u32::from(need.writes).saturating_add(alpha);
+        caps.push(given.saturating_mul(2))?;
+    }
+    Ok(caps)
+}
+
+/// The plan of a choice; none where a slot doesn't hold each command, or a task's collections can't give back what it
+/// writes. It isn't judged. The only refusal is NoMemory.
+pub fn plan_of(
+    alloc: Global,
+    sheet: &Sheet,
+    choice: &Choice<'_>,
+) -> Result<Option<DiePlan>, Refusal>
+    ensures { IfOk result (λ made. IfSome made (IsPlanOf sheet.now choice.now.slot_us)) }
+{
+    let part = &sheet.part;
+    let Some(erase_slots) = part.erase_slots(choice.slot_us) else {
+        return Ok(None);
+    };
+    let needs = sheet.needs.as_slice();
+    let caps = caps_of(alloc, needs, choice.alpha)?;
+    let Some(tasks) = tasks_of(alloc, needs, choice)? else {
+        return Ok(None);
+    };
     Ok(Some(DiePlan {
         shape: Shape {
             blocks: part.blocks,
             pages: part.pages,
-            erase_slots: part.erase_slots(choice.slot_us),
+            erase_slots,
         },
         logical: part.logical,
         alpha: choice.alpha,
@@ -64,70 +115,17 @@ pub fn plan_of(
     }))
 }
 
-/// How many of `common` slots the tasks of a plan take at most.
-pub fn demand_of(plan: &DiePlan) -> u64 {
-    let Some(times) = &plan.times else {
-        return 0;
-    };
-    let copies = plan.shape.pages.saturating_sub(plan.alpha);
-    let collection = copies
-        .saturating_mul(2)
-        .saturating_add(plan.shape.erase_slots);
-    let mut demand: u64 = 0;
-    for task in times.tasks.as_slice() {
-        for (slots, period) in [(task.work, task.period), (collection, task.collect_period)] {
-            let times = u64::from(times.common / period.max(1));
-            demand = demand.saturating_add(u64::from(slots).saturating_mul(times));
-        }
+/// A plan of a part with these caps, and no times, by which the bound can be judged.
+pub fn untimed_plan(part: &Part, alpha: u32, caps: Caps) -> DiePlan {
+    DiePlan {
+        shape: Shape {
+            blocks: part.blocks,
+            pages: part.pages,
+            erase_slots: 1,
+        },
+        logical: part.logical,
+        alpha,
+        caps,
+        times: None,
     }
-    demand
-}
-
-// Adds keys with their numbers.
-fn put_numbers(text: &mut Vec<u8>, numbers: &[(&str, u32)]) -> io::Result<()> {
-    for (key, number) in numbers {
-        writeln!(text, "{key} = {number}")?;
-    }
-    Ok(())
-}
-
-/// Adds the text of a plan of one die, with the length of its slots.
-pub fn put_plan(text: &mut Vec<u8>, plan: &DiePlan, slot_us: u32) -> io::Result<()> {
-    let Some(times) = &plan.times else {
-        return Ok(());
-    };
-    let (demand, common) = (demand_of(plan), times.common);
-    let spare = u64::from(common).saturating_sub(demand);
-    writeln!(
-        text,
-        "# a slot is {slot_us} us; of each {common} slots all tasks take at most {demand}: {spare} to spare"
-    )?;
-    put_numbers(
-        text,
-        &[
-            ("version", 2),
-            ("dies", 1),
-            ("blocks", plan.shape.blocks),
-            ("pages", plan.shape.pages),
-            ("erase_slots", plan.shape.erase_slots),
-            ("logical", plan.logical),
-            ("alpha", plan.alpha),
-            ("common", common),
-        ],
-    )?;
-    for (cap, task) in plan.caps.as_slice().iter().zip(times.tasks.as_slice()) {
-        text.write_all(b"\n[[task]]\n")?;
-        put_numbers(
-            text,
-            &[
-                ("die", 0),
-                ("cap", *cap),
-                ("period", task.period),
-                ("collect_period", task.collect_period),
-                ("work", task.work),
-                ("writes", task.writes),
-            ],
-        )?;
-    }
-    Ok(())
 }

@@ -1,144 +1,194 @@
 //! The search for a plan. It tries the lengths of a slot from the shortest on, and takes of the first that serves the
-//! plan with the least demand. That it is the best of all is promised by nobody.
+//! plan with the least demand, before others one whose periods end in a life. That it is the best of all is promised by
+//! nobody.
 
-use crate::datasheets::{Need, Part};
+ghost use Rattle.std.specs.Prelude.{IfOk, IfSome};
+ghost use Rattle.tool_plan_fit.specs.Fits.{IsPlanOf};
+
+use crate::datasheets::{Need, Sheet};
 use crate::faults::Reason;
-use crate::plans::{Choice, demand_of, plan_of};
+use crate::lives::{Life, life_by};
+use crate::plans::{Choice, caps_of, collect_period, collection_work, plan_of, untimed_plan};
 use crate::slots::{common_of, divisors, lengths, periods};
 use plan_rules::{bound, plan_test};
 use slot_types::{DiePlan, MAX_ERASE_SLOTS, MAX_SLOT, Refusal};
 use std::alloc::Global;
-use tool_plan_design::greatest_logical;
 
 /// So many times the least hyperperiod is tried.
 const MOST_TIMES: u32 = 16;
+
+/// How many of so many slots all tasks take at most.
+#[derive(Clone, Copy, Drop)]
+pub struct Share {
+    pub demand: u64,
+    pub common: u32,
+}
+
+impl Share {
+    /// Whether it is a smaller part than another one.
+    fn is_less(self, than: Share) -> bool {
+        let own = self.demand.saturating_mul(u64::from(than.common));
+        own < than.demand.saturating_mul(u64::from(self.common))
+    }
+}
 
 /// A plan, and how long its slots are.
 #[derive(Drop)]
 pub struct Found {
     pub plan: DiePlan,
     pub slot_us: u32,
+    pub share: Share,
+    pub life: Life,
 }
 
-/// What was found so far, and what stood against the others.
+/// What is looked for.
+#[derive(Clone, Copy, PartialEq, Eq, Debug, Drop)]
+pub enum Aim {
+    /// A plan that is rather taken than the others that are tried.
+    Best,
+    /// Any plan: whether there is one.
+    Any,
+}
+
+/// A plan that was found, or what stood against the closest that was tried.
 #[derive(Drop)]
-pub struct Tried {
+pub struct Searched {
     pub found: Option<Found>,
-    /// Of what was found the demand, and of how many slots.
-    load: (u64, u32),
     pub reason: Reason,
 }
 
-// Whether so many of so many slots are a smaller part than others.
-fn is_less(load: (u64, u32), than: (u64, u32)) -> bool {
-    let (own, other) = (
-        load.0.saturating_mul(u64::from(than.1)),
-        than.0.saturating_mul(u64::from(load.1)),
-    );
-    own < other
+/// Numbers of a plan that may pass.
+#[derive(Clone, Copy, Drop)]
+struct Pick {
+    slot_us: u32,
+    powers: bool,
+    common: u32,
+    alpha: u32,
+    share: Share,
+    life: Life,
 }
 
-impl Tried {
-    fn new(part: &Part) -> Tried {
-        Tried {
-            found: None,
-            load: (u64::MAX, 1),
-            reason: Reason::Period {
-                slot_us: part.shortest_slot(),
-            },
+impl Pick {
+    /// Whether it is rather taken than another one.
+    fn is_before(&self, other: &Pick) -> bool {
+        let (own, others) = (self.life == Life::Ends, other.life == Life::Ends);
+        if own == others {
+            self.share.is_less(other.share)
+        } else {
+            own
+        }
+    }
+}
+
+/// How much a task takes of `common` slots. Where its collections can't give back what it writes, they come in each slot
+/// at least.
+fn taken(need: &Need, period: u32, collection: u32, choice: &Choice<'_>) -> u64 {
+    let collect_period = collect_period(choice, period, u32::from(need.writes)).unwrap_or(1);
+    let jobs = u64::from(need.work()).saturating_mul(u64::from(choice.common / period.max(1)));
+    let collections = u64::from(collection).saturating_mul(u64::from(
+        choice.common / collect_period.max(1),
+    ));
+    jobs.saturating_add(collections)
+}
+
+/// How much all tasks take by a choice.
+fn share_of(sheet: &Sheet, erase_slots: u32, choice: &Choice<'_>) -> Share {
+    let collection = collection_work(&sheet.part, erase_slots, choice.alpha);
+    let mut demand: u64 = 0;
+    for (need, period) in sheet.needs.as_slice().iter().zip(choice.periods) {
+        demand = demand.saturating_add(taken(need, *period, collection, choice));
+    }
+    Share {
+        demand,
+        common: choice.common,
+    }
+}
+
+/// Where the periods of a choice may end; none where it makes no plan.
+fn life_of_choice(
+    alloc: Global,
+    sheet: &Sheet,
+    choice: &Choice<'_>,
+) -> Result<Option<Life>, Refusal> {
+    let Some(plan) = plan_of(alloc, sheet, choice)? else {
+        return Ok(None);
+    };
+    match &plan.times {
+        Some(times) => Ok(Some(life_by(times.tasks.as_slice()))),
+        None => Ok(None),
+    }
+}
+
+/// What is tried for a datasheet: by the alphas with which its bound is met.
+#[derive(Drop)]
+struct Tries<'a> {
+    alloc: Global,
+    sheet: &'a Sheet,
+    alphas: &'a [u32],
+    aim: Aim,
+    best: Option<Pick>,
+    /// The least that is taken, also of those that don't pass, with the length of a slot.
+    closest: Option<(Share, u32)>,
+}
+
+impl Tries<'_> {
+    /// Notes how much is taken by a choice.
+    fn note(&mut self, share: Share, slot_us: u32) {
+        match self.closest {
+            Some((least, _)) if !share.is_less(least) => {}
+            _ => self.closest = Some((share, slot_us)),
         }
     }
 
-    // An erase takes too many slots.
-    fn note_erase(&mut self, slots: u32) {
-        match self.reason {
-            Reason::Period { .. } => self.reason = Reason::Erase { slots },
-            Reason::Erase { slots: least } if slots < least => {
-                self.reason = Reason::Erase { slots };
+    /// Tries a choice that takes no more slots than there are.
+    fn keep(&mut self, choice: &Choice<'_>, share: Share, powers: bool) -> Result<(), Refusal> {
+        if let Some(best) = &self.best {
+            if self.aim == Aim::Any || best.life == Life::Ends && !share.is_less(best.share) {
+                return Ok(());
             }
-            _ => {}
         }
-    }
-
-    // A plan misses its bound.
-    fn note_bound(&mut self, plan: &mut DiePlan) {
-        let logical = greatest_logical(plan).unwrap_or(0);
-        match self.reason {
-            Reason::Demand { .. } => {}
-            Reason::Bound { logical: most } if most >= logical => {}
-            _ => self.reason = Reason::Bound { logical },
-        }
-    }
-
-    // A plan meets its bound, and its tasks need too much.
-    fn note_demand(&mut self, demand: u64, common: u32, slot_us: u32) {
-        if let Reason::Demand {
-            demand: least,
-            common: of,
-            ..
-        } = self.reason
-            && !is_less((demand, common), (least, of))
-        {
-            return;
-        }
-        self.reason = Reason::Demand {
-            demand,
-            common,
-            slot_us,
+        let Some(life) = life_of_choice(self.alloc, self.sheet, choice)? else {
+            return Ok(());
         };
+        let pick = Pick {
+            slot_us: choice.slot_us,
+            powers,
+            common: choice.common,
+            alpha: choice.alpha,
+            share,
+            life,
+        };
+        match &self.best {
+            Some(best) if !pick.is_before(best) => {}
+            _ => self.best = Some(pick),
+        }
+        Ok(())
     }
 
-    // Puts a plan to the test.
-    fn judge(&mut self, plan: DiePlan, slot_us: u32) {
-        let mut plan = plan;
-        if bound(&plan).is_err() {
-            self.note_bound(&mut plan);
-            return;
-        }
-        match plan_test(&plan) {
-            Ok(load) => {
-                if is_less((load.demand, load.common), self.load) {
-                    self.load = (load.demand, load.common);
-                    self.found = Some(Found { plan, slot_us });
-                }
-            }
-            Err(_) => {
-                let common = match &plan.times {
-                    Some(times) => times.common,
-                    None => 1,
-                };
-                self.note_demand(demand_of(&plan), common, slot_us);
-            }
-        }
-    }
-
-    // Tries each alpha, with these periods.
+    /// Tries each alpha, with these periods.
     fn try_alphas(
         &mut self,
-        alloc: Global,
-        part: &Part,
-        needs: &[Need],
+        erase_slots: u32,
         choice: Choice<'_>,
+        powers: bool,
     ) -> Result<(), Refusal> {
-        for alpha in 1..=part.pages {
-            let choice = Choice { alpha, ..choice };
-            if let Some(plan) = plan_of(alloc, part, needs, &choice)? {
-                self.judge(plan, choice.slot_us);
+        for alpha in self.alphas {
+            let choice = Choice {
+                alpha: *alpha,
+                ..choice
+            };
+            let share = share_of(self.sheet, erase_slots, &choice);
+            self.note(share, choice.slot_us);
+            if share.demand <= u64::from(share.common) {
+                self.keep(&choice, share, powers)?;
             }
         }
         Ok(())
     }
 
-    // Tries a length of a slot, with the periods as they are or as powers of two.
-    fn try_length(
-        &mut self,
-        alloc: Global,
-        part: &Part,
-        needs: &[Need],
-        slot_us: u32,
-        powers: bool,
-    ) -> Result<(), Refusal> {
-        let periods = periods(alloc, needs, slot_us, powers)?;
+    /// Tries a length of a slot, with the periods as they are or as powers of two.
+    fn try_length(&mut self, erase_slots: u32, slot_us: u32, powers: bool) -> Result<(), Refusal> {
+        let periods = periods(self.alloc, self.sheet.needs.as_slice(), slot_us, powers)?;
         let Some(least) = common_of(periods.as_slice()) else {
             return Ok(());
         };
@@ -147,7 +197,7 @@ impl Tried {
             if common > MAX_SLOT {
                 break;
             }
-            let divisors = divisors(alloc, common)?;
+            let divisors = divisors(self.alloc, common)?;
             let choice = Choice {
                 slot_us,
                 periods: periods.as_slice(),
@@ -155,29 +205,132 @@ impl Tried {
                 divisors: divisors.as_slice(),
                 alpha: 1,
             };
-            self.try_alphas(alloc, part, needs, choice)?;
+            self.try_alphas(erase_slots, choice, powers)?;
         }
         Ok(())
     }
-}
 
-/// Looks for a plan of a part and its tasks.
-pub fn search(alloc: Global, part: &Part, needs: &[Need]) -> Result<Tried, Refusal> {
-    let mut tried = Tried::new(part);
-    let lengths = lengths(alloc, part, needs)?;
-    for slot_us in lengths.as_slice() {
-        let slots = part.erase_slots(*slot_us);
-        if slots > MAX_ERASE_SLOTS {
-            tried.note_erase(slots);
-            continue;
-        }
-        tried.try_length(alloc, part, needs, *slot_us, false)?;
-        if tried.found.is_none() {
-            tried.try_length(alloc, part, needs, *slot_us, true)?;
-        }
-        if tried.found.is_some() {
-            break;
+    /// Whether there is a plan, whose periods end in a life if the best is looked for.
+    fn is_content(&self) -> bool {
+        match &self.best {
+            Some(best) => self.aim == Aim::Any || best.life == Life::Ends,
+            None => false,
         }
     }
-    Ok(tried)
+
+    /// Tries the lengths of a slot from the shortest on, until there is a plan whose periods end in a life. Answers the
+    /// fewest slots of an erase that were too many, if no length had fewer.
+    fn try_lengths(&mut self, lengths: &[u32]) -> Result<Option<u32>, Refusal> {
+        let mut fewest: Option<u32> = None;
+        for slot_us in lengths {
+            match self.sheet.part.erase_slots(*slot_us) {
+                Some(slots) if slots <= MAX_ERASE_SLOTS => {
+                    self.try_length(slots, *slot_us, false)?;
+                    if !self.is_content() {
+                        self.try_length(slots, *slot_us, true)?;
+                    }
+                }
+                Some(slots) => fewest = Some(slots.min(fewest.unwrap_or(u32::MAX))),
+                None => {}
+            }
+            if self.is_content() {
+                break;
+            }
+        }
+        Ok(fewest)
+    }
+}
+
+/// The alphas with which a part and its tasks meet the bound, rising.
+fn alphas_of(alloc: Global, sheet: &Sheet) -> Result<Vec<u32>, Refusal> {
+    let mut alphas = Vec::new(alloc);
+    for alpha in 1..=sheet.part.pages {
+        let caps = caps_of(alloc, sheet.needs.as_slice(), alpha)?;
+        if bound(&untimed_plan(&sheet.part, alpha, caps)).is_ok() {
+            alphas.push(alpha)?;
+        }
+    }
+    Ok(alphas)
+}
+
+/// The plan of a pick, put to the test.
+fn found_of(alloc: Global, sheet: &Sheet, pick: &Pick) -> Result<Option<Found>, Refusal>
+    ensures of_sheet { IfOk result (λ made. IfSome made (λ found.
+        IsPlanOf sheet.now found.slot_us found.plan)) }
+{
+    let periods = periods(alloc, sheet.needs.as_slice(), pick.slot_us, pick.powers)?;
+    let divisors = divisors(alloc, pick.common)?;
+    let choice = Choice {
+        slot_us: pick.slot_us,
+        periods: periods.as_slice(),
+        common: pick.common,
+        divisors: divisors.as_slice(),
+        alpha: pick.alpha,
+    };
+    match plan_of(alloc, sheet, &choice)? {
+        Some(plan) => Ok(Some(Found {
+            plan,
+            slot_us: pick.slot_us,
+            share: pick.share,
+            life: pick.life,
+        })),
+        None => Ok(None),
+    }
+}
+
+/// Whether a task's period is shorter than the shortest slot.
+fn has_short_period(sheet: &Sheet) -> bool {
+    let shortest = sheet.part.shortest_slot();
+    sheet
+        .needs
+        .as_slice()
+        .iter()
+        .any(|need| need.period(shortest) == 0)
+}
+
+/// What stood against the closest that was tried.
+fn reason_of(
+    sheet: &Sheet,
+    alphas: &[u32],
+    closest: Option<(Share, u32)>,
+    erase: Option<u32>,
+) -> Reason {
+    if has_short_period(sheet) {
+        return Reason::Period {
+            slot_us: sheet.part.shortest_slot(),
+        };
+    }
+    match (closest, erase) {
+        (Some((share, slot_us)), _) => Reason::Demand {
+            demand: share.demand,
+            common: share.common,
+            slot_us,
+        },
+        (None, Some(slots)) if !alphas.is_empty() => Reason::Erase { slots },
+        _ => Reason::Bound,
+    }
+}
+
+/// Looks for a plan of a datasheet. The only refusal is NoMemory.
+pub fn search(alloc: Global, sheet: &Sheet, aim: Aim) -> Result<Searched, Refusal>
+    ensures { IfOk result (λ searched. IfSome searched.found (λ found.
+        IsPlanOf sheet.now found.slot_us found.plan)) }
+{
+    let alphas = alphas_of(alloc, sheet)?;
+    let lengths = lengths(alloc, &sheet.part, sheet.needs.as_slice())?;
+    let mut tries = Tries {
+        alloc,
+        sheet,
+        alphas: alphas.as_slice(),
+        aim,
+        best: None,
+        closest: None,
+    };
+    let erase = tries.try_lengths(lengths.as_slice())?;
+    let found = match &tries.best {
+        Some(pick) => found_of(alloc, sheet, pick)?,
+        None => None,
+    };
+    let reason = reason_of(sheet, alphas.as_slice(), tries.closest, erase);
+    Ok(Searched { found, reason })
 }

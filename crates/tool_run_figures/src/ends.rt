@@ -5,8 +5,13 @@ use std::alloc::{AllocError, Global};
 /// What became of a job or a collection.
 #[derive(Clone, Copy, PartialEq, Eq, Debug, Drop)]
 pub enum Ended {
-    Waiting,
-    Done { lateness: i64 },
+    Waiting {
+        /// Whether it can't be done in time any more: its deadline isn't after the slots that were carried out.
+        late: bool,
+    },
+    Done {
+        lateness: i64,
+    },
     Waived,
 }
 
@@ -22,9 +27,21 @@ pub struct JobEnd {
 #[derive(Clone, Copy, Drop)]
 pub(crate) struct EndCounts {
     pub(crate) waiting: u32,
+    /// Jobs that were done late, or wait past their deadline.
+    pub(crate) late: u32,
     pub(crate) collected: u32,
     pub(crate) waived: u32,
     pub(crate) collecting: u32,
+}
+
+/// Whether a job is late: done after its deadline, or waiting past it.
+fn is_late(end: &JobEnd) -> bool {
+    match end.ended {
+        _ if end.collects => false,
+        Ended::Waiting { late } => late,
+        Ended::Done { lateness } => lateness > 0,
+        Ended::Waived => false,
+    }
 }
 
 /// Whether an end is one of a task, or of any.
@@ -39,6 +56,7 @@ fn is_of(end: &JobEnd, task: Option<u32>) -> bool {
 pub(crate) fn counts_of(ends: &[JobEnd], task: Option<u32>) -> EndCounts {
     let mut counts = EndCounts {
         waiting: 0,
+        late: 0,
         collected: 0,
         waived: 0,
         collecting: 0,
@@ -47,9 +65,10 @@ pub(crate) fn counts_of(ends: &[JobEnd], task: Option<u32>) -> EndCounts {
         if !is_of(end, task) {
             continue;
         }
+        counts.late = counts.late.saturating_add(u32::from(is_late(end)));
         let count = match (end.collects, end.ended) {
-            (false, Ended::Waiting) => &mut counts.waiting,
-            (true, Ended::Waiting) => &mut counts.collecting,
+            (false, Ended::Waiting { .. }) => &mut counts.waiting,
+            (true, Ended::Waiting { .. }) => &mut counts.collecting,
             (true, Ended::Done { .. }) => &mut counts.collected,
             (true, Ended::Waived) => &mut counts.waived,
             (false, _) => continue,

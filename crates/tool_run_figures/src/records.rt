@@ -8,7 +8,7 @@ use crate::ranks::{mean, nearest_rank};
 use std::alloc::{AllocError, Global};
 
 /// How many figures a record has.
-pub(crate) const COLUMNS: usize = 26;
+pub(crate) const COLUMNS: usize = 27;
 
 /// The figures of a task, or of a die.
 #[derive(Clone, Copy, Debug, Drop)]
@@ -35,6 +35,7 @@ fn own_figures(counts: &TaskCounts, ended: EndCounts, rising: &[i64]) -> [Figure
         Figure::count(done),
         Figure::count(ended.waiting),
         Figure::count(counts.refused),
+        Figure::count(ended.late),
         Figure::whole(rising.last().copied()),
         Figure::hundredths(mean(rising)),
         Figure::whole(nearest_rank(rising, 990)),
@@ -69,7 +70,7 @@ fn task_record(
     let rising = lateness_of(alloc, die.ends, Some(task))?;
     let ended = counts_of(die.ends, Some(task));
     let mut figures = own_figures(counts, ended, rising.as_slice());
-    [figures[17], figures[18]] = of_low(counts.least);
+    [figures[18], figures[19]] = of_low(counts.least);
     Ok(Record {
         task: Some(task),
         figures,
@@ -80,15 +81,15 @@ fn die_record(alloc: Global, die: &DieFigures<'_>) -> Result<Record, AllocError>
     let rising = lateness_of(alloc, die.ends, None)?;
     let ended = counts_of(die.ends, None);
     let mut figures = own_figures(&die.counts.sum(), ended, rising.as_slice());
-    figures[13] = Figure::count(die.counts.idle);
-    [figures[19], figures[20]] = of_low(die.counts.least_spare);
+    figures[14] = Figure::count(die.counts.idle);
+    [figures[20], figures[21]] = of_low(die.counts.least_spare);
     let wearing = die.wearing;
-    figures[21] = Figure::count(wearing.erases);
-    figures[22] = Figure::count(wearing.least);
-    figures[23] = Figure::hundredths(wearing.mean());
-    figures[24] = Figure::count(wearing.greatest);
+    figures[22] = Figure::count(wearing.erases);
+    figures[23] = Figure::count(wearing.least);
+    figures[24] = Figure::hundredths(wearing.mean());
+    figures[25] = Figure::count(wearing.greatest);
     if die.life.endurance > 0 && die.life.slot_us > 0 {
-        figures[25] = Figure::hundredths(wearing.years(die.life));
+        figures[26] = Figure::hundredths(wearing.years(die.life));
     }
     Ok(Record {
         task: None,

@@ -11,6 +11,7 @@ const NAMES: [(&str, &str); COLUMNS] = [
     ("done", "jobs done"),
     ("waiting", "jobs waiting"),
     ("refused", "jobs refused"),
+    ("late", "jobs late"),
     ("worst", "lateness: worst"),
     ("mean", "lateness: mean"),
     ("p99", "lateness: 99 % at most"),

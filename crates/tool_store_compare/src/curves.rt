@@ -1,5 +1,6 @@
 //! Curves: which share of some jobs is later than so many slots, on an axis of lateness and a logarithmic one of shares.
 
+use crate::shares::Share;
 use std::io;
 use std::io::Write;
 
@@ -151,12 +152,13 @@ impl Curve {
         }
     }
 
-    /// Of the jobs those that are late or refused, in hundredths of a percent, rounded down.
-    pub(crate) fn late(&self) -> i64 {
+    /// Of the jobs those that are late or refused.
+    pub(crate) fn late(&self) -> Share {
         let in_time = self.rising.partition_point(|late| *late <= 0);
-        let late = self.rising.len().saturating_sub(in_time) as u64;
-        let all = self.rising.len().max(1) as u64;
-        i64::try_from(late.saturating_mul(10_000) / all).unwrap_or(i64::MAX)
+        Share {
+            these: self.rising.len().saturating_sub(in_time),
+            all: self.rising.len(),
+        }
     }
 
     // Of the jobs, of which so many are known not to be later, how many are not.

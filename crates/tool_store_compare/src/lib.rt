@@ -11,6 +11,7 @@ mod figures;
 mod forms;
 mod pictures;
 mod plays;
+mod shares;
 mod store_dies;
 mod tables;
 

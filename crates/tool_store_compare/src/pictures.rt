@@ -2,11 +2,11 @@
 //! a curve a policy.
 
 use crate::curves::{Axis, Corner, Curve, DECADE, HEIGHT, WIDTH};
+use crate::shares::Share;
 use slot_types::Refusal;
 use std::alloc::Global;
 use std::io;
 use std::io::Write;
-use tool_run_figures::Figure;
 
 /// What a picture is of.
 #[derive(Clone, Copy)]
@@ -27,13 +27,15 @@ struct Group {
     path: Vec<u8>,
     /// The places of its curves.
     curves: Vec<usize>,
-    /// In hundredths of a percent.
-    late: i64,
+    /// Which share of the jobs is late.
+    late: Share,
 }
 
-/// The styles. The lines differ in their dashes too, for prints without colour. On a screen that is dark, the picture is too.
+/// The styles. Each curve is thinner than those that are drawn before it, and has longer gaps, in a pattern of 20: so those
+/// that lie on each other can be told apart, in prints without colour, too. On a screen that is dark, the picture is too.
 const STYLES: &str = "<style>
 svg{background:#fff;print-color-adjust:exact;-webkit-print-color-adjust:exact}
+.back{fill:#fff}
 text{font:13px sans-serif;fill:#222}
 .h{font-size:16px;font-weight:bold}
 .e{text-anchor:end}
@@ -43,15 +45,16 @@ text{font:13px sans-serif;fill:#222}
 .due{stroke:#b00020;stroke-dasharray:4 3}
 .late{fill:#b00020;fill-opacity:.05}
 path{fill:none;stroke-width:2}
-.c0{stroke:#0b62a4;stroke-width:3.5}
-.c1{stroke:#b00020}
-.c2{stroke:#b26a00;stroke-dasharray:9 4}
-.c3{stroke:#8a4f9e;stroke-dasharray:2 3}
-.c4{stroke:#1b7837;stroke-dasharray:9 3 2 3}
-.c5{stroke:#222;stroke-dasharray:5 2}
-.c6{stroke:#7a7a7a;stroke-dasharray:1 2}
+.c0{stroke:#0b62a4;stroke-width:5}
+.c1{stroke:#b00020;stroke-width:3.5}
+.c2{stroke:#e08a00;stroke-width:3;stroke-dasharray:16 4}
+.c3{stroke:#8a4f9e;stroke-width:2.6;stroke-dasharray:12 8}
+.c4{stroke:#1b9e47;stroke-width:2.3;stroke-dasharray:8 12}
+.c5{stroke:#222;stroke-width:2;stroke-dasharray:4 16}
+.c6{stroke:#00a0b0;stroke-width:2;stroke-dasharray:2 8}
 @media screen and (prefers-color-scheme:dark){
 svg{background:#16181d}
+.back{fill:#16181d}
 text{fill:#ddd}
 .s{fill:#aaa}
 .axis{stroke:#3a3f48}
@@ -61,6 +64,7 @@ text{fill:#ddd}
 .c3{stroke:#c99adb}
 .c4{stroke:#6bd08a}
 .c5{stroke:#eee}
+.c6{stroke:#4fd0d8}
 }
 </style>";
 
@@ -75,7 +79,7 @@ fn place_of(groups: &[Group], path: &[u8]) -> Option<usize> {
 }
 
 // A group of one curve.
-fn group_of(alloc: Global, path: Vec<u8>, place: usize, late: i64) -> io::Result<Group> {
+fn group_of(alloc: Global, path: Vec<u8>, place: usize, late: Share) -> io::Result<Group> {
     let mut curves = Vec::new(alloc);
     curves.push(place)?;
     Ok(Group { path, curves, late })
@@ -111,6 +115,10 @@ fn put_head(text: &mut Vec<u8>, caption: Caption, jobs: usize) -> io::Result<()>
         "<title>Die {die}, task {task}: which share of its jobs is how late, by policy</title>"
     )?;
     writeln!(text, "{STYLES}")?;
+    writeln!(
+        text,
+        "<rect class=\"back\" width=\"100%\" height=\"100%\"/>"
+    )?;
     writeln!(
         text,
         "<text class=\"h\" x=\"16\" y=\"24\">Die {die}, task {task}: how late its {jobs} jobs were in slots {from} to \
@@ -212,10 +220,10 @@ fn put_names(
         writeln!(text, "<text x=\"614\" y=\"{y}\">{policy}</text>")?;
         y = y.saturating_add(18);
     }
-    let late = Figure::Hundredths(group.late);
+    let late = group.late;
     writeln!(
         text,
-        "<text class=\"e\" x=\"748\" y=\"{top}\">{late} % late</text>"
+        "<text class=\"e\" x=\"808\" y=\"{top}\">{late} % late</text>"
     )?;
     Ok(y.saturating_add(6))
 }
@@ -252,7 +260,7 @@ fn put_picture(
 ) -> io::Result<()> {
     writeln!(
         text,
-        "<svg xmlns=\"http://www.w3.org/2000/svg\" width=\"760\" height=\"400\" viewBox=\"0 0 760 400\">"
+        "<svg xmlns=\"http://www.w3.org/2000/svg\" width=\"820\" height=\"400\" viewBox=\"0 0 820 400\">"
     )?;
     let jobs = match curves.first() {
         Some(curve) => curve.rising.len(),

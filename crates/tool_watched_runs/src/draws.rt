@@ -1,6 +1,6 @@
 //! Runs that are drawn.
 
-ghost use Rattle.std.specs.Prelude.{◌≡◌, ◌≤◌, All, length, IfOk, OnOk};
+ghost use Rattle.std.specs.Prelude.{◌≡◌, ◌+◌, ◌<◌, ◌≤◌, true, All, length, IfOk, IfSome, None, OnOk};
 ghost use Rattle.slot_types.specs.Refusal.{FailsForMemory};
 ghost use Rattle.plan_rules.specs.Bound.{MeetsBound};
 ghost use Rattle.tool_watched_runs.specs.Failing.{IsBeyond};
@@ -15,17 +15,40 @@ use slot_types::{DiePlan, JobNo, MAX_JOBS, MAX_SLOT, Refusal, StorePlan};
 use std::alloc::Global;
 use std::io::Read;
 
+/// The collections that were waived in a window, by number, each with the slot. The only refusal is NoMemory.
+fn waivers_of(alloc: Global, window: &Window) -> Result<Vec<(u32, u32)>, Refusal>
+    ensures { FailsForMemory result }
+{
+    let mut waivers = Vec::new(alloc);
+    for waiver in &window.waived {
+        waivers.push((waiver.whose.job, waiver.slot))?;
+    }
+    waivers.as_mut_slice().sort(alloc)?;
+    Ok(waivers)
+}
+
+/// The slot of these in which a collection was waived.
+fn waived_in(waivers: &[(u32, u32)], number: u32) -> Option<u32> {
+    let place = waivers.partition_point(|(waived, _)| *waived < number);
+    match waivers.get(place) {
+        Some((waived, slot)) if *waived == number => Some(*slot),
+        _ => None,
+    }
+}
+
 /// What became of a job.
-fn end_of(job: &Job<'_>) -> End {
+fn end_of(number: u32, job: &Job<'_>, waivers: &[(u32, u32)]) -> End {
     match job.stage() {
         Stage::Pending => End::Waiting,
         Stage::Done { completion, .. } => End::Done { completion },
-        Stage::Waived { .. } => End::Waived,
+        Stage::Waived { .. } => End::Waived {
+            slot: waived_in(waivers, number).unwrap_or(job.release()),
+        },
     }
 }
 
 /// The job or collection of a number, as a picture shows it.
-fn row_of(number: u32, job: &Job<'_>) -> Row {
+fn row_of(number: u32, job: &Job<'_>, waivers: &[(u32, u32)]) -> Row {
     Row {
         whose: Whose {
             job: number,
@@ -34,20 +57,21 @@ fn row_of(number: u32, job: &Job<'_>) -> Row {
         },
         release: job.release(),
         due: job.due(),
-        end: end_of(job),
+        end: end_of(number, job, waivers),
     }
 }
 
 /// Adds the jobs and collections that have something in the window of a run. The only refusal is NoMemory.
-fn put_rows(rows: &mut Vec<Row>, run: &DieRun) -> Result<(), Refusal>
+fn put_rows(alloc: Global, rows: &mut Vec<Row>, run: &DieRun) -> Result<(), Refusal>
     ensures { FailsForMemory result }
 {
+    let waivers = waivers_of(alloc, &run.window)?;
     let slots = run.core.now();
     for number in 0..MAX_JOBS {
         let Some(job) = run.core.job_record(JobNo(number)) else {
             break;
         };
-        let row = row_of(number, &job);
+        let row = row_of(number, &job, &waivers);
         if row.is_seen(&run.window, slots) {
             rows.push(row)?;
         }
@@ -82,10 +106,13 @@ fn first_collection(window: &Window) -> Option<u32> {
     None
 }
 
-/// What of a run is worth a picture.
+/// What of a run is worth a picture: of the worst the end, where its busy interval has too many slots for one.
 fn sights_of(worst: Option<Worst>, window: &Window) -> Sights {
     let worst = match worst {
-        Some(worst) => Some((worst.start, worst.completion)),
+        Some(worst) => {
+            let end = worst.completion;
+            Some((worst.start.max(end.saturating_sub(MOST_SLOTS)), end))
+        }
         None => None,
     };
     Sights {
@@ -94,26 +121,37 @@ fn sights_of(worst: Option<Worst>, window: &Window) -> Sights {
     }
 }
 
+/// The slot in which a die failed, if it did.
+fn failed_in(core: &DieCore<RunNand>) -> Option<u32> {
+    if core.is_stopped() {
+        Some(core.now())
+    } else {
+        None
+    }
+}
+
 /// The picture of a run, or its lines for a terminal. The only refusal is NoMemory.
 fn picture_of(
     alloc: Global,
     run: &DieRun,
     worst: Option<Worst>,
-    as_text: bool,
+    frame: Frame,
 ) -> Result<Vec<u8>, Refusal>
     ensures { FailsForMemory result }
 {
     let mut rows = Vec::new(alloc);
-    put_rows(&mut rows, run)?;
+    put_rows(alloc, &mut rows, run)?;
     let scene = Scene {
         die: run.die,
+        dies: frame.dies,
         slots: run.core.now(),
         tally: &run.tally,
         window: &run.window,
         rows: &rows,
         worst,
+        failed: failed_in(&run.core),
     };
-    if as_text {
+    if frame.shown.as_text {
         lines(alloc, &scene)
     } else {
         picture(alloc, &scene)
@@ -130,6 +168,28 @@ pub struct Shown {
     pub worst: bool,
     /// Whether they are drawn as lines for a terminal, and not as SVG.
     pub as_text: bool,
+    /// Whether all of them are drawn, however many they are.
+    pub all: bool,
+}
+
+/// The most slots of a picture, unless all that are asked for are drawn.
+pub const MOST_SLOTS: u32 = 20_000;
+
+/// A picture that would have too many slots.
+#[derive(Clone, Copy, PartialEq, Eq, Debug, Drop)]
+pub struct TooMany {
+    /// How many it would have.
+    pub slots: u32,
+    /// The first slot of one that is as large as may be, and the slot before which it ends.
+    pub from: u32,
+    pub to: u32,
+}
+
+/// What is drawn, and of how many dies the run has a plan.
+#[derive(Clone, Copy, Drop)]
+struct Frame {
+    shown: Shown,
+    dies: u32,
 }
 
 /// So many slots are drawn before the busy interval of the worst, and after it.
@@ -171,24 +231,65 @@ fn part_of(alloc: Global, window: &Window, from: u32, to: u32) -> Result<Window,
     Ok(part)
 }
 
-/// Leaves of a window the busy interval of the worst, with a margin. The only refusal is NoMemory.
-fn keep_worst(alloc: Global, run: &mut DieRun, worst: &Worst) -> Result<(), Refusal>
+/// The busy interval of the worst of a run of so many slots, with a margin; its end, where it has too many slots.
+fn worst_slots(worst: &Worst, slots: u32, all: bool) -> (u32, u32) {
+    let to = worst.completion.saturating_add(MARGIN).min(slots);
+    let from = worst.start.saturating_sub(MARGIN).min(to);
+    if all {
+        (from, to)
+    } else {
+        (from.max(to.saturating_sub(MOST_SLOTS)), to)
+    }
+}
+
+/// Leaves of a window the busy interval of the worst. The only refusal is NoMemory.
+fn keep_worst(alloc: Global, run: &mut DieRun, worst: &Worst, all: bool) -> Result<(), Refusal>
     ensures { FailsForMemory result }
 {
-    let from = worst.start.saturating_sub(MARGIN);
-    let to = worst.completion.saturating_add(MARGIN).min(run.core.now());
-    run.window = part_of(alloc, &run.window, from.min(to), to)?;
+    let (from, to) = worst_slots(worst, run.core.now(), all);
+    run.window = part_of(alloc, &run.window, from, to)?;
     Ok(())
+}
+
+/// Leaves of a window what lies before the slot in which the die failed, and that slot.
+fn cut_off(run: &mut DieRun) {
+    if let Some(failed) = failed_in(&run.core) {
+        let end = failed.saturating_add(1).max(run.window.from);
+        run.window.to = run.window.to.min(end);
+    }
 }
 
 impl Shown {
     /// The slots that are looked at in a run of so many.
-    fn seen(&self, slots: u32) -> (u32, u32) {
+    fn seen(&self, slots: u32) -> (u32, u32)
+        ensures order { result.0 ≤ result.1 }
+        ensures within { result.1 ≤ slots }
+    {
         if self.worst {
             return (0, slots);
         }
         let to = self.to.min(slots);
         (self.from.min(to), to)
+    }
+
+    /// Whether the picture of a run of so many slots would have too many: where it isn't that of the worst, and not all are
+    /// asked for. The window that would do has the first of them.
+    pub fn too_many(&self, slots: u32) -> Option<TooMany>
+        ensures larger { IfSome result (λ many. 20000 < many.slots) }
+        ensures window { IfSome result (λ many.
+            (many.to ≡ many.from + 20000) × (many.to ≤ slots)) }
+        ensures all { self.now.all ≡ true → result ≡ None }
+    {
+        let (from, to) = self.seen(slots);
+        let many = to.saturating_sub(from);
+        if self.all || self.worst || many <= MOST_SLOTS {
+            return None;
+        }
+        Some(TooMany {
+            slots: many,
+            from,
+            to: from.saturating_add(MOST_SLOTS),
+        })
     }
 }
 
@@ -222,17 +323,18 @@ fn one_die(
 }
 
 /// Draws a die that ran, and tells what of it is worth a picture. The only refusal is NoMemory.
-fn draw_run(alloc: Global, run: &mut DieRun, shown: Shown) -> Result<(Vec<u8>, Sights), Refusal>
+fn draw_run(alloc: Global, run: &mut DieRun, frame: Frame) -> Result<(Vec<u8>, Sights), Refusal>
     ensures { FailsForMemory result }
 {
     let worst = worst_of(alloc, &run.core)?;
     let sights = sights_of(worst, &run.window);
-    if shown.worst
+    if frame.shown.worst
         && let Some(worst) = &worst
     {
-        keep_worst(alloc, run, worst)?;
+        keep_worst(alloc, run, worst, frame.shown.all)?;
     }
-    let text = picture_of(alloc, run, worst, shown.as_text)?;
+    cut_off(run);
+    let text = picture_of(alloc, run, worst, frame)?;
     Ok((text, sights))
 }
 
@@ -240,12 +342,12 @@ fn draw_run(alloc: Global, run: &mut DieRun, shown: Shown) -> Result<(Vec<u8>, S
 fn draw_dies(
     alloc: Global,
     dies: &mut Vec<Box<DieRun>>,
-    shown: Shown,
+    frame: Frame,
 ) -> Result<(Vec<u8>, Sights), Refusal>
     ensures { FailsForMemory result }
 {
     match dies.first_mut() {
-        Some(run) => draw_run(alloc, run, shown),
+        Some(run) => draw_run(alloc, run, frame),
         None => Ok((Vec::new(alloc), Sights::NONE)),
     }
 }
@@ -254,12 +356,12 @@ fn draw_dies(
 fn drawn(
     alloc: Global,
     ran: Result<Ran, Refusal>,
-    shown: Shown,
+    frame: Frame,
     fail: Option<FailAt>,
 ) -> Result<Reported, Refusal> {
     let Ran { mut dies, refused } = ran?;
     let failure = failure_of(fail, dies.as_slice());
-    let (text, sights) = draw_dies(alloc, &mut dies, shown)?;
+    let (text, sights) = draw_dies(alloc, &mut dies, frame)?;
     Ok(Reported {
         text,
         refused,
@@ -269,7 +371,9 @@ fn drawn(
 }
 
 /// Runs a script on a die of a store, and draws what its slots carried: those that are asked for, or the busy interval
-/// of the worst; as SVG, or as lines for a terminal. One device may be to fail: where it is that of this die, the die
+/// of the worst, of which there are at most [`MOST_SLOTS`] unless all are asked for; as SVG, or as lines for a terminal.
+/// It doesn't ask whether the picture has too many slots: [`Shown::too_many`] does. Its time and its memory grow with
+/// the slots, the rows and the operations, and not with how many of them wait at once. One device may be to fail: where it is that of this die, the die
 /// stays in that slot, and refuses all later rows.
 ///
 /// Refused with UnknownDie where the die whose device is to fail isn't there, or the one that is drawn; with the first
@@ -289,7 +393,11 @@ pub fn draw<R: Read + Drop>(
 {
     check_failing(fail, plan.len())?;
     let mut script = ScriptReader::new(alloc, script, &plan, slots)?;
+    let frame = Frame {
+        shown,
+        dies: u32::try_from(plan.len()).unwrap_or(u32::MAX),
+    };
     let dies = one_die(alloc, plan, die, calls_of(fail, die), shown.seen(slots));
     let ran = run_on(alloc, &mut script, dies, slots);
-    drawn(alloc, ran, shown, fail)
+    drawn(alloc, ran, frame, fail)
 }

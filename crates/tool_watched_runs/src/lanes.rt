@@ -3,42 +3,30 @@
 use crate::layouts::{Band, LEFT, Layout};
 use crate::pictures::Scene;
 use crate::rows::{End, Row};
+use crate::spans::Span;
 use std::io;
 use std::io::Write;
 
-/// Draws how long a job waits in a band.
-fn put_wait(
-    text: &mut Vec<u8>,
-    row: &Row,
-    band: &Band,
-    y: u64,
-    scene: &Scene<'_>,
-    cell: u32,
-) -> io::Result<()> {
-    let first = row.release.max(band.first);
-    let end = row.until(scene.slots).min(band.end);
-    if first >= end {
+/// Draws how long a lane's jobs wait in a band.
+fn put_wait(text: &mut Vec<u8>, span: &Span, band: &Band, cell: u32) -> io::Result<()> {
+    let Some(lane) = band.lane_of(span.key) else {
         return Ok(());
-    }
+    };
+    let (first, end) = (span.first.max(band.first), span.end.min(band.end));
     let (x, right) = (band.x_of(first, cell), band.x_of(end, cell));
-    let middle = y.saturating_add(9);
+    let middle = band.y_of(lane).saturating_add(9);
     writeln!(text, "<path class=\"wait\" d=\"M{x},{middle}H{right}\"/>")
 }
 
-/// Draws how long each job waits.
-pub fn put_waits(text: &mut Vec<u8>, scene: &Scene<'_>, layout: &Layout) -> io::Result<()> {
-    for row in scene.rows {
-        if row.end == End::Waived {
-            continue;
-        }
-        let (first, end) = layout.bands_of(row, scene.window, scene.slots);
+/// Draws how long the jobs of each lane wait.
+pub fn put_waits(text: &mut Vec<u8>, layout: &Layout) -> io::Result<()> {
+    for span in &layout.waits {
+        let (first, end) = layout.bands_in(span);
         for place in first..end {
             let Some(band) = layout.bands.get(place) else {
                 break;
             };
-            if let Some(spot) = layout.spot(band.first, row.whose) {
-                put_wait(text, row, band, spot.y, scene, layout.cell)?;
-            }
+            put_wait(text, span, band, layout.cell)?;
         }
     }
     Ok(())
@@ -88,7 +76,7 @@ pub fn put_times(text: &mut Vec<u8>, scene: &Scene<'_>, layout: &Layout) -> io::
 fn put_end(text: &mut Vec<u8>, row: &Row) -> io::Result<()> {
     match row.end {
         End::Waiting => write!(text, "it waits"),
-        End::Waived => write!(text, "waived"),
+        End::Waived { .. } => write!(text, "waived"),
         End::Done { completion } => {
             let lateness = i64::from(completion) - i64::from(row.due);
             write!(text, "completed {completion}, lateness {lateness}")

@@ -5,6 +5,7 @@ ghost use Rattle.std.specs.Prelude.{◌<◌};
 ghost use Rattle.slot_types.specs.Refusal.{FailsForMemory};
 
 use crate::rows::Row;
+use crate::spans::{Span, Waiting, key_of, spans_of};
 use crate::windows::{Whose, Window};
 use slot_types::Refusal;
 use std::alloc::Global;
@@ -14,7 +15,7 @@ pub const SPAN: u32 = 1000;
 /// Where the first slot of a band begins, from the left.
 pub const LEFT: u64 = 150;
 /// Where the first band begins, from the top.
-const TOP: u64 = 104;
+const TOP: u64 = 124;
 /// The height of a band's ruler.
 pub const RULER: u64 = 18;
 /// The height of a lane.
@@ -57,6 +58,8 @@ pub struct Layout {
     pub by_task: bool,
     from: u32,
     pub bands: Vec<Band>,
+    /// The slots in which jobs wait, by lane.
+    pub waits: Vec<Span>,
     /// The height of the picture.
     pub height: u64,
 }
@@ -144,20 +147,9 @@ impl Layout {
             by_task,
             from: window.from,
             bands,
+            waits: Vec::new(alloc),
             height: 0,
         })
-    }
-
-    /// The key of a job's lane.
-    fn key_of(&self, whose: Whose) -> u32 {
-        if self.by_task {
-            whose
-                .task
-                .saturating_mul(2)
-                .saturating_add(u32::from(whose.collects))
-        } else {
-            whose.job
-        }
     }
 
     /// The number of a slot's band.
@@ -165,46 +157,62 @@ impl Layout {
         (slot.saturating_sub(self.from) / self.across.max(1)) as usize
     }
 
-    /// Gives a job a lane in the band of a slot, and says whether that has too many.
-    fn add_at(&mut self, slot: u32, whose: Whose) -> Result<bool, Refusal>
+    /// Gives a key a lane in a band, and says whether that has too many.
+    fn add_to(&mut self, band: usize, key: u32) -> Result<bool, Refusal>
         ensures { FailsForMemory result }
     {
-        let (band, key) = (self.band_of(slot), self.key_of(whose));
         match self.bands.get_mut(band) {
             Some(band) => band.add(key),
             None => Ok(false),
         }
     }
 
-    /// The bands in which a row waits, from one to before another, in a run of so many slots.
-    pub fn bands_of(&self, row: &Row, window: &Window, slots: u32) -> (usize, usize) {
-        let first = row.release.max(window.from);
-        let until = row.until(slots).min(window.to);
-        if first < until {
-            (
-                self.band_of(first),
-                self.band_of(until - 1).saturating_add(1),
-            )
+    /// Gives a job a lane in the band of a slot, and says whether that has too many.
+    fn add_at(&mut self, slot: u32, whose: Whose) -> Result<bool, Refusal>
+        ensures { FailsForMemory result }
+    {
+        self.add_to(self.band_of(slot), key_of(whose, self.by_task))
+    }
+
+    /// The bands of slots of the window, from one to before another: from one band to before another.
+    fn bands_between(&self, first: u32, end: u32) -> (usize, usize) {
+        if first < end {
+            (self.band_of(first), self.band_of(end - 1).saturating_add(1))
         } else {
             (0, 0)
         }
     }
 
-    /// The first slot of a band.
-    fn first_of(&self, band: usize) -> u32 {
-        let start = (band as u64).saturating_mul(u64::from(self.across));
-        self.from
-            .saturating_add(u32::try_from(start).unwrap_or(u32::MAX))
+    /// The bands in which a row waits, from one to before another, in a run of so many slots.
+    pub fn bands_of(&self, row: &Row, window: &Window, slots: u32) -> (usize, usize) {
+        let first = row.release.max(window.from);
+        self.bands_between(first, row.until(slots).min(window.to))
     }
 
-    /// Gives a row its lanes, in a run of so many slots, and says whether a band has too many.
-    fn add_row(&mut self, row: &Row, window: &Window, slots: u32) -> Result<bool, Refusal>
+    /// The bands of a span, from one to before another.
+    pub fn bands_in(&self, span: &Span) -> (usize, usize) {
+        self.bands_between(span.first, span.end)
+    }
+
+    /// Gives the lane of a span its place in each band of it, and says whether one has too many.
+    fn add_span(&mut self, span: &Span) -> Result<bool, Refusal>
         ensures { FailsForMemory result }
     {
         let mut full = false;
-        let (first, end) = self.bands_of(row, window, slots);
+        let (first, end) = self.bands_in(span);
         for band in first..end {
-            full |= self.add_at(self.first_of(band), row.whose)?;
+            full |= self.add_to(band, span.key)?;
+        }
+        Ok(full)
+    }
+
+    /// Gives a row a lane where its deadline is, and where it was waived, and says whether a band has too many.
+    fn add_row(&mut self, row: &Row, window: &Window) -> Result<bool, Refusal>
+        ensures { FailsForMemory result }
+    {
+        let mut full = false;
+        if row.is_waived() && window.has(row.release) {
+            full |= self.add_at(row.release, row.whose)?;
         }
         let due = row.last_in_time();
         if window.has(due) {
@@ -213,12 +221,24 @@ impl Layout {
         Ok(full)
     }
 
-    /// Gives all their lanes, and says whether a band has too many.
-    fn add_all(&mut self, window: &Window, rows: &[Row], slots: u32) -> Result<bool, Refusal>
+    /// Gives a lane to each that waits, and says whether a band has too many.
+    fn add_spans(&mut self, spans: &[Span]) -> Result<bool, Refusal>
+        ensures { FailsForMemory result }
+    {
+        for span in spans {
+            if self.add_span(span)? && !self.by_task {
+                return Ok(true);
+            }
+        }
+        Ok(false)
+    }
+
+    /// Gives all others their lanes, and says whether a band has too many.
+    fn add_all(&mut self, window: &Window, rows: &[Row]) -> Result<bool, Refusal>
         ensures { FailsForMemory result }
     {
         for row in rows {
-            if self.add_row(row, window, slots)? && !self.by_task {
+            if self.add_row(row, window)? && !self.by_task {
                 return Ok(true);
             }
         }
@@ -250,38 +270,24 @@ impl Layout {
         Layout::of(alloc, window, rows, slots, cell)
     }
 
-    /// A lane a job, with slots that are so wide; none where a band would have too many. The only refusal is NoMemory.
-    fn by_job(
+    /// A lane a job, or a lane a task, with slots that are so wide; and whether a band has too many. The only refusal is
+    /// NoMemory.
+    fn with_lanes(
         alloc: Global,
         window: &Window,
         rows: &[Row],
         slots: u32,
         cell: u32,
-    ) -> Result<Option<Layout>, Refusal>
+        by_task: bool,
+    ) -> Result<(Layout, bool), Refusal>
         ensures { FailsForMemory result }
     {
-        let mut layout = Layout::empty(alloc, window, cell, false)?;
-        if layout.add_all(window, rows, slots)? {
-            return Ok(None);
-        }
+        let waits = spans_of(alloc, window, rows, slots, by_task, Waiting::Any)?;
+        let mut layout = Layout::empty(alloc, window, cell, by_task)?;
+        let full = layout.add_spans(&waits)? || layout.add_all(window, rows)?;
         layout.place();
-        Ok(Some(layout))
-    }
-
-    /// A lane a task, with slots that are so wide. The only refusal is NoMemory.
-    fn by_task(
-        alloc: Global,
-        window: &Window,
-        rows: &[Row],
-        slots: u32,
-        cell: u32,
-    ) -> Result<Layout, Refusal>
-        ensures { FailsForMemory result }
-    {
-        let mut layout = Layout::empty(alloc, window, cell, true)?;
-        layout.add_all(window, rows, slots)?;
-        layout.place();
-        Ok(layout)
+        layout.waits = waits;
+        Ok((layout, full))
     }
 
     /// The same as [`new`](Layout::new), with slots that are so wide.
@@ -294,10 +300,12 @@ impl Layout {
     ) -> Result<Layout, Refusal>
         ensures { FailsForMemory result }
     {
-        match Layout::by_job(alloc, window, rows, slots, cell)? {
-            Some(layout) => Ok(layout),
-            None => Layout::by_task(alloc, window, rows, slots, cell),
+        let (by_job, full) = Layout::with_lanes(alloc, window, rows, slots, cell, false)?;
+        if !full {
+            return Ok(by_job);
         }
+        let (by_task, _) = Layout::with_lanes(alloc, window, rows, slots, cell, true)?;
+        Ok(by_task)
     }
 
     /// The band of a slot, if it is in the window.
@@ -310,14 +318,14 @@ impl Layout {
 
     /// The band of a slot, and the lane of a job in it.
     pub fn place_of(&self, slot: u32, whose: Whose) -> Option<(usize, usize)> {
-        let lane = self.band_at(slot)?.lane_of(self.key_of(whose))?;
+        let lane = self.band_at(slot)?.lane_of(key_of(whose, self.by_task))?;
         Some((self.band_of(slot), lane))
     }
 
     /// Where a slot of a job stands.
     pub fn spot(&self, slot: u32, whose: Whose) -> Option<Spot> {
         let band = self.band_at(slot)?;
-        let lane = band.lane_of(self.key_of(whose))?;
+        let lane = band.lane_of(key_of(whose, self.by_task))?;
         Some(Spot {
             x: band.x_of(slot, self.cell),
             y: band.y_of(lane),

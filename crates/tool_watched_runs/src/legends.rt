@@ -1,6 +1,7 @@
 //! The head of a picture: its styles, what it is of, and what its colours and marks mean.
 
 use crate::kinds::{KINDS, class_of, name_of};
+use crate::levels::put_class;
 use crate::pictures::Scene;
 use crate::sentences::{put_counts, put_title, put_worst_of};
 use std::io;
@@ -11,6 +12,7 @@ use std::io::Write;
 const STYLES: &str = "<style>
 @media print{svg{width:100%;height:auto}}
 svg{background:#fff;print-color-adjust:exact;-webkit-print-color-adjust:exact}
+.back{fill:#fff}
 text{font:11px sans-serif;fill:#222}
 .h{font-size:16px;font-weight:bold}
 .l{text-anchor:end}
@@ -31,9 +33,20 @@ text{font:11px sans-serif;fill:#222}
 .end{fill:#000}
 .w{fill:#fff}
 .spare{fill:none;stroke:#222;stroke-width:2}
-.tokens{fill:none;stroke:#0b62a4}
+.tokens{fill:none;stroke-width:1.5}
+.t0{stroke:#0b62a4}
+.t1{stroke:#b26a00}
+.t2{stroke:#1b7837}
+.t3{stroke:#8a4f9e}
+.t4{stroke:#b00020}
+.t5{stroke:#00808a}
+.t6{stroke:#7a6a00}
+.t7{stroke:#c2408f}
+.dashed{stroke-dasharray:5 2}
+.failed{fill:none;stroke:#b00020;stroke-width:2}
 @media screen and (prefers-color-scheme:dark){
 svg{background:#16181d}
+.back{fill:#16181d}
 text{fill:#ddd}
 .n{fill:#aaa}
 .p{fill:#222}
@@ -45,7 +58,14 @@ text{fill:#ddd}
 .write{fill:#2f8fd8}
 .end{fill:#fff}
 .spare{stroke:#eee}
-.tokens{stroke:#5db0f0}
+.t0{stroke:#5db0f0}
+.t1{stroke:#f0b050}
+.t2{stroke:#6bd08a}
+.t3{stroke:#c99adb}
+.t4,.failed{stroke:#ff8a96}
+.t5{stroke:#4fd0d8}
+.t6{stroke:#d8c860}
+.t7{stroke:#f090c8}
 #release{stroke:#6bd08a}
 #due{stroke:#ff8a96}
 }
@@ -56,9 +76,13 @@ text{fill:#ddd}
 <path id=\"waiver\" d=\"M0,3L5,9L0,15L-5,9Z\" fill=\"#fff\" stroke=\"#222\" stroke-width=\"1.5\"/>
 </defs>";
 
-/// Adds the styles and the marks.
+/// Adds the styles and the marks, and a background: not each program that shows pictures has one of its own.
 pub fn put_styles(text: &mut Vec<u8>) -> io::Result<()> {
-    writeln!(text, "{STYLES}")
+    writeln!(text, "{STYLES}")?;
+    writeln!(
+        text,
+        "<rect class=\"back\" width=\"100%\" height=\"100%\"/>"
+    )
 }
 
 /// Adds what the picture is of, and the counts of the whole run.
@@ -127,4 +151,32 @@ pub fn put_legend(text: &mut Vec<u8>) -> io::Result<()> {
         "<path class=\"wait\" d=\"M1018,83h14\"/><text x=\"1038\" y=\"87\">waits</text>"
     )?;
     put_sample(text, 1088, "end", "done")
+}
+
+/// Adds an item of the legend whose sample is the curve of a series.
+fn put_curve(text: &mut Vec<u8>, x: u64, series: usize) -> io::Result<()> {
+    let after = x.saturating_add(20);
+    write!(text, "<path class=\"")?;
+    put_class(text, series)?;
+    write!(text, "\" d=\"M{x},103h16\"/><text x=\"{after}\" y=\"107\">")?;
+    match series.checked_sub(1) {
+        Some(task) => write!(text, "{task}")?,
+        None => write!(text, "spare pages")?,
+    }
+    writeln!(text, "</text>")
+}
+
+/// Adds what the curves of the window are, of which there are so many.
+pub fn put_curves(text: &mut Vec<u8>, series: usize) -> io::Result<()> {
+    if series == 0 {
+        return Ok(());
+    }
+    put_curve(text, 10, 0)?;
+    writeln!(text, "<text x=\"112\" y=\"107\">tokens of task</text>")?;
+    let mut x: u64 = 196;
+    for task in 1..series {
+        put_curve(text, x, task)?;
+        x = x.saturating_add(48);
+    }
+    Ok(())
 }

@@ -10,20 +10,41 @@ use std::io::Write;
 /// What lies above a band's curves.
 const ABOVE: u64 = 8;
 
+/// How many tasks have a colour of their own.
+const COLOURS: usize = 8;
+
 /// The height of the greatest level.
 const HIGH: u64 = CURVES - ABOVE - 4;
 
-/// The greatest of some levels, at least 1.
-fn greatest_of(levels: &[Level]) -> u32 {
-    let mut greatest: u32 = 1;
-    for level in levels {
-        greatest = greatest.max(level.pages);
+/// The greatest levels, each at least 1: of the spare pages, and of the tokens of any task.
+#[derive(Clone, Copy, Drop)]
+struct Greatest {
+    spare: u32,
+    tokens: u32,
+}
+
+impl Greatest {
+    /// Of some levels.
+    fn of(levels: &[Level]) -> Greatest {
+        let (mut spare, mut tokens) = (1u32, 1u32);
+        for level in levels {
+            if level.series == 0 {
+                spare = spare.max(level.pages);
+            } else {
+                tokens = tokens.max(level.pages);
+            }
+        }
+        Greatest { spare, tokens }
     }
-    greatest
+
+    /// The one that a series is measured by.
+    fn of_series(self, series: usize) -> u32 {
+        if series == 0 { self.spare } else { self.tokens }
+    }
 }
 
 /// How many series some levels are of.
-fn series_in(levels: &[Level]) -> usize {
+pub fn series_in(levels: &[Level]) -> usize {
     let mut count: usize = 0;
     for level in levels {
         count = count.max(level.series.saturating_add(1));
@@ -67,6 +88,19 @@ fn height_of(band: &Band, pages: u32, greatest: u32) -> u64 {
     bottom.saturating_sub(high)
 }
 
+/// The class of a series: of the spare pages, or of the tokens of a task. Eight tasks have colours of their own, and eight
+/// more the same ones, dashed.
+pub fn put_class(text: &mut Vec<u8>, series: usize) -> io::Result<()> {
+    match series.checked_sub(1) {
+        None => write!(text, "spare"),
+        Some(task) if task < COLOURS => write!(text, "tokens t{task}"),
+        Some(task) => {
+            let colour = task % COLOURS;
+            write!(text, "tokens t{colour} dashed")
+        }
+    }
+}
+
 /// Draws the curve of a series in a band, which begins at a level, and what then changes.
 fn put_curve(
     text: &mut Vec<u8>,
@@ -77,12 +111,13 @@ fn put_curve(
     first: u32,
     changes: &[Level],
 ) -> io::Result<()> {
-    let class = if series == 0 { "spare" } else { "tokens" };
     let (x, y) = (
         band.x_of(band.first, cell),
         height_of(band, first, greatest),
     );
-    write!(text, "<path class=\"{class}\" d=\"M{x},{y}")?;
+    write!(text, "<path class=\"")?;
+    put_class(text, series)?;
+    write!(text, "\" d=\"M{x},{y}")?;
     for level in changes {
         if level.series == series {
             let x = band.x_of(level.slot, cell);
@@ -99,15 +134,16 @@ fn put_curve(
     writeln!(text, "</title></path>")
 }
 
-/// Names the curves of a band, and tells how high they go.
-fn put_names(text: &mut Vec<u8>, band: &Band, greatest: u32) -> io::Result<()> {
+/// Tells how high the curves of a band go.
+fn put_names(text: &mut Vec<u8>, band: &Band, greatest: Greatest) -> io::Result<()> {
     let x = LEFT.saturating_sub(8);
     let y = band.bottom().saturating_add(ABOVE).saturating_add(17);
     let below = y.saturating_add(14);
+    let Greatest { spare, tokens } = greatest;
     writeln!(
         text,
-        "<text class=\"l\" x=\"{x}\" y=\"{y}\">spare (bold), tokens:</text><text class=\"l\" x=\"{x}\" y=\"{below}\">0 to \
-         {greatest} pages</text>"
+        "<text class=\"l\" x=\"{x}\" y=\"{y}\">spare pages: 0 to {spare}</text><text class=\"l\" x=\"{x}\" \
+         y=\"{below}\">tokens: 0 to {tokens}</text>"
     )
 }
 
@@ -116,13 +152,14 @@ fn put_curves(
     text: &mut Vec<u8>,
     band: &Band,
     cell: u32,
-    greatest: u32,
+    greatest: Greatest,
     now: &[u32],
     changes: &[Level],
 ) -> io::Result<()> {
     put_names(text, band, greatest)?;
     for series in 0..now.len() {
-        put_curve(text, band, cell, greatest, series, now[series], changes)?;
+        let high = greatest.of_series(series);
+        put_curve(text, band, cell, high, series, now[series], changes)?;
     }
     Ok(())
 }
@@ -134,7 +171,7 @@ fn put_bands(
     levels: &[Level],
     layout: &Layout,
 ) -> io::Result<()> {
-    let greatest = greatest_of(levels);
+    let greatest = Greatest::of(levels);
     let mut read: usize = 0;
     for band in &layout.bands {
         let first = place_of(levels, read, band.first.saturating_add(1));

@@ -19,13 +19,14 @@ mod rows;
 mod rulers;
 mod script_runs;
 mod sentences;
+mod spans;
 mod tallies;
 mod terminals;
 mod wear_texts;
 mod windows;
 
 pub use briefs::{ActBrief, Kind, brief_of};
-pub use draws::{Shown, draw};
+pub use draws::{MOST_SLOTS, Shown, TooMany, draw};
 pub use failing::{FailAt, Failure, RunNand, calls_of, check_failing, failure_in};
 pub use pictures::{Scene, Worst, picture};
 pub use refused::RefusedRows;

@@ -5,10 +5,10 @@ ghost use Rattle.slot_types.specs.Refusal.{FailsForMemory};
 use crate::cells::{put_cells, put_gaps, put_waivers};
 use crate::lanes::{put_labels, put_times, put_waits};
 use crate::layouts::Layout;
-use crate::legends::{put_head, put_legend, put_styles};
-use crate::levels::put_levels;
+use crate::legends::{put_curves, put_head, put_legend, put_styles};
+use crate::levels::{put_levels, series_in};
 use crate::rows::Row;
-use crate::rulers::{put_busy_interval, put_rulers};
+use crate::rulers::{put_busy_interval, put_failure, put_rulers};
 use crate::tallies::Tally;
 use crate::windows::{Whose, Window};
 use slot_types::Refusal;
@@ -31,6 +31,8 @@ pub struct Worst {
 #[derive(Clone, Copy)]
 pub struct Scene<'a> {
     pub die: u32,
+    /// How many dies the store has.
+    pub dies: u32,
     /// How many slots the die carried out.
     pub slots: u32,
     pub tally: &'a Tally,
@@ -38,6 +40,8 @@ pub struct Scene<'a> {
     /// Those that have something in the window, by number.
     pub rows: &'a [Row],
     pub worst: Option<Worst>,
+    /// The slot in which the die failed, if it did: it was not carried out, nor was a later one.
+    pub failed: Option<u32>,
 }
 
 /// Draws what is behind the cells.
@@ -50,10 +54,11 @@ fn put_back(
     put_styles(text)?;
     put_head(text, scene)?;
     put_legend(text)?;
+    put_curves(text, series_in(&scene.window.levels))?;
     put_busy_interval(text, scene, layout)?;
     put_rulers(text, layout)?;
     put_levels(alloc, text, scene, layout)?;
-    put_waits(text, scene, layout)
+    put_waits(text, layout)
 }
 
 /// Draws the cells, and what is before them.
@@ -68,7 +73,8 @@ fn put_front(
     put_waivers(text, scene, layout)?;
     // After the waivers, so that the deadline of one that is late isn't hidden by its mark.
     put_times(text, scene, layout)?;
-    put_labels(text, scene, layout)
+    put_labels(text, scene, layout)?;
+    put_failure(text, scene, layout)
 }
 
 /// Draws all of it.

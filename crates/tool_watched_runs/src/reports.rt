@@ -16,13 +16,16 @@ use tool_run_figures::{
     DieFigures, Ended, JobEnd, Life, Record, Wearing, put_csv, put_header, put_table, records_of,
 };
 
-/// What became of a job or a collection.
-fn end_of(job: &Job<'_>) -> JobEnd {
+/// What became of a job or a collection of a die that carried out so many slots. One that waits can't be done before the
+/// end of the next slot.
+fn end_of(job: &Job<'_>, slots: u32) -> JobEnd {
     JobEnd {
         task: job.task().0,
         collects: job.collects(),
         ended: match job.stage() {
-            Stage::Pending => Ended::Waiting,
+            Stage::Pending => Ended::Waiting {
+                late: job.due() <= slots,
+            },
             Stage::Waived { .. } => Ended::Waived,
             Stage::Done { completion, .. } => Ended::Done {
                 lateness: i64::from(completion).saturating_sub(i64::from(job.due())),
@@ -33,11 +36,12 @@ fn end_of(job: &Job<'_>) -> JobEnd {
 
 /// Adds what became of the jobs and collections of a die, by their numbers. The only refusal is NoMemory.
 fn put_ends(ends: &mut Vec<JobEnd>, core: &DieCore<RunNand>) -> Result<(), Refusal> {
+    let slots = core.now();
     for number in 0..MAX_JOBS {
         let Some(job) = core.job_record(JobNo(number)) else {
             break;
         };
-        ends.push(end_of(&job))?;
+        ends.push(end_of(&job, slots))?;
     }
     Ok(())
 }

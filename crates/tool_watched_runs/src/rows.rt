@@ -7,7 +7,8 @@ use crate::windows::{Whose, Window};
 pub enum End {
     Waiting,
     Done { completion: u32 },
-    Waived,
+    /// A collection was waived in this slot, if that lies in the window; else its release stands for it.
+    Waived { slot: u32 },
 }
 
 /// A job or a collection, as it was accepted, and what became of it.
@@ -20,13 +21,20 @@ pub struct Row {
 }
 
 impl Row {
-    /// The slot before which it waited no more, of a run of so many slots. Of one that was waived it is the one after
-    /// its release.
+    /// The slot before which it waited no more, of a run of so many slots.
     pub fn until(&self, slots: u32) -> u32 {
         match self.end {
             End::Waiting => slots,
             End::Done { completion } => completion,
-            End::Waived => self.release.saturating_add(1),
+            End::Waived { slot } => slot.saturating_add(1),
+        }
+    }
+
+    /// Whether it is a collection that was waived.
+    pub fn is_waived(&self) -> bool {
+        match self.end {
+            End::Waived { .. } => true,
+            _ => false,
         }
     }
 
@@ -37,7 +45,8 @@ impl Row {
 
     /// Whether it waited in a slot of the window, or its deadline lies there, in a run of so many slots.
     pub fn is_seen(&self, window: &Window, slots: u32) -> bool {
-        let waited = self.release < window.to && window.from < self.until(slots);
+        let first = self.release.max(window.from);
+        let waited = first < self.until(slots).min(window.to);
         waited || window.has(self.last_in_time())
     }
 }

@@ -2,7 +2,7 @@
 
 ghost use Rattle.std.specs.Prelude.{◌<◌};
 
-use crate::layouts::{Band, LANE, LEFT, Layout, RULER};
+use crate::layouts::{Band, CURVES, LANE, LEFT, Layout, RULER, SPAN};
 use crate::pictures::{Scene, Worst};
 use std::io;
 use std::io::Write;
@@ -29,26 +29,51 @@ fn tick_of(cell: u32) -> u32
     if cell < 20 { 10 } else { 5 }
 }
 
-/// Draws the ticks of a band, and their numbers.
+/// How wide the number of a slot is, with a margin.
+fn width_of(slot: u32) -> u64 {
+    let mut digits: u64 = 1;
+    let mut rest = slot / 10;
+    for _ in 0..10u32 {
+        if rest == 0 {
+            break;
+        }
+        digits = digits.saturating_add(1);
+        rest /= 10;
+    }
+    digits.saturating_mul(6).saturating_add(6)
+}
+
+/// Draws the tick of a slot, without its number.
+fn put_tick(text: &mut Vec<u8>, band: &Band, x: u64) -> io::Result<()> {
+    let (top, below) = (band.top.saturating_add(RULER), band.bottom());
+    write!(text, "<path class=\"tick\" d=\"M{x},{top}V{below}\"/>")
+}
+
+/// Draws the ticks of a band, and the numbers of those that have room for one after the number of the first.
 fn put_ticks(text: &mut Vec<u8>, band: &Band, cell: u32) -> io::Result<()> {
     let every = tick_of(cell);
-    let top = band.top.saturating_add(RULER);
-    let (above, below) = (band.top.saturating_add(11), band.bottom());
+    let y = band.top.saturating_add(11);
+    let free = band
+        .x_of(band.first, cell)
+        .saturating_add(width_of(band.end));
     for slot in band.first..band.end.saturating_add(1) {
-        if slot % every == 0 || slot == band.first {
-            let x = band.x_of(slot, cell);
-            writeln!(
-                text,
-                "<path class=\"tick\" d=\"M{x},{top}V{below}\"/><text class=\"n\" x=\"{x}\" y=\"{above}\">{slot}</text>"
-            )?;
+        if slot % every != 0 && slot != band.first {
+            continue;
         }
+        let x = band.x_of(slot, cell);
+        put_tick(text, band, x)?;
+        if slot == band.first || x >= free {
+            write!(text, "<text class=\"n\" x=\"{x}\" y=\"{y}\">{slot}</text>")?;
+        }
+        writeln!(text)?;
     }
     Ok(())
 }
 
 /// Names the axis of a band.
 fn put_axis(text: &mut Vec<u8>, band: &Band) -> io::Result<()> {
-    let (x, y) = (LEFT.saturating_sub(8), band.top.saturating_add(11));
+    // The number of the first slot stands over the corner, and half of it before that.
+    let (x, y) = (LEFT.saturating_sub(28), band.top.saturating_add(11));
     writeln!(text, "<text class=\"l\" x=\"{x}\" y=\"{y}\">slot</text>")
 }
 
@@ -88,4 +113,33 @@ pub fn put_busy_interval(text: &mut Vec<u8>, scene: &Scene<'_>, layout: &Layout)
         }
     }
     Ok(())
+}
+
+/// Draws where a die failed: a line before the slot, and a word beside it where there is room.
+fn put_failed(text: &mut Vec<u8>, band: &Band, slot: u32, cell: u32) -> io::Result<()> {
+    let (x, top) = (band.x_of(slot, cell), band.top.saturating_add(RULER));
+    let bottom = band.bottom().saturating_add(CURVES).saturating_sub(4);
+    let y = bottom.saturating_sub(4);
+    let right = LEFT.saturating_add(u64::from(SPAN));
+    let (class, beside) = if x.saturating_add(20) > right {
+        ("l late", x.saturating_sub(6))
+    } else {
+        ("late", x.saturating_add(6))
+    };
+    writeln!(
+        text,
+        "<path class=\"failed\" d=\"M{x},{top}V{bottom}\"><title>the die failed in slot {slot}</title></path><text \
+         class=\"{class}\" x=\"{beside}\" y=\"{y}\">failed</text>"
+    )
+}
+
+/// Draws where the die failed, if that lies in the window.
+pub fn put_failure(text: &mut Vec<u8>, scene: &Scene<'_>, layout: &Layout) -> io::Result<()> {
+    let Some(slot) = scene.failed else {
+        return Ok(());
+    };
+    match layout.band_at(slot) {
+        Some(band) => put_failed(text, band, slot, layout.cell),
+        None => Ok(()),
+    }
 }

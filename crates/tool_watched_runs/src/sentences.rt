@@ -9,11 +9,36 @@ fn noun(count: u32, one: &'static str, many: &'static str) -> &'static str {
     if count == 1 { one } else { many }
 }
 
-/// Says which slots of which die are shown.
+/// Names the die, and of how many it is one where there are several.
+fn put_die(text: &mut Vec<u8>, scene: &Scene<'_>) -> io::Result<()> {
+    write!(text, "Die {}", scene.die)?;
+    if scene.dies > 1 {
+        write!(text, " of {}", scene.dies)?;
+    }
+    Ok(())
+}
+
+/// Says in which slot a die failed, where it did, and where that lies before all that is shown.
+fn put_failed(text: &mut Vec<u8>, scene: &Scene<'_>) -> io::Result<()> {
+    let Some(slot) = scene.failed else {
+        return Ok(());
+    };
+    write!(text, "; it failed in slot {slot}")?;
+    if slot < scene.window.from {
+        write!(text, ", before these")?;
+    }
+    Ok(())
+}
+
+/// Says which slots of which die are shown. The one in which it failed counts as one of its slots.
 pub fn put_title(text: &mut Vec<u8>, scene: &Scene<'_>) -> io::Result<()> {
-    let (die, slots) = (scene.die, scene.slots);
     let (from, to) = (scene.window.from, scene.window.to);
-    write!(text, "Die {die}, slots {from} to {to} of {slots}")
+    let slots = scene
+        .slots
+        .saturating_add(u32::from(scene.failed.is_some()));
+    put_die(text, scene)?;
+    write!(text, ", slots {from} to {to} of {slots}")?;
+    put_failed(text, scene)
 }
 
 /// Tells the counts of the whole run.

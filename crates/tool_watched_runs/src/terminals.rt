@@ -5,15 +5,16 @@ ghost use Rattle.slot_types.specs.Refusal.{FailsForMemory};
 use crate::briefs::Kind;
 use crate::layouts::{Band, Layout};
 use crate::pictures::Scene;
-use crate::rows::{End, Row};
+use crate::rows::Row;
 use crate::sentences::{put_counts, put_title, put_worst_of};
+use crate::spans::{Span, Waiting, spans_of};
 use crate::windows::Whose;
 use slot_types::Refusal;
 use std::alloc::Global;
 use std::io;
 use std::io::Write;
 
-/// How wide the names of lanes are.
+/// How wide the names of lanes are at least, with the blank after them.
 const NAMES: usize = 32;
 
 /// How wide a slot of a picture is whose bands have 40 slots.
@@ -44,6 +45,13 @@ struct Grid {
 }
 
 impl Grid {
+    // Fills the slots of a lane from one to before another.
+    fn fill(&mut self, lane: usize, first: u32, end: u32, sign: u8) {
+        for slot in first..end {
+            self.put(lane, slot, sign);
+        }
+    }
+
     fn put(&mut self, lane: usize, slot: u32, sign: u8) {
         let column = slot.saturating_sub(self.first) as usize;
         if column >= self.width {
@@ -90,16 +98,27 @@ fn put_blanks(alloc: Global, grids: &mut Vec<Grid>, layout: &Layout) -> Result<(
     Ok(())
 }
 
-/// Puts how long a row waits into the bands.
-fn put_wait(grids: &mut Vec<Grid>, layout: &Layout, row: &Row, scene: &Scene<'_>) {
-    if row.end == End::Waived {
-        return;
+/// Puts a character into the slots of a span that lie in a band.
+fn put_part(grid: &mut Grid, band: &Band, span: &Span, sign: u8) {
+    if let Some(lane) = band.lane_of(span.key) {
+        grid.fill(
+            lane,
+            span.first.max(band.first),
+            span.end.min(band.end),
+            sign,
+        );
     }
-    let first = row.release.max(scene.window.from);
-    let end = row.until(scene.slots).min(scene.window.to);
-    for slot in first..end {
-        let sign = if slot < row.due { b'.' } else { b'!' };
-        put_sign(grids, layout, slot, row.whose, sign);
+}
+
+/// Puts a character into the slots of spans.
+fn put_spans(grids: &mut Vec<Grid>, layout: &Layout, spans: &[Span], sign: u8) {
+    for span in spans {
+        let (first, end) = layout.bands_in(span);
+        for place in first..end {
+            if let (Some(grid), Some(band)) = (grids.get_mut(place), layout.bands.get(place)) {
+                put_part(grid, band, span, sign);
+            }
+        }
     }
 }
 
@@ -113,11 +132,10 @@ fn put_sign(grids: &mut Vec<Grid>, layout: &Layout, slot: u32, whose: Whose, sig
     }
 }
 
-/// Puts all that the window has into the bands.
-fn put_signs(grids: &mut Vec<Grid>, layout: &Layout, scene: &Scene<'_>) {
-    for row in scene.rows {
-        put_wait(grids, layout, row, scene);
-    }
+/// Puts all that the window has into the bands. In these slots of its lanes something waits past its deadline.
+fn put_signs(grids: &mut Vec<Grid>, layout: &Layout, scene: &Scene<'_>, late: &[Span]) {
+    put_spans(grids, layout, &layout.waits, b'.');
+    put_spans(grids, layout, late, b'!');
     for carried in &scene.window.carried {
         put_sign(
             grids,
@@ -144,18 +162,18 @@ fn put_head(text: &mut Vec<u8>, scene: &Scene<'_>) -> io::Result<()> {
 }
 
 /// Adds blanks, so that a name which began at this length of the text is as wide as all are.
-fn put_blanks_after(text: &mut Vec<u8>, start: usize) -> io::Result<()> {
-    for _ in text.len().saturating_sub(start)..NAMES {
+fn put_blanks_after(text: &mut Vec<u8>, start: usize, width: usize) -> io::Result<()> {
+    for _ in text.len().saturating_sub(start)..width {
         text.push(b' ')?;
     }
     Ok(())
 }
 
 /// Adds the slots of a band that end with 0, each from its column on.
-fn put_ruler(text: &mut Vec<u8>, band: &Band) -> io::Result<()> {
+fn put_ruler(text: &mut Vec<u8>, band: &Band, width: usize) -> io::Result<()> {
     let start = text.len();
     write!(text, "slot")?;
-    put_blanks_after(text, start)?;
+    put_blanks_after(text, start, width)?;
     let left = text.len();
     for slot in band.first..band.end {
         if slot % 10 == 0 {
@@ -168,32 +186,77 @@ fn put_ruler(text: &mut Vec<u8>, band: &Band) -> io::Result<()> {
     writeln!(text)
 }
 
-/// Names the lane of a job.
-fn put_job_name(text: &mut Vec<u8>, key: u32, scene: &Scene<'_>) -> io::Result<()> {
-    for row in scene.rows {
-        if row.whose.job == key {
-            let (kind, task, due) = (row.whose.kind(), row.whose.task, row.due);
-            return write!(text, "{kind} {key}, task {task}, due {due}");
-        }
+/// Names a job.
+fn put_job_name(text: &mut Vec<u8>, row: &Row) -> io::Result<()> {
+    let Whose { job, task, .. } = row.whose;
+    let (kind, due) = (row.whose.kind(), row.due);
+    write!(text, "{kind} {job}, task {task}, due {due}")
+}
+
+/// Names the lane of a job. The rows are rising by their numbers.
+fn put_job_lane(text: &mut Vec<u8>, key: u32, scene: &Scene<'_>) -> io::Result<()> {
+    let place = scene.rows.partition_point(|row| row.whose.job < key);
+    match scene.rows.get(place) {
+        Some(row) if row.whose.job == key => put_job_name(text, row),
+        _ => Ok(()),
     }
-    Ok(())
 }
 
 /// Names the lane of a task's jobs or collections.
-fn put_task_name(text: &mut Vec<u8>, key: u32) -> io::Result<()> {
+fn put_task_lane(text: &mut Vec<u8>, key: u32) -> io::Result<()> {
     let (task, what) = (key / 2, if key % 2 == 0 { "jobs" } else { "collections" });
     write!(text, "task {task}: {what}")
 }
 
 /// Names a lane, as wide as all are.
-fn put_name(text: &mut Vec<u8>, key: u32, layout: &Layout, scene: &Scene<'_>) -> io::Result<()> {
+fn put_name(
+    text: &mut Vec<u8>,
+    key: u32,
+    layout: &Layout,
+    scene: &Scene<'_>,
+    width: usize,
+) -> io::Result<()> {
     let start = text.len();
     if layout.by_task {
-        put_task_name(text, key)?;
+        put_task_lane(text, key)?;
     } else {
-        put_job_name(text, key, scene)?;
+        put_job_lane(text, key, scene)?;
     }
-    put_blanks_after(text, start)
+    put_blanks_after(text, start, width)
+}
+
+/// How wide the names of a picture are: 32, or as the longest one and a blank, where that is more.
+fn width_of(alloc: Global, layout: &Layout, scene: &Scene<'_>) -> io::Result<usize> {
+    let mut width = NAMES;
+    if layout.by_task {
+        return Ok(width);
+    }
+    let mut name = Vec::new(alloc);
+    for row in scene.rows {
+        name.clear();
+        put_job_name(&mut name, row)?;
+        width = width.max(name.len().saturating_add(1));
+    }
+    Ok(width)
+}
+
+/// Marks the slot of a band in which the die failed, if it is there.
+fn put_failed(
+    text: &mut Vec<u8>,
+    band: &Band,
+    failed: Option<u32>,
+    width: usize,
+) -> io::Result<()> {
+    match failed {
+        Some(slot) if band.first <= slot && slot < band.end => {
+            let start = text.len();
+            write!(text, "the die failed")?;
+            let before = slot.saturating_sub(band.first) as usize;
+            put_blanks_after(text, start, width.saturating_add(before))?;
+            writeln!(text, "X")
+        }
+        _ => Ok(()),
+    }
 }
 
 /// Adds the lines of a band.
@@ -203,27 +266,30 @@ fn put_band(
     grid: &Grid,
     layout: &Layout,
     scene: &Scene<'_>,
+    width: usize,
 ) -> io::Result<()> {
     text.push(b'\n')?;
-    put_ruler(text, band)?;
+    put_ruler(text, band, width)?;
     for lane in 0..band.keys.len() {
-        put_name(text, band.keys[lane], layout, scene)?;
+        put_name(text, band.keys[lane], layout, scene, width)?;
         text.write_all(grid.lane(lane))?;
         text.push(b'\n')?;
     }
-    Ok(())
+    put_failed(text, band, scene.failed, width)
 }
 
 /// Adds all lines.
 fn put_lines(
+    alloc: Global,
     text: &mut Vec<u8>,
     grids: &[Grid],
     layout: &Layout,
     scene: &Scene<'_>,
 ) -> io::Result<()> {
     put_head(text, scene)?;
+    let width = width_of(alloc, layout, scene)?;
     for (band, grid) in layout.bands.iter().zip(grids) {
-        put_band(text, band, grid, layout, scene)?;
+        put_band(text, band, grid, layout, scene, width)?;
     }
     Ok(())
 }
@@ -238,7 +304,7 @@ fn lines_of(
     ensures { FailsForMemory result }
 {
     let mut text = Vec::new(alloc);
-    match put_lines(&mut text, grids, layout, scene) {
+    match put_lines(alloc, &mut text, grids, layout, scene) {
         Ok(()) => Ok(text),
         Err(_) => Err(Refusal::NoMemory),
     }
@@ -250,7 +316,9 @@ fn lines_in(alloc: Global, layout: &Layout, scene: &Scene<'_>) -> Result<Vec<u8>
 {
     let mut grids = Vec::new(alloc);
     put_blanks(alloc, &mut grids, layout)?;
-    put_signs(&mut grids, layout, scene);
+    let (window, slots, by_task) = (scene.window, scene.slots, layout.by_task);
+    let late = spans_of(alloc, window, scene.rows, slots, by_task, Waiting::Late)?;
+    put_signs(&mut grids, layout, scene, &late);
     lines_of(alloc, grids.as_slice(), layout, scene)
 }
 

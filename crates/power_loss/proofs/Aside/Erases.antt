@@ -1,5 +1,6 @@
 -- A log may start whatever the counts of erases are.
-use Rattle.std.proofs.Common.{◌≡◌, ℕ, suc, ◌==◌, ◌-◌, cond, List, [], ◌∷◌, length, Option, Some, None, refl, ap, sym, ◌∙◌, subst, inr, arith, get_or}
+use Rattle.std.proofs.Common.{◌≡◌, ℕ, suc, ◌==◌, ◌-◌, cond, List, [], ◌∷◌, length, Option, Some, None, refl, ap, sym}
+use Rattle.std.proofs.Common.{◌∙◌, subst, inr, arith, get_or}
 use Rattle.std.specs.Prelude.{option_map, sum_by}
 use Rattle.std.proofs.lemmas.List.Sums.{sum_by-cons}
 use Rattle.slot_types.specs.Places.{place_of}
@@ -10,7 +11,7 @@ use Rattle.die_log.specs.Model.Flash.{Block, Cells, free_block, free_in}
 use Rattle.die_log.specs.Model.Opening.{IsOpening}
 use Rattle.die_log.specs.Model.Start.{Start}
 use Rattle.power_loss.specs.Aside.{renumbered, with_cells, AgreeButErases, AreUntrimmed}
-use Rattle.power_loss.specs.Labels.{Label, Labels, IsLabelled}
+use Rattle.power_loss.specs.Labels.{Labels, Shown, IsLabelled}
 use Rattle.power_loss.specs.Recovery.{IsRecoverable}
 use Rattle.power_loss.proofs.Aside.Renumbering.{AreRenumbered, renumbered_recoverable}
 
@@ -42,7 +43,7 @@ same_place_of : (o : Option Place) → o ≡ option_map (renumbered (λ b. b)) o
 same_place_of None = refl
 same_place_of (Some q) = refl
 
-agree : (c d : Cells) (blocks : List (List Label)) → AgreeButErases c d → AreRenumbered (λ b. b) (λ b. b) c d blocks blocks
+agree : (c d : Cells) (blocks : Shown) → AgreeButErases c d → AreRenumbered (λ b. b) (λ b. b) c d blocks blocks
 agree c d blocks a = record {
   here = λ b. inr (record { filled = a.filled b; erasing = a.erasing b; labels = refl; back_again = refl });
   there = λ b. inr (record { filled = a.filled b; erasing = a.erasing b; labels = refl; back_again = refl });
@@ -63,7 +64,7 @@ any_erases start first opens labelled untrimmed d a =
       contents = opens.pages;
       blank = opens.blank;
     } in
-    let k : IsRecoverable plan d start.contents first (λ page. 0) = renumbered_recoverable plan plan (λ b. b) (λ b. b) c d start.contents first first
+    let k : IsRecoverable plan d start.contents first (λ page. 0) = renumbered_recoverable plan plan (λ b. b) (λ b. b) c d start.contents first first (λ page. 0)
     (refl, refl, refl) (agree c d first.blocks a) refl (a.blocks ∙ opens.sound.blocks) (labelled.labelled.blocks ∙ sym a.blocks)
     (ap (λ (places : List (Option Place)). length places) a.places) h in (
       record {

@@ -1,6 +1,9 @@
 -- A die's cells and labels stand on the part with other numbers, and those of the part on the die.
-use Rattle.std.proofs.Common.{◌≡◌, ◌≢◌, ◌⊎◌, ℕ, ◌+◌, ◌<◌, ◌≤◌, List, [], ◌∷◌, length, Option, None, refl, ap, sym, ◌∙◌, subst, inl, inr, arith}
-use Rattle.std.specs.Prelude.{option_map, Contains, sum_by}
+use Rattle.std.proofs.Common.{◌≡◌, ◌≢◌, ◌⊎◌, ℕ, ◌+◌, ◌<◌, ◌≤◌, List, [], ◌∷◌, length, Option, None, refl, ap, sym, ◌∙◌}
+use Rattle.std.proofs.Common.{inl, inr, arith}
+use Rattle.std.proofs.Common.{get_or, Some}
+use Rattle.std.specs.Prelude.{option_map, sum_by}
+use Rattle.std.proofs.lemmas.Option.{none-some}
 use Rattle.std.proofs.Math.ListN.{get_or-map}
 use Rattle.std.proofs.lemmas.Bool.{cases_eq, cases_lt}
 use Rattle.std.proofs.lemmas.List.{length-map, get_or_past}
@@ -11,13 +14,17 @@ use Rattle.slot_types.specs.declared.pages.Place.{Place}
 use Rattle.die_log.specs.Model.Flash.{Block, Cells, block_at, free_block, free_in}
 use Rattle.die_log.specs.Invariants.SoundCells.{AreSoundCells}
 use Rattle.die_log.proofs.Cells.FreePages.{free_idle}
-use Rattle.power_loss.specs.Aside.{on_die, on_part, renumbered, renumbered_places, without_aside, part_cells, part_labels, die_cells, die_labels, part_of, MaySeeOnPart}
-use Rattle.power_loss.specs.Labels.{Label, Labels, labels_in, AreLabelled}
+use Rattle.power_loss.specs.Aside.{on_die, on_part, renumbered, renumbered_places, without_aside, part_cells}
+use Rattle.power_loss.specs.Aside.{part_labels, die_cells, die_labels, part_of, MaySeeOnPart}
+use Rattle.power_loss.specs.Labels.{Label, Labels, Shown, labels_in, label_at, AreLabelled}
 use Rattle.power_loss.specs.Recovery.{IsRecoverable, IsFreeBlock, AreIdle}
 use Rattle.power_loss.specs.Seen.{MaySeePlaced}
-use Rattle.power_loss.proofs.Aside.Lists.{die_last, die_other, part_aside, part_other, without_length, without_at, without_past, without_sum, with_length, with_at, with_at_aside}
-use Rattle.power_loss.proofs.Aside.Renumbering.{IsNobodys, IsThe, AreRenumbered, LiesThere, nobodys, the, HasSame, lies, renumbered_recoverable}
+use Rattle.power_loss.proofs.Aside.Lists.{die_last, die_other, part_aside, part_other, without_length, without_at}
+use Rattle.power_loss.proofs.Aside.Lists.{without_past, without_sum, with_length, with_at, with_at_aside}
+use Rattle.power_loss.proofs.Aside.Renumbering.{IsNobodys, IsThe, AreRenumbered, LiesThere, nobodys, the, HasSame, lies}
+use Rattle.power_loss.proofs.Aside.Renumbering.{renumbered_recoverable, there_is}
 use Rattle.power_loss.proofs.Remounting.{placed_within}
+use Rattle.power_loss.proofs.Steps.{cell}
 
 -- Numbers, back and forth
 
@@ -55,7 +62,7 @@ die_below last aside b le stands other = by_case (cases_eq b last)
     by_case (inl is) = omega (arith, die_last last aside b is, le, is, other)
     by_case (inr away) = omega (arith, die_other last aside b away, stands, away)
 
-places_at : (number : ℕ → ℕ) (places : List (Option Place)) (page : ℕ)
+pub places_at : (number : ℕ → ℕ) (places : List (Option Place)) (page : ℕ)
     → place_of (renumbered_places number places) page ≡ option_map (renumbered number) (place_of places page)
 places_at number places page = get_or-map (option_map (renumbered number)) places page None
 
@@ -80,7 +87,7 @@ stands_on_part last aside c l le e f = record {
     p : Cells
     p = part_cells last aside c
 
-    m : List (List Label)
+    m : Shown
     m = (part_labels aside l).blocks
 
     here_by : (b : ℕ) → (b ≡ aside) ⊎ (b ≡ aside → ⊥) → IsNobodys (block_at p b) (labels_in m b)
@@ -111,66 +118,84 @@ stands_on_part last aside c l le e f = record {
 abbrev same_shape : (plan : DiePlan) → HasSame plan (part_of plan)
 same_shape plan = (refl, refl, refl)
 
-pub part_recoverable : (plan : DiePlan) (aside : ℕ) (c : Cells) (pages : List PageData) (l : Labels) → aside ≤ plan.shape.blocks
-    → IsRecoverable plan c pages l (λ page. 0)
-    → IsRecoverable (part_of plan) (part_cells plan.shape.blocks aside c) pages (part_labels aside l) (λ page. 0)
-part_recoverable plan aside c pages l le h =
+pub part_recoverable : (plan : DiePlan) (aside : ℕ) (c : Cells) (pages : List PageData) (l : Labels) (from : ℕ → ℕ) → aside ≤ plan.shape.blocks
+    → IsRecoverable plan c pages l from
+    → IsRecoverable (part_of plan) (part_cells plan.shape.blocks aside c) pages (part_labels aside l) from
+part_recoverable plan aside c pages l from le h =
     let last = plan.shape.blocks in
     let e = h.sound.blocks in
     let f : length l.blocks ≡ last = h.labelled.blocks ∙ e in
-    renumbered_recoverable plan (part_of plan) (on_part last aside) (on_die last aside) c (part_cells last aside c) pages l (part_labels aside l)
+    renumbered_recoverable plan (part_of plan) (on_part last aside) (on_die last aside) c (part_cells last aside c) pages l (part_labels aside l) from
     (same_shape plan) (stands_on_part last aside c l le e f) refl
     (omega (arith, with_length aside free_block c.blocks, e))
-    (omega (arith, with_length {A = List Label} aside [] l.blocks, with_length aside free_block c.blocks, h.labelled.blocks))
+    (omega (arith, with_length {A = List (Option Label)} aside [] l.blocks, with_length aside free_block c.blocks, h.labelled.blocks))
     (length-map c.places (option_map (renumbered (on_part last aside)))) h
+
+-- a label of a placed page counts on the part as on the die
+pub part_counts : (plan : DiePlan) (aside : ℕ) (c : Cells) (pages : List PageData) (l : Labels) (known : ℕ → ℕ) → aside ≤ plan.shape.blocks
+    → {from : ℕ → ℕ} → IsRecoverable plan c pages l from
+    → ((page : ℕ) (q : Place) (x : Label) → place_of c.places page ≡ Some q → label_at l.blocks q ≡ Some x → known page ≤ x.serial)
+    → (page : ℕ) (q : Place) (x : Label) → place_of (part_cells plan.shape.blocks aside c).places page ≡ Some q
+    → label_at (part_labels aside l).blocks q ≡ Some x → known page ≤ x.serial
+part_counts plan aside c pages l known le h counts page q x e f =
+    let last = plan.shape.blocks in
+    let blocks : length l.blocks ≡ last = h.labelled.blocks ∙ h.sound.blocks in
+    let r = stands_on_part last aside c l le h.sound.blocks blocks in
+    let k = lies (on_part last aside) (on_die last aside) c (part_cells last aside c) l.blocks (part_labels aside l).blocks r page q e in
+    counts page k.place x k.stands
+    (there_is plan (on_part last aside) (on_die last aside) c (part_cells last aside c) l.blocks (part_labels aside l).blocks r h.sound page q x f k)
 
 -- What is seen
 
-none_in : (xs : List Label) (z : Label) → xs ≡ [] → Contains xs z → ⊥
-none_in xs z e h = omega (arith, h.1, ap (λ (zs : List Label). length zs) e)
+-- the label in a cell of a block
+abbrev row : ℕ → List (Option Label) → Option Label
+row k xs = get_or xs k None
 
 -- a label that is seen on the part is seen of a block of the die
-pub part_sees : (plan : DiePlan) (aside : ℕ) (c : Cells) (l : Labels) (seen : List (List Label)) (On : List (List Label) → Type 0)
-    → aside ≤ plan.shape.blocks → AreSoundCells plan c → length l.blocks ≡ plan.shape.blocks → MaySeeOnPart plan.shape.blocks aside On seen
-    → MaySeePlaced c l.blocks (without_aside plan.shape.blocks aside [] seen)
+pub part_sees : (plan : DiePlan) (aside : ℕ) (c : Cells) (l : Labels) (seen : Shown) → aside ≤ plan.shape.blocks → AreSoundCells plan c
+    → length l.blocks ≡ plan.shape.blocks → MaySeeOnPart plan.shape.blocks aside (MaySeePlaced c l.blocks) seen
     → MaySeePlaced (part_cells plan.shape.blocks aside c) (part_labels aside l).blocks seen
-part_sees plan aside c l seen On le s f w v = record {
-  whole = λ page q e. whole_by page q (lies (on_part last aside) (on_die last aside) c (part_cells last aside c) l.blocks (part_labels aside l).blocks
-      (stands_on_part last aside c l le s.blocks f) page q e);
-  remains = λ b x has. remains_by b x has (cases_eq b aside) (cases_lt b (last + 1));
+part_sees plan aside c l seen le s f w = record {
+  long = omega (arith, w.blocks, with_length {A = List (Option Label)} aside [] l.blocks, f);
+  whole = λ page q e place is. whole_by page q place is (lies (on_part last aside) (on_die last aside) c (part_cells last aside c) l.blocks
+      (part_labels aside l).blocks (stands_on_part last aside c l le s.blocks f) page q e);
+  remains = λ place x e. remains_by place x e (cases_eq place.block aside) (cases_lt place.block (last + 1));
 }
   where
     last : ℕ
     last = plan.shape.blocks
 
-    m : List (List Label)
+    m : Shown
     m = (part_labels aside l).blocks
 
-    at_die : (b : ℕ) → b < last → labels_in (without_aside last aside [] seen) b ≡ labels_in seen (on_part last aside b)
+    on : Shown
+    on = without_aside last aside [] seen
+
+    at_die : (b : ℕ) → b < last → labels_in on b ≡ labels_in seen (on_part last aside b)
     at_die b lt = without_at last aside [] seen b w.blocks lt
 
-    whole_by : (page : ℕ) (q : Place) → LiesThere (on_part last aside) c page q → labels_in seen q.block ≡ labels_in m q.block
-    whole_by page q k =
-        let lt : k.place.block < last = omega (arith, placed_within plan c page k.place s k.stands, s.blocks) in
-        let n = on_part last aside k.place.block in
-        ap (labels_in seen) k.block
-        ∙ (sym (at_die k.place.block lt)
-        ∙ (v.whole page k.place k.stands
-        ∙ (sym (labels_at_part last aside n l f (part_apart last aside k.place.block lt) ∙ ap (labels_in l.blocks) (die_part last aside k.place.block lt))
-        ∙ sym (ap (labels_in m) k.block))))
+    whole_by : (page : ℕ) (q place : Place) → place.block ≡ q.block → LiesThere (on_part last aside) c page q → label_at seen place ≡ label_at m place
+    whole_by page q place is k =
+        let b = k.place.block in
+        let lt : b < last = omega (arith, placed_within plan c page k.place s k.stands, s.blocks) in
+        let n = on_part last aside b in
+        let same : place.block ≡ n = is ∙ k.block in
+        ap (λ i. row place.page (labels_in seen i)) same
+        ∙ (sym (ap (row place.page) (at_die b lt))
+        ∙ (w.die.whole page k.place k.stands (cell b place.page) refl
+        ∙ (sym (ap (row place.page) (labels_at_part last aside n l f (part_apart last aside b lt) ∙ ap (labels_in l.blocks) (die_part last aside b lt)))
+        ∙ sym (ap (λ i. row place.page (labels_in m i)) same))))
 
-    Remains : ℕ → Label → Type 0
-    Remains b x = (y : Label) × Contains (labels_in m b) y × (y.page ≡ x.page) × (y.serial ≡ x.serial)
-
-    remains_by : (b : ℕ) (x : Label) → Contains (labels_in seen b) x → (b ≡ aside) ⊎ (b ≡ aside → ⊥) → (b < last + 1) ⊎ (last + 1 ≤ b) → Remains b x
-    remains_by b x has (inl is) any = absurd (none_in (labels_in seen b) x (ap (labels_in seen) is ∙ w.none) has)
-    remains_by b x has (inr other) (inr past) = absurd (none_in (labels_in seen b) x (get_or_past seen b [] (omega (arith, w.blocks, past))) has)
-    remains_by b x has (inr other) (inl lt) =
-        let d = on_die last aside b in
-        let below : d < last = die_below last aside b le (omega (arith, lt)) other in
-        let same : labels_in (without_aside last aside [] seen) d ≡ labels_in seen b = at_die d below ∙ ap (labels_in seen) (part_die last aside b other) in
-        let y = v.remains d x (subst (λ (xs : List Label). Contains xs x) (sym same) has) in
-        (y.0, subst (λ (xs : List Label). Contains xs y.0) (sym (labels_at_part last aside b l f other)) y.1, y.2, y.3)
+    remains_by : (place : Place) (x : Label) → label_at seen place ≡ Some x → (place.block ≡ aside) ⊎ (place.block ≡ aside → ⊥)
+        → (place.block < last + 1) ⊎ (last + 1 ≤ place.block) → label_at m place ≡ Some x
+    remains_by place x e (inl is) any = absurd (none-some x (sym (w.none place is) ∙ e))
+    remains_by place x e (inr other) (inr past) =
+        absurd (none-some x (sym (ap (row place.page) (get_or_past seen place.block [] (omega (arith, w.blocks, past)))) ∙ e))
+    remains_by place x e (inr other) (inl lt) =
+        let d = on_die last aside place.block in
+        let below : d < last = die_below last aside place.block le (omega (arith, lt)) other in
+        let same : labels_in on d ≡ labels_in seen place.block = at_die d below ∙ ap (labels_in seen) (part_die last aside place.block other) in
+        ap (row place.page) (labels_at_part last aside place.block l f other) ∙ w.die.remains (cell d place.page) x (ap (row place.page) same ∙ e)
 
 -- On the die
 
@@ -196,7 +221,7 @@ stands_on_die plan aside p l free none s f = record {
     d : Cells
     d = die_cells last aside p
 
-    m : List (List Label)
+    m : Shown
     m = (die_labels last aside l).blocks
 
     here_by : (b : ℕ) → (b < last) ⊎ (last ≤ b) → IsNobodys (block_at d b) (labels_in m b)
@@ -233,20 +258,20 @@ free_unlabelled : (plan : DiePlan) (p : Cells) (l : Labels) (b : ℕ) → 0 < pl
     → labels_in l.blocks b ≡ []
 free_unlabelled plan p l b more free h = none_of (labels_in l.blocks b) (omega (arith, h.filled b (omega (arith, more, free.unfilled)), free.unfilled))
   where
-    none_of : (xs : List Label) → length xs ≡ 0 → xs ≡ []
+    none_of : (xs : List (Option Label)) → length xs ≡ 0 → xs ≡ []
     none_of [] e = refl
     none_of (x ∷ xs) e = absurd (omega (arith, e))
 
-pub die_recoverable : (plan : DiePlan) (aside : ℕ) (p : Cells) (pages : List PageData) (l : Labels) → 0 < plan.shape.pages → IsFreeBlock p aside
-    → IsRecoverable (part_of plan) p pages l (λ page. 0)
-    → IsRecoverable plan (die_cells plan.shape.blocks aside p) pages (die_labels plan.shape.blocks aside l) (λ page. 0)
-die_recoverable plan aside p pages l more free h =
+pub die_recoverable : (plan : DiePlan) (aside : ℕ) (p : Cells) (pages : List PageData) (l : Labels) (from : ℕ → ℕ) → 0 < plan.shape.pages → IsFreeBlock p aside
+    → IsRecoverable (part_of plan) p pages l from
+    → IsRecoverable plan (die_cells plan.shape.blocks aside p) pages (die_labels plan.shape.blocks aside l) from
+die_recoverable plan aside p pages l from more free h =
     let last = plan.shape.blocks in
     let e = h.sound.blocks in
     let f : length l.blocks ≡ last + 1 = h.labelled.blocks ∙ e in
     let none = free_unlabelled plan p l aside more free h.labelled in
     let long = without_length last aside free_block p.blocks e in
-    renumbered_recoverable (part_of plan) plan (on_die last aside) (on_part last aside) p (die_cells last aside p) pages l (die_labels last aside l)
+    renumbered_recoverable (part_of plan) plan (on_die last aside) (on_part last aside) p (die_cells last aside p) pages l (die_labels last aside l) from
     (refl, refl, refl) (stands_on_die plan aside p l free none h.sound f) refl long
     (without_length last aside [] l.blocks f ∙ sym long) (length-map p.places (option_map (renumbered (on_die last aside)))) h
 

@@ -1,5 +1,6 @@
 -- Where nothing is trimmed, a page that is placed nowhere has no label.
-use Rattle.std.proofs.Common.{◌≡◌, ◌⊎◌, ℕ, ◌+◌, ◌<◌, ◌≤◌, ◌==◌, Bool, true, false, cond, List, [], ◌∷◌, Option, Some, None, is_some, refl, ap, ◌∙◌, inl, inr, arith, set}
+use Rattle.std.proofs.Common.{◌≡◌, ◌⊎◌, ℕ, ◌+◌, ◌<◌, ◌≤◌, ◌==◌, Bool, true, false, cond, List, [], ◌∷◌, Option, Some}
+use Rattle.std.proofs.Common.{None, is_some, refl, ap, ◌∙◌, inl, inr, arith, set}
 use Rattle.slot_types.specs.Places.{place_of}
 use Rattle.slot_types.specs.declared.plans.DiePlan.{DiePlan}
 use Rattle.slot_types.specs.declared.pages.PageData.{PageData}
@@ -11,7 +12,9 @@ use Rattle.die_log.specs.Model.Start.{Start, fresh}
 use Rattle.die_log.specs.Model.Opening.{IsOpening}
 use Rattle.die_log.specs.Model.Answers.{IsExact}
 use Rattle.power_loss.specs.Aside.{AreUntrimmed, IsNoTrim, NothingTrimmed}
-use Rattle.power_loss.specs.Labels.{Label, Labels, label_at, labels, labels_after, labels_after_program, labels_after_erase_slot, counts_after, counts_from, fresh_labels, CountFrom, IsLabelled, WasProgrammed}
+use Rattle.power_loss.specs.Labels.{Label, Labels, label_at, labels, labels_after, labels_after_program}
+use Rattle.power_loss.specs.Labels.{labels_after_erase_slot, counts_after, counts_from, fresh_labels, CountFrom}
+use Rattle.power_loss.specs.Labels.{IsLabelled, WasProgrammed}
 use Rattle.power_loss.proofs.Exact.{stands_labelled}
 use Rattle.power_loss.proofs.Opening.{none_at}
 use Rattle.power_loss.proofs.Programming.{of_programs}
@@ -29,7 +32,7 @@ either_next l m false e = refl
 erase_next : (plan : DiePlan) (s : Block) (b : ℕ) (l : Labels) → (labels_after_erase_slot plan s b l).next ≡ l.next
 erase_next plan s b l = either_next l (record l { blocks = set l.blocks b [] }) (s.erasing + 1 == plan.shape.erase_slots) refl
 
-after_next : (plan : DiePlan) (c : Cells) (pages : List PageData) (ran : Carried) (l : Labels) → l.next ≤ (labels_after plan c pages ran l).next
+pub after_next : (plan : DiePlan) (c : Cells) (pages : List PageData) (ran : Carried) (l : Labels) → l.next ≤ (labels_after plan c pages ran l).next
 after_next plan c pages None l = omega arith
 after_next plan c pages (Some (n, does.Read page bytes)) l = omega arith
 after_next plan c pages (Some (n, does.Write page bytes)) l = program_next page bytes (open_block plan c) l

@@ -3,7 +3,7 @@ use Rattle.std.proofs.Common.{ℕ, ◌+◌, List, [], ◌∷◌, ◌++◌, repli
 use Rattle.slot_types.specs.declared.plans.DiePlan.{DiePlan}
 use Rattle.slot_types.specs.declared.pages.PageData.{PageData}
 use Rattle.slot_types.specs.declared.events.Op.{Op}
-use Rattle.slot_types.specs.declared.events.Op.TheVariants.{Write}
+use Rattle.slot_types.specs.declared.events.Op.TheVariants.{Write, Trim}
 use Rattle.slot_types.specs.declared.events.Event.{Event}
 use Rattle.slot_types.specs.declared.events.Event.TheVariants.{Submit, Collect, Slot}
 use Rattle.die_log.specs.Model.Start.{Start, fresh}
@@ -42,11 +42,18 @@ abbrev pub filler : ℕ → ℕ → List (ℕ × Event)
 filler at page =
     collect at (at + 1) ∷ slot ∷ submit (at + 1) (at + 3) (put page ∷ put 4 ∷ []) ∷ slot ∷ slot ∷ []
 
--- the blocks get the pages 0 1 4 4, 2 4 4 4, 3 4 4 4 and 4 4
-abbrev pub full_calls : List (ℕ × Event)
-full_calls =
-    (submit 0 100 (put 0 ∷ put 1 ∷ put 4 ∷ put 4 ∷ []) ∷ slot ∷ slot ∷ slot ∷ slot ∷ [])
+-- the blocks get the pages 0 1 4 4, 2 4 4 4, 3 4 4 4 and 4 4, where the third write is of page 4
+abbrev pub calls_with : Op → List (ℕ × Event)
+calls_with third =
+    (submit 0 100 (put 0 ∷ put 1 ∷ third ∷ put 4 ∷ []) ∷ slot ∷ slot ∷ slot ∷ slot ∷ [])
     ++ (filler 4 2 ++ (filler 7 4 ++ (filler 10 3 ++ (filler 13 4 ++ filler 16 4))))
 
+abbrev pub full_with : Op → Log
+full_with third = run start [] (calls_with third)
+
 abbrev pub full : Log
-full = run start [] full_calls
+full = full_with (put 4)
+
+-- after that page 2 is trimmed, and a collection does the first slot of the erase of block 1
+abbrev pub trimmed_with : Op → Log
+trimmed_with third = run start (full_with third) (submit 19 30 (Trim 2 ∷ []) ∷ slot ∷ collect 20 40 ∷ slot ∷ [])

@@ -1,19 +1,21 @@
--- A trimmed page whose block is in erase: a mount that knows nothing of the trim may find the page there, or not.
-use Rattle.std.proofs.Common.{◌≡◌, ℕ, List, [], ◌∷◌, Some, None, map, refl}
+-- A trimmed page whose block is in erase: a mount that knows nothing of the trim may find the page there, with its last
+-- write, or not, and then it stays blank. On a part the next life begins so.
+use Rattle.std.proofs.Common.{◌≡◌, ℕ, List, [], ◌∷◌, ◌++◌, Option, Some, None, map, option_map, refl}
 use Rattle.std.specs.Prelude.{slice_set}
 use Rattle.slot_types.specs.Places.{place_of}
-use Rattle.slot_types.specs.declared.events.Op.TheVariants.{Trim}
 use Rattle.die_log.specs.Model.Log.{Log}
-use Rattle.die_log.specs.Model.Flash.{cells, block_at}
-use Rattle.die_log.specs.Model.Answers.{run, answer}
-use Rattle.power_loss.specs.Labels.{Label, labels, labels_in, counts_from}
-use Rattle.power_loss.specs.Mounted.{mounted_place}
+use Rattle.die_log.specs.Model.Flash.{cells, block_at, contents}
+use Rattle.die_log.specs.Model.Start.{blank_page}
+use Rattle.die_log.specs.Model.Answers.{answer}
+use Rattle.power_loss.specs.Aside.{found_pages}
+use Rattle.power_loss.specs.Labels.{Label, Shown, labels, labels_in, counts_from}
+use Rattle.power_loss.specs.Mounted.{all_count, mounted_place}
 use Rattle.power_loss.specs.Seen.{MaySeeAfter}
-use Rattle.power_loss.proofs.Worked.Plans.{start, first, submit, collect, slot, full}
+use Rattle.power_loss.proofs.Worked.Erased.{sees_none_in}
+use Rattle.power_loss.proofs.Worked.Plans.{plan, start, first, bytes, put, trimmed_with}
 
--- page 2 is trimmed, and a collection does the first slot of its block's erase
 abbrev log : Log
-log = run start full (submit 19 30 (Trim 2 ∷ []) ∷ slot ∷ collect 20 40 ∷ slot ∷ [])
+log = trimmed_with (put 4)
 
 erasing : (block_at (cells start log) 1).erasing ≡ 1
 unfolding answer
@@ -23,14 +25,22 @@ nowhere : place_of (cells start log).places 2 ≡ None
 unfolding answer
 nowhere = refl
 
-abbrev pages_of : List Label → List ℕ
-pages_of xs = map (λ x. x.page) xs
+blank : contents start log ≡ bytes 0 ∷ bytes 1 ∷ blank_page ∷ bytes 3 ∷ bytes 4 ∷ []
+unfolding answer
+blank = refl
 
-pages : map pages_of (labels start first log).blocks ≡ (0 ∷ 1 ∷ 4 ∷ 4 ∷ []) ∷ (2 ∷ 4 ∷ 4 ∷ 4 ∷ []) ∷ (3 ∷ 4 ∷ 4 ∷ 4 ∷ []) ∷ (4 ∷ 4 ∷ []) ∷ []
+abbrev pages_of : List (Option Label) → List (Option ℕ)
+pages_of xs = map (option_map (λ x. x.page)) xs
+
+abbrev p : ℕ → Option ℕ
+p n = Some n
+
+pages : map pages_of (labels start first log).blocks
+    ≡ (p 0 ∷ p 1 ∷ p 4 ∷ p 4 ∷ []) ∷ (p 2 ∷ p 4 ∷ p 4 ∷ p 4 ∷ []) ∷ (p 3 ∷ p 4 ∷ p 4 ∷ p 4 ∷ []) ∷ (p 4 ∷ p 4 ∷ []) ∷ []
 unfolding answer
 pages = refl
 
-serials : map (λ x. x.serial) (labels_in (labels start first log).blocks 3) ≡ 12 ∷ 13 ∷ []
+serials : map (option_map (λ x. x.serial)) (labels_in (labels start first log).blocks 3) ≡ Some 12 ∷ Some 13 ∷ []
 unfolding answer
 serials = refl
 
@@ -41,7 +51,7 @@ counts = refl
 
 -- the mount may see all that was there
 sees_all : MaySeeAfter (cells start log) (labels start first log) (labels start first log).blocks
-sees_all = record { whole = λ b idle. refl; remains = λ b x stands. (x, stands, refl, refl) }
+sees_all = record { long = refl; whole = λ place idle. refl; remains = λ place x stands. stands }
 
 -- and then finds the page in the block that is in erase
 found : mounted_place 0 2 (labels start first log).blocks ≡ Some (record { block = 1; page = 0 })
@@ -54,6 +64,26 @@ unfolding answer
 not_found = refl
 
 -- or it sees nothing in that block
-gone : mounted_place 0 2 (slice_set (labels start first log).blocks 1 []) ≡ None
+abbrev none_in_erase : Shown
+none_in_erase = slice_set (labels start first log).blocks 1 []
+
+sees_none : MaySeeAfter (cells start log) (labels start first log) none_in_erase
+unfolding answer
+sees_none = sees_none_in (cells start log) (labels start first log) 1 refl
+
+gone : mounted_place 0 2 none_in_erase ≡ None
 unfolding answer
 gone = refl
+
+-- on a part whose last block stands aside, the next life begins with the last write of page 2
+abbrev of_part : Shown → Shown
+of_part seen = seen ++ [] ∷ []
+
+comes_back : found_pages plan all_count (of_part (labels start first log).blocks) ≡ bytes 0 ∷ bytes 1 ∷ bytes 2 ∷ bytes 3 ∷ bytes 4 ∷ []
+unfolding answer
+comes_back = refl
+
+-- or with none
+stays_blank : found_pages plan all_count (of_part none_in_erase) ≡ bytes 0 ∷ bytes 1 ∷ blank_page ∷ bytes 3 ∷ bytes 4 ∷ []
+unfolding answer
+stays_blank = refl

@@ -4,7 +4,7 @@ ghost use Rattle.std.specs.Prelude.{IfOk};
 ghost use Rattle.tool_command_words.specs.Syntax.{IsCommand, audit_app};
 
 use crate::syntax::parts::{command, with_arg};
-use crate::syntax::shared::files;
+use crate::syntax::shared::{files, strict};
 use clap::Command;
 use std::alloc::{AllocError, Global};
 
@@ -26,5 +26,6 @@ pub(crate) fn audit_words<'a>(alloc: Global) -> Result<Command<'a>, AllocError>
         "REPORT",
         "The reports, as run prints them; - is standard input",
     );
-    with_arg(Ok(command(alloc, "audit", about, AUDIT_HELP)), reports)
+    let read = with_arg(Ok(command(alloc, "audit", about, AUDIT_HELP)), reports);
+    with_arg(read, strict(alloc))
 }

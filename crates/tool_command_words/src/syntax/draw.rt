@@ -3,7 +3,7 @@
 ghost use Rattle.std.specs.Prelude.{◌≡◌, false, codes, IfOk};
 ghost use Rattle.clap.specs.Words.{rule_of};
 ghost use Rattle.command_arguments.specs.Arguments.{flag_rule};
-ghost use Rattle.tool_command_words.specs.Syntax.{IsCommand, draw_app, draw_files_app, draw_run_app, draw_window_app, from_rule, to_rule};
+ghost use Rattle.tool_command_words.specs.Syntax.{IsCommand, draw_app, draw_files_app, draw_forms_app, draw_run_app, draw_window_app, from_rule, to_rule};
 
 use crate::syntax::parts::{command, on_files, with_arg};
 use crate::syntax::shared::{die, fail_at};
@@ -52,7 +52,7 @@ fn worst<'a>(alloc: Global) -> Arg<'a>
     flag(
         alloc,
         "worst",
-        "Draw the busy interval of the worst job, and ten slots before and after it, in place of A to B",
+        "Draw the busy interval of the worst job, or its end, and ten slots before and after it, in place of A to B",
     )
 }
 
@@ -65,6 +65,18 @@ fn as_text<'a>(alloc: Global) -> Arg<'a>
         alloc,
         "text",
         "Write lines for a terminal, a character a slot, and no SVG",
+    )
+}
+
+/// Whether all is drawn.
+fn all<'a>(alloc: Global) -> Arg<'a>
+    ensures rule { rule_of result ≡ flag_rule (codes "all") }
+    ensures local { result.global ≡ false }
+{
+    flag(
+        alloc,
+        "all",
+        "Draw all slots that are asked for, and not 20000 at most",
     )
 }
 
@@ -92,11 +104,18 @@ fn draw_window<'a>(alloc: Global) -> Result<Command<'a>, AllocError>
     with_arg(begun, end(alloc))
 }
 
+/// The command `draw`, with what is drawn of them, and how.
+fn draw_forms<'a>(alloc: Global) -> Result<Command<'a>, AllocError>
+    ensures { IfOk result (λ c. IsCommand c draw_forms_app) }
+{
+    let chosen = with_arg(draw_window(alloc), worst(alloc));
+    with_arg(chosen, as_text(alloc))
+}
+
 /// The command `draw`.
 pub(crate) fn draw_words<'a>(alloc: Global) -> Result<Command<'a>, AllocError>
     ensures { IfOk result (λ c. IsCommand c draw_app) }
 {
-    let chosen = with_arg(draw_window(alloc), worst(alloc));
-    let told = with_arg(chosen, as_text(alloc));
+    let told = with_arg(draw_forms(alloc), all(alloc));
     with_arg(told, fail_at(alloc))
 }

@@ -11,7 +11,7 @@ use std::alloc::{AllocError, Global};
 /// What is found for a datasheet.
 const FIT_HELP: &str =
     "A datasheet has read_us, program_us, erase_us, suspend_us, resume_us, blocks, pages and logical, and by
-[[task]] period_ms, reads and writes; docs/TEXTS.md says more. The plan says how long a slot is, and what is to spare.
+[[task]] period_ms, reads and writes; man maulgreen-texts says more. The plan says how long a slot is, and what is to spare.
 Ends with 3 where no plan was found, and says what stands against it.
 
 Example: flashplan fit part.toml > plan.toml";

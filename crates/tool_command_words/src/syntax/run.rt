@@ -6,7 +6,7 @@ ghost use Rattle.command_arguments.specs.Arguments.{option_rule};
 ghost use Rattle.tool_command_words.specs.Syntax.{IsCommand, run_app, run_files_app};
 
 use crate::syntax::parts::{command, on_files, with_arg};
-use crate::syntax::shared::{begun_from, fail_at};
+use crate::syntax::shared::{begun_from, fail_at, strict};
 use clap::{Arg, Command};
 use command_arguments::{option, slots};
 use std::alloc::{AllocError, Global};
@@ -33,7 +33,7 @@ fn saved_to<'a>(alloc: Global) -> Arg<'a>
         alloc,
         "to",
         "CHECKPOINT",
-        "The file to which the checkpoint of the dies' end is written, whole or not at all",
+        "The file to which the checkpoint of the dies' end is written, whole or not at all, after the report",
     )
 }
 
@@ -53,5 +53,6 @@ pub(crate) fn run_words<'a>(alloc: Global) -> Result<Command<'a>, AllocError>
     let long = with_arg(run_files(alloc), slots(alloc));
     let begun = with_arg(long, begun_from(alloc));
     let ended = with_arg(begun, saved_to(alloc));
-    with_arg(ended, fail_at(alloc))
+    let failing = with_arg(ended, fail_at(alloc));
+    with_arg(failing, strict(alloc))
 }

@@ -58,3 +58,15 @@ pub(crate) fn fail_at<'a>(alloc: Global) -> Arg<'a>
         "Let the device of a die fail at its K-th call, the first being 1, and at each later one",
     )
 }
+
+/// Whether a run that isn't as it should be has a status of its own.
+pub(crate) fn strict<'a>(alloc: Global) -> Arg<'a>
+    ensures rule { rule_of result ≡ flag_rule (codes "strict") }
+    ensures local { result.global ≡ false }
+{
+    flag(
+        alloc,
+        "strict",
+        "End with 4 where a row was refused, something was late, or a certificate is refused",
+    )
+}

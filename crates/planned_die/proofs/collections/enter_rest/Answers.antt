@@ -16,7 +16,7 @@ overflow_add-entered g c = omega (
 pub loop-entered-preserved : goal.loop-entered-preserved
 loop-entered-preserved g c =
     let before = c.loop-entered.invariant in
-    let more = c.in-Ok.ensures in
+    let more = c.enter_own.ensures in
     record {
       entered = own_further c.args.caller c.args.terms.now c.args.core.now c.loop-entered.core c.enter_own.new.core c.args.entered.now
           c.loop-entered.entered before.from
@@ -32,4 +32,5 @@ loop-entered-preserved g c =
       runs = ap (λ (core : Core g.row.N.Denot). core.stopped) more.entered ∙ before.runs;
       slot_stays = more.slot_stays ∙ before.slot_stays;
       from = omega (arith, before.from);
+      reserved = more.reserved;
     }

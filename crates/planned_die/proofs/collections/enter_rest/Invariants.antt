@@ -2,6 +2,7 @@ use Rattle.std.proofs.Common.{◌≡◌, ◌≤◌, ◌-◌, false}
 use Rattle.die_log.specs.Model.Log.{now}
 use Rattle.die_log.specs.Model.Lives.{Lives}
 use Rattle.planned_log.specs.Laws.{IsKept}
+use Rattle.planned_die.specs.Planned.{IsReservedFor}
 use Rattle.planned_die.specs.PlannedCalls.{with_own}
 use Rattle.planned_die.proofs.collections.enter_rest.Given as goal
 
@@ -13,6 +14,7 @@ invariant-loop-entered g l = record {
   runs : l.core.stopped ≡ false;
   slot_stays : now l.core.log ≡ now l.initial.core.log;
   from : l.initial.entered ≤ l.entered;
+  reserved : IsReservedFor l.terms l.life l.core;
 }
 
 abbrev pub decreases-loop-entered : goal.decreases-loop-entered

@@ -1,9 +1,9 @@
-use Rattle.std.proofs.Common.{map, nat_le, ap, sym, ◌∙◌, arith, find}
+use Rattle.std.proofs.Common.{◌≡◌, ◌+◌, map, nat_le, ap, sym, subst, ◌∙◌, arith, find}
 use Rattle.std.specs.Prelude.{option_map}
 use Rattle.slot_types.specs.Operations.{page_of}
 use Rattle.demand_rules.specs.Demand.{terms_of}
 use Rattle.planned_log.specs.Asks.{most_operations}
-use Rattle.planned_die.specs.Remembered.{own_asks, jobs_of}
+use Rattle.planned_die.specs.Remembered.{own_asks, jobs_of, AreKept}
 use Rattle.planned_die.proofs.Waits.{bad_page_first}
 use Rattle.planned_die.proofs.rooms.why_refused.Goals as goal
 
@@ -18,3 +18,21 @@ returns-in-Err-clause-refused c =
       ap most_operations (c.terms_at-own.ensures ∙ ap (terms_of c.args.terms.now) c.task.view_is),
     ))
     (ap (λ l. option_map page_of (find (λ op. nat_le c.args.plan.now.logical (page_of op)) l)) (sym c.list.ensures) ∙ c.in-Err.ensures.missing)
+
+pub returns-in-Some-clause-kept : goal.returns-in-Some-clause-kept
+returns-in-Some-clause-kept c =
+    let same : c.args.first + c.from.result ≡ c.args.first + c.args.now = omega (arith, c.from.ensures) in
+    subst (λ n. AreKept c.args.terms.now n c.too_soon.new.asked.items) same (c.too_soon.ensures.kept c.args.terms.now c.terms_at-own.ensures
+    (subst (λ n. AreKept c.args.terms.now n c.args.asked.now.items) (sym same) c.requires.kept))
+
+pub returns-then-from-clause-kept : goal.returns-then-from-clause-kept
+returns-then-from-clause-kept c =
+    let same : c.args.first + c.from.result ≡ c.args.first + c.args.now = omega (arith, c.from.ensures) in
+    subst (λ n. AreKept c.args.terms.now n c.too_soon.new.asked.items) same (c.too_soon.ensures.kept c.args.terms.now c.terms_at-own.ensures
+    (subst (λ n. AreKept c.args.terms.now n c.args.asked.now.items) (sym same) c.requires.kept))
+
+pub returns-clause-kept : goal.returns-clause-kept
+returns-clause-kept c =
+    let same : c.args.first + c.from.result ≡ c.args.first + c.args.now = omega (arith, c.from.ensures) in
+    subst (λ n. AreKept c.args.terms.now n c.too_soon.new.asked.items) same (c.too_soon.ensures.kept c.args.terms.now c.terms_at-own.ensures
+    (subst (λ n. AreKept c.args.terms.now n c.args.asked.now.items) (sym same) c.requires.kept))

@@ -1,5 +1,5 @@
-use Rattle.power_loss.proofs.Again.{recovers_again, recovers_again_during}
+use Rattle.power_loss.proofs.Again.{cut_again, cut_in_acts, in_first_erase}
 use Rattle.power_loss.proofs.laws.a_mount_can_lose_power.Goals as goal
 
 pub returns : goal.returns
-returns c = record { after = recovers_again; during = recovers_again_during }
+returns c = record { in_erase = in_first_erase; in_acts = cut_in_acts; again = cut_again }

@@ -25,7 +25,7 @@ one_or_memory made Shaped Planned (Ok a) (Err e) is is' s s' p p' r (inr (inr m)
 
 pub returns : goal.returns
 returns g c = λ plan nand one other is is' s s' p p' r r'. (
-  one_or_memory (record { start = fresh plan; device = nand; stopped = false; reserved = nothing_reserved; log = [] })
+  one_or_memory (record { start = fresh plan; device = nand; stopped = false; reserved = nothing_reserved; lasting = nothing_reserved; log = [] })
       (¬ (IsShape plan.shape × (g.N.Nand.shape_of nand ≡ plan.shape)))
       (IsShape plan.shape × (g.N.Nand.shape_of nand ≡ plan.shape) × ¬ MeetsBound plan) one other is is' s s' p p' r r',
   λ shaped. s.1 shaped ∙ sym (s'.1 shaped),

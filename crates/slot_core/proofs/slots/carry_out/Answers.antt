@@ -17,7 +17,7 @@ use Rattle.slot_core.proofs.Noting.{turn_reported}
 use Rattle.job_table.specs.Table.{Table, work_of}
 use Rattle.slot_core.specs.Records.{job_records}
 use Rattle.slot_core.specs.ReservedSlots.{open_collections}
-use Rattle.slot_core.proofs.Reserving.{turn_opens_nothing, step_keeps_reserve}
+use Rattle.slot_core.proofs.Reserving.{turn_opens_nothing, step_keeps_reserve, step_keeps_lasting}
 use Rattle.event_log.specs.Slots.{carried_in}
 use Rattle.slot_core.proofs.Marks.{marks_chosen, marks_step, last_alone, slots_reported}
 use Rattle.slot_core.proofs.Turning.{head_fits, work_fits}
@@ -260,6 +260,13 @@ returns-in-Err-clause-waiver_room g c =
       ap (λ (r : Reserve). r.arrivals) c.in-Some.ensures.reserve,
       ap (λ (t : Table). t.reserve.arrivals) c.stop.ensures.stopped,
     )
+
+-- What lasts
+
+pub returns-in-Ok-clause-lasting : goal.returns-in-Ok-clause-lasting
+returns-in-Ok-clause-lasting g c =
+    ap (λ (t : Table). t.lasting) c.note_step-is_worst.ensures.table
+    ∙ (step_keeps_lasting c.choose.new.table c.in-Some.number c.in-Ok.turn (c.args.present + 1) ∙ c.in-Some.ensures.lasting)
 
 -- The mark
 

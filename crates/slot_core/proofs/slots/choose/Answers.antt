@@ -15,6 +15,7 @@ loop-number-init g c = record {
   device = refl;
   places = refl;
   reserve = refl;
+  lasting = refl;
 }
 
 pub head-requires-clause-running : goal.head-requires-clause-running
@@ -41,6 +42,9 @@ returns-in_default-clause-places g c = c.loop-number.invariant.places
 
 pub returns-in_default-clause-reserve : goal.returns-in_default-clause-reserve
 returns-in_default-clause-reserve g c = ap (λ (t : Table). t.reserve) c.head.ensures.clock ∙ c.loop-number.invariant.reserve
+
+pub returns-in_default-clause-lasting : goal.returns-in_default-clause-lasting
+returns-in_default-clause-lasting g c = ap (λ (t : Table). t.lasting) c.head.ensures.clock ∙ c.loop-number.invariant.lasting
 
 pub returns-in_default-clause-device : goal.returns-in_default-clause-device
 returns-in_default-clause-device g c = c.loop-number.invariant.device
@@ -80,6 +84,9 @@ returns-in-None-waived-clause-places g c = (begin_leaves g.N.Nand.blocks c.loop-
 
 pub returns-in-None-waived-clause-reserve : goal.returns-in-None-waived-clause-reserve
 returns-in-None-waived-clause-reserve g c = ap (λ (t : Table). t.reserve) c.head.ensures.clock ∙ c.loop-number.invariant.reserve
+
+pub returns-in-None-waived-clause-lasting : goal.returns-in-None-waived-clause-lasting
+returns-in-None-waived-clause-lasting g c = ap (λ (t : Table). t.lasting) c.head.ensures.clock ∙ c.loop-number.invariant.lasting
 
 pub returns-in-None-waived-clause-device : goal.returns-in-None-waived-clause-device
 returns-in-None-waived-clause-device g c = (begin_leaves g.N.Nand.blocks c.loop-number.volume c.begin-waived.new.volume c.in-Some-job.job _
@@ -134,6 +141,7 @@ loop-number-preserved g c = record {
   places = (begin_leaves g.N.Nand.blocks c.loop-number.volume c.begin-waived.new.volume c.in-Some-job.job _ c.begin-waived.ensures).places
       ∙ c.loop-number.invariant.places;
   reserve = ap (λ (t : Table). t.reserve) c.waive.ensures ∙ (ap (λ (t : Table). t.reserve) c.head.ensures.clock ∙ c.loop-number.invariant.reserve);
+  lasting = ap (λ (t : Table). t.lasting) c.waive.ensures ∙ (ap (λ (t : Table). t.lasting) c.head.ensures.clock ∙ c.loop-number.invariant.lasting);
 }
 
 pub returns-in_default-clause-closed : goal.returns-in_default-clause-closed

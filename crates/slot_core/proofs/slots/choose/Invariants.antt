@@ -15,6 +15,7 @@ invariant-loop-number g l = record {
   device : l.volume.device ≡ l.fn.volume.device;
   places : l.volume.places ≡ l.fn.volume.places;
   reserve : l.table.reserve ≡ l.fn.table.reserve;
+  lasting : l.table.lasting ≡ l.fn.table.lasting;
 }
 
 abbrev pub decreases-loop-number : goal.decreases-loop-number

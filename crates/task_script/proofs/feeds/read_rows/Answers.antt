@@ -1,6 +1,6 @@
 use Rattle.std.proofs.Common.{◌∙◌, refl, arith}
 use Rattle.script_texts.specs.RowTexts.{row_text}
-use Rattle.script_chunks.specs.ChunkedLeft.{chunked_ops}
+use Rattle.script_texts.specs.ScriptLeft.{ops_text}
 use Rattle.task_script.proofs.Dealing.{few_more, few_none, of_reader, reads_end, reads_fault, reads_none, reads_row}
 use Rattle.task_script.proofs.feeds.read_rows.Goals as goal
 
@@ -36,7 +36,7 @@ returns-then-size-left-clause-rows g c =
     let lines = rw c.in-Ok-Some.field-0-is at c.in-Ok-Some.ensures.line in
     let step = rw c.in-Ok-Some.field-0-is at c.in-Ok-Some.ensures.gives in
     let added = rw c.ops_text-ops.ensures at c.in_ok-add-in-Ok-Some.ensures.ok in
-    reads_row _ _ _ _ _ _ _ _ _ _ (row_text c.in-Ok-Some.head (chunked_ops c.next_row.new.self)) _ _
+    reads_row _ _ _ _ _ _ _ _ _ _ (row_text c.in-Ok-Some.head (ops_text c.next_row.new.self)) _ _
     (rw (c.loop.invariant.dies, c.loop.invariant.slots) at head) lines c.index_mut.ensures.value added refl step c.loop.invariant.read
 
 pub loop-preserved : goal.loop-preserved
@@ -45,7 +45,7 @@ loop-preserved g c =
     let lines = rw c.in-Ok-Some.field-0-is at c.in-Ok-Some.ensures.line in
     let step = rw c.in-Ok-Some.field-0-is at c.in-Ok-Some.ensures.gives in
     let added = rw c.ops_text-ops.ensures at c.in_ok-add-in-Ok-Some.ensures.ok in
-    let row = row_text c.in-Ok-Some.head (chunked_ops c.next_row.new.self) in
+    let row = row_text c.in-Ok-Some.head (ops_text c.next_row.new.self) in
     let few = rw c.in-Ok-Some.field-0-is at c.in-Ok-Some.ensures.few in
     record {
       dies = c.next_row.ensures.dies ∙ c.loop.invariant.dies;

@@ -2,7 +2,7 @@ use Rattle.std.proofs.Common.{◌≡◌, ◌++◌, ◌≤◌, ◌∙◌, All, Li
 use Rattle.std.proofs.lemmas.Slice.Zip.{AllZip-long}
 use Rattle.std.specs.List.{AllZip}
 use Rattle.die_service.proofs.LastPasses.{written}
-use Rattle.script_chunks.specs.ChunkedLeft.{chunked_dies, chunked_left, chunked_line, chunked_slots}
+use Rattle.script_texts.specs.ScriptLeft.{dies_of, line_of, script_rows_left, slots_of}
 use Rattle.task_script.specs.RowBatches.{IsSameSender, sent_by, until_of}
 use Rattle.task_script.specs.RowTexts.{HasReadTexts}
 use Rattle.task_script.specs.Sending.{rows_sent}
@@ -23,9 +23,9 @@ returns-clause-sent g c =
     let as_many : length shares ≡ length c.in-Ok.shares.items = AllZip-long StaysShare c.as_mut_slice-2.result.now shares
     c.in_ok-end.ensures.shares ∙ ap length c.as_mut_slice-2.ensures.value in
     record {
-      rows = subst (λ (ss : List BatchSender). HasReadTexts (chunked_left g.S.Read.remaining c.args.script)
-          (chunked_left g.S.Read.remaining c.send_all-end.new.script) (chunked_dies c.args.script) (chunked_slots c.args.script)
-          (chunked_line c.args.script) (chunked_line c.send_all-end.new.script) (rows_sent ss) c.in_ok-end.end) all c.in_ok-end.ensures.rows;
+      rows = subst (λ (ss : List BatchSender). HasReadTexts (script_rows_left g.S.Read.remaining c.args.script)
+          (script_rows_left g.S.Read.remaining c.send_all-end.new.script) (dies_of c.args.script) (slots_of c.args.script)
+          (line_of c.args.script) (line_of c.send_all-end.new.script) (rows_sent ss) c.in_ok-end.end) all c.in_ok-end.ensures.rows;
       last = λ ended. subst (All (λ (s : BatchSender). until_of (sent_by s) ≡ c.args.slots)) all
           (c.send_all-end.ensures.last (c.in_ok-end.was ∙ ap (λ (end : ReadEnd). Ok end) ended));
       few = subst (All (λ (s : BatchSender). length (sent_by s) ≤ 1000003)) all c.in_ok-end.ensures.few;

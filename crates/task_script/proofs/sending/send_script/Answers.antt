@@ -2,7 +2,7 @@ use Rattle.std.proofs.Common.{rules, ◌≡◌, ◌≤◌, ◌∙◌, All, List,
 use Rattle.std.proofs.lemmas.List.Elements.{All-from_recursion, recursion_from_All}
 use Rattle.rtrb.specs.Ring.{received}
 use Rattle.script_texts.specs.RowTexts.{RowText}
-use Rattle.script_chunks.specs.ChunkedLeft.{chunked_dies, chunked_left, chunked_line, chunked_slots}
+use Rattle.script_texts.specs.ScriptLeft.{dies_of, line_of, script_rows_left, slots_of}
 use Rattle.task_script.specs.RowBatches.{sent_by, until_of}
 use Rattle.task_script.specs.RowTexts.{HasReadTexts}
 use Rattle.task_script.specs.declared.row_batches.BatchSender.{BatchSender}
@@ -13,7 +13,7 @@ use Rattle.task_script.proofs.sending.send_script.Goals as goal
 
 pub scoped-requires : goal.scoped-requires
 scoped-requires g c =
-    let long : length c.in_ok-senders.senders.items ≡ chunked_dies c.args.script
+    let long : length c.in_ok-senders.senders.items ≡ dies_of c.args.script
     = (begun_long c.args.plans.now c.in_ok-senders.senders.items c.in_ok-senders.dies.items c.in_ok-senders.ensures.begin).0 ∙ c.requires.dies in
     let none : All (λ (s : BatchSender). sent_by s ≡ []) c.in_ok-senders.senders.items
     = All-from_recursion (λ (s : BatchSender). sent_by s ≡ []) c.in_ok-senders.senders.items
@@ -32,9 +32,9 @@ returns-clause-ran g c =
 
 pub returns-clause-rows : goal.returns-clause-rows
 returns-clause-rows g c =
-    subst (λ (rows : List (List RowText)). HasReadTexts (chunked_left g.S.Read.remaining c.args.script)
-    (chunked_left g.S.Read.remaining c.in_ok-sent.sent.script) (chunked_dies c.args.script) (chunked_slots c.args.script) (chunked_line c.args.script)
-    (chunked_line c.in_ok-sent.sent.script) rows c.in_ok-sent.sent.end)
+    subst (λ (rows : List (List RowText)). HasReadTexts (script_rows_left g.S.Read.remaining c.args.script)
+    (script_rows_left g.S.Read.remaining c.in_ok-sent.sent.script) (dies_of c.args.script) (slots_of c.args.script) (line_of c.args.script)
+    (line_of c.in_ok-sent.sent.script) rows c.in_ok-sent.sent.end)
     (sym (received_are c.in_ok-sent.sent.senders.items c.in_ok-sent.sent.dies.items c.in_ok-dies.dies.items c.in_ok-dies.ensures.ok))
     c.in_ok-sent.ensures.1.1.rows
 

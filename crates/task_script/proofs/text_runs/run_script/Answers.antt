@@ -2,7 +2,7 @@ use Rattle.std.proofs.Common.{◌≡◌, ◌≤◌, ◌∙◌, List, ap, arith, 
 use Rattle.std.proofs.lemmas.List.Elements.{All-from_recursion, recursion_from_All}
 use Rattle.rtrb.specs.Ring.{received}
 use Rattle.slot_types.specs.declared.plans.DiePlan.{DiePlan}
-use Rattle.script_chunks.specs.ChunkedLeft.{chunked_left, chunked_line}
+use Rattle.script_texts.specs.ScriptLeft.{line_of, script_rows_left}
 use Rattle.task_script.specs.DieStores.{CanClose}
 use Rattle.task_script.specs.Feeds.{RefusesScript}
 use Rattle.task_script.specs.RowBatches.{until_of}
@@ -19,13 +19,13 @@ use Rattle.task_script.proofs.text_runs.run_script.Goals as goal
 pub returns-in-Some-clause-refused : goal.returns-in-Some-clause-refused
 returns-in-Some-clause-refused g c =
     let text = g.S.Read.remaining c.args.script in
-    let first = chunked_left g.S.Read.remaining c.in_ok-reader.reader in
+    let first = script_rows_left g.S.Read.remaining c.in_ok-reader.reader in
     let whole = whole_rows text first (length c.args.plan.now) c.args.slots c.in_ok-reader.ensures.rows in
-    let new = chunked_left g.S.Read.remaining c.in_ok-sent.sent.script in
+    let new = script_rows_left g.S.Read.remaining c.in_ok-sent.sent.script in
     let dies = c.in_ok-sent.sent.dies.items in
     subst (RefusesScript text (length c.args.plan.now) c.args.slots) (sym c.from.ensures)
-    (refuses_within text first c.args.plan.now c.args.slots whole new (chunked_line c.in_ok-reader.reader)
-    (chunked_line c.in_ok-sent.sent.script) (rows_received dies) c.in_ok-sent.sent.end c.in-Some.refusal
+    (refuses_within text first c.args.plan.now c.args.slots whole new (line_of c.in_ok-reader.reader)
+    (line_of c.in_ok-sent.sent.script) (rows_received dies) c.in_ok-sent.sent.end c.in-Some.refusal
     (texts_as first new _ _ _ _ _ _ _ _ c.in_ok-reader.ensures.dies c.in_ok-reader.ensures.slots c.in_ok-sent.ensures.rows)
     (runs_refused c.as_slice.result.now dies c.in-Some.refusal c.in_ok-sent.ensures.ran
     (sym (rw c.as_slice-2.ensures.value at c.first_refusal.ensures) ∙ c.in-Some.is)))
@@ -58,57 +58,33 @@ finish-requires-clause-counted g c κs within =
 pub returns-in_ok-whole-in-Ended-clause-ran : goal.returns-in_ok-whole-in-Ended-clause-ran
 returns-in_ok-whole-in-Ended-clause-ran g c =
     let text = g.S.Read.remaining c.args.script in
-    let first = chunked_left g.S.Read.remaining c.in_ok-reader.reader in
+    let first = script_rows_left g.S.Read.remaining c.in_ok-reader.reader in
     let whole = whole_rows text first (length c.args.plan.now) c.args.slots c.in_ok-reader.ensures.rows in
-    let new = chunked_left g.S.Read.remaining c.in_ok-sent.sent.script in
+    let new = script_rows_left g.S.Read.remaining c.in_ok-sent.sent.script in
     let dies = c.in_ok-sent.sent.dies.items in
     let all = all_come c.args.slots c.args.plan.now dies c.in_ok-dies-in-Ended.dies.items
     (subst (λ (plans : List DiePlan). AllRan plans dies) c.as_slice.ensures c.in_ok-sent.ensures.ran) c.in_ok-dies-in-Ended.ensures.ok
     (recursion_from_All (λ (r : RunningDie). until_of (received r.batches) ≡ c.args.slots) dies (c.in_ok-sent.ensures.last c.in-Ended.is))
     (recursion_from_All (λ (r : RunningDie). length (received r.batches) ≤ 1000003) dies c.in_ok-sent.ensures.few) in
     let ran = c.in_ok-whole-in-Ended.whole in
-    script_ran text first c.args.plan.now c.args.slots whole new (chunked_line c.in_ok-reader.reader)
-    (chunked_line c.in_ok-sent.sent.script) dies c.in_ok-dies-in-Ended.dies.items ran.parts.items ran.count
-    (subst (λ (end : ReadEnd). HasReadTexts first new (length c.args.plan.now) c.args.slots (chunked_line c.in_ok-reader.reader)
-    (chunked_line c.in_ok-sent.sent.script) (rows_received dies) end) c.in-Ended.is
+    script_ran text first c.args.plan.now c.args.slots whole new (line_of c.in_ok-reader.reader)
+    (line_of c.in_ok-sent.sent.script) dies c.in_ok-dies-in-Ended.dies.items ran.parts.items ran.count
+    (subst (λ (end : ReadEnd). HasReadTexts first new (length c.args.plan.now) c.args.slots (line_of c.in_ok-reader.reader)
+    (line_of c.in_ok-sent.sent.script) (rows_received dies) end) c.in-Ended.is
     (texts_as first new _ _ _ _ _ _ _ _ c.in_ok-reader.ensures.dies c.in_ok-reader.ensures.slots c.in_ok-sent.ensures.rows)) all
     c.in_ok-whole-in-Ended.ensures.closed
 
 pub returns-in-Refused-clause-refused : goal.returns-in-Refused-clause-refused
 returns-in-Refused-clause-refused g c =
     let text = g.S.Read.remaining c.args.script in
-    let first = chunked_left g.S.Read.remaining c.in_ok-reader.reader in
+    let first = script_rows_left g.S.Read.remaining c.in_ok-reader.reader in
     let whole = whole_rows text first (length c.args.plan.now) c.args.slots c.in_ok-reader.ensures.rows in
-    let new = chunked_left g.S.Read.remaining c.in_ok-sent.sent.script in
+    let new = script_rows_left g.S.Read.remaining c.in_ok-sent.sent.script in
     let dies = c.in_ok-sent.sent.dies.items in
-    refuses_after text first c.args.plan.now c.args.slots whole new (chunked_line c.in_ok-reader.reader)
-    (chunked_line c.in_ok-sent.sent.script) (rows_received dies) c.in-Refused.refusal
-    (subst (λ (end : ReadEnd). HasReadTexts first new (length c.args.plan.now) c.args.slots (chunked_line c.in_ok-reader.reader)
-    (chunked_line c.in_ok-sent.sent.script) (rows_received dies) end) c.in-Refused.is
+    refuses_after text first c.args.plan.now c.args.slots whole new (line_of c.in_ok-reader.reader)
+    (line_of c.in_ok-sent.sent.script) (rows_received dies) c.in-Refused.refusal
+    (subst (λ (end : ReadEnd). HasReadTexts first new (length c.args.plan.now) c.args.slots (line_of c.in_ok-reader.reader)
+    (line_of c.in_ok-sent.sent.script) (rows_received dies) end) c.in-Refused.is
     (texts_as first new _ _ _ _ _ _ _ _ c.in_ok-reader.ensures.dies c.in_ok-reader.ensures.slots c.in_ok-sent.ensures.rows))
     (runs_read c.as_slice.result.now dies c.in_ok-sent.ensures.ran
     (sym (rw c.as_slice-2.ensures.value at c.first_refusal.ensures) ∙ c.in-None.is))
-
-pub invariant_of-script-in_err-whole-in-Ended : goal.invariant_of-script-in_err-whole-in-Ended
-invariant_of-script-in_err-whole-in-Ended g c =
-    let s = c.in_ok-sent.sent.script in
-    record {
-      within = s.within;
-      queue_is = s.queue_is;
-      rest_is = s.rest_is;
-      all_given = s.all_given;
-      rest_last = s.rest_last;
-      heads = s.heads;
-    }
-
-pub invariant_of-script-in-Ended-1 : goal.invariant_of-script-in-Ended-1
-invariant_of-script-in-Ended-1 g c =
-    let s = c.in_ok-sent.sent.script in
-    record {
-      within = s.within;
-      queue_is = s.queue_is;
-      rest_is = s.rest_is;
-      all_given = s.all_given;
-      rest_last = s.rest_last;
-      heads = s.heads;
-    }

@@ -10,6 +10,7 @@ invariant_of-self c =
       marked_now c.self.inside.deeds.items c.self.inside.callers.items
           c.self.inside.waivers.items c.self.inside.deeds.marked c.self.inside.callers.marked c.self.invariant.0.callers_are c.self.invariant.2
           (rw (← c.self.view_is) at c.requires),
+      c.self.invariant.3,
     )
 
 pub returns : goal.returns

@@ -118,6 +118,13 @@ invariant_of-self c =
       },
       rw (c.push_reserved.ensures.items, c.push_reserved.ensures.marked, c.push_reserved-then-goes_on.ensures.marked)
           (still_marked c.self.inside.deeds.items c.self.inside.deeds.marked c.self.inside.callers.marked Idle c.self.invariant.2),
+      record {
+        deeds = omega (arith, c.self.invariant.3.deeds, c.push_reserved.ensures.memory);
+        callers = omega (arith, c.self.invariant.3.callers, c.push_reserved-then-goes_on.ensures.memory);
+        waivers = c.self.invariant.3.waivers;
+        lasts = c.self.invariant.3.lasts;
+        waivers_last = c.self.invariant.3.waivers_last;
+      },
     )
 
 pub returns-then-goes_on-clause-marked : goal.returns-then-goes_on-clause-marked

@@ -129,6 +129,13 @@ invariant_of-self c =
       },
       rw (c.push_reserved.ensures.items, c.push_reserved.ensures.marked, c.push_reserved-2.ensures.marked)
           (still_marked c.self.inside.deeds.items c.self.inside.deeds.marked c.self.inside.callers.marked c.args.deed c.self.invariant.2),
+      record {
+        deeds = omega (arith, c.self.invariant.3.deeds, c.push_reserved.ensures.memory);
+        callers = omega (arith, c.self.invariant.3.callers, c.push_reserved-2.ensures.memory);
+        waivers = omega (arith, c.self.invariant.3.waivers, c.note_waivers.ensures.capacity);
+        lasts = omega (arith, c.self.invariant.3.lasts);
+        waivers_last = omega (arith, c.self.invariant.3.waivers_last);
+      },
     )
 
 pub returns-clause-marked : goal.returns-clause-marked

@@ -26,7 +26,14 @@ invariant_of-self c =
       room_kept c.self.inside.rows.items c.self.inside.ops.ops c.self.inside.reads.items c.self.inside.all_reads c.self.inside.placed
           (vec_capacity c.self.inside.reads) c.number.inside.0 row _ at_n refl c.self.invariant.1,
       few_set c.self.inside.rows.items c.self.inside.ops.ops c.number.inside.0 _ c.self.invariant.2,
-      record { for_rows = c.self.invariant.3.for_rows; for_reads = c.self.invariant.3.for_reads },
+      record {
+        for_rows = c.self.invariant.3.for_rows;
+        for_reads = c.self.invariant.3.for_reads;
+        rows_last = c.self.invariant.3.rows_last;
+        reads_last = c.self.invariant.3.reads_last;
+        most_arrivals = c.self.invariant.3.most_arrivals;
+        most_operations = c.self.invariant.3.most_operations;
+      },
     )
 
 pub next_writes-requires : goal.next_writes-requires

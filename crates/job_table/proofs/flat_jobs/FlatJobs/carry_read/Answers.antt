@@ -113,7 +113,14 @@ invariant_of-self c =
       room_read f.rows.items f.ops.ops f.reads.items more f.all_reads f.placed (vec_capacity f.reads) c.number.inside.0 row from c.args.bytes
           reading c.self.invariant.0 made c.self.invariant.1,
       few_set f.rows.items f.ops.ops c.number.inside.0 _ c.self.invariant.2,
-      record { for_rows = c.self.invariant.3.for_rows; for_reads = c.self.invariant.3.for_reads },
+      record {
+        for_rows = c.self.invariant.3.for_rows;
+        for_reads = c.self.invariant.3.for_reads;
+        rows_last = c.self.invariant.3.rows_last;
+        reads_last = c.self.invariant.3.reads_last;
+        most_arrivals = c.self.invariant.3.most_arrivals;
+        most_operations = c.self.invariant.3.most_operations;
+      },
     )
 
 pub returns : goal.returns

@@ -84,6 +84,10 @@ invariant_of-self-2 c =
           c.self.invariant.3.for_reads,
           count_by-le-length is_read c.args.ops.now,
         );
+        rows_last = omega (arith, c.push_reserved.ensures.capacity, c.in_ok-reserve.ensures.capacity, c.self.invariant.3.rows_last);
+        reads_last = omega (arith, c.in_ok-reserve-2.ensures.capacity, c.self.invariant.3.reads_last);
+        most_arrivals = omega (arith, c.saturating_sub-self-inside.ensures, c.self.invariant.3.most_arrivals);
+        most_operations = omega (arith, c.self.invariant.3.most_operations);
       },
     )
 
@@ -119,8 +123,9 @@ returns-clause-ok c =
     let made : List JobRecord → KeptJobs = λ jobs. record {
       jobs = jobs;
       reserve = reserve_after (length c.args.ops.now) (record { arrivals = c.self.inside.arrivals; operations = c.self.inside.ops.room });
+      lasting = record { arrivals = c.self.inside.lasting_arrivals; operations = c.self.inside.ops.lasting };
     } in
-    let grown : KeptJobs → KeptJobs = λ kept. record {
+    let grown : KeptJobs → KeptJobs = λ kept. record kept {
       jobs = kept.jobs ++ job_of c.args.head.now c.args.ops.now ∷ [];
       reserve = reserve_after (length c.args.ops.now) kept.reserve;
     } in

@@ -29,6 +29,7 @@ invariant_of-self-2 c =
       sound,
       record {
         room = omega (arith, c.enter.ensures.room, c.in_ok-reserve.ensures.room, c.self.invariant.1.room);
+        lasts = omega (arith, c.enter.ensures.memory, c.in_ok-reserve.ensures.memory, c.self.invariant.1.lasts);
         few = omega (arith, waiting_few, all_few);
       },
     )

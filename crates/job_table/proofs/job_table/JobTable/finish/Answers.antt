@@ -10,14 +10,14 @@ use Rattle.job_table.proofs.job_table.JobTable.finish.Goals as goal
 
 pub worse_of-requires-clause-done : goal.worse_of-requires-clause-done
 worse_of-requires-clause-done c =
-    let table : Table = record { tasks = 0; clock = c.self.inside.clock; ended = c.self.inside.ended; jobs = c.self.inside.jobs.jobs; reserve = c.self.inside.jobs.reserve } in
+    let table : Table = record { tasks = 0; clock = c.self.inside.clock; ended = c.self.inside.ended; jobs = c.self.inside.jobs.jobs; reserve = c.self.inside.jobs.reserve; lasting = c.self.inside.jobs.lasting } in
     let seen = subst (λ (t : Table). IsHead t c.args.number) (sym c.self.view_is) c.requires.head in
     let head : IsHead table c.args.number = record { head = seen.head; is_at = seen.is_at; ready = seen.ready; first = seen.first } in
     rw (c.end_job.ensures.jobs, c.number.view_is) (head_done table c.args.number (stages.Done c.args.completion c.args.given) head refl)
 
 pub worse_of-requires-clause-others : goal.worse_of-requires-clause-others
 worse_of-requires-clause-others c =
-    let table : Table = record { tasks = 0; clock = c.self.inside.clock; ended = c.self.inside.ended; jobs = c.self.inside.jobs.jobs; reserve = c.self.inside.jobs.reserve } in
+    let table : Table = record { tasks = 0; clock = c.self.inside.clock; ended = c.self.inside.ended; jobs = c.self.inside.jobs.jobs; reserve = c.self.inside.jobs.reserve; lasting = c.self.inside.jobs.lasting } in
     let seen = subst (λ (t : Table). IsHead t c.args.number) (sym c.self.view_is) c.requires.head in
     let head : IsHead table c.args.number = record { head = seen.head; is_at = seen.is_at; ready = seen.ready; first = seen.first } in
     let stage : Stage = stages.Done c.args.completion c.args.given in
@@ -27,7 +27,7 @@ worse_of-requires-clause-others c =
 
 pub invariant_of-self : goal.invariant_of-self
 invariant_of-self c =
-    let table : Table = record { tasks = 0; clock = c.self.inside.clock; ended = c.self.inside.ended; jobs = c.self.inside.jobs.jobs; reserve = c.self.inside.jobs.reserve } in
+    let table : Table = record { tasks = 0; clock = c.self.inside.clock; ended = c.self.inside.ended; jobs = c.self.inside.jobs.jobs; reserve = c.self.inside.jobs.reserve; lasting = c.self.inside.jobs.lasting } in
     let seen = subst (λ (t : Table). IsHead t c.args.number) (sym c.self.view_is) c.requires.head in
     let head : IsHead table c.args.number = record { head = seen.head; is_at = seen.is_at; ready = seen.ready; first = seen.first } in
     let runs = subst (λ (t : Table). t.ended ≡ false) (sym c.self.view_is) c.requires.running in
@@ -38,6 +38,7 @@ invariant_of-self c =
           runs head refl c.drop_first.ensures.rising c.drop_first.ensures.waiting c.drop_first.ensures.ready c.self.invariant.0 worst,
       record {
         room = omega (arith, c.drop_first.ensures.room, c.self.invariant.1.room);
+        lasts = omega (arith, c.drop_first.ensures.memory, c.self.invariant.1.lasts);
         few = rw c.drop_first.ensures.waiting c.self.invariant.1.few;
       },
     )

@@ -19,7 +19,7 @@ returns-clause-idle c =
       | in-Some w ↦ rw w.result-is tt
       | in-None w ↦
           rw w.result-is
-          (no_number_ready (record { tasks = 0; clock = c.args.now; ended = false; jobs = c.self.inside.jobs.jobs; reserve = c.self.inside.jobs.reserve })
+          (no_number_ready (record { tasks = 0; clock = c.args.now; ended = false; jobs = c.self.inside.jobs.jobs; reserve = c.self.inside.jobs.reserve; lasting = c.self.inside.jobs.lasting })
           c.release_by.new.self.waiting c.release_by.new.self.ready
           c.release_by.ensures.queued c.release_by.ensures.later (sym w.in-None.is ∙ c.first.ensures.first))
     ]

@@ -18,7 +18,7 @@ returns-clause-head c =
     } in
     elim c.match-first_after.branch [
       | in-Some w ↦ rw w.result-is (rw (← c.self.view_is)
-          (head_after (record { tasks = length i.collecting.items; clock = c.args.now; ended = i.ended; jobs = i.jobs.jobs; reserve = i.jobs.reserve }) c.args.waived.now
+          (head_after (record { tasks = length i.collecting.items; clock = c.args.now; ended = i.ended; jobs = i.jobs.jobs; reserve = i.jobs.reserve; lasting = i.jobs.lasting }) c.args.waived.now
           i.collecting.items c.release_by.new.self.waiting c.release_by.new.self.ready w.in-Some.number
           (rw (← c.self.view_is) at c.requires.heads) c.first_after.ensures.rising runs
           (sym w.in-Some.is ∙ c.first_after.ensures.first)))
@@ -39,7 +39,7 @@ returns-clause-idle c =
     elim c.match-first_after.branch [
       | in-Some w ↦ rw w.result-is tt
       | in-None w ↦ rw w.result-is (rw (← c.self.view_is)
-          (none_after (record { tasks = length i.collecting.items; clock = c.args.now; ended = i.ended; jobs = i.jobs.jobs; reserve = i.jobs.reserve }) c.args.waived.now
+          (none_after (record { tasks = length i.collecting.items; clock = c.args.now; ended = i.ended; jobs = i.jobs.jobs; reserve = i.jobs.reserve; lasting = i.jobs.lasting }) c.args.waived.now
           i.collecting.items c.release_by.new.self.waiting c.release_by.new.self.ready
           (rw (← c.self.view_is) at c.requires.heads) c.first_after.ensures.rising runs
           (sym w.in-None.is ∙ c.first_after.ensures.first)))

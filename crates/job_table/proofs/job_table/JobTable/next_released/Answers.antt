@@ -15,7 +15,7 @@ pub returns-in-None-clause-none : goal.returns-in-None-clause-none
 returns-in-None-clause-none c =
     let kept = c.self.invariant.0.running (ap (λ (t : Table). t.ended) c.self.view_is ∙ c.requires.running) in
     let i = c.self.inside in
-    let table : Table = record { tasks = length i.collecting.items; clock = i.clock; ended = i.ended; jobs = i.jobs.jobs; reserve = i.jobs.reserve } in
+    let table : Table = record { tasks = length i.collecting.items; clock = i.clock; ended = i.ended; jobs = i.jobs.jobs; reserve = i.jobs.reserve; lasting = i.jobs.lasting } in
     subst NothingWaiting c.self.view_is
     (no_number_waits table c.self.inside.queues.waiting c.self.inside.queues.ready kept.queued
     (sym c.in-None.is ∙ c.first_waiting.ensures.first))

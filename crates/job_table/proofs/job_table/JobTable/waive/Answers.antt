@@ -10,7 +10,7 @@ use Rattle.job_table.proofs.job_table.JobTable.waive.Goals as goal
 
 pub invariant_of-self : goal.invariant_of-self
 invariant_of-self c =
-    let table : Table = record { tasks = 0; clock = c.self.inside.clock; ended = c.self.inside.ended; jobs = c.self.inside.jobs.jobs; reserve = c.self.inside.jobs.reserve } in
+    let table : Table = record { tasks = 0; clock = c.self.inside.clock; ended = c.self.inside.ended; jobs = c.self.inside.jobs.jobs; reserve = c.self.inside.jobs.reserve; lasting = c.self.inside.jobs.lasting } in
     let seen = subst (λ (t : Table). IsHead t c.args.number) (sym c.self.view_is) c.requires.head in
     let head : IsHead table c.args.number = record { head = seen.head; is_at = seen.is_at; ready = seen.ready; first = seen.first } in
     let runs = subst (λ (t : Table). t.ended ≡ false) (sym c.self.view_is) c.requires.running in
@@ -23,6 +23,7 @@ invariant_of-self c =
           (λ job at_n. (head_undone table c.args.number head job at_n, refl)) c.self.invariant.0.worst_is),
       record {
         room = omega (arith, c.drop_first.ensures.room, c.self.invariant.1.room);
+        lasts = omega (arith, c.drop_first.ensures.memory, c.self.invariant.1.lasts);
         few = rw c.drop_first.ensures.waiting c.self.invariant.1.few;
       },
     )

@@ -1,5 +1,7 @@
 use Rattle.std.proofs.Common.{sym, ◌∙◌, arith}
 use Rattle.std.proofs.lemmas.Option.{get_or_from_slice_get}
+use Rattle.due_queue.specs.Keys.{is_due_before}
+use Rattle.due_queue.proofs.Inserted.{length-inserted}
 use Rattle.job_table.proofs.Releasing.{release_step, none_popped}
 use Rattle.job_table.proofs.queues.Queues.release_by.Goals as goal
 
@@ -13,9 +15,16 @@ loop-key-preserved c =
     rw c.insert.ensures.keys (record {
       roomy = step.roomy;
       queued = step.queued;
-      fewer = let h = step.fewer in let g =
-          c.loop-key.invariant.fewer in omega arith;
-      room = omega (arith, step.fewer, c.loop-key.invariant.room, c.in-Some.ensures.spare, c.insert.ensures.spare);
+      fewer = omega (arith, step.one_fewer, c.loop-key.invariant.fewer);
+      room = omega (arith, step.one_fewer, c.loop-key.invariant.room, c.in-Some.ensures.spare, c.insert.ensures.spare);
+      memory = omega (
+        arith,
+        step.one_fewer,
+        c.loop-key.invariant.memory,
+        c.in-Some.ensures.spare,
+        c.insert.ensures.spare,
+        length-inserted is_due_before (record { due = c.due-due.result; number = c.in-Some.key.number }) c.loop-key.self-inside.ready.keys,
+      );
     })
 
 pub returns-clause-later : goal.returns-clause-later

@@ -1,4 +1,4 @@
-use Rattle.std.proofs.Common.{◌-◌, ◌≤◌, min, length}
+use Rattle.std.proofs.Common.{◌+◌, ◌-◌, ◌≤◌, min, length}
 use Rattle.job_table.specs.QueuedKeys.{AreQueued, IsRoomy}
 use Rattle.job_table.proofs.queues.Queues.release_by.Given as goal
 
@@ -9,6 +9,9 @@ invariant-loop-key l = record {
   fewer : length l.self-inside.waiting.keys ≤ length l.initial.self-inside.waiting.keys;
   room : min l.initial.self-inside.waiting.spare (l.initial.self-inside.ready.spare - length l.initial.self-inside.waiting.keys)
       ≤ min l.self-inside.waiting.spare (l.self-inside.ready.spare - length l.self-inside.waiting.keys);
+  memory : min (l.initial.self-inside.waiting.spare + length l.initial.self-inside.waiting.keys)
+      (l.initial.self-inside.ready.spare + length l.initial.self-inside.ready.keys)
+      ≤ min (l.self-inside.waiting.spare + length l.self-inside.waiting.keys) (l.self-inside.ready.spare + length l.self-inside.ready.keys);
 }
 
 abbrev pub decreases-loop-key : goal.decreases-loop-key

@@ -18,3 +18,9 @@ returns-clause-taken c =
     let before = ap (λ (l : Lines). l.room) c.self.view_is in
     let longer = ap length c.insert.ensures.keys in
     omega (arith, before, longer, length-inserted is_released_before c.args.key c.self.inside.waiting.keys, c.insert.ensures.spare)
+
+pub returns-clause-memory : goal.returns-clause-memory
+returns-clause-memory c =
+    let before = ap (λ (l : Lines). l.memory) c.self.view_is in
+    let longer = ap length c.insert.ensures.keys in
+    omega (arith, before, longer, length-inserted is_released_before c.args.key c.self.inside.waiting.keys, c.insert.ensures.spare)

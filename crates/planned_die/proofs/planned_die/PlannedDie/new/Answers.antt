@@ -7,12 +7,14 @@ use Rattle.plan_rules.specs.Bound.{MeetsBound}
 use Rattle.demand_rules.specs.Demand.{PassesDemand}
 use Rattle.demand_rules.specs.Supply.{PassesSupply}
 use Rattle.die_log.specs.Model.Start.{Start, fresh}
-use Rattle.slot_core.specs.Core.{Core}
+use Rattle.die_log.specs.Model.Opening.{IsOpening}
+use Rattle.slot_core.specs.Core.{Core, with_slots, with_arrivals}
 use Rattle.planned_log.specs.Lives.{IsLife}
 use Rattle.planned_die.specs.declared.memory.AskedJob.{AskedJob}
 use Rattle.planned_die.specs.NewPlans.{IsSomeLife}
-use Rattle.planned_die.specs.Planned.{HasLived}
+use Rattle.planned_die.specs.Planned.{HasLived, with_life}
 use Rattle.planned_die.proofs.Beginning.{new_lived}
+use Rattle.planned_die.proofs.Reserved.{life_reserved}
 use Rattle.planned_die.proofs.planned_die.PlannedDie.new.Goals as goal
 
 pub returns-clause-longer : goal.returns-clause-longer
@@ -20,36 +22,54 @@ returns-clause-longer g c other h =
     c.in-Some.ensures.longer other (subst (λ (p : DiePlan). IsSomeLife p c.args.terms c.args.longest other)
     (sym (c.plan-2.ensures ∙ ap (λ (core : Core g.row.N.Denot). core.start.plan) c.in-Ok.ensures.ok)) h)
 
+-- the die below with memory for its life
+pub returns-clause-ok : goal.returns-clause-ok
+returns-clause-ok g c =
+    c.in-Ok-reserve_life.ensures.ok
+    ∙ (ap (λ n. with_slots c.in-Some.life (with_arrivals n n c.in-Ok.core)) c.most_arrivals-most.ensures
+    ∙ ap (with_life c.args.terms c.in-Some.life) c.in-Ok.ensures.ok)
+
 pub returns-clause-lived : goal.returns-clause-lived
 returns-clause-lived g c =
+    let made = c.in-Ok-reserve_life.ensures.ok in
+    let plan_is : c.reserve_life.new.core.start.plan ≡ c.in-Ok.core.start.plan = ap (λ (core : Core g.row.N.Denot). core.start.plan) made in
     let passes = c.in-Ok-terms_test.ensures.passes.0 refl in
     subst (λ (l : List (List AskedJob)). HasLived {N = g.row.N.Denot} (record {
-      core = c.in-Ok.core;
+      core = c.reserve_life.new.core;
       terms = c.args.terms;
       life = c.in-Some.life;
       entered = 0;
       first = 0;
       asked = l;
     }) []) (sym c.in-Ok-new_asks.ensures.jobs)
-    (new_lived c.in-Ok.core c.args.plan c.args.terms c.in-Some.life c.len.result (ap (λ (core : Core g.row.N.Denot). core.start) c.in-Ok.ensures.ok)
-    (ap (λ (core : Core g.row.N.Denot). core.log) c.in-Ok.ensures.ok) c.promises.ensures.opens
-    (subst (λ (p : DiePlan). PassesDemand p c.args.terms) c.plan.ensures passes.0)
-    (subst (λ (p : DiePlan). PassesSupply p c.args.terms) c.plan.ensures passes.1)
-    (subst (λ (p : DiePlan). IsLife p c.args.terms c.in-Some.life) c.plan-2.ensures c.in-Some.ensures.life.is_life))
+    (new_lived c.reserve_life.new.core c.args.plan c.args.terms c.in-Some.life c.len.result
+    (ap (λ (core : Core g.row.N.Denot). core.start) made ∙ ap (λ (core : Core g.row.N.Denot). core.start) c.in-Ok.ensures.ok)
+    (ap (λ (core : Core g.row.N.Denot). core.log) made ∙ ap (λ (core : Core g.row.N.Denot). core.log) c.in-Ok.ensures.ok)
+    (subst (λ (s : Start). IsOpening s) (sym (ap (λ (core : Core g.row.N.Denot). core.start) made)) c.promises.ensures.opens)
+    (subst (λ (p : DiePlan). PassesDemand p c.args.terms) (c.plan.ensures ∙ sym plan_is) passes.0)
+    (subst (λ (p : DiePlan). PassesSupply p c.args.terms) (c.plan.ensures ∙ sym plan_is) passes.1)
+    (subst (λ (p : DiePlan). IsLife p c.args.terms c.in-Some.life) (c.plan-2.ensures ∙ sym plan_is) c.in-Some.ensures.life.is_life))
 
 pub invariant_of-result : goal.invariant_of-result
 invariant_of-result g c = (
   record {
+    reserved = life_reserved c.args.terms c.in-Some.life c.in-Ok.core c.reserve_life.new.core
+        (c.in-Ok-reserve_life.ensures.ok ∙ ap (λ n. with_slots c.in-Some.life (with_arrivals n n c.in-Ok.core)) c.most_arrivals-most.ensures);
     earlier = [];
     lived = returns-clause-lived g c;
     early = omega arith;
     asked_early = subst (λ (l : List (List AskedJob)). All (All (λ (j : AskedJob). j.at ≤ 4611686018427387904)) l) (sym c.in-Ok-new_asks.ensures.jobs)
         (All-replicate (All (λ (j : AskedJob). j.at ≤ 4611686018427387904)) c.len.result [] (λ k d lt. absurd (omega (arith, lt))));
     one_each = ap length c.in-Ok-new_asks.ensures.jobs
-        ∙ (length-replicate c.len.result [] ∙ (c.len.ensures ∙ ap (λ (p : DiePlan). length p.caps) c.plan-3.ensures));
+        ∙ (length-replicate c.len.result [] ∙ (c.len.ensures ∙ ap (λ (p : DiePlan). length p.caps) c.plan-4.ensures));
   },
   c.in-Ok-new_asks.ensures.kept c.args.terms _,
+  c.in-Ok-new_asks.ensures.memory,
 )
+
+pub most_arrivals-most-requires-clause-life : goal.most_arrivals-most-requires-clause-life
+most_arrivals-most-requires-clause-life g c =
+    subst (λ (p : DiePlan). IsLife p c.args.terms c.in-Some.life) (c.plan-2.ensures ∙ sym c.plan-3.ensures) c.in-Some.ensures.life.is_life
 
 pub returns-in-None-clause-refused : goal.returns-in-None-clause-refused
 returns-in-None-clause-refused g c =

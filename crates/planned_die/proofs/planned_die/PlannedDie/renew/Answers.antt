@@ -6,6 +6,7 @@ use Rattle.planned_die.proofs.NextLife.{ended, not_left}
 use Rattle.slot_core.specs.Core.{Core}
 use Rattle.planned_die.proofs.Passing.{kept_later}
 use Rattle.planned_die.proofs.Lived.{next_lived}
+use Rattle.planned_die.proofs.Reserved.{renewed_reserved}
 use Rattle.planned_die.proofs.planned_die.PlannedDie.renew.Goals as goal
 
 pub invariant_of-self : goal.invariant_of-self
@@ -20,6 +21,7 @@ invariant_of-self g c =
     } in
     let over : c.self.inside.life ≤ now c.self.inside.core.log = omega (arith, c.now-now.ensures, c.if-now-self.false) in (
       record {
+        reserved = renewed_reserved die.terms die.life die.core c.renew.new.self c.in-Ok.ensures.ok c.self.invariant.0.reserved;
         earlier = c.self.inside.core.log ∷ c.self.invariant.0.earlier;
         lived = next_lived die c.self.invariant.0.earlier c.self.invariant.0.lived
             (ended die.core die.terms c.self.invariant.0.earlier die.life die.entered c.self.invariant.0.lived.kept over) c.renew.new.self
@@ -30,6 +32,7 @@ invariant_of-self g c =
       },
       kept_later die.terms (die.first + now die.core.log) _ c.self.inside.asked.items
           (omega (arith, c.from.ensures, c.now-now.ensures, ap (λ (core : Core g.row.N.Denot). now core.log) c.in-Ok.ensures.ok)) c.self.invariant.1,
+      c.self.invariant.2,
     )
 
 pub unreachable-requires : goal.unreachable-requires

@@ -21,6 +21,8 @@ loop-self-preserved c =
     let next : TaskAsks = record { jobs = t.jobs; passed = t.passed + 1; operations = t.operations - j.operations; writes = t.writes - j.writes } in
     record {
       jobs = c.loop-self.invariant.jobs;
+      list = c.loop-self.invariant.list;
+      fewer = omega (arith, c.loop-self.invariant.fewer);
       kept = passed_one c.args.period c.args.clock t next j k lt
           (omega (arith, ap (λ (j : AskedJob). j.at) c.index-oldest.ensures, c.if-from.false, c.from.ensures, c.from-in-loop-self.ensures, c.from-in-loop-self-2.ensures))
           refl refl

@@ -10,8 +10,8 @@ use Rattle.slot_core.proofs.Calling.{err_uncovered, stopped_refused, log_refused
 use Rattle.slot_core.proofs.Keeping.{collecting_is, may_collect, collect_answered, collect_accepts, if_ok_both, if_err_both}
 use Rattle.slot_core.specs.TableLog.{log_of}
 use Rattle.job_table.specs.Jobs.{new_collection}
-use Rattle.job_table.specs.Table.{with_job}
-use Rattle.slot_core.proofs.Reserving.{collect_room, collect_uses}
+use Rattle.job_table.specs.Table.{Table, with_job}
+use Rattle.slot_core.proofs.Reserving.{collect_room, collect_uses, collect_lasts}
 use Rattle.slot_core.proofs.Telling.{collect_enters, collect_logged, few_reported}
 use Rattle.slot_core.proofs.Marks.{marks_collect}
 use Rattle.slot_core.proofs.die_core.DieCore.collect.Goals as goal
@@ -70,6 +70,10 @@ invariant_of-self g c =
       marks_collect c.enter.result c.self.inside.table c.enter.new.table c.args.task c.args.release c.args.due
           c.self.inside.events.marked c.enter.new.events.marked (rw c.none.ensures at c.enter.ensures.table)
           c.enter.ensures.table_stays c.enter.ensures.marked c.self.invariant.2,
+      collect_lasts c.enter.result c.self.inside.table c.enter.new.table _ c.self.inside.reserved c.self.inside.lasting
+          c.self.inside.events.memory c.enter.new.events.memory c.self.inside.events.waiver_memory c.enter.new.events.waiver_memory
+          (rw c.none.ensures at c.enter.ensures.table) c.enter.ensures.table_stays c.enter.ensures.memory c.enter.ensures.waiver_memory
+          c.self.invariant.3,
     )
 
 pub enter-requires-clause-few_events : goal.enter-requires-clause-few_events
@@ -111,7 +115,12 @@ returns g c =
     (Collect c.args.task c.args.release c.args.due) c.args.self.now _ number tt runs
     (record {
       answered = is;
-      logged = rw (both.0, collect_uses c.self.inside.table c.enter.new.table c.args.task c.args.release c.args.due both.1, ← c.self.view_is) refl;
+      logged = rw (
+        both.0,
+        collect_uses c.self.inside.table c.enter.new.table c.args.task c.args.release c.args.due both.1,
+        ap (λ (t : Table). t.lasting) both.1,
+        ← c.self.view_is,
+      ) refl;
     })))
     (if_err_both c.enter.result _ _ _ c.enter.ensures.refused
     (if_err_both c.enter.result _ _ (λ _. ((c.enter.new.table ≡ c.self.inside.table) × (c.enter.new.events.notes ≡ c.self.inside.events.notes))

@@ -39,6 +39,8 @@ returns-in-Err-carry_out g c =
             c.carry_out.ensures.reserve;
       })));
       start_stays = search rules;
+      lasting_stays = ap (λ (r : Reserve). record { slots = c.self.inside.lasting; arrivals = r.arrivals; operations = r.operations })
+          c.carry_out.ensures.lasting;
       device = rw (← c.reserve.ensures.events) (used g.N.Nand.ends g.N.Nand.failures g.N.Nand.never_fails _
           (λ _. Answered c.carry_out.new.reply) _ _ _ c.in-Err-carry_out.ensures.calls c.in-Err-carry_out.ensures.fails.by_fault);
     })

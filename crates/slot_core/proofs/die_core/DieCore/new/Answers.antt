@@ -4,9 +4,9 @@ use Rattle.slot_types.specs.declared.plans.Shape.{Shape}
 use Rattle.flash_die.specs.Flash.{fresh_blocks}
 use Rattle.job_table.specs.Table.{Table, empty_table}
 use Rattle.slot_core.specs.TableLog.{log_of}
-use Rattle.slot_core.specs.ReservedSlots.{open_collections}
 use Rattle.slot_core.proofs.Keeping.{keeps_start, err_where, bound_refusal, same_shape}
 use Rattle.slot_core.proofs.Marks.{marks_none}
+use Rattle.slot_core.proofs.Reserving.{empty_room}
 use Rattle.slot_core.proofs.die_core.DieCore.new.Goals as goal
 
 pub returns-in_err-bound-clause-refused : goal.returns-in_err-bound-clause-refused
@@ -15,6 +15,8 @@ returns-in_err-bound-clause-refused g c =
 
 pub invariant_of-result : goal.invariant_of-result
 invariant_of-result g c =
+    let room = empty_room c.in_ok-table.table (ap (λ (t : Table). t.reserve) c.in_ok-table.ensures.ok) (ap (λ (t : Table). t.lasting) c.in_ok-table.ensures.ok)
+    (ap (λ (t : Table). t.jobs) c.in_ok-table.ensures.ok) c.new-3.result.room c.new-3.result.waiver_room c.new-3.result.memory c.new-3.result.waiver_memory in
     let same : c.shape.result ≡ c.args.plan.shape = same_shape c.shape.result c.args.plan.shape c.if-ne.ensures in (
       record {
         kept = keeps_start g.N.Nand.blocks c.args.plan c.args.nand (log_of c.in_ok-table.table c.new-3.result.notes) c.in_ok-table.table
@@ -24,15 +26,9 @@ invariant_of-result g c =
             (c.in_ok-table.ensures.ok ∙ ap empty_table c.len.ensures) c.in_ok-volume.ensures.ok c.fresh-start.ensures;
         fits = rw c.new-3.ensures tt;
       },
-      record {
-        entries = omega (arith, ap (λ (t : Table). t.reserve.arrivals) c.in_ok-table.ensures.ok);
-        waivers = omega (
-          arith,
-          ap (λ (t : Table). t.reserve.arrivals) c.in_ok-table.ensures.ok,
-          ap (λ (t : Table). open_collections t.jobs) c.in_ok-table.ensures.ok,
-        );
-      },
+      room.0,
       rw (c.in_ok-table.ensures.ok, c.new-3.ensures) marks_none,
+      room.1,
     )
 
 pub returns-clause-bad_plan : goal.returns-clause-bad_plan

@@ -12,7 +12,7 @@ use Rattle.slot_core.proofs.Keeping.{submit_kept, submit_accepts, submit_taken, 
 use Rattle.job_table.specs.Table.{Table}
 use Rattle.slot_core.specs.TableLog.{log_of}
 use Rattle.slot_core.specs.ReservedSlots.{open_collections}
-use Rattle.slot_core.proofs.Reserving.{open_job}
+use Rattle.slot_core.proofs.Reserving.{open_job, job_lasts}
 use Rattle.slot_core.proofs.Fitting.{accepted_few}
 use Rattle.slot_core.proofs.Telling.{submit_reports, few_reported}
 use Rattle.job_table.specs.Jobs.{new_job}
@@ -81,6 +81,8 @@ invariant_of-self-in-Ok-enter g c =
       },
       rw (table, c.in-Ok-enter.ensures.marked) (marks_push f.table.jobs
           (new_job c.args.task c.args.release c.args.due c.args.ops.now) f.events.marked refl c.self.invariant.2),
+      job_lasts f.table c.enter.new.table _ f.reserved f.lasting f.events.memory c.enter.new.events.memory f.events.waiver_memory
+          c.enter.new.events.waiver_memory table c.in-Ok-enter.ensures.memory c.in-Ok-enter.ensures.waiver_memory c.self.invariant.3,
     )
 
 pub enter-requires-clause-few_ops : goal.enter-requires-clause-few_ops
@@ -120,7 +122,7 @@ returns-in-Ok-enter g c =
     (Submit c.args.task c.args.release c.args.due c.args.ops.now) c.args.self.now _ c.in-Ok-enter.number tt (rw (← c.self.view_is) alive) (record {
       answered = rw (← c.self.view_is)
           (submit_taken _ _ f.table _ _ _ _ _ none c.self.invariant.0.kept.jobs_are c.in-Ok-enter.ensures.number);
-      logged = rw (says.0, made, ap (λ (t : Table). t.reserve) table, ← c.self.view_is) refl;
+      logged = rw (says.0, made, ap (λ (t : Table). t.reserve) table, ap (λ (t : Table). t.lasting) table, ← c.self.view_is) refl;
     })
 
 pub invariant_of-self : goal.invariant_of-self

@@ -23,6 +23,7 @@ returns-in-Ok-resume-clause-ok c =
           ∙ (λ i. record { memory = c.in-Ok-left.ensures.left i });
       runs = ap (λ (core : Core MirrorNand). core.stopped) ok;
       reserves = ap (λ (core : Core MirrorNand). core.reserved) ok;
+      lasts = ap (λ (core : Core MirrorNand). core.lasting) ok;
       log = ap (λ (core : Core MirrorNand). core.log) ok;
       idle = refl;
     }

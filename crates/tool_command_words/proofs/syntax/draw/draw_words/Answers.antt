@@ -2,6 +2,5 @@ use Rattle.tool_command_words.proofs.syntax.draw.draw_words.Goals as goal
 
 pub returns : goal.returns
 returns c =
-    let chosen = c.with_arg-chosen.ensures _ _ c.draw_window.ensures c.worst.ensures.rule in
-    let told = c.with_arg-told.ensures _ _ chosen c.as_text.ensures.rule in
+    let told = c.with_arg-told.ensures _ _ c.draw_forms.ensures c.all.ensures.rule in
     c.with_arg.ensures _ _ told c.fail_at.ensures.rule

@@ -1,0 +1,335 @@
+#!/usr/bin/env -S python3 -B
+"""Tests on real files of what the programs write and of what they report: links, devices, pipes, full disks, two writers at
+once, names of one file, and the sentence after each refusal.
+
+    .ci/tests/outputs.py PROGRAM    flashplan or flashrec, as `.ci/build/program` finds it; ends with 1 where one fails
+
+It takes some seconds. What only root may do, as devices and owners, is left out for others, and the other way round."""
+import os
+import resource
+import signal
+import stat
+import subprocess
+import sys
+import tempfile
+import threading
+import unittest
+from pathlib import Path
+
+TOP = Path(__file__).resolve().parents[2]
+DATA = TOP / "crates/demo_examples/data"
+PROGRAM = None
+IS_ROOT = os.geteuid() == 0
+
+
+def small_files():
+    """Files may have 4,096 bytes; a write beyond that fails, and ends nothing."""
+    signal.signal(signal.SIGXFSZ, signal.SIG_IGN)
+    resource.setrlimit(resource.RLIMIT_FSIZE, (4096, 4096))
+
+
+class Case(unittest.TestCase):
+    def setUp(self):
+        self.work = tempfile.TemporaryDirectory()
+        self.addCleanup(self.work.cleanup)
+        self.at = Path(self.work.name)
+        for name in ["one_die.toml", "one_die.csv", "two_dies.toml", "two_dies.csv", "planned.toml", "refused_rows.toml",
+                     "refused_rows.csv"]:
+            (self.at / name).write_bytes((DATA / name).read_bytes())
+
+    def run_words(self, words, **more):
+        words = [PROGRAM, *words.split()] if isinstance(words, str) else [PROGRAM, *words]
+        more = {"stdin": subprocess.DEVNULL, "stdout": subprocess.PIPE, "stderr": subprocess.PIPE, **more}
+        done = subprocess.run(words, cwd=self.at, timeout=60, **more)
+        return done.returncode, done.stdout or b"", (done.stderr or b"").decode()
+
+    def text(self, words):
+        status, out, err = self.run_words(words)
+        self.assertEqual((status, err), (0, ""), words)
+        return out
+
+    def refused(self, words, *lines, status=1, **more):
+        """It ends so, prints nothing, and reports these lines."""
+        got, out, err = self.run_words(words, **more)
+        self.assertEqual((got, out), (status, b""), (words, err))
+        self.assertEqual(err.splitlines(), list(lines), words)
+
+    def device(self, name):
+        """The name of a device or of standard output: for root one of this folder's own, since a program with a fault could
+        put a file in the place of the system's."""
+        if not IS_ROOT:
+            return f"/dev/{name}"
+        path = self.at / f"dev_{name}"
+        if name == "stdout":
+            path.symlink_to("/proc/self/fd/1")
+        else:
+            os.mknod(path, stat.S_IFCHR | 0o666, os.stat(f"/dev/{name}").st_rdev)
+        return path.name
+
+    def no_part(self):
+        self.assertEqual([path.name for path in self.at.rglob("*.part")], [])
+
+
+class Planned(Case):
+    """Of flashplan."""
+
+    def setUp(self):
+        super().setUp()
+        self.said = self.text("explain one_die.toml")
+
+    def test_a_device_stays_one(self):
+        if not IS_ROOT:
+            self.skipTest("root alone makes devices")
+        node = self.at / "null"
+        os.mknod(node, stat.S_IFCHR | 0o666, os.makedev(1, 3))
+        self.assertEqual(self.run_words("explain one_die.toml -o null"), (0, b"", ""))
+        self.assertTrue(stat.S_ISCHR(node.stat().st_mode))
+
+    def test_a_pipe_gets_the_text_and_stays_one(self):
+        pipe, read = self.at / "pipe", []
+        os.mkfifo(pipe)
+        (self.at / "link").symlink_to("pipe")
+        for name in "pipe", "link":
+            reader = threading.Thread(target=lambda: read.append(pipe.read_bytes()), daemon=True)
+            reader.start()
+            self.assertEqual(self.run_words(f"explain one_die.toml -o {name}"), (0, b"", ""))
+            reader.join(20)
+        self.assertEqual(read, [self.said] * 2)
+        self.assertTrue(stat.S_ISFIFO(pipe.stat().st_mode))
+
+    def test_standard_output_may_be_named(self):
+        named = self.device("stdout")
+        self.assertEqual(self.run_words(f"explain one_die.toml -o {named}"), (0, self.said, ""))
+        self.assertEqual(self.run_words("explain one_die.toml -o /proc/self/fd/1"), (0, self.said, ""))
+        with open(self.at / "both", "wb") as both:
+            for word in named, "both", "-":
+                self.assertEqual(self.run_words(f"explain one_die.toml -o {word}", stdout=both)[0], 0)
+        self.assertEqual((self.at / "both").read_bytes(), self.said * 3)
+
+    def test_an_open_file_gets_the_text_after_what_it_has(self):
+        with open(self.at / "log", "ab") as log:
+            log.write(b"before\n")
+            log.flush()
+            status = self.run_words(f"explain one_die.toml -o /dev/fd/{log.fileno()}", pass_fds=[log.fileno()])[0]
+        self.assertEqual((status, (self.at / "log").read_bytes()), (0, b"before\n" + self.said))
+
+    def test_a_link_leads_to_the_file_which_keeps_its_mode_and_owner(self):
+        real, link = self.at / "real", self.at / "link"
+        real.write_text("old")
+        real.chmod(0o640)
+        if IS_ROOT:
+            os.chown(real, 1234, 4321)
+        (self.at / "far").mkdir()
+        (self.at / "far/link").symlink_to("../link")
+        link.symlink_to("real")
+        before = real.stat()
+        for name in "link", "far/link":
+            real.write_text("old")
+            self.assertEqual(self.run_words(f"explain one_die.toml -o {name}"), (0, b"", ""))
+            now = real.stat()
+            self.assertEqual(real.read_bytes(), self.said)
+            self.assertEqual((now.st_mode, now.st_uid, now.st_gid), (before.st_mode, before.st_uid, before.st_gid))
+        self.assertTrue(link.is_symlink() and (self.at / "far/link").is_symlink())
+        self.no_part()
+
+    def test_a_link_to_nothing_makes_its_file(self):
+        (self.at / "link").symlink_to("new")
+        self.assertEqual(self.run_words("explain one_die.toml -o link", umask=0o027), (0, b"", ""))
+        self.assertEqual((self.at / "new").read_bytes(), self.said)
+        self.assertEqual((self.at / "new").stat().st_mode & 0o777, 0o640)
+        self.assertTrue((self.at / "link").is_symlink())
+
+    def test_a_file_that_is_not_to_be_written_stays(self):
+        if IS_ROOT:
+            self.skipTest("root writes any file")
+        kept = self.at / "kept"
+        kept.write_text("old")
+        kept.chmod(0o444)
+        self.refused("explain one_die.toml -o kept", "error 22 WriteFault",
+                     "kept: nothing was written to it: Permission denied (os error 13)")
+        self.assertEqual(kept.read_text(), "old")
+
+    def test_what_stands_beside_a_file_stays(self):
+        (self.at / "precious").write_text("precious")
+        (self.at / "said.part").symlink_to("precious")
+        (self.at / "said.1.part").write_text("mine")
+        self.assertEqual(self.run_words("explain one_die.toml -o said"), (0, b"", ""))
+        self.assertEqual((self.at / "said").read_bytes(), self.said)
+        self.assertFalse((self.at / "said").is_symlink())
+        self.assertEqual((self.at / "precious").read_text(), "precious")
+        self.assertEqual((self.at / "said.1.part").read_text(), "mine")
+        self.assertTrue((self.at / "said.part").is_symlink())
+        self.assertFalse((self.at / "said.2.part").exists())
+
+    def test_a_folder_and_a_missing_folder_are_named(self):
+        (self.at / "folder").mkdir()
+        self.refused("explain one_die.toml -o folder", "error 22 WriteFault", "folder: it is a directory; name a file")
+        self.refused("explain one_die.toml -o nowhere/x", "error 22 WriteFault",
+                     "nowhere/x: nothing was written to it: No such file or directory (os error 2)")
+
+    def test_a_full_disk_is_reported_and_the_file_stays(self):
+        words = "arrivals planned.toml --slots 4000"
+        (self.at / "script.csv").write_text("old")
+        self.refused(f"{words} -o script.csv", "error 22 WriteFault",
+                     "script.csv: nothing was written to it: File too large (os error 27)", preexec_fn=small_files)
+        self.assertEqual((self.at / "script.csv").read_text(), "old")
+        self.no_part()
+        full_name = self.device("full")
+        self.refused(f"{words} -o {full_name}", "error 22 WriteFault",
+                     f"{full_name}: not the whole text was written to it: No space left on device (os error 28)")
+        with open("/dev/full", "wb") as full:
+            self.refused(words, "error 22 WriteFault", "standard output: No space left on device (os error 28)", stdout=full)
+        read, write = os.pipe()
+        os.close(read)
+        self.refused(words, stdout=write)
+        os.close(write)
+
+    def test_two_writers_leave_one_of_both_texts(self):
+        words = "arrivals planned.toml --slots 3000 --seed"
+        texts = {seed: self.text(f"{words} {seed}") for seed in range(4)}
+        for _ in range(6):
+            writers = [subprocess.Popen([PROGRAM, *f"{words} {seed} -o script.csv".split()], cwd=self.at) for seed in texts]
+            self.assertEqual([writer.wait() for writer in writers], [0] * 4)
+            self.assertIn((self.at / "script.csv").read_bytes(), texts.values())
+        self.no_part()
+
+    def test_two_names_of_one_file_are_refused_and_nothing_is_done(self):
+        run = "run one_die.toml one_die.csv --slots 2"
+        (self.at / "to_plan").symlink_to("one_die.toml")
+        os.link(self.at / "one_die.csv", self.at / "hard.csv")
+        (self.at / "here").symlink_to(".")
+        (self.at / "new_link").symlink_to("new.ck")
+        before = {path: path.read_bytes() for path in self.at.iterdir() if path.is_file()}
+        named, null = self.device("stdout"), self.device("null")
+        for words, both in [
+            (f"{run} --to z.ck -o ./z.ck", "-o ./z.ck and --to z.ck"),
+            (f"{run} --to z.ck -o here/z.ck", "-o here/z.ck and --to z.ck"),
+            (f"{run} --to new.ck -o new_link", "-o new_link and --to new.ck"),
+            (f"{run} --to to_plan", "--to to_plan and the plan one_die.toml"),
+            (f"{run} --to hard.csv", "--to hard.csv and the script one_die.csv"),
+            (f"{run} --from ./one_die.csv -o hard.csv", "-o hard.csv and the script one_die.csv"),
+            (f"{run} --to -", "standard output and --to -"),
+            (f"{run} --to {named}", f"standard output and --to {named}"),
+            ("explain one_die.toml -o here/to_plan", "-o here/to_plan and the plan one_die.toml"),
+        ]:
+            self.refused(words, "error 22 WriteFault", f"{both} are one file: name another for one of them")
+        self.assertEqual({path: path.read_bytes() for path in before}, before)
+        with open(self.at / "one_die.csv", "ab") as out:
+            status, _, err = self.run_words(run, stdout=out)
+        self.assertEqual((status, "standard output and the script" in err), (1, True))
+        self.assertEqual(self.run_words(f"{run} --to {null} -o {null}"), (0, b"", ""))
+
+    def test_a_checkpoint_goes_on_only_where_its_report_was_written(self):
+        run = "run one_die.toml one_die.csv --slots 2"
+        report = self.text(f"{run} --to a.ck")
+        first = (self.at / "a.ck").read_bytes()
+        self.refused(f"{run} --from a.ck --to a.ck -o nowhere/x", "error 22 WriteFault",
+                     "nowhere/x: nothing was written to it: No such file or directory (os error 2)")
+        with open("/dev/full", "wb") as full:
+            self.assertEqual(self.run_words(f"{run} --from a.ck --to a.ck", stdout=full)[0], 1)
+        self.assertEqual((self.at / "a.ck").read_bytes(), first)
+        self.assertEqual(self.text(f"{run} --from a.ck --to a.ck -o r.part"), b"")
+        self.assertNotEqual((self.at / "a.ck").read_bytes(), first)
+        self.assertEqual(self.text(f"{run} --to r.part -o r"), b"")
+        self.assertEqual(((self.at / "r").read_bytes(), (self.at / "r.part").read_bytes()), (report, first))
+        self.assertEqual(self.run_words(f"{run} --to - -o r"), (0, first, ""))
+
+    def test_a_name_of_a_die_is_reported_with_how_many_there_are(self):
+        self.refused("draw two_dies.toml two_dies.csv --slots 5 --die 3", "error 4 UnknownDie",
+                     "two_dies.toml: --die is 3; there are 2 dies, numbered from 0")
+        self.refused("report two_dies.toml two_dies.csv --slots 5 --fail-at 2:1", "error 4 UnknownDie",
+                     "two_dies.toml: the die of --fail-at is 2; there are 2 dies, numbered from 0")
+        self.refused("compare one_die.toml one_die.csv --slots 3 --draw --task 14", "error 5 UnknownTask",
+                     "one_die.toml, die 0: --task is 14; there is task 0 alone")
+
+    def test_refused_rows_are_named_by_kind_and_by_place(self):
+        (self.at / "rows.csv").write_text((self.at / "refused_rows.csv").read_text().replace("ops\n", "ops\n\n\n", 1))
+        status, _, err = self.run_words("wear refused_rows.toml rows.csv --slots 4")
+        self.assertEqual((status, err.splitlines()[0], err.splitlines()[-1]), (
+            0, "refused 4 first line 3 with 8", "rows.csv, line 5 (record 3): one of its pages isn't below `logical`"))
+        self.assertEqual([line.split(":")[0] for line in err.splitlines()[1:-1]],
+                         ["1 with 8 BadPage", "1 with 9 ReleasePast", "1 with 10 BadDue", "1 with 13 CollectorBusy"])
+
+
+class Recorded(Case):
+    """Of flashrec."""
+
+    def test_each_fault_of_a_script_is_reported_with_its_value_its_bounds_and_what_to_do(self):
+        header = "at,die,task,kind,release,due,ops"
+        for old, new, cause, sentence in [
+            ("1,0,0,job", "20,0,0,job", "3 At", "line 3 (record 3): `at` is 20, and the run has 10 slots: raise --slots, or leave "
+             "out what comes later"),
+            ("\n1,0,0,job", "\n1,0,0,job,1,3,R3\n0,0,0,job", "4 At", "line 4 (record 4): `at` is 0, which is below that of the "
+             "die's row before: sort the rows of a die by `at`"),
+            ("1,0,0,job", "1,7,0,job", "3 Die", "line 3 (record 3): `die` is 7, and the plan has die 0 alone"),
+            ("\n1,0,0,job", "\n\n1,0,0,jobs", "3 Kind", "line 4 (record 3): `kind` is \"jobs\", and has to be job or collect"),
+            ("1,0,0,job", "1,0,x\u001b[2J,job", "3 Number", "line 3 (record 3): `task` is \"x\\u{1b}[2J\", and has to be a whole number "
+             "from 0 to 4294967295"),
+            ("1,3,R3", "1,3", "3 Fields", f"line 3 (record 3): it has 6 fields, and a row has 7: {header}"),
+            ("1,3,R3", "1,3,R3 W3=11", "3 Ops", "line 3 (record 3): `ops` has \"W3=11\": operations are R7, T7, or W7= and 32 "
+             "hexadecimal digits, with a space between two"),
+            (header, header.replace(",", ";"), "1 Header", f"line 1 (record 1): commas stand between fields, and it has others: {header}"),
+            (header, "die," + header, "1 Header", f"line 1 (record 1): it has to be {header}"),
+        ]:
+            text = (DATA / "one_die.csv").read_text()
+            self.assertIn(old, text)
+            (self.at / "s.csv").write_text(text.replace(old, new, 1))
+            self.refused("run one_die.toml s.csv --slots 10", f"error 19 ScriptRow {cause}", f"s.csv, {sentence}")
+
+    def test_a_script_that_is_not_read_again_has_its_bounds(self):
+        done = subprocess.run([PROGRAM, *"run one_die.toml - --slots 0".split()], cwd=self.at, capture_output=True, check=False,
+                              input=(DATA / "one_die.csv").read_bytes())
+        self.assertEqual(done.stderr.decode().splitlines(), [
+            "error 19 ScriptRow 3 At",
+            "standard input, record 3: `at` has to be at most --slots, and not below that of the die's row before"])
+
+    def test_a_file_that_is_not_read_is_named_with_the_cause(self):
+        self.refused("run one_die.toml nope.csv --slots 1", "error 21 ReadFault",
+                     "nope.csv: No such file or directory (os error 2)")
+        (self.at / "folder").mkdir()
+        self.refused("audit folder", "error 21 ReadFault", "folder: it is a directory; name a file")
+        self.refused("audit /proc/self/mem", "error 21 ReadFault", "/proc/self/mem: Input/output error (os error 5)")
+        self.refused("audit /dev/zero", "error 21 ReadFault",
+                     "/dev/zero: it is no file; a read of it failed, or it has more than 67108864 bytes")
+
+    def test_a_plan_is_reported_with_what_explains_it(self):
+        (self.at / "a b.toml").write_text((DATA / "one_die.toml").read_text().replace("logical = 12", "logical = 19"))
+        self.refused(["plan", "a b.toml"], "error 3 BadPlan",
+                     "a b.toml: flashplan explain 'a b.toml' says what is wrong, and what would mend it")
+
+    def test_a_full_disk_is_reported(self):
+        with open("/dev/full", "wb") as full:
+            self.refused("plan one_die.toml", "error 22 WriteFault", "standard output: No space left on device (os error 28)",
+                         stdout=full)
+        read, write = os.pipe()
+        os.close(read)
+        self.refused("plan one_die.toml", "error 22 WriteFault", stdout=write)
+        os.close(write)
+
+    def test_a_refused_row_is_named_by_its_place(self):
+        status, _, err = self.run_words("run refused_rows.toml refused_rows.csv --slots 4")
+        self.assertEqual((status, err.splitlines()), (0, [
+            "refused 4 first line 3 with 8", "refused_rows.csv, line 3 (record 3): one of its pages isn't below `logical`"]))
+
+    def test_a_number_out_of_its_range_is_reported_with_its_option(self):
+        for words, line in [
+            ("run p s --slots 5 --workers 17", "error: --workers is \"17\", and has to be a whole number from 1 to 16"),
+            ("run p s --slots 5x", "error: --slots is \"5x\", and has to be a whole number from 0 to 1048576"),
+        ]:
+            status, _, err = self.run_words(words)
+            self.assertEqual((status, err.splitlines()[0]), (2, line))
+
+
+def main():
+    global PROGRAM
+    if len(sys.argv) != 2 or sys.argv[1].startswith("-"):
+        sys.exit(__doc__)
+    PROGRAM = str(Path(sys.argv[1]).resolve())
+    version = subprocess.run([PROGRAM, "--version"], capture_output=True, check=True).stdout.decode()
+    case = Planned if version.startswith("flashplan") else Recorded
+    tests = unittest.defaultTestLoader.loadTestsFromTestCase(case)
+    sys.exit(not unittest.TextTestRunner().run(tests).wasSuccessful())
+
+
+if __name__ == "__main__":
+    main()

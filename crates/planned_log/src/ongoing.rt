@@ -1,0 +1,70 @@
+//! What holds of a die that goes on by itself. Each law is a function that does nothing.
+
+ghost use Rattle.std.specs.Prelude.{◌≡◌, ◌⊎◌, ◌+◌, ◌∷◌, ◌<◌, ◌≤◌, ℕ, List, [], Some, length};
+ghost use Rattle.slot_types.specs.declared.events.Op.{Op};
+ghost use Rattle.slot_types.specs.Operations.{writes};
+ghost use Rattle.demand_rules.specs.declared.terms.Terms.{Terms};
+ghost use Rattle.demand_rules.specs.Demand.{terms_of};
+ghost use Rattle.die_log.specs.Model.Log.{now};
+ghost use Rattle.die_log.specs.Model.Start.{Start};
+ghost use Rattle.die_log.specs.Model.Lives.{all_slots, start_after};
+ghost use Rattle.planned_log.specs.Asks.{asked_by};
+ghost use Rattle.planned_log.specs.Laws.{StartsFull, Accepted, seen_by, answers_of};
+ghost use Rattle.planned_log.specs.Moves.{Move, Slot, after_move};
+ghost use Rattle.planned_log.specs.Ongoing.{Ongoing, WaitingAsk, new_ongoing, waiting_of, start_of};
+ghost use Rattle.planned_log.specs.Ongoing.{asks_of, answer_to, answers_to, ops_of, Waits, ongoing_after_move, ongoing_after, AreLongEnough, IsOngoing};
+
+/// Where a die starts full, and its lives are long enough for a job of each task, then whatever the callers do, in
+/// whatever order and amount, it goes on: each life keeps the plan, and where it ends all is quiet, and each of its jobs
+/// was done by its deadline. No one has to renew it.
+pub fn a_die_goes_on_by_itself()
+    ensures begins { (first : Start) (terms : Terms) (life : ℕ) → AreLongEnough terms life →
+        StartsFull first terms life → IsOngoing first terms life (new_ongoing first.plan) }
+    ensures goes_on { (first : Start) (terms : Terms) (life : ℕ) → AreLongEnough terms life →
+        (d : Ongoing) → IsOngoing first terms life d → (moves : List Move)
+        → IsOngoing first terms life (ongoing_after first terms life d moves) }
+{}
+
+/// What waits goes on to wait until the life ends. Then it is a job of the first slot of the next one: with the slot that
+/// ends a life, the ask of each task that waits is accepted, whatever the others ask, with the release and the deadline
+/// that it was answered, and the task has asked for just that. It waits for fewer slots than its deadline has: so it is
+/// done in less than twice as many slots as its deadline has, counted from the ask.
+pub fn waiting_asks_are_taken()
+    ensures taken { (first : Start) (terms : Terms) (life : ℕ) → AreLongEnough terms life →
+        (d : Ongoing) → IsOngoing first terms life d → (caller : ℕ) →
+        let log = after_move (start_of first d) terms d.earlier life d.log (Slot caller) in
+        now log ≡ life → (task : ℕ) (w : WaitingAsk) → waiting_of d task ≡ Some w
+        → answers_of (start_after first (log ∷ d.earlier)) terms (log ∷ d.earlier) life task [] (asks_of 0 d.waiting)
+        ≡ Accepted 0 (0 + (terms_of terms task).deadline) ∷ [] }
+    ensures stays { (first : Start) (terms : Terms) (life : ℕ) → AreLongEnough terms life → (d : Ongoing) (move : Move)
+        (task : ℕ) (w : WaitingAsk) → waiting_of d task ≡ Some w
+        → (waiting_of (ongoing_after_move first terms life d move) task ≡ Some w)
+        ⊎ (now (after_move (start_of first d) terms d.earlier life d.log move) ≡ life) }
+    ensures enters { (first : Start) (terms : Terms) (life : ℕ) → AreLongEnough terms life →
+        (d : Ongoing) → IsOngoing first terms life d → (caller : ℕ)
+        → now (after_move (start_of first d) terms d.earlier life d.log (Slot caller)) ≡ life →
+        (task : ℕ) (w : WaitingAsk) → waiting_of d task ≡ Some w →
+        let next = ongoing_after_move first terms life d (Slot caller) in
+        asked_by task (next.log ∷ next.earlier)
+        ≡ record { at = all_slots next.earlier; operations = length w.ops; writes = writes w.ops }
+        ∷ asked_by task (d.log ∷ d.earlier) }
+    ensures soon { (first : Start) (terms : Terms) (life : ℕ) (d : Ongoing) → IsOngoing first terms life d →
+        (task release due : ℕ) (ops : List Op)
+        → answer_to first terms life d task ops ≡ Waits release due
+        → life < now d.log + (terms_of terms task).deadline }
+{}
+
+/// What a task is answered depends on the slots and on its own asks, and on nothing that other tasks do, over all lives:
+/// of two dies that go on by themselves, in the same slot of the clock and of a life, with the same asked for by the task
+/// before and the same of it waiting, and of two runs that agree on their slots and on the task's asks, each of its asks is
+/// refused for the same cause, with the same slot to come again, or gets the same release and the same deadline.
+pub fn ongoing_tasks_are_answered_for_their_own_asks()
+    ensures { (first other : Start) (terms : Terms) (life task : ℕ) → AreLongEnough terms life →
+        first.plan ≡ other.plan → (one two : Ongoing) → IsOngoing first terms life one →
+        IsOngoing other terms life two → all_slots one.earlier ≡ all_slots two.earlier →
+        now one.log ≡ now two.log →
+        asked_by task (one.log ∷ one.earlier) ≡ asked_by task (two.log ∷ two.earlier) →
+        ops_of (waiting_of one task) ≡ ops_of (waiting_of two task) →
+        (moves others : List Move) → seen_by task moves ≡ seen_by task others
+        → answers_to first terms life task one moves ≡ answers_to other terms life task two others }
+{}

@@ -1,0 +1,138 @@
+//! Which options of the words say nothing because of others.
+
+use crate::values::number_in;
+use command_arguments::value_in;
+use std::fmt;
+use std::fmt::{Display, Formatter};
+
+/// Where a picture ends if nothing is said.
+const ALL: &str = "1048576";
+
+/// Two options, of which one would say nothing, and why.
+#[derive(Clone, Copy, Drop)]
+pub(crate) struct Conflict<'a> {
+    option: &'static str,
+    value: &'a str,
+    other: &'static str,
+    other_value: &'a str,
+    why: &'static str,
+}
+
+impl Display for Conflict<'_> {
+    fn fmt<W: fmt::Write>(&self, f: &mut Formatter<W>) -> fmt::Result {
+        write_option(f, self.option, self.value)?;
+        f.write_str(" and ")?;
+        write_option(f, self.other, self.other_value)?;
+        f.write_str(" don't go together: ")?;
+        f.write_str(self.why)
+    }
+}
+
+/// Writes an option with its value, if it has one.
+fn write_option<W: fmt::Write>(f: &mut Formatter<W>, option: &str, value: &str) -> fmt::Result {
+    f.write_str(option)?;
+    if value.is_empty() {
+        return Ok(());
+    }
+    f.write_str(" ")?;
+    f.write_str(value)
+}
+
+/// Whether a flag stands in the words.
+fn has(words: &[String], flag: &str) -> bool {
+    words.iter().any(|word| word.as_str() == flag)
+}
+
+/// An option with a value beside a flag.
+fn beside<'a>(
+    words: &'a [String],
+    option: &'static str,
+    flag: &'static str,
+    why: &'static str,
+) -> Option<Conflict<'a>> {
+    Some(Conflict {
+        option,
+        value: value_in(words, option)?,
+        other: flag,
+        other_value: "",
+        why,
+    })
+}
+
+/// Two options with values.
+fn between<'a>(
+    words: &'a [String],
+    option: &'static str,
+    other: &'static str,
+    why: &'static str,
+) -> Option<Conflict<'a>> {
+    Some(Conflict {
+        option,
+        value: value_in(words, option)?,
+        other,
+        other_value: value_in(words, other)?,
+        why,
+    })
+}
+
+/// The options of `draw` that don't go together.
+fn in_draw(words: &[String]) -> Option<Conflict<'_>> {
+    if has(words, "--worst") {
+        let why = "the picture of the worst has its own slots";
+        let from = beside(words, "--from", "--worst", why);
+        return from.or(beside(words, "--to", "--worst", why));
+    }
+    let (from, to) = (
+        value_in(words, "--from").unwrap_or("0"),
+        value_in(words, "--to").unwrap_or(ALL),
+    );
+    if number_in(to)? <= number_in(from)? {
+        return Some(Conflict {
+            option: "--to",
+            value: to,
+            other: "--from",
+            other_value: from,
+            why: "no slot lies between",
+        });
+    }
+    between(words, "--from", "--slots", "no slot is left to draw")
+}
+
+/// The options of `compare` that don't go together.
+fn in_compare(words: &[String]) -> Option<Conflict<'_>> {
+    if has(words, "--draw") && has(words, "--csv") {
+        return Some(Conflict {
+            option: "--csv",
+            value: "",
+            other: "--draw",
+            other_value: "",
+            why: "a picture has no records",
+        });
+    }
+    let why = "a die and a task are those of the picture, which --draw draws";
+    if !has(words, "--draw") {
+        let task = beside(words, "--task", "no --draw", why);
+        let alone = task.or(beside(words, "--die", "no --draw", why));
+        if alone.is_some() {
+            return alone;
+        }
+    }
+    between(words, "--from", "--slots", "no slot is left to count")
+}
+
+/// The options of `report` that don't go together.
+fn in_report(words: &[String]) -> Option<Conflict<'_>> {
+    let why = "years come of both, or of neither";
+    let worn = beside(words, "--endurance", "no --slot-us", why);
+    worn.or(beside(words, "--slot-us", "no --endurance", why))
+}
+
+/// The first two options in the words that don't go together, where clap and the numbers have no fault.
+pub(crate) fn conflict_in(words: &[String]) -> Option<Conflict<'_>> {
+    match words.get(1)?.as_str() {
+        "draw" => in_draw(words),
+        "compare" => in_compare(words),
+        "report" => in_report(words),
+        _ => None,
+    }
+}

@@ -1,0 +1,2 @@
+mod Zips
+mod Tables
