@@ -35,9 +35,9 @@ const REFUSED: RefusedRows = RefusedRows {
 };
 
 /// Two jobs of four and two writes were done, 96 slots early and at their deadline. Two collections were waived in slots 4 and
-/// 7, and left 6 of 10 pages spare.
-const FIGURES: &str = "0,,2,1,5,0,-48.00,0,0,2,0,4,6,0,0,2,6,0,1.000,,,6,7,0,0,0.00,0,
-0,0,2,1,5,0,-48.00,0,0,2,0,4,6,0,0,,6,0,1.000,0,0,,,,,,,
+/// 7, and left 6 of 10 pages spare. The job that waits is due by slot 10, and the die's time ended with slot 8: it isn't late.
+const FIGURES: &str = "0,,2,1,5,0,0,-48.00,0,0,2,0,4,6,0,0,2,6,0,1.000,,,6,7,0,0,0.00,0,
+0,0,2,1,5,0,0,-48.00,0,0,2,0,4,6,0,0,,6,0,1.000,0,0,,,,,,,
 ";
 
 /// The job of slot 8 waits for ever. The worst is job 2; before its two slots one was idle.

@@ -115,7 +115,7 @@ with a period_ms of 42 in [[task]] 1 a plan is found",
 /// Why a datasheet has no plan.
 fn reason(alloc: Global, sheet: &str) -> Result<String, Fail> {
     Ok(match fit(alloc, sheet.as_bytes()) {
-        Ok(_) => "a plan".to_string(alloc)?,
+        Ok(_found) => "a plan".to_string(alloc)?,
         Err(FitFault::Refused(refusal)) => refusal.to_string(alloc)?,
         Err(FitFault::Sheet(fault)) => fault.to_string(alloc)?,
         Err(FitFault::NotFound(unfound)) => unfound.to_string(alloc)?,
