@@ -3,7 +3,6 @@
 
 mod faults;
 mod keys;
-mod laws;
 mod numbers;
 mod stores;
 mod tables;
@@ -11,7 +10,6 @@ mod terms_reading;
 
 pub use faults::{DieFault, Place, TableName, TermsRefusal};
 pub use keys::Key;
-pub use laws::reading_numbers_has_one_answer;
 pub use numbers::{TaskList, TaskNumbers, TermsNumbers, TopNumbers, terms_numbers};
 pub use stores::{DieTerms, StoreTerms, die_terms, read_terms};
 pub use terms_reading::read_terms_from;
