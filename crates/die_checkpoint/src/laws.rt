@@ -14,4 +14,3 @@ pub fn a_fault_excludes_fitting()
     ensures { (plan : DiePlan) (c : Stood) (fault : Cause) →
         HasCheckpointFault plan c fault → fault ≢ CheckpointFault.NoMemory → ¬ Fits plan c }
 {}
-

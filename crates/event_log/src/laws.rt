@@ -30,4 +30,3 @@ pub fn records_are_counted()
     ensures { (jobs : List JobRecord) (notes : List Note)
         → record_count (entries_of jobs notes) ≡ records notes }
 {}
-

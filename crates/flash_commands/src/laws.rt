@@ -19,4 +19,3 @@ pub fn acting_has_one_answer()
         (other ≡ 1) ⊎ (PrintsFigures (Some text) (Some known) right × (other ≡ 0)) →
         ((one ≡ other) × (left ≡ right)) ⊎ (one ≡ 1) ⊎ (other ≡ 1) }
 {}
-

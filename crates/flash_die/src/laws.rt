@@ -16,4 +16,3 @@ pub fn a_left_device_is_as_it_was()
         → length filled ≡ shape.blocks → ((block : ℕ) → slice_index filled block ≤ shape.pages)
         → AreLeftSo shape cells filled erases (left_memory shape cells filled erases).blocks }
 {}
-

@@ -81,4 +81,3 @@ pub fn least_keys_are_joined()
         AreOver rows numbers → AreOver later further
         → AreOver (joined_rows numbers slots rows later) (numbers + further) }
 {}
-

@@ -41,4 +41,3 @@ pub fn writes_alone_lower_owned()
     ensures waived_others { (accounts : Accounts) (task other : ℕ) → other ≢ task →
         owned_of (accounts_after_waiver accounts task) other ≡ owned_of accounts other }
 {}
-

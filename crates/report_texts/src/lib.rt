@@ -15,7 +15,9 @@ mod report_writing;
 mod reports;
 mod row_numbers;
 
-pub use laws::{reading_a_report_has_one_answer, reports_come_back, writing_a_report_has_one_answer};
+pub use laws::{
+    reading_a_report_has_one_answer, reports_come_back, writing_a_report_has_one_answer,
+};
 pub use report_certs::Finish;
 pub use report_reader::ReportReader;
 pub use report_reading::read_report;

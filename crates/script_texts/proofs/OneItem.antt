@@ -50,7 +50,6 @@ module _ {R A : Type 0} (left_of : ScriptReader R → Option (Reading A))
       by (inr out) = inr out
 
 module _ {R : Type 0} (rem : R → Option (List ℕ)) where
-
   pub items_alike : (all : Reading ScriptItem) (before left right : ScriptReader R) (one other : Result (Option ScriptItem) Refusal)
       → reading_left rem before ≡ Some all → Gives (reading_left rem before) (reading_left rem left) one
       → Gives (reading_left rem before) (reading_left rem right) other → Recalls before left one → Recalls before right other

@@ -38,4 +38,3 @@ pub fn reading_the_next_item_has_one_answer<R: Read>()
         past ≡ Err refusal → Recalls earlier before past → Recalls before left answer →
         answer ≡ Err refusal }
 {}
-

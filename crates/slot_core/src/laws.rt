@@ -30,4 +30,3 @@ pub fn a_run_has_one_answer<N: Nand>()
         → IsRun N.ends N.failures N.never_fails there events other right →
         All IsDecided one → All IsDecided other → (one ≡ other) × AreAlike left right }
 {}
-

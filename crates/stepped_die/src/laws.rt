@@ -109,4 +109,3 @@ pub fn ending_a_slot_has_one_answer()
         × (right ≡ before))) →
         (one ≡ other) × (left ≡ right) × OnOk one (here ≡ there) }
 {}
-

@@ -11,7 +11,10 @@ mod resumptions;
 
 pub use calls::{Begun, Call};
 pub use die::SteppedDie;
-pub use laws::{an_arrival_has_one_answer, arrivals_leave_the_slot, beginning_a_slot_has_one_answer, ending_a_slot_has_one_answer};
+pub use laws::{
+    an_arrival_has_one_answer, arrivals_leave_the_slot, beginning_a_slot_has_one_answer,
+    ending_a_slot_has_one_answer,
+};
 pub use mirror::MirrorNand;
 pub use refusals::{StepCheckpointRefusal, StepRefusal, StepRenewalRefusal};
 pub use resumptions::NamedCheckpoint;
