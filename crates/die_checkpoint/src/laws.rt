@@ -1,6 +1,6 @@
 //! What is said of a check leaves no choice. Each law is a function that does nothing.
 
-ghost use Rattle.std.specs.Prelude.{◌≡◌, ◌≢◌};
+ghost use Rattle.std.specs.Prelude.{◌≢◌};
 ghost use Rattle.slot_types.specs.declared.plans.DiePlan.{DiePlan};
 ghost use Rattle.die_checkpoint.specs.declared.checkpoint.Checkpoint.{Checkpoint as Stood};
 ghost use Rattle.die_checkpoint.specs.declared.fault.CheckpointFault.{CheckpointFault as Cause};
@@ -13,11 +13,4 @@ use crate::fault::CheckpointFault;
 pub fn a_fault_excludes_fitting()
     ensures { (plan : DiePlan) (c : Stood) (fault : Cause) →
         HasCheckpointFault plan c fault → fault ≢ CheckpointFault.NoMemory → ¬ Fits plan c }
-{}
-
-/// A checkpoint has one first fault. The lack of memory is none.
-pub fn a_check_has_one_answer()
-    ensures { (plan : DiePlan) (c : Stood) (one other : Cause) → HasCheckpointFault plan c one
-        → HasCheckpointFault plan c other →
-        one ≢ CheckpointFault.NoMemory → other ≢ CheckpointFault.NoMemory → one ≡ other }
 {}

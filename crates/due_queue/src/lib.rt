@@ -3,7 +3,6 @@
 
 mod job_queue;
 mod keys;
-pub mod laws;
 mod pair_heap;
 
 pub use job_queue::{DueQueue, JobQueue, WaitList};

@@ -1,5 +1,5 @@
 -- How a call of a device may fail.
-use Rattle.std.specs.Prelude.{◌≡◌, ◌⊎◌, ℕ, ◌+◌, Bool, true, false, Result, Err, IsOk, IfErr, OnOk, OnErr}
+use Rattle.std.specs.Prelude.{◌≡◌, ℕ, ◌+◌, Bool, true, Result, IsOk, IfErr, OnOk, OnErr}
 use Rattle.slot_types.specs.declared.refusals.Refusal.{Refusal}
 use Rattle.slot_types.specs.declared.refusals.Refusal.TheVariants.{DeviceFault}
 
@@ -10,8 +10,3 @@ pub record FailsByFault {A : Type 0} (never_fails : Bool) (result : Result A Ref
   pub fault : IfErr result (λ refusal. refusal ≡ DeviceFault)
   pub counted : OnErr result (after ≡ before + 1)
   pub never : never_fails ≡ true → IsOk result
-
--- two answers of one call are one, or a device that may fail has failed one of them
-abbrev pub AreOneButForFault : {A : Type 0} → Bool → Result A Refusal → Result A Refusal → Type 0
-AreOneButForFault never_fails one other =
-    (one ≡ other) ⊎ ((never_fails ≡ false) × ((one ≡ Err DeviceFault) ⊎ (other ≡ Err DeviceFault)))

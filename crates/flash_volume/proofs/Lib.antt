@@ -15,4 +15,3 @@ pub mod Resuming
 pub mod FreeBlocks
 pub mod FreeMarks
 pub mod FirstCells
-pub mod OneAnswer

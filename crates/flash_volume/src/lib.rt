@@ -8,7 +8,6 @@ mod collection;
 mod faults;
 mod fills;
 mod free_blocks;
-pub mod laws;
 mod next_calls;
 mod placed_pages;
 mod resumed;

@@ -108,13 +108,6 @@ head_is_first table waiting (k ∷ ks) n q later rising head =
       ];
     }
 
--- there is one head
-pub one_head : (table : Table) (m n : ℕ) → IsHead table m → IsHead table n → m ≡ n
-one_head table m n first second =
-    ap (λ (k : Key). k.number)
-    (due_strict.apart (due_key m first.head) (due_key n second.head) (second.first m first.head first.is_at first.ready)
-    (first.first n second.head second.is_at second.ready))
-
 -- a head stays the head where its work goes on
 pub head_goes_on : (table : Table) (n : ℕ) (change : JobRecord → JobRecord) → IsQuiet change → IsHead table n
     → IsHead (record table { jobs = changed_at table.jobs n change }) n

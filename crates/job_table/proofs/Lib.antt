@@ -5,7 +5,6 @@ pub mod Keyed
 pub mod Heads
 pub mod Nexts
 pub mod Worsts
-pub mod OneAnswer
 pub mod Waivers
 pub mod Releasing
 pub mod Roomy

@@ -6,7 +6,6 @@ mod counted_ops;
 mod flat_jobs;
 mod job_table;
 mod jobs;
-pub mod laws;
 #[cfg(test)]
 mod memory;
 mod queues;

@@ -6,21 +6,15 @@
 //! The premises of a law of one answer are the clauses of a call that decide, said of two answers `one` and `other`,
 //! which leave the slots `left` and `right`, where there were the slots `before`.
 
-ghost use Rattle.std.specs.Prelude.{◌≡◌, ℕ, ◌+◌, ◌<◌, ◌≤◌, ◌↔◌, ◌⊎◌, Bool, List, [], ◌∷◌, ◌++◌, length, Option, Some, IsSome, true};
-ghost use Rattle.std.specs.Prelude.{Result, IsTrue, IfOk, OnOk, OnErr, replicate};
-ghost use Rattle.slot_types.specs.declared.refusals.Refusal.{Refusal};
-ghost use Rattle.slot_types.specs.Refusal.{FailsForMemory};
-ghost use Rattle.late_cert.specs.declared.certificates.Certificate.{Certificate};
+ghost use Rattle.std.specs.Prelude.{◌≡◌, ℕ, ◌+◌, ◌<◌, ◌≤◌, List, [], ◌∷◌, ◌++◌, length, Option, Some, IsSome, true};
 ghost use Rattle.late_cert.specs.declared.rows.JobRow.{JobRow};
 ghost use Rattle.late_cert.specs.Schedule.{Slots, slot_at, IsLeastLate};
-ghost use Rattle.late_cert.specs.Rows.{RowsRise, is_done, release_of, due_of, completion_of};
+ghost use Rattle.late_cert.specs.Rows.{is_done, release_of, due_of, completion_of};
 ghost use Rattle.late_cert.specs.Bound.{IsCertificate, BindsEverySchedule};
 ghost use Rattle.late_cert.specs.BusyInterval.{IsBusyInterval, CarriesLeastKeys};
 ghost use Rattle.late_cert.specs.Build.{certificate_of};
 ghost use Rattle.late_cert.specs.Moments.{AcceptsJob, WaivesJob, CarriesSlot};
 ghost use Rattle.late_cert.specs.JoinedRows.{AreOver, joined_rows, joined_slots};
-
-use slot_types::Refusal;
 
 /// A certificate binds every schedule that serves its jobs, whoever made it.
 pub fn certificates_bind_every_schedule()
@@ -86,40 +80,4 @@ pub fn least_keys_are_joined()
     ensures over { (rows later : List JobRow) (numbers slots further : ℕ) →
         AreOver rows numbers → AreOver later further
         → AreOver (joined_rows numbers slots rows later) (numbers + further) }
-{}
-
-/// Adding what slots carried (`push`, `push_run`) leaves the slots in one way, or as they were. Left open is whether
-/// there is memory for it.
-pub fn adding_slots_has_one_answer()
-    ensures push { (number : Option ℕ) (before left right : Slots)
-        (one other : Result (Unit {0}) Refusal) →
-        OnOk one (left ≡ before ++ number ∷ []) → OnOk other (right ≡ before ++ number ∷ []) →
-        FailsForMemory one → FailsForMemory other →
-        OnErr one (left ≡ before) → OnErr other (right ≡ before) →
-        ((one ≡ other) × (left ≡ right))
-        ⊎ ((one ≡ Err Refusal.NoMemory) ⊎ (other ≡ Err Refusal.NoMemory)) }
-    ensures push_run { (number : Option ℕ) (length : ℕ) (before left right : Slots)
-        (one other : Result (Unit {0}) Refusal) →
-        OnOk one (left ≡ before ++ replicate length number) →
-        OnOk other (right ≡ before ++ replicate length number) →
-        FailsForMemory one → FailsForMemory other →
-        OnErr one (left ≡ before) → OnErr other (right ≡ before) →
-        ((one ≡ other) × (left ≡ right))
-        ⊎ ((one ≡ Err Refusal.NoMemory) ⊎ (other ≡ Err Refusal.NoMemory)) }
-{}
-
-/// Building a certificate ([`build`](crate::build)) has one answer. Left open is whether there is memory for it.
-pub fn building_a_certificate_has_one_answer()
-    ensures { (rows : List JobRow) (carried : Slots) (job : ℕ)
-        (one other : Result (Option Certificate) Refusal) →
-        IfOk one (λ built. built ≡ certificate_of rows carried job) →
-        IfOk other (λ built. built ≡ certificate_of rows carried job) →
-        FailsForMemory one → FailsForMemory other →
-        (one ≡ other) ⊎ ((one ≡ Err Refusal.NoMemory) ⊎ (other ≡ Err Refusal.NoMemory)) }
-{}
-
-/// Whether rows rise ([`rows_rise`](crate::rows_rise)) has one answer.
-pub fn asking_whether_rows_rise_has_one_answer()
-    ensures { (rows : List JobRow) (one other : Bool) →
-        (IsTrue one ↔ RowsRise rows) → (IsTrue other ↔ RowsRise rows) → one ≡ other }
 {}

@@ -7,10 +7,7 @@ mod plan_reading;
 mod stores;
 mod tables;
 
-pub use laws::{
-    reading_a_plan_from_a_reader_has_one_answer, reading_a_plan_has_one_answer,
-    reading_numbers_has_one_answer, reading_the_text_has_one_answer,
-};
+pub use laws::reading_a_plan_from_a_reader_has_one_answer;
 pub use numbers::{PlanNumbers, TaskList, TaskNumbers, TopNumbers, plan_numbers};
 pub use plan_reading::{plan_text, read_plan_from};
 pub use stores::{die_plan, read_plan};

@@ -7,8 +7,6 @@ ghost use Rattle.report_texts.specs.OutsideFaults.{EndsOutside};
 ghost use Rattle.report_texts.specs.ReportOf.{Reading, Says, report_of};
 ghost use Rattle.report_texts.specs.ReportText.{report_text};
 ghost use Rattle.report_texts.specs.WellFormed.{IsReport};
-ghost use Rattle.report_texts.specs.ReportWork.{SaysWork};
-ghost use Rattle.report_texts.specs.declared.report_work.DieWork.{DieWork};
 ghost use Rattle.report_texts.specs.declared.reports.DieReport.{DieReport};
 
 use text_base::Output;
@@ -23,13 +21,6 @@ pub fn reports_come_back()
 /// Reading a report (`report`, `read_report`) has one answer, where its text is known, unless memory or its reader fails.
 pub fn reading_a_report_has_one_answer()
     ensures { (read one other : Reading) → Says (Some read) one → Says (Some read) other →
-        (one ≡ other) ⊎ EndsOutside one ⊎ EndsOutside other }
-{}
-
-/// Reading the work of a report (`work`) has one answer, where its text is known, unless memory or its reader fails.
-pub fn reading_the_work_has_one_answer()
-    ensures { (read : Reading) (one other : Result (List DieWork) Refused) →
-        SaysWork (Some read) one → SaysWork (Some read) other →
         (one ≡ other) ⊎ EndsOutside one ⊎ EndsOutside other }
 {}
 

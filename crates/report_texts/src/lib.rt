@@ -16,8 +16,7 @@ mod reports;
 mod row_numbers;
 
 pub use laws::{
-    reading_a_report_has_one_answer, reading_the_work_has_one_answer, reports_come_back,
-    writing_a_report_has_one_answer,
+    reading_a_report_has_one_answer, reports_come_back, writing_a_report_has_one_answer,
 };
 pub use report_certs::Finish;
 pub use report_reader::ReportReader;

@@ -4,6 +4,5 @@ pub mod NextItem
 pub mod ScriptPages
 pub mod OneReading
 pub mod OneItem
-pub mod OneRow
 pub mod RowFaults
 pub mod RowLists

@@ -5,9 +5,8 @@ use Rattle.slot_types.specs.declared.refusals.Refusal.{Refusal}
 use Rattle.text_base.specs.Readings.{IsOutside}
 use Rattle.script_texts.specs.declared.script_rows.ScriptItem.{ScriptItem}
 use Rattle.script_texts.specs.declared.scripts.ScriptReader.{ScriptReader}
-use Rattle.script_texts.specs.RowTexts.{RowText}
 use Rattle.script_texts.specs.Script.{EndsFit, Gives, Reading, items_in, whole}
-use Rattle.script_texts.specs.ScriptLeft.{Recalls, reading_left, script_fits, script_left, script_rows_left, unless_refused}
+use Rattle.script_texts.specs.ScriptLeft.{Recalls, reading_left, script_fits, script_left, unless_refused}
 use Rattle.script_texts.proofs.OneReading.{one_given}
 
 -- after a refusal nothing is known
@@ -51,12 +50,6 @@ module _ {R A : Type 0} (left_of : ScriptReader R → Option (Reading A))
       by (inr out) = inr out
 
 module _ {R : Type 0} (rem : R → Option (List ℕ)) where
-  pub rows_alike : (all : Reading RowText) (before left right : ScriptReader R) (one other : Result (Option RowText) Refusal)
-      → script_rows_left rem before ≡ Some all → Gives (script_rows_left rem before) (script_rows_left rem left) one
-      → Gives (script_rows_left rem before) (script_rows_left rem right) other → Recalls before left one → Recalls before right other
-      → AreOne one other (script_rows_left rem left) (script_rows_left rem right)
-  rows_alike = alike (script_rows_left rem) (λ s e is. nothing_left s.refused e _ is)
-
   pub items_alike : (all : Reading ScriptItem) (before left right : ScriptReader R) (one other : Result (Option ScriptItem) Refusal)
       → reading_left rem before ≡ Some all → Gives (reading_left rem before) (reading_left rem left) one
       → Gives (reading_left rem before) (reading_left rem right) other → Recalls before left one → Recalls before right other

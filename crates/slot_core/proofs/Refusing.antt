@@ -1,9 +1,9 @@
 -- A renewal and a checkpoint are refused for one cause.
-use Rattle.std.proofs.Common.{◌≡◌, ◌≢◌, ℕ, suc, ◌<◌, ◌≤◌, ◌⊎◌, ◌==◌, ◌&&◌, ◌||◌, not, nat_lt, nat_le, Bool, true, false, List, [], ◌∷◌, Some, None, refl, ap, sym, ◌∙◌}
+use Rattle.std.proofs.Common.{◌≡◌, ◌≢◌, ℕ, suc, ◌<◌, ◌⊎◌, ◌==◌, ◌&&◌, ◌||◌, not, nat_lt, nat_le, Bool, true, false, List, [], ◌∷◌, Some, None, refl, ap, sym, ◌∙◌}
 use Rattle.std.proofs.Common.{subst, length, get_or, map, arith, inl, inr}
 use Rattle.std.specs.Prelude.{Contains, IsTrue, Option, position}
 use Rattle.std.specs.List.{AllByRecursion}
-use Rattle.std.proofs.lemmas.Bool.{true≢false, and_parts, not-true}
+use Rattle.std.proofs.lemmas.Bool.{true≢false}
 use Rattle.std.proofs.lemmas.Bool.Decides.{nat_tests}
 use Rattle.std.proofs.lemmas.List.{get_or-map, length-map}
 use Rattle.std.proofs.lemmas.List.Quantifiers.{position-Some}
@@ -20,7 +20,6 @@ use Rattle.die_log.proofs.Standing.Longer.{kept_both}
 use Rattle.slot_core.specs.Core.{Core}
 use Rattle.slot_core.specs.declared.renewals.RenewalRefusal.{RenewalRefusal}
 use Rattle.slot_core.specs.declared.renewals.RenewalRefusal.TheVariants.{DieStopped, NotQuiet, WornOut}
-use Rattle.slot_core.specs.declared.resumptions.CheckpointRefusal.{CheckpointRefusal}
 use Rattle.slot_core.specs.declared.resumptions.CheckpointRefusal.TheVariants as untaken
 use Rattle.slot_core.specs.declared.resumptions.ResumeRefusal.{ResumeRefusal}
 use Rattle.slot_core.specs.declared.resumptions.ResumeRefusal.TheVariants as unresumed
@@ -29,8 +28,8 @@ use Rattle.die_checkpoint.specs.declared.checkpoint.Checkpoint.{Checkpoint}
 use Rattle.die_checkpoint.specs.Fits.{Fits}
 use Rattle.die_checkpoint.proofs.Excluding.{fault_breaks}
 use Rattle.die_checkpoint.proofs.OneFault.{one_fault}
-use Rattle.slot_core.specs.Renewals.{is_coming, is_released_before, IsReleasedNext, IsNextCarried, IsFirstWorn, most_erases, MayBeRenewed, RefusesRenewal}
-use Rattle.slot_core.specs.Resumptions.{RefusesCheckpoint, RefusesResume, no_memory}
+use Rattle.slot_core.specs.Renewals.{IsReleasedNext, IsNextCarried, IsFirstWorn, most_erases, MayBeRenewed, RefusesRenewal}
+use Rattle.slot_core.specs.Resumptions.{RefusesResume, no_memory}
 
 -- Work that is left
 
@@ -132,14 +131,6 @@ pub refusal_or_renewal : {N : Type 0} (core : Core N) (refusal : RenewalRefusal)
 refusal_or_renewal core DieStopped a may = stopped_or_runs core.stopped a may.runs
 refusal_or_renewal core (NotQuiet i) a may = next_is_left core.start core.log i a.1 may.quiet
 refusal_or_renewal core (WornOut k) a may = worn_is_worn core.start core.log k a.2 may.unworn
-
-pub one_checkpoint_refusal : {N : Type 0} (core : Core N) (one other : CheckpointRefusal) → RefusesCheckpoint core one
-    → RefusesCheckpoint core other → one ≡ other
-one_checkpoint_refusal core (untaken.NotRenewable why) (untaken.NotRenewable cause) a b =
-    ap untaken.NotRenewable (one_renewal_refusal core why cause a b)
-one_checkpoint_refusal core (untaken.NotRenewable why) untaken.NoMemory a b = absurd (refusal_or_renewal core why a b)
-one_checkpoint_refusal core untaken.NoMemory (untaken.NotRenewable why) a b = absurd (refusal_or_renewal core why b a)
-one_checkpoint_refusal core untaken.NoMemory untaken.NoMemory a b = refl
 
 pub one_resume_refusal : (plan : DiePlan) (c : Checkpoint) (shape : Shape) (one other : ResumeRefusal) → RefusesResume plan c shape one
     → RefusesResume plan c shape other → one ≢ no_memory → other ≢ no_memory → one ≡ other

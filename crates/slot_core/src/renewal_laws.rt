@@ -11,10 +11,9 @@ ghost use Rattle.die_log.specs.Model.Start.{Start};
 ghost use Rattle.die_log.specs.Model.Opening.{IsOpening, CanBeErased};
 ghost use Rattle.slot_core.specs.Core.{Core};
 ghost use Rattle.slot_core.specs.Renewals.{MayBeRenewed, RefusesRenewal};
-ghost use Rattle.slot_core.specs.Resumptions.{checkpoint_of, start_with, resumed_start, RefusesCheckpoint, RefusesResume};
+ghost use Rattle.slot_core.specs.Resumptions.{checkpoint_of, start_with, resumed_start, RefusesResume};
 ghost use Rattle.slot_core.specs.Resumptions.{no_memory};
 ghost use Rattle.slot_core.specs.declared.renewals.RenewalRefusal.{RenewalRefusal};
-ghost use Rattle.slot_core.specs.declared.resumptions.CheckpointRefusal.{CheckpointRefusal};
 ghost use Rattle.slot_core.specs.declared.resumptions.ResumeRefusal.{ResumeRefusal};
 
 use flash_die::Nand;
@@ -39,12 +38,6 @@ pub fn a_renewal_has_one_answer<N: Nand>()
         RefusesRenewal before one → RefusesRenewal before other → one ≡ other }
     ensures either { (refusal : RenewalRefusal) (before : Core N) → RefusesRenewal before refusal
         → ¬ MayBeRenewed before }
-{}
-
-/// A checkpoint is refused for one cause.
-pub fn a_checkpoint_has_one_answer<N: Nand>()
-    ensures { (one other : CheckpointRefusal) (before : Core N) →
-        RefusesCheckpoint before one → RefusesCheckpoint before other → one ≡ other }
 {}
 
 /// A resumption is refused for one cause, and only where the device is of another shape or the checkpoint doesn't fit;

@@ -4,7 +4,6 @@
 mod acts;
 mod events;
 mod items;
-pub mod laws;
 mod lent_ops;
 mod limits;
 mod numbers;

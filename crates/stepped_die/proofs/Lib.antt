@@ -2,4 +2,3 @@ pub mod Arriving
 pub mod Ending
 pub mod Naming
 pub mod OneAnswer
-pub mod OneLife

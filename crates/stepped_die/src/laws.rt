@@ -3,40 +3,26 @@
 //! Each law is a function that does nothing. The premises of a law of one answer are the clauses of a call that decide,
 //! said of two answers `one` and `other`, which leave the dies `left` and `right`, where there was the die `before`.
 
-ghost use Rattle.std.specs.Prelude.{◌≡◌, ◌⊎◌, ◌↔◌, ◌≤◌, ℕ, Bool, true, false, List, None, Result, IfOk, IfErr, IsSome, OnErr, OnOk};
+ghost use Rattle.std.specs.Prelude.{◌≡◌, ◌⊎◌, ◌↔◌, ◌≤◌, ℕ, Bool, true, false, None, Result, IfOk, IfErr, IsSome, OnErr, OnOk};
 ghost use Rattle.slot_types.specs.Arrivals.{IsArrival};
 ghost use Rattle.slot_types.specs.declared.events.Event.{Event};
 ghost use Rattle.slot_types.specs.declared.limits.TheConstants.{MAX_SLOT};
 ghost use Rattle.slot_types.specs.declared.pages.PageData.{PageData};
-ghost use Rattle.slot_types.specs.declared.plans.DiePlan.{DiePlan};
 ghost use Rattle.slot_types.specs.declared.refusals.Refusal.{Refusal};
 ghost use Rattle.slot_types.specs.declared.replies.Reply.{Reply};
 ghost use Rattle.slot_types.specs.declared.replies.SlotReply.{SlotReply};
-ghost use Rattle.plan_rules.specs.Bound.{MeetsBound};
-ghost use Rattle.die_checkpoint.specs.declared.checkpoint.Checkpoint.{Checkpoint};
-ghost use Rattle.die_checkpoint.specs.declared.fault.CheckpointFault.{CheckpointFault};
-ghost use Rattle.die_checkpoint.specs.Faults.{HasCheckpointFault};
-ghost use Rattle.die_checkpoint.specs.Fits.{Fits, FitsButShared};
 ghost use Rattle.slot_core.specs.Calls.{HasEntered};
 ghost use Rattle.slot_core.specs.Core.{with_entry};
-ghost use Rattle.slot_core.specs.Renewals.{MayBeRenewed, renewed_core};
-ghost use Rattle.slot_core.specs.Resumptions.{checkpoint_of};
-ghost use Rattle.slot_core.specs.declared.resumptions.CheckpointRefusal.{CheckpointRefusal};
 ghost use Rattle.die_log.specs.Model.Log.{Log, now};
 ghost use Rattle.die_log.specs.Model.Answers.{answer, IsExact};
-ghost use Rattle.die_log.specs.Model.Flash.{contents};
 ghost use Rattle.die_log.specs.Model.NeededCalls.{needed_call};
-ghost use Rattle.die_log.specs.Model.Opening.{IsOpening, renewed_start};
+ghost use Rattle.die_log.specs.Model.Opening.{IsOpening};
 ghost use Rattle.die_log.specs.Model.Start.{Start};
 ghost use Rattle.stepped_die.specs.declared.calls.Begun.{Begun};
-ghost use Rattle.stepped_die.specs.declared.refusals.StepCheckpointRefusal.{StepCheckpointRefusal};
 ghost use Rattle.stepped_die.specs.declared.refusals.StepRefusal.{StepRefusal};
-ghost use Rattle.stepped_die.specs.declared.refusals.StepRenewalRefusal.{StepRenewalRefusal};
-ghost use Rattle.stepped_die.specs.declared.resumptions.NamedCheckpoint.{NamedCheckpoint};
 ghost use Rattle.stepped_die.specs.Arrivals.{WaitsAfter};
-ghost use Rattle.stepped_die.specs.Names.{GoesOn, RefusesNames};
 ghost use Rattle.stepped_die.specs.Stepped.{Stepped};
-ghost use Rattle.stepped_die.specs.Steps.{HasBegun, HasEnded, HasFailed, HoldsBack, IsNew, RefusesArrival, RefusesBeginning, RefusesNewDie, RefusesRenewing};
+ghost use Rattle.stepped_die.specs.Steps.{HasBegun, HasEnded, HasFailed, HoldsBack, RefusesArrival, RefusesBeginning};
 
 /// A job or collection that is accepted with a release above the present slot leaves what that slot is answered, and
 /// the call of the device that it needs.
@@ -122,68 +108,4 @@ pub fn ending_a_slot_has_one_answer()
         ⊎ (((refusal ≡ StepRefusal.Die Refusal.DieStopped) ⊎ (refusal ≡ StepRefusal.NotBegun))
         × (right ≡ before))) →
         (one ≡ other) × (left ≡ right) × OnOk one (here ≡ there) }
-{}
-
-/// Starting the log anew (`renew`) has one answer, and leaves one die.
-pub fn renewing_has_one_answer()
-    ensures { (one other : Result (Unit {0}) StepRenewalRefusal) (before left right : Stepped) →
-        (before.core.stopped ≡ false
-        → ((one ≡ Err StepRenewalRefusal.Begun) ↔ IsSome before.begun)) →
-        (before.core.stopped ≡ false
-        → ((other ≡ Err StepRenewalRefusal.Begun) ↔ IsSome before.begun)) →
-        OnOk one ((left ≡ record before { core = renewed_core before.core })
-        × MayBeRenewed before.core) →
-        OnOk other ((right ≡ record before { core = renewed_core before.core })
-        × MayBeRenewed before.core) →
-        IfErr one (RefusesRenewing before) → IfErr other (RefusesRenewing before) →
-        OnErr one (left ≡ before) → OnErr other (right ≡ before) →
-        (one ≡ other) × (left ≡ right) }
-{}
-
-/// Taking a checkpoint (`checkpoint`) has one answer; the die stays as it is. Left open is whether there is memory for
-/// it. Where the die may not be renewed, nothing is left open.
-pub fn taking_a_checkpoint_has_one_answer()
-    ensures { (one other : Result NamedCheckpoint StepCheckpointRefusal) (before : Stepped) →
-        (before.core.stopped ≡ false
-        → ((one ≡ Err StepCheckpointRefusal.Begun) ↔ IsSome before.begun)) →
-        (before.core.stopped ≡ false
-        → ((other ≡ Err StepCheckpointRefusal.Begun) ↔ IsSome before.begun)) →
-        IfOk one (λ taken. taken.checkpoint
-        ≡ checkpoint_of (renewed_start before.core.start before.core.log)) →
-        IfOk other (λ taken. taken.checkpoint
-        ≡ checkpoint_of (renewed_start before.core.start before.core.log)) →
-        IfOk one (λ taken. taken.names ≡ contents before.core.start before.core.log) →
-        IfOk other (λ taken. taken.names ≡ contents before.core.start before.core.log) →
-        OnOk one (MayBeRenewed before.core) → OnOk other (MayBeRenewed before.core) →
-        IfErr one (RefusesNames before) → IfErr other (RefusesNames before) →
-        (one ≡ other)
-        ⊎ (MayBeRenewed before.core
-        × ((one ≡ Err (StepCheckpointRefusal.Die CheckpointRefusal.NoMemory))
-        ⊎ (other ≡ Err (StepCheckpointRefusal.Die CheckpointRefusal.NoMemory)))) }
-{}
-
-/// Going on from a checkpoint (`resume`) has one answer, and makes one die. Left open is whether there is memory for
-/// it. Where anything else is wrong, but that pages share a cell, nothing is left open.
-pub fn resuming_has_one_answer()
-    ensures { (plan : DiePlan) (c : Checkpoint) (names : List PageData)
-        (one other : Result Stepped CheckpointFault) →
-        IfOk one (GoesOn plan c names) → IfOk other (GoesOn plan c names) →
-        OnOk one (Fits plan c) → OnOk other (Fits plan c) →
-        IfErr one (HasCheckpointFault plan c) → IfErr other (HasCheckpointFault plan c) →
-        (one ≡ other)
-        ⊎ (FitsButShared plan c
-        × ((one ≡ Err CheckpointFault.NoMemory) ⊎ (other ≡ Err CheckpointFault.NoMemory))) }
-{}
-
-/// Making a die (`new`) has one answer, and makes one die. Left open is whether there is memory for it. Where the
-/// plan doesn't meet its bound, nothing is left open.
-pub fn making_a_die_has_one_answer()
-    ensures { (plan : DiePlan) (one other : Result Stepped Refusal) →
-        IfOk one (IsNew plan) → IfOk other (IsNew plan) →
-        OnOk one (MeetsBound plan) → OnOk other (MeetsBound plan) →
-        IfErr one (RefusesNewDie plan) → IfErr other (RefusesNewDie plan) →
-        (one ≡ Err Refusal.NoMemory → MeetsBound plan) →
-        (other ≡ Err Refusal.NoMemory → MeetsBound plan) →
-        (one ≡ other)
-        ⊎ (MeetsBound plan × ((one ≡ Err Refusal.NoMemory) ⊎ (other ≡ Err Refusal.NoMemory))) }
 {}

@@ -13,8 +13,7 @@ pub use calls::{Begun, Call};
 pub use die::SteppedDie;
 pub use laws::{
     an_arrival_has_one_answer, arrivals_leave_the_slot, beginning_a_slot_has_one_answer,
-    ending_a_slot_has_one_answer, making_a_die_has_one_answer, renewing_has_one_answer,
-    resuming_has_one_answer, taking_a_checkpoint_has_one_answer,
+    ending_a_slot_has_one_answer,
 };
 pub use mirror::MirrorNand;
 pub use refusals::{StepCheckpointRefusal, StepRefusal, StepRenewalRefusal};

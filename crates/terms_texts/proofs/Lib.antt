@@ -2,4 +2,4 @@ pub mod TermsLaws
 pub mod TermsFronts
 pub mod StoreLaws
 pub mod ReadFaults
-pub mod OneReading
+pub mod Written

@@ -4,3 +4,4 @@ pub mod Tables
 pub mod TermsText
 pub mod Stores
 pub mod TermsReading
+pub mod Written

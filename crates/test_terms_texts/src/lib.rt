@@ -10,3 +10,5 @@ mod readers;
 mod refusals;
 #[cfg(test)]
 mod texts;
+#[cfg(test)]
+mod written;

@@ -6,4 +6,3 @@ pub mod RowLaws
 pub mod WordLaws
 pub mod StartLaws
 pub mod OpStarts
-pub mod KnownBytes

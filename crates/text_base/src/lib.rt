@@ -6,7 +6,6 @@ mod bounded;
 mod calls;
 mod csv_records;
 mod inputs;
-pub mod laws;
 mod numbers;
 mod ops;
 mod outputs;

@@ -3,4 +3,3 @@ pub mod Ties
 pub mod Links
 pub mod Lists
 pub mod SoundVictims
-pub mod Calls
