@@ -115,7 +115,6 @@ fn said_of(alloc: Global, plan: &StorePlan, script: &[u8], slots: u32) -> Result
     match keep(alloc, script, plan, slots)? {
         Verdict::Kept => Ok(Vec::new(alloc)),
         Verdict::Broken(broken) => Ok(sentence(alloc, script, plan, slots, broken)?),
-        Verdict::Astray => Ok(b"no reason was found".to_vec(alloc)?),
     }
 }
 
@@ -171,7 +170,6 @@ fn count_reported(alloc: Global, plan: &StorePlan, script: &[u8]) -> Result<(u32
         match keep(alloc, &changed, plan, 200) {
             Ok(Verdict::Kept) => kept = kept.saturating_add(1),
             Ok(Verdict::Broken(_)) => said = said.saturating_add(1),
-            Ok(Verdict::Astray) => return Ok((0, 0)),
             Err(Refusal::ScriptRow { .. }) => {}
             Err(refusal) => return Err(Fail::from(refusal)),
         }

@@ -24,14 +24,12 @@ ends_explained contents has_failed prints old new (Ok false) status printed part
 ends_explained contents has_failed prints old new (Err e) status printed part is = inr (part, is)
 
 pub ends_kept : {W : Type 0} (contents : W → Option (List ℕ)) (has_failed : W → Option Bool)
-    (prints : Bool → Option (List ℕ) → Option (List ℕ) → Type 0) (old new : W) (kept : Result (Option Bool) Refusal) (status : ℕ)
-    → IfOk kept (λ (found : Option Bool). IfSome found (λ (yes : Bool). prints yes (contents old) (contents new)))
-    → (kept ≡ Ok None → new ≡ old) → OnErr kept (IsNotWhole contents has_failed (Says prints) old new) → status ≡ kept_status kept
+    (prints : Bool → Option (List ℕ) → Option (List ℕ) → Type 0) (old new : W) (kept : Result Bool Refusal) (status : ℕ)
+    → IfOk kept (λ (yes : Bool). prints yes (contents old) (contents new)) → OnErr kept (IsNotWhole contents has_failed (Says prints) old new) → status ≡ kept_status kept
     → EndsSaying contents has_failed prints verdict_status old new status
-ends_kept contents has_failed prints old new (Ok (Some true)) status printed astray part is = inl (true, printed, is)
-ends_kept contents has_failed prints old new (Ok (Some false)) status printed astray part is = inl (false, printed, is)
-ends_kept contents has_failed prints old new (Ok None) status printed astray part is = inr (inl (astray refl), is)
-ends_kept contents has_failed prints old new (Err e) status printed astray part is = inr (part, is)
+ends_kept contents has_failed prints old new (Ok true) status printed part is = inl (true, printed, is)
+ends_kept contents has_failed prints old new (Ok false) status printed part is = inl (false, printed, is)
+ends_kept contents has_failed prints old new (Err e) status printed part is = inr (part, is)
 
 pub ends_fit : {W : Type 0} (contents : W → Option (List ℕ)) (has_failed : W → Option Bool) (sheet : Option (List ℕ)) (old new : W)
     (fitted : Result (Unit {0}) FitFault) (status : ℕ)

@@ -157,10 +157,9 @@ AuditsFiles held (name ∷ names) before worst =
     (audited : Result Bool Refusal) × IsAudited (held name.now) audited × AuditsFiles held names (worse_of before audited) worst
 
 -- the status of what is reported of a script
-abbrev pub kept_status : Result (Option Bool) Refusal → ℕ
-kept_status (Ok (Some true)) = 0
-kept_status (Ok (Some false)) = 3
-kept_status (Ok None) = 1
+abbrev pub kept_status : Result Bool Refusal → ℕ
+kept_status (Ok true) = 0
+kept_status (Ok false) = 3
 kept_status (Err refusal) = 1
 
 -- the status of an explained plan, by whether it is accepted; and of a script, by whether it keeps its plans

@@ -1,6 +1,6 @@
 //! Whether a script keeps the plans of its dies.
 
-ghost use Rattle.std.specs.Prelude.{◌≡◌, ◌≢◌, ◌≤◌, IfOk, IfSome, None, Ok, OnErr, option_to_list};
+ghost use Rattle.std.specs.Prelude.{◌≡◌, ◌≤◌, IfOk, OnErr};
 ghost use Rattle.text_base.specs.Writing.{IsNotWhole};
 ghost use Rattle.tool_commands.specs.Acts.{EndsSaying, PrintsKept, Says, SaysKept, kept_status, verdict_status};
 
@@ -11,10 +11,6 @@ use std::alloc::Global;
 use std::io::{Read, Write};
 use text_base::{FlaggedReader, Output, write_whole};
 use tool_plan_keeping::{Verdict, keep, script_text, sentence};
-
-/// What is reported where a script doesn't keep a plan, and it isn't found why.
-const UNFOUND: &str =
-    "error: the script doesn't keep the plan, and no reason was found, which is a fault of flashplan";
 
 /// What is reported beside a plan that no script keeps.
 const TIMES_WANTED: &str =
@@ -30,30 +26,28 @@ struct Kept {
     text: Vec<u8>,
 }
 
-/// Whether a script keeps the plans of its dies; none where it doesn't, and no condition was found that doesn't hold,
-/// which is a fault of this program.
+/// Whether a script keeps the plans of its dies, with a condition that doesn't hold where it doesn't.
 fn kept_of<P: Read + Drop, S: Read + Drop>(
     alloc: Global,
     plan: P,
     script: S,
     slots: u32,
-) -> Result<Option<Kept>, Refusal>
+) -> Result<Kept, Refusal>
     requires slots { slots ≤ MAX_SLOT }
-    ensures said { IfOk result (λ found. IfSome found (λ kept.
-        SaysKept (P.remaining plan) (S.remaining script) slots kept.keeps)) }
+    ensures said { IfOk result (λ kept.
+        SaysKept (P.remaining plan) (S.remaining script) slots kept.keeps) }
 {
     let store = read_plan_from(alloc, &mut FlaggedReader::new(plan))?;
     let text = script_text(alloc, script)?;
     match keep(alloc, &text, &store, slots)? {
-        Verdict::Kept => Ok(Some(Kept {
+        Verdict::Kept => Ok(Kept {
             keeps: true,
             text: Vec::from_slice(alloc, KEPT)?,
-        })),
-        Verdict::Broken(broken) => Ok(Some(Kept {
+        }),
+        Verdict::Broken(broken) => Ok(Kept {
             keeps: false,
             text: sentence(alloc, &text, &store, slots, broken)?,
-        })),
-        Verdict::Astray => Ok(None),
+        }),
     }
 }
 
@@ -64,36 +58,27 @@ fn print_kept<P: Read + Drop, S: Read + Drop, W: Output>(
     script: S,
     slots: u32,
     out: &mut W,
-) -> Result<Option<bool>, Refusal>
+) -> Result<bool, Refusal>
     requires slots { slots ≤ MAX_SLOT }
-    ensures printed { IfOk result (λ kept. IfSome kept (λ keeps.
+    ensures printed { IfOk result (λ keeps.
         PrintsKept (P.remaining plan) (S.remaining script) slots keeps (W.contents out.old)
-        (W.contents out.new))) }
-    ensures astray { result ≡ Ok None → out.new ≡ out.old }
+        (W.contents out.new)) }
     ensures part { OnErr result
         (IsNotWhole W.contents W.has_failed
         (Says (PrintsKept (P.remaining plan) (S.remaining script) slots)) out.old out.new) }
 {
-    match kept_of(alloc, plan, script, slots)? {
-        Some(kept) => {
-            write_whole(out, &kept.text)?;
-            Ok(Some(kept.keeps))
-        }
-        None => Ok(None),
-    }
+    let kept = kept_of(alloc, plan, script, slots)?;
+    write_whole(out, &kept.text)?;
+    Ok(kept.keeps)
 }
 
 /// Reports why it isn't known whether a script keeps its plans, or answers whether it does.
-fn end_kept<E: Write>(err: &mut E, kept: Result<Option<bool>, Refusal>) -> u8
+fn end_kept<E: Write>(err: &mut E, kept: Result<bool, Refusal>) -> u8
     ensures { result ≡ kept_status kept }
 {
     match kept {
-        Ok(Some(true)) => 0,
-        Ok(Some(false)) => 3,
-        Ok(None) => {
-            let _ = writeln!(err, "{UNFOUND}");
-            1
-        }
+        Ok(true) => 0,
+        Ok(false) => 3,
         Err(refusal) => {
             let _ = end_refused(err, refusal);
             if refusal == Refusal::BadPlan {

@@ -80,3 +80,4 @@ breaks plan times all (breach.Period earlier later) b keeps =
 breaks plan times all (breach.Count task slot came) b keeps =
     b.broken (sym b.counted ∙ keeps.collected task slot b.own b.planned)
 breaks plan times all breach.TooMany b keeps = omega (arith, b, keeps.few_arrivals)
+breaks plan times all breach.TooManySlots b keeps = omega (arith, b, keeps.few_slots)

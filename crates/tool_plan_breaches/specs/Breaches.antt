@@ -75,6 +75,7 @@ BreaksAt plan times end all (breach.Collection place rule) = BreaksCollection pl
 BreaksAt plan times end all (breach.Period earlier later) = BreaksPeriod times all earlier later
 BreaksAt plan times end all (breach.Count task slot came) = BreaksCount plan times end all task slot came
 BreaksAt plan times end all breach.TooMany = MAX_JOBS < length all
+BreaksAt plan times end all breach.TooManySlots = MAX_SLOT < end
 
 -- what is reported of events
 abbrev pub IsBreach : DiePlan → Times → List Event → Breach → Type 0

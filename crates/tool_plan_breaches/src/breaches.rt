@@ -1,9 +1,10 @@
 //! Conditions of a plan with times that don't hold of events, and whether they really don't.
 
-ghost use Rattle.std.specs.Prelude.{◌≡◌, ◌↔◌, IsTrue, map, count_by, slice_get};
+ghost use Rattle.std.specs.Prelude.{◌≡◌, ◌↔◌, ◌<◌, IsTrue, Some, false, map, count_by, slice_get};
 ghost use Rattle.plan_rules.specs.Keeping.{AreApart, IsCollectSlot, is_collection_at};
 ghost use Rattle.tool_plan_breaches.specs.Arrivals.{arrival_of};
 ghost use Rattle.tool_plan_breaches.specs.Breaches.{BreaksAt, BreaksCollection, BreaksCount, BreaksJob, BreaksPeriod, IsNearAt};
+ghost use Rattle.tool_plan_breaches.specs.declared.coming.Arrived.{Arrived as Arrival};
 
 use crate::coming::Arrived;
 use crate::rules::{CollectionRule, JobRule, collection_holds, is_multiple, job_holds, task_times};
@@ -20,10 +21,12 @@ pub enum Breach {
     Count { task: u32, slot: u32, came: usize },
     /// There are more than 65,536 jobs and collections.
     TooMany,
+    /// More than 1,048,576 slots are carried out.
+    TooManySlots,
 }
 
 /// The job or the collection at a place.
-fn at<'a>(all: &[Arrived<'a>], place: usize) -> Option<Arrived<'a>>
+pub(crate) fn at<'a>(all: &[Arrived<'a>], place: usize) -> Option<Arrived<'a>>
     ensures { slice_get all.now place ≡ result }
 {
     all.get(place).copied()
@@ -63,31 +66,41 @@ fn breaks_collection(
     }
 }
 
-/// Whether two jobs of a task aren't apart.
-fn are_near(times: &Times, first: &Arrived<'_>, second: &Arrived<'_>) -> bool
-    ensures { IsTrue result → ¬ AreApart times.now (arrival_of first.now) (arrival_of second.now) }
+/// Whether two jobs and collections, of which the first comes first, are apart.
+fn are_apart(times: &Times, first: &Arrived<'_>, second: &Arrived<'_>) -> bool
+    ensures { IsTrue result ↔ AreApart times.now (arrival_of first.now) (arrival_of second.now) }
 {
     let period = task_times(times, first.task).period;
-    !first.collects
-        && !second.collects
-        && first.task == second.task
-        && u64::from(second.release) < u64::from(first.release) + u64::from(period)
+    first.collects
+        || second.collects
+        || first.task != second.task
+        || u64::from(first.release) + u64::from(period) <= u64::from(second.release)
 }
 
 /// Whether the job at a place isn't apart from an earlier one.
 fn is_near_at(times: &Times, all: &[Arrived<'_>], first: &Arrived<'_>, later: usize) -> bool
-    ensures { IsTrue result →
+    ensures near { IsTrue result →
         IsNearAt times.now (map arrival_of all.now) (arrival_of first.now) later }
+    ensures apart { result ≡ false → (second : Arrival) → slice_get all.now later ≡ Some second →
+        AreApart times.now (arrival_of first.now) (arrival_of second) }
 {
     match at(all, later) {
-        Some(second) => are_near(times, first, &second),
+        Some(second) => !are_apart(times, first, &second),
         None => false,
     }
 }
 
 /// Whether the jobs at two places, of which the first comes first, aren't apart.
-fn breaks_period(times: &Times, all: &[Arrived<'_>], earlier: usize, later: usize) -> bool
-    ensures { IsTrue result → BreaksPeriod times.now (map arrival_of all.now) earlier later }
+pub(crate) fn breaks_period(
+    times: &Times,
+    all: &[Arrived<'_>],
+    earlier: usize,
+    later: usize,
+) -> bool
+    ensures near { IsTrue result → BreaksPeriod times.now (map arrival_of all.now) earlier later }
+    ensures apart { result ≡ false → earlier < later → (first second : Arrival) →
+        slice_get all.now earlier ≡ Some first → slice_get all.now later ≡ Some second →
+        AreApart times.now (arrival_of first) (arrival_of second) }
 {
     if later <= earlier {
         return false;
@@ -108,7 +121,7 @@ pub fn count_at(all: &[Arrived<'_>], task: u32, slot: u32) -> usize
 }
 
 /// Whether the plan has a collection of a task in a slot, where so many are carried out.
-fn is_collect_slot(times: &Times, end: u32, task: u32, slot: u32) -> bool
+pub(crate) fn is_collect_slot(times: &Times, end: u32, task: u32, slot: u32) -> bool
     ensures { IsTrue result ↔ IsCollectSlot times.now end task slot }
 {
     let period = task_times(times, task).collect_period;
@@ -156,5 +169,6 @@ pub fn is_breach(plan: &DiePlan, times: &Times, end: u32, all: &[Arrived<'_>], s
             breaks_count(plan, times, end, all, task, slot, came)
         }
         Breach::TooMany => all.len() > MAX_JOBS as usize,
+        Breach::TooManySlots => end > MAX_SLOT,
     }
 }

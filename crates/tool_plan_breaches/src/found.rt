@@ -1,12 +1,16 @@
 //! The first condition that doesn't hold.
 
-ghost use Rattle.std.specs.Prelude.{IfOk, IfSome};
+ghost use Rattle.std.specs.Prelude.{◌≡◌, IfOk, IfSome, None};
 ghost use Rattle.slot_types.specs.Refusal.{FailsForMemory};
+ghost use Rattle.plan_rules.specs.Bound.{MeetsBound};
+ghost use Rattle.plan_rules.specs.Keeping.{KeepsPlan};
+ghost use Rattle.plan_rules.specs.Times.{HasTimes};
 ghost use Rattle.tool_plan_breaches.specs.Breaches.{IsBreach};
 
+use crate::any_breach::any_breach;
 use crate::breaches::{Breach, count_at, is_breach};
 use crate::coming::{Arrived, arrivals_in, slots_of};
-use crate::rules::{COLLECTION_RULES, JOB_RULES, collection_holds, job_holds, task_times};
+use crate::rules::{broken_collection_rule, broken_job_rule, task_times};
 use slot_types::{DiePlan, Event, MAX_JOBS, MAX_SLOT, Refusal, Times};
 use std::alloc::Global;
 
@@ -63,10 +67,8 @@ impl Look<'_> {
 
     /// What of a job breaks the plan.
     fn of_job(&self, seen: &mut Vec<Seen>, place: usize, a: &Arrived<'_>) -> Option<Breach> {
-        for rule in JOB_RULES {
-            if !job_holds(self.plan, self.times, a, rule) {
-                return Some(Breach::Job { place, rule });
-            }
+        if let Some(rule) = broken_job_rule(self.plan, self.times, a) {
+            return Some(Breach::Job { place, rule });
         }
         let task = a.task as usize;
         if task >= seen.len() {
@@ -88,10 +90,8 @@ impl Look<'_> {
 
     /// What of a collection breaks the plan.
     fn of_collection(&self, seen: &mut Vec<Seen>, place: usize, a: &Arrived<'_>) -> Option<Breach> {
-        for rule in COLLECTION_RULES {
-            if !collection_holds(self.plan, self.times, self.end, a, rule) {
-                return Some(Breach::Collection { place, rule });
-            }
+        if let Some(rule) = broken_collection_rule(self.plan, self.times, self.end, a) {
+            return Some(Breach::Collection { place, rule });
         }
         let task = a.task as usize;
         if task >= seen.len() {
@@ -148,21 +148,26 @@ fn nothing_seen(alloc: Global, tasks: usize) -> Result<Vec<Seen>, Refusal>
     Ok(vec![in alloc; none; tasks]?)
 }
 
-/// The first condition of a plan with times that doesn't hold of events: where jobs, collections and the slots in which a
-/// collection is missing are looked at in their order. What is reported is put to the test, so it doesn't hold; none is
-/// reported where none is found, or where more than 1,048,576 slots are carried out. The only refusal is NoMemory.
+/// A condition of a plan with times that doesn't hold of events, unless they keep the plan: the first one, where jobs,
+/// collections and the slots in which a collection is missing are looked at in their order. The only refusal is NoMemory.
+///
+/// That the look finds the first isn't proved. What it finds is put to the test; and should it find nothing that stands,
+/// each condition is looked at in turn.
 pub fn first_breach(
     alloc: Global,
     plan: &DiePlan,
     times: &Times,
     events: &[Event],
 ) -> Result<Option<Breach>, Refusal>
+    requires bound { MeetsBound plan.now }
+    requires timed { HasTimes plan.now times.now }
     ensures said { IfOk result (λ found. IfSome found (IsBreach plan.now times.now events.now)) }
+    ensures none { IfOk result (λ found. found ≡ None → KeepsPlan plan.now times.now events.now) }
     ensures refused { FailsForMemory result }
 {
     let slots = slots_of(events);
     if slots > MAX_SLOT as usize {
-        return Ok(None);
+        return Ok(Some(Breach::TooManySlots));
     }
     let end = slots as u32;
     let all = arrivals_in(alloc, events)?;
@@ -173,9 +178,8 @@ pub fn first_breach(
         end,
         all: &all,
     };
-    let found = look.first(&mut seen);
-    match found {
+    match look.first(&mut seen) {
         Some(said) if is_breach(plan, times, end, &all, said) => Ok(Some(said)),
-        _ => Ok(None),
+        _ => Ok(any_breach(plan, times, end, &all)),
     }
 }

@@ -1,6 +1,7 @@
 //! What of events breaks a plan with times, and where: conditions that don't hold, found and put to the test.
 #![tactic(auto)]
 
+mod any_breach;
 mod breaches;
 mod coming;
 mod found;

@@ -1,7 +1,8 @@
 //! The conditions on a single job or collection, and whether each holds.
 
-ghost use Rattle.std.specs.Prelude.{◌≡◌, ◌↔◌, ◌<◌, ◌%◌, All, IsTrue, count_by};
+ghost use Rattle.std.specs.Prelude.{◌≡◌, ◌↔◌, ◌<◌, ◌%◌, All, IfSome, IsTrue, None, count_by};
 ghost use Rattle.slot_types.specs.Operations.{is_write, page_of};
+ghost use Rattle.plan_rules.specs.Keeping.{IsPlannedCollection, IsPlannedJob};
 ghost use Rattle.plan_rules.specs.Times.{times_of};
 ghost use Rattle.tool_plan_breaches.specs.Arrivals.{arrival_of};
 ghost use Rattle.tool_plan_breaches.specs.Breaches.{CollectionHolds, JobHolds};
@@ -46,28 +47,6 @@ pub enum CollectionRule {
     /// A collect period after its release is at most 1,048,576.
     LastDue,
 }
-
-/// All conditions on a job, in the order in which they are looked at.
-pub const JOB_RULES: [JobRule; 8] = [
-    JobRule::Task,
-    JobRule::Release,
-    JobRule::Due,
-    JobRule::LastDue,
-    JobRule::SomeOps,
-    JobRule::FewOps,
-    JobRule::Pages,
-    JobRule::FewWrites,
-];
-
-/// All conditions on a collection, in the order in which they are looked at.
-pub const COLLECTION_RULES: [CollectionRule; 6] = [
-    CollectionRule::Task,
-    CollectionRule::Release,
-    CollectionRule::Multiple,
-    CollectionRule::BeforeEnd,
-    CollectionRule::Due,
-    CollectionRule::LastDue,
-];
 
 /// The times of a task; a task that the plan doesn't have asks for nothing.
 pub fn task_times(times: &Times, task: u32) -> TaskTimes
@@ -160,4 +139,67 @@ pub fn collection_holds(
             u64::from(a.release) + u64::from(period) <= u64::from(MAX_SLOT)
         }
     }
+}
+
+/// The first condition that doesn't hold of a job, if there is one.
+pub fn broken_job_rule(plan: &DiePlan, times: &Times, a: &Arrived<'_>) -> Option<JobRule>
+    ensures broken { IfSome result (λ rule. ¬ JobHolds plan.now times.now (arrival_of a.now) rule) }
+    ensures none { result ≡ None → IsPlannedJob plan.now times.now (arrival_of a.now) }
+{
+    if !job_holds(plan, times, a, JobRule::Task) {
+        return Some(JobRule::Task);
+    }
+    if !job_holds(plan, times, a, JobRule::Release) {
+        return Some(JobRule::Release);
+    }
+    if !job_holds(plan, times, a, JobRule::Due) {
+        return Some(JobRule::Due);
+    }
+    if !job_holds(plan, times, a, JobRule::LastDue) {
+        return Some(JobRule::LastDue);
+    }
+    if !job_holds(plan, times, a, JobRule::SomeOps) {
+        return Some(JobRule::SomeOps);
+    }
+    if !job_holds(plan, times, a, JobRule::FewOps) {
+        return Some(JobRule::FewOps);
+    }
+    if !job_holds(plan, times, a, JobRule::Pages) {
+        return Some(JobRule::Pages);
+    }
+    if !job_holds(plan, times, a, JobRule::FewWrites) {
+        return Some(JobRule::FewWrites);
+    }
+    None
+}
+
+/// The first condition that doesn't hold of a collection, if there is one, where so many slots are carried out.
+pub fn broken_collection_rule(
+    plan: &DiePlan,
+    times: &Times,
+    end: u32,
+    a: &Arrived<'_>,
+) -> Option<CollectionRule>
+    ensures broken { IfSome result (λ rule. ¬ CollectionHolds plan.now times.now end (arrival_of a.now) rule) }
+    ensures none { result ≡ None → IsPlannedCollection plan.now times.now end (arrival_of a.now) }
+{
+    if !collection_holds(plan, times, end, a, CollectionRule::Task) {
+        return Some(CollectionRule::Task);
+    }
+    if !collection_holds(plan, times, end, a, CollectionRule::Release) {
+        return Some(CollectionRule::Release);
+    }
+    if !collection_holds(plan, times, end, a, CollectionRule::Multiple) {
+        return Some(CollectionRule::Multiple);
+    }
+    if !collection_holds(plan, times, end, a, CollectionRule::BeforeEnd) {
+        return Some(CollectionRule::BeforeEnd);
+    }
+    if !collection_holds(plan, times, end, a, CollectionRule::Due) {
+        return Some(CollectionRule::Due);
+    }
+    if !collection_holds(plan, times, end, a, CollectionRule::LastDue) {
+        return Some(CollectionRule::LastDue);
+    }
+    None
 }

@@ -216,6 +216,10 @@ impl Reported<'_> {
             Breach::Period { later, .. } => later,
             Breach::Count { task, slot, came } => return self.put_came(text, task, slot, came),
             Breach::TooMany => MAX_JOBS as usize,
+            Breach::TooManySlots => {
+                let slots = self.slots;
+                return writeln!(text, "the run has {slots} slots, and may have {MAX_SLOT}");
+            }
         };
         match self.lines.get(place) {
             Some(line) => self.put_at(text, line, breach),

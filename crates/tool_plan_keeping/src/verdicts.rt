@@ -15,6 +15,4 @@ pub enum Verdict {
     Kept,
     /// The first die whose plan it breaks, and how.
     Broken(Broken),
-    /// It doesn't, and no condition was found that doesn't hold: a fault of this crate.
-    Astray,
 }
