@@ -1,12 +1,12 @@
 -- How a plan that is written is read.
 use Rattle.std.proofs.Common.{◌≡◌, ℕ, ◌+◌, ◌<◌, ◌≤◌, List, [], ◌∷◌, ◌++◌, true, String, Global, Option, Some, None, Result, Ok, Err, length, take, arith}
-use Rattle.std.proofs.Common.{Ordering, Less, Equal, Greater, string_bytes, refl, sym, ap}
+use Rattle.std.proofs.Common.{Ordering, Less, Equal, Greater, string_bytes, refl, sym, ap, ◌∙◌}
 use Rattle.std.specs.Prelude.{is_some, nat_lt}
 use Rattle.std.specs.BTreeMap.{insert_entry}
 use Rattle.std.specs.Ordering.{match_ordering}
 use Rattle.std.specs.String.{string_cmp}
 use Rattle.std.proofs.Math.Nat.{le-max_left, le-max_right, max-le}
-use Rattle.toml.specs.Data.{Data, array, table, Items, no_items, item, Members, member, as_table, depth, items_depth, members_depth}
+use Rattle.toml.specs.Data.{Items, no_items, item, Members, member, as_table, depth, items_depth, members_depth}
 use Rattle.toml.specs.View.{view, items_view, members_view}
 use Rattle.toml.specs.declared.value.Value.{Value}
 use Rattle.plan_texts.specs.PlanText.{are_tables}
@@ -14,6 +14,7 @@ use Rattle.plan_texts.specs.Tables.{has_only}
 use Rattle.terms_texts.specs.declared.faults.TableName.{TableName}
 use Rattle.terms_texts.specs.declared.faults.TermsRefusal.{TermsRefusal}
 use Rattle.terms_texts.specs.declared.numbers.TaskNumbers.{TaskNumbers}
+use Rattle.terms_texts.specs.declared.numbers.TermsNumbers.{TermsNumbers}
 use Rattle.terms_texts.specs.declared.numbers.TopNumbers.{TopNumbers}
 use Rattle.terms_texts.specs.Refusing.{◌>>=◌}
 use Rattle.terms_texts.specs.Tables.{task_keys_of, top_keys_of}
@@ -128,3 +129,8 @@ plan-back top ds ts a b c d e f is =
 
 pub plan-flat : (top : TopNumbers) (ds : Items) → items_depth ds ≤ 1 → members_depth (plan_members top ds) ≤ 80
 plan-flat top ds few = omega (arith, few)
+
+-- the numbers that were read are those of equal tasks
+pub same-tasks : (read : Result TermsNumbers TermsRefusal) (top : TopNumbers) (a b : List TaskNumbers) → a ≡ b
+    → read ≡ Ok (record { top = top; tasks = a }) → read ≡ Ok (record { top = top; tasks = b })
+same-tasks read top a b is said = said ∙ ap (λ (tasks : List TaskNumbers). Ok (record { top = top; tasks = tasks })) is

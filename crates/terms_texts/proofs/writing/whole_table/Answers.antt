@@ -1,4 +1,4 @@
-use Rattle.std.proofs.Common.{rules, arith}
+use Rattle.std.proofs.Common.{arith}
 use Rattle.terms_texts.proofs.Written.{plan-back, plan-flat}
 use Rattle.terms_texts.proofs.writing.whole_table.Goals as goal
 

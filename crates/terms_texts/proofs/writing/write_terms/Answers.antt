@@ -1,9 +1,10 @@
-use Rattle.std.proofs.Common.{rules, ◌≡◌, false, length, string_bytes, Some, arith}
+use Rattle.std.proofs.Common.{rules, ◌≡◌, false, length, string_bytes, Some}
 use Rattle.std.specs.Prelude.{nat_lt}
 use Rattle.std.proofs.lemmas.Str.{IsUtf8-string_bytes}
 use Rattle.toml.specs.Parse.{parse_document}
 use Rattle.toml.specs.View.{table_view}
 use Rattle.terms_texts.proofs.TermsLaws.{table-found}
+use Rattle.terms_texts.proofs.Written.{same-tasks}
 use Rattle.terms_texts.proofs.writing.write_terms.Goals as goal
 
 pub returns-clause-back : goal.returns-clause-back
@@ -13,4 +14,4 @@ returns-clause-back c =
     let said : parse_document text ≡ Some (table_view c.in_ok-table.table) =
     c.in-Ok.ensures.reads_back (c.in_ok-table.ensures.flat c.in_ok-tasks.ensures.flat) in
     rw (table-found text _ short (IsUtf8-string_bytes c.in-Ok.text) said)
-    (rw c.as_slice.ensures at c.in_ok-table.ensures.back _ c.in_ok-tasks.ensures.back)
+    (same-tasks _ c.args.plan.now.top _ _ c.as_slice.ensures (c.in_ok-table.ensures.back _ c.in_ok-tasks.ensures.back))
