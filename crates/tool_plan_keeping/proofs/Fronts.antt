@@ -1,5 +1,5 @@
 -- The front of a text, as it was read up to a limit.
-use Rattle.std.proofs.Common.{◌≡◌, ℕ, List, [], ◌++◌, take, refl, ap, subst, ◌∙◌, Option, Some, None}
+use Rattle.std.proofs.Common.{◌≡◌, ℕ, List, [], ◌++◌, take, ap, subst, ◌∙◌, Option, Some, None}
 use Rattle.std.specs.Prelude.{option_map, IfSome}
 use Rattle.tool_plan_keeping.specs.Verdicts.{IsFrontOf}
 

@@ -1,1 +1,2 @@
+mod AllKeep
 mod Fronts

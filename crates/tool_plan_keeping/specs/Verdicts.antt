@@ -9,7 +9,6 @@ use Rattle.task_script.specs.PlannedRuns.{RowsKeepPlan, events_of_rows}
 use Rattle.tool_plan_arrivals.specs.PlannedScripts.{IsPlannedScript}
 use Rattle.tool_plan_breaches.specs.Breaches.{IsBreach}
 use Rattle.tool_plan_breaches.specs.declared.breaches.Breach.{Breach}
-use Rattle.tool_plan_keeping.specs.declared.verdicts.Broken.{Broken}
 use Rattle.tool_plan_keeping.specs.declared.verdicts.Verdict.{Verdict}
 use Rattle.tool_plan_keeping.specs.declared.verdicts.Verdict.TheVariants as verdict
 
