@@ -1,7 +1,7 @@
 -- A block's labels, taken in one by one.
 use Rattle.std.proofs.Common.{◌≡◌, ℕ, ◌+◌, ◌<◌, List, length, drop, Option, Some, None, option_map, ap, sym, ◌∙◌, arith}
 use Rattle.page_map.specs.Placing.{Placing}
-use Rattle.power_loss.specs.Mounted.{Found, all_count, found_at, found_in_cell, found_in_block}
+use Rattle.power_loss.specs.Mounted.{all_count, found_at, found_in_cell, found_in_block}
 use Rattle.power_loss.proofs.Steps.{cell}
 use Rattle.die_mount.specs.declared.label.Label.{Label}
 use Rattle.die_mount.specs.Scanned.{found_of, LieBefore}

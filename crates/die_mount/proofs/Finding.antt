@@ -1,9 +1,10 @@
 -- Where a scan has the pages: where they are found.
-use Rattle.std.proofs.Common.{◌≡◌, ◌≢◌, ◌⊎◌, ℕ, zero, suc, ◌+◌, ◌<◌, ◌≤◌, ◌==◌, false, cond, List, [], ◌∷◌, length, get_or, count_by}
+use Rattle.std.proofs.Common.{◌≡◌, ◌≢◌, ◌⊎◌, ℕ, suc, ◌+◌, ◌<◌, ◌≤◌, ◌==◌, false, cond, List, [], ◌∷◌, length, get_or, count_by}
 use Rattle.std.proofs.Common.{Option, Some, None, option_map, refl, ap, sym, ◌∙◌, subst, inl, inr, arith}
-use Rattle.std.proofs.lemmas.Bool.{cases_lt, cases_eq}
+use Rattle.std.proofs.lemmas.Bool.{cases_eq}
 use Rattle.std.proofs.lemmas.Bool.Decides.{nat_tests}
-use Rattle.std.proofs.lemmas.List.{ext_get_or}
+use Rattle.std.proofs.lemmas.List.{ext_get_or, get_or-set_same, get_or-set_other}
+use Rattle.std.proofs.lemmas.Option.{none-some}
 use Rattle.std.proofs.lemmas.List.Sums.{sum_by-cons}
 use Rattle.slot_types.specs.Places.{is_in, place_of}
 use Rattle.std.specs.Prelude.{IsSome}
@@ -13,13 +14,13 @@ use Rattle.die_log.specs.Model.Start.{blank_page}
 use Rattle.slot_types.specs.declared.plans.DiePlan.{DiePlan}
 use Rattle.page_map.proofs.Moving.{one_less}
 use Rattle.page_map.proofs.Owners.{within}
-use Rattle.power_loss.specs.Labels.{Label as Stands, Shown, FitPlan, label_at}
+use Rattle.power_loss.specs.Labels.{Label as Stands, Shown, FitPlan, label_at, labels_in}
 use Rattle.power_loss.specs.Mounted.{Found, all_count, bytes_at, mounted_place, mounted_places}
 use Rattle.power_loss.specs.Recovery.{CanUndo, FindsNoneIn, IsNewestBlock, IsAbove, without_block}
-use Rattle.power_loss.proofs.Finding.{places_long, place_at, content_at}
+use Rattle.power_loss.proofs.Finding.{IsLess, places_long, place_at, content_at, same_place}
 use Rattle.power_loss.proofs.Mounting.{mounted_stands}
 use Rattle.die_mount.specs.declared.newest.Newest.{Newest}
-use Rattle.die_mount.specs.Scanned.{Scanned, IsScanOf, IsGreatest, found_of}
+use Rattle.die_mount.specs.Scanned.{Scanned, IsScanOf, IsGreatest}
 
 zero_and : (n : ℕ) → n ≡ 0 → 0 + n ≡ 0
 zero_and n e = omega arith
@@ -112,3 +113,28 @@ only_blank plan before after seen block pages h later can page some none = by_pl
     by_place : (o : Option Place) → place_of before.places page ≡ o → IsSome o → get_or pages page blank_page ≡ blank_page
     by_place None e is = absurd (cc)
     by_place (Some q) e is = blank (omega (arith, within before.places page q e, h.logical))
+
+-- Without an idle block
+
+left_less : (b : ℕ) (seen : Shown) → b < length seen → IsLess (without_block b seen) seen
+left_less b seen lt q x e = by_case (cases_eq q.block b)
+  where
+    by_case : (q.block ≡ b) ⊎ (q.block ≡ b → ⊥) → label_at seen q ≡ Some x
+    by_case (inl is) = absurd (none-some x (sym (ap (λ cells. get_or cells q.page None) (ap (labels_in (without_block b seen)) is
+        ∙ get_or-set_same seen b [] [] lt)) ∙ e))
+    by_case (inr ne) = sym (ap (λ cells. get_or cells q.page None) (get_or-set_other seen b q.block [] [] ne)) ∙ e
+
+-- each page is found where it was
+pub idle_stays : (plan : DiePlan) (s : Scanned) (seen : Shown) → IsScanOf plan s seen → FitPlan plan seen → (b : ℕ) → b < length seen
+    → FindsNoneIn plan all_count seen b → mounted_places all_count plan.logical (without_block b seen) ≡ s.places
+idle_stays plan s seen h fit b lt none =
+    ext_get_or None (mounted_places all_count plan.logical (without_block b seen)) s.places
+    (places_long all_count plan.logical (without_block b seen) ∙ sym h.logical)
+    (λ page within.
+    let below : page < plan.logical = omega (arith, within, places_long all_count plan.logical (without_block b seen)) in
+    place_at all_count plan.logical (without_block b seen) page below ∙ same page below ∙ sym (found_place plan s seen h page below))
+  where
+    same : (page : ℕ) → page < plan.logical
+        → mounted_place (all_count page) page (without_block b seen) ≡ mounted_place (all_count page) page seen
+    same page below = same_place plan (all_count page) page seen (without_block b seen) fit (left_less b seen lt)
+        (λ q x e f. ap (λ cells. get_or cells q.page None) (get_or-set_other seen b q.block [] [] (none page below q e)) ∙ f)

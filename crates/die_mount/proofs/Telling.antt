@@ -1,5 +1,5 @@
 -- What a scan has once one block more was told.
-use Rattle.std.proofs.Common.{◌≡◌, ◌⊎◌, ℕ, suc, ◌+◌, ◌<◌, ◌≤◌, nat_lt, Bool, true, false, cond, List, [], ◌∷◌, ◌++◌, length, get_or}
+use Rattle.std.proofs.Common.{◌≡◌, ◌⊎◌, ℕ, ◌+◌, ◌<◌, ◌≤◌, nat_lt, Bool, true, false, cond, List, [], ◌∷◌, ◌++◌, length, get_or}
 use Rattle.std.proofs.Common.{◌-◌, option_map, Option, Some, None, refl, ap, sym, ◌∙◌, subst, inl, inr, arith}
 use Rattle.std.proofs.Math.ListN.{get_or-map}
 use Rattle.std.proofs.lemmas.Bool.{cases_lt, cases_eq, ltb-true, ltb-false}
@@ -7,7 +7,7 @@ use Rattle.std.proofs.lemmas.List.{get_or-append_right, get_or_append_left, get_
 use Rattle.std.proofs.lemmas.Option.{same_Some, none-some}
 use Rattle.slot_types.specs.declared.pages.Place.{Place}
 use Rattle.slot_types.specs.declared.plans.DiePlan.{DiePlan}
-use Rattle.power_loss.specs.Labels.{Label as Stands, Shown, label_at, labels_in}
+use Rattle.power_loss.specs.Labels.{Label as Stands, Shown, label_at}
 use Rattle.power_loss.specs.Mounted.{Found, all_count, found_in, found_in_block}
 use Rattle.die_mount.specs.declared.label.Label.{Label}
 use Rattle.die_mount.specs.declared.newest.Newest.{Newest}

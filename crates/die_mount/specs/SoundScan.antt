@@ -1,5 +1,5 @@
 -- What contracts see of a scan, and what is true of it.
-use Rattle.std.specs.Prelude.{◌≡◌, ◌⊎◌, ℕ, ◌<◌, ◌≤◌, ◌^◌, List, Option, Some, length}
+use Rattle.std.specs.Prelude.{◌≡◌, ◌<◌, ◌≤◌, ◌^◌, Some, length}
 use Rattle.die_mount.specs.declared.newest.Newest.{Newest}
 use Rattle.die_mount.specs.declared.scan.Scan.TheInside.{Inside}
 use Rattle.die_mount.specs.Scanned.{Scanned, LieBefore}

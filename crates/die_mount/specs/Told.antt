@@ -1,5 +1,5 @@
 -- What a mount is told of cells: of each label page and serial, without the bytes.
-use Rattle.std.specs.Prelude.{◌≡◌, ◌⊎◌, ℕ, ◌<◌, ◌≤◌, ◌^◌, List, Option, Some, None, map, option_map, slice_index_or, nat_le, if◌then◌else◌}
+use Rattle.std.specs.Prelude.{◌≡◌, ℕ, ◌<◌, ◌≤◌, ◌^◌, List, Option, Some, None, map, option_map, slice_index_or, nat_le, if◌then◌else◌}
 use Rattle.die_log.specs.Model.Start.{blank_page}
 use Rattle.power_loss.specs.Labels.{Label as Stands}
 use Rattle.die_mount.specs.declared.label.Label.{Label}

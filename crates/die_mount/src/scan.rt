@@ -183,6 +183,10 @@ impl Scan {
             → IsFirstIdle plan seen result }
         ensures may { (plan : DiePlan) (seen : Shown) → IsScanOf plan self.now seen → FitPlan plan seen
             → MayErase plan all_count seen (block_of result) }
+        // Once an idle block is erased, each page is found where it was.
+        ensures stays { (plan : DiePlan) (seen : Shown) (block : ℕ) → IsScanOf plan self.now seen → FitPlan plan seen
+            → result ≡ FirstErase.Idle block
+            → mounted_places all_count plan.logical (without_block block seen) ≡ self.now.places }
     {
         for block in 0..self.shape.blocks {
             if self.map.valid(block) == 0 {

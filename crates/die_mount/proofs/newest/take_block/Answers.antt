@@ -1,6 +1,5 @@
-use Rattle.std.proofs.Common.{◌≡◌, ℕ, ◌<◌, length, List, ap, ◌∙◌, sym, arith}
-use Rattle.page_map.specs.Placing.{Placing}
-use Rattle.die_mount.proofs.Blocks.{AreTaken, no_label, with_label}
+use Rattle.std.proofs.Common.{length, ap, ◌∙◌, sym}
+use Rattle.die_mount.proofs.Blocks.{no_label, with_label}
 use Rattle.die_mount.proofs.newest.take_block.Goals as goal
 use Rattle.die_mount.proofs.newest.take_block.Goals.{in-Some, in_default}
 
