@@ -142,3 +142,28 @@ fn a_full_part_has_idle_blocks(rt: HostRuntime) -> Result<(), Fail> {
     assert!(rt; found == (at, 20, FirstErase::Idle { block: 0 }));
     Ok(())
 }
+
+/// As above, but page 4 was in block 3 alone: without that block it would be lost.
+#[test]
+fn a_page_in_the_newest_block_alone_is_told(rt: HostRuntime) -> Result<(), Fail> {
+    let alloc = rt.alloc();
+    let plan = plan(alloc)?;
+    let older: [Cell; 2] = [Some((0, 0)), Some((4, 4))];
+    let none: [Cell; 2] = [Some((0, 0)), None];
+    let second: [Cell; 1] = [Some((1, 1))];
+    let third: [Cell; 1] = [Some((2, 2))];
+    let newest: [Cell; 1] = [Some((4, 9))];
+    let last: [Cell; 1] = [Some((3, 3))];
+    let Ok(before) = scan_of(alloc, &plan, &[&older, &second, &third, &newest, &last]) else {
+        return Err("the part is refused".into());
+    };
+    let Ok(undone) = scan_of(alloc, &plan, &[&older, &second, &third, &[], &last]) else {
+        return Err("the part is refused".into());
+    };
+    let Ok(lost) = scan_of(alloc, &plan, &[&none, &second, &third, &[], &last]) else {
+        return Err("the part is refused".into());
+    };
+    assert!(rt; undone.first_lost(&before) == None);
+    assert!(rt; lost.first_lost(&before) == Some(4));
+    Ok(())
+}
