@@ -1,4 +1,4 @@
--- What a scan has once one block more was told.
+-- What a scan has once it took in one block more.
 use Rattle.std.proofs.Common.{◌≡◌, ◌⊎◌, ℕ, ◌+◌, ◌<◌, ◌≤◌, nat_lt, Bool, true, false, cond, List, [], ◌∷◌, ◌++◌, length, get_or}
 use Rattle.std.proofs.Common.{◌-◌, option_map, Option, Some, None, refl, ap, sym, ◌∙◌, subst, inl, inr, arith}
 use Rattle.std.proofs.Math.ListN.{get_or-map}
@@ -62,7 +62,7 @@ at_last seen shown k x e =
     ap (λ cells. get_or cells k None) (get_or-append_right seen (shown ∷ []) (length seen) (length seen) [] refl past
     ∙ ap (λ i. get_or (shown ∷ []) i []) zero) ∙ e
 
--- what is told of a cell
+-- what is reported of a cell
 told_is : (shown : List (Option Stands)) (k : ℕ) (x : Stands) → get_or shown k None ≡ Some x → told_at (told_cells shown) k ≡ Some (told_label x)
 told_is shown k x e = get_or-map (option_map told_label) shown k None ∙ ap (option_map told_label) e
 

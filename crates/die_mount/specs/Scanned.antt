@@ -1,4 +1,4 @@
--- What a scan has of what was told.
+-- What a scan has of what was reported to it.
 use Rattle.std.specs.Prelude.{◌≡◌, ◌⊎◌, ℕ, ◌<◌, ◌≤◌, List, Option, Some, None, length, option_map, slice_index, nat_lt, if◌then◌else◌}
 use Rattle.slot_types.specs.Places.{place_of}
 use Rattle.slot_types.specs.declared.pages.Place.{Place}
@@ -8,7 +8,7 @@ use Rattle.power_loss.specs.Labels.{Label as Stands, Shown, label_at}
 use Rattle.power_loss.specs.Mounted.{Found, all_count, found_in}
 use Rattle.die_mount.specs.declared.newest.Newest.{Newest}
 
--- the part's shape; by page the cell of its newest label, and its serial; how many blocks were told; and where the
+-- the part's shape; by page the cell of its newest label, and its serial; how many blocks were reported; and where the
 -- greatest serial stands
 pub record Scanned : Type 0 where
   pub shape : Shape
@@ -25,7 +25,7 @@ found_of places serials page = option_map (λ place. record { place = place; ser
 abbrev pub LieBefore : ℕ → ℕ → List (Option Place) → Type 0
 LieBefore b k places = (page : ℕ) (q : Place) → place_of places page ≡ Some q → (q.block < b) ⊎ ((q.block ≡ b) × (q.page < k))
 
--- where the greatest serial stands once a block with this greatest serial was told: where it stood, unless that is
+-- where the greatest serial stands once a block with this greatest serial was reported: where it stood, unless that is
 -- smaller
 abbrev pub newer_of : Option Newest → ℕ → Option ℕ → Option Newest
 newer_of before block None = before

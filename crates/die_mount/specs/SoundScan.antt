@@ -7,7 +7,7 @@ use Rattle.die_mount.specs.Scanned.{Scanned, LieBefore}
 abbrev pub scanned_of : Inside → Scanned
 scanned_of s = record { shape = s.shape; places = s.map.places; serials = s.serials.items; told = s.told; newest = s.newest }
 
--- the map is of this shape; each page has a serial; pages lie in blocks that were told; and serials are in their range
+-- the map is of this shape; each page has a serial; pages lie in blocks that were reported; and serials are in their range
 pub record IsSoundScan (s : Inside) : Type 0 where
   pub shape : s.map.shape ≡ s.shape
   pub some_blocks : 0 < s.shape.blocks

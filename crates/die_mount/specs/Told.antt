@@ -1,4 +1,4 @@
--- What a mount is told of cells: of each label page and serial, without the bytes.
+-- What is reported to a mount of cells: of each label page and serial, without the bytes.
 use Rattle.std.specs.Prelude.{◌≡◌, ℕ, ◌<◌, ◌≤◌, ◌^◌, List, Option, Some, None, map, option_map, slice_index_or, nat_le, if◌then◌else◌}
 use Rattle.die_log.specs.Model.Start.{blank_page}
 use Rattle.power_loss.specs.Labels.{Label as Stands}
@@ -7,11 +7,11 @@ use Rattle.die_mount.specs.declared.label.Label.{Label}
 abbrev pub told_label : Stands → Label
 told_label x = record { page = x.page; serial = x.serial }
 
--- what is told of a block whose cells show this
+-- what is reported of a block whose cells show this
 abbrev pub told_cells : List (Option Stands) → List (Option Label)
 told_cells shown = map (option_map told_label) shown
 
--- the label of a cell that is told
+-- the label that is reported of a cell
 abbrev pub told_at : List (Option Label) → ℕ → Option Label
 told_at cells k = slice_index_or cells k None
 
@@ -32,7 +32,7 @@ IsGreatestIn cells None = (k : ℕ) (x : Label) → told_at cells k ≡ Some x �
 IsGreatestIn cells (Some serial) = ((k : ℕ) × (x : Label) × (told_at cells k ≡ Some x) × (x.serial ≡ serial))
     × ((k : ℕ) (x : Label) → told_at cells k ≡ Some x → x.serial ≤ serial)
 
--- Bytes don't matter to where a page is found: cells that show what is told, with blank pages
+-- Bytes don't matter to where a page is found: cells that show what is reported, with blank pages
 
 abbrev pub shown_label : Label → Stands
 shown_label x = record { page = x.page; serial = x.serial; bytes = blank_page }

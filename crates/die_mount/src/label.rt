@@ -1,4 +1,4 @@
-//! What a mount is told of a cell.
+//! What is reported to a mount of a cell.
 
 /// What a program left in a cell beside the bytes, where the cell is good.
 #[derive(Clone, Copy, PartialEq, Eq, Debug, Drop)]

@@ -1,5 +1,5 @@
-//! The mount of a die after a loss of power, as a state machine without a device: what it is told of each cell, and
-//! what it makes of that.
+//! The scan of a part after a loss of power, without a device: where each page lies by its labels, and which block a
+//! mount erases first.
 #![tactic(auto)]
 
 mod erasing;

@@ -88,7 +88,7 @@ pub(crate) fn greatest_in(cells: &[Option<Label>]) -> Option<u64>
     greatest
 }
 
-/// Where the greatest serial stands, where it stood there before a block with this greatest serial was told.
+/// Where the greatest serial stands, where it stood there before a block with this greatest serial was reported.
 pub(crate) fn newer(before: Option<Newest>, block: u32, greatest: Option<u64>) -> Option<Newest>
     ensures { result ≡ newer_of before block greatest }
 {

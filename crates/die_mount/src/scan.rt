@@ -1,4 +1,4 @@
-//! The scan of a part: what a mount is told of its cells, block by block, and what it makes of that.
+//! The scan of a part: what is reported of its cells, block by block, and what a mount makes of that.
 
 ghost use Rattle.std.specs.Prelude.{◌≡◌, ◌<◌, ◌++◌, ◌∷◌, ◌↔◌, ◌≤◌, ◌^◌, ℕ, [], List, Option, length, count_by, Err, IfOk, IfErr, OnOk, OnErr};
 ghost use Rattle.std.specs.Prelude.{IsTrue, IfSome, IfNone, slice_index_or};
@@ -36,7 +36,7 @@ pub enum MountFault {
 /// Why cells can't be those of the next block.
 #[derive(Clone, Copy, PartialEq, Eq, Debug, Drop)]
 pub enum ScanFault {
-    /// All blocks of the part were told already.
+    /// All blocks of the part were reported already.
     NoMoreBlocks,
     /// More cells than a block has pages.
     TooManyCells,
@@ -44,7 +44,7 @@ pub enum ScanFault {
     BadLabel { cell: u32 },
 }
 
-/// What was told of a part's cells so far. The part has one block more than the die's plan.
+/// What was reported of a part's cells so far. The part has one block more than the die's plan.
 #[derive(Drop)]
 pub struct Scan {
     shape: Shape,
@@ -52,7 +52,7 @@ pub struct Scan {
     map: PageMap,
     /// By page the serial of its newest label.
     serials: Vec<u64>,
-    /// How many blocks were told.
+    /// How many blocks were reported.
     told: u32,
     newest: Option<Newest>,
 }
@@ -70,7 +70,7 @@ impl Model for Scan {
 }
 
 impl Scan {
-    /// A scan to which nothing was told yet, of a part with one block more than this plan has. It takes all its memory
+    /// A scan to which nothing was reported yet, of a part with one block more than this plan has. It takes all its memory
     /// here.
     ///
     /// `BadPlan` exactly where the plan doesn't meet its bound or has 1,024 blocks; else `NoMemory` where there is no
@@ -105,7 +105,7 @@ impl Scan {
     /// Tells the labels of the next block, cell by cell from the first one on: none for a cell that isn't good. Cells
     /// past the end of the list have none. It takes time for each of them once, and no memory.
     ///
-    /// Refused with the first fault that stands, as [`ScanFault`] lists them; then nothing was told.
+    /// Refused with the first fault that stands, as [`ScanFault`] lists them; then the scan stays as it was.
     pub fn tell(&mut self, cells: &[Option<Label>]) -> Result<(), ScanFault>
         ensures ok { OnOk result ((plan : DiePlan) (seen : Shown) (shown : List (Option Stands))
             → IsScanOf plan self.old seen → cells.now ≡ told_cells shown
@@ -129,7 +129,7 @@ impl Scan {
         Ok(())
     }
 
-    /// Whether all blocks of the part were told.
+    /// Whether all blocks of the part were reported.
     pub fn is_whole(&self) -> bool
         ensures { IsTrue result ↔ (self.now.told ≡ self.now.shape.blocks) }
     {
@@ -164,7 +164,7 @@ impl Scan {
         self.map.valid(block)
     }
 
-    /// A serial above all that were told: that of the next program.
+    /// A serial above all that were reported: that of the next program.
     pub fn next_serial(&self) -> u64
         ensures above { (plan : DiePlan) (seen : Shown) → IsScanOf plan self.now seen
             → IsAbove seen all_count result }

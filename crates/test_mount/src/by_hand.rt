@@ -45,28 +45,32 @@ fn a_fresh_part_shows_nothing(rt: HostRuntime) -> Result<(), Fail> {
     Ok(())
 }
 
-/// The label with the greater serial counts, whether its block comes before the other's or after it.
 #[test]
-fn a_page_that_was_written_twice_lies_at_the_newer_label(rt: HostRuntime) -> Result<(), Fail> {
+fn the_label_with_the_greater_serial_counts(rt: HostRuntime) -> Result<(), Fail> {
     let early: [Cell; 2] = [Some((0, 0)), Some((1, 1))];
     let late: [Cell; 1] = [Some((0, 2))];
     let found = mounted(rt.alloc(), &[&early, &late, &[], &[], &[]])?;
     let at = [Some((1, 0)), Some((0, 1)), None, None, None];
     assert!(rt; found == (at, 3, FirstErase::Idle { block: 2 }));
+    Ok(())
+}
+
+#[test]
+fn so_it_does_in_a_block_before_the_other_label(rt: HostRuntime) -> Result<(), Fail> {
+    let early: [Cell; 2] = [Some((0, 0)), Some((1, 1))];
+    let late: [Cell; 1] = [Some((0, 2))];
     let found = mounted(rt.alloc(), &[&late, &early, &[], &[], &[]])?;
     let at = [Some((0, 0)), Some((1, 1)), None, None, None];
     assert!(rt; found == (at, 3, FirstErase::Idle { block: 2 }));
-    // Three times in one block.
+    Ok(())
+}
+
+#[test]
+fn of_three_labels_in_a_block_the_last_counts(rt: HostRuntime) -> Result<(), Fail> {
     let thrice: [Cell; 3] = [Some((4, 6)), Some((4, 7)), Some((4, 8))];
     let found = mounted(rt.alloc(), &[&thrice, &[], &[], &[], &[]])?;
-    assert!(rt;
-        found
-            == (
-                [None, None, None, None, Some((0, 2))],
-                9,
-                FirstErase::Idle { block: 1 }
-            )
-    );
+    let at = [None, None, None, None, Some((0, 2))];
+    assert!(rt; found == (at, 9, FirstErase::Idle { block: 1 }));
     Ok(())
 }
 
@@ -94,7 +98,7 @@ fn a_program_that_was_cut_leaves_the_page_where_it_was(rt: HostRuntime) -> Resul
 }
 
 /// A page lies in each block, and block 3 shows the greatest serial: a mount was cut as it copied page 4 there from
-/// block 0. Without block 3 page 4 is found in block 0 again, and block 3 is idle.
+/// block 0.
 #[test]
 fn where_no_block_is_idle_the_newest_is_undone(rt: HostRuntime) -> Result<(), Fail> {
     let first: [Cell; 2] = [Some((0, 0)), Some((4, 4))];
@@ -111,6 +115,16 @@ fn where_no_block_is_idle_the_newest_is_undone(rt: HostRuntime) -> Result<(), Fa
         Some((3, 0)),
     ];
     assert!(rt; found == (at, 10, FirstErase::Undo { block: 3 }));
+    Ok(())
+}
+
+/// The same part without block 3: page 4 is found in block 0 again, and block 3 is idle.
+#[test]
+fn without_the_newest_block_its_pages_are_where_they_were(rt: HostRuntime) -> Result<(), Fail> {
+    let first: [Cell; 2] = [Some((0, 0)), Some((4, 4))];
+    let second: [Cell; 1] = [Some((1, 1))];
+    let third: [Cell; 1] = [Some((2, 2))];
+    let last: [Cell; 1] = [Some((3, 3))];
     let found = mounted(rt.alloc(), &[&first, &second, &third, &[], &last])?;
     let at = [
         Some((0, 0)),
