@@ -1,0 +1,6 @@
+pub mod Taking
+pub mod Cells
+pub mod Blocks
+pub mod Serials
+pub mod Telling
+pub mod Finding
