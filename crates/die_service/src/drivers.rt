@@ -4,25 +4,21 @@ ghost use Rattle.std.specs.Prelude.{◌≡◌, ◌<◌, [], false, IsTrue, IfSom
 ghost use Rattle.die_service.specs.Drives.{first_state, end_at, Asks, IsFit, IsFirstState, NoneDue};
 ghost use Rattle.die_service.specs.Work.{WorksOne, WorksDue, WorksSlot, WorksStop, WorksOff};
 
+use crate::callers::Caller;
 use crate::courses::Course;
 use crate::die::{Die, DiePass};
 use crate::ends::DieEnd;
 use crate::refused::RefusedAt;
-use crate::turns::DieTurn;
 use crate::work::Work;
 use flash_die::Nand;
 use std::alloc::Global;
 use std::marker::Model;
 use std::sync::Wait;
 
-/// For how many slots a worker keeps its die's turn where its hooks are free: a step of the lock then costs little, and
-/// who else waits for the turn waits for some microseconds.
-const SLOTS_A_TURN: u32 = 256;
-
 /// A die, a pass of it, and what it is still to be asked.
 #[derive(Drop)]
 pub(crate) struct Driver<'a, N: Nand> {
-    turn: DieTurn<'a, N>,
+    caller: Caller<'a, N>,
     course: Course,
     // How many slots were carried out.
     slots: u32,
@@ -35,7 +31,7 @@ impl<'a, N: Nand> Model for Driver<'a, N> {
 
     ghost Value = { drives.WorkerState };
 
-    ghost view = { λ d. record { pass = d.turn; course = d.course; slots = d.slots; stop = d.stop } };
+    ghost view = { λ d. record { pass = d.caller; course = d.course; slots = d.slots; stop = d.stop } };
 }
 
 impl<'a, N: Nand> Driver<'a, N> {
@@ -45,7 +41,7 @@ impl<'a, N: Nand> Driver<'a, N> {
         ensures { result ≡ first_state pass course }
     {
         Driver {
-            turn: DieTurn::new(die, pass),
+            caller: Caller::new(die, pass),
             course,
             slots: 0,
             stop: None,
@@ -58,7 +54,7 @@ impl<'a, N: Nand> Driver<'a, N> {
         ensures pass { result.1 ≡ self.entry.pass }
     {
         let Driver {
-            turn,
+            caller,
             course,
             slots,
             stop,
@@ -68,7 +64,7 @@ impl<'a, N: Nand> Driver<'a, N> {
             refused: course.into_refused(),
             stop,
         };
-        (end, turn.into_pass())
+        (end, caller.into_pass())
     }
 
     /// Sees what the die has done.
@@ -79,7 +75,7 @@ impl<'a, N: Nand> Driver<'a, N> {
         ensures slots { self.new.slots ≡ self.old.slots }
         ensures stop { self.new.stop ≡ self.old.stop }
     {
-        self.turn.look();
+        self.caller.look();
     }
 
     /// Asks for the next event, if it comes by this slot, and says whether it did.
@@ -93,7 +89,7 @@ impl<'a, N: Nand> Driver<'a, N> {
         let Some(head) = self.course.next_due(clock) else {
             return false;
         };
-        match work.event(rt, &mut self.turn, head, &self.course.ops()) {
+        match work.event(rt, &mut self.caller, head, &self.course.ops()) {
             Ok(_) => {}
             Err(refused) => self.course.note(refused),
         }
@@ -118,7 +114,7 @@ impl<'a, N: Nand> Driver<'a, N> {
         ensures stopped { IfNone result (
             WorksStop N.never_fails W.does self.old work.old self.new work.new) }
     {
-        match work.slot(rt, &mut self.turn) {
+        match work.slot(rt, &mut self.caller) {
             Ok(note) => {
                 self.slots = self.slots + 1;
                 Some(note.slot())
@@ -130,17 +126,8 @@ impl<'a, N: Nand> Driver<'a, N> {
         }
     }
 
-    /// Lets other passes have the die's turn: before each hook that isn't free, and else once in so many slots.
-    fn pause<W: Work>(&mut self, work: &W, done: u32)
-        ensures { self.new ≡ self.old }
-    {
-        if !work.keeps_turn() || done % SLOTS_A_TURN == 0 {
-            self.turn.give_up();
-        }
-    }
-
-    /// Asks for the slots of its batch, and before each for the events that come by it. Then the turn is given up, and
-    /// the feed freed, so that the dies that run later find its memory.
+    /// Asks for the slots of its batch, and before each for the events that come by it. Then the feed is freed, so that
+    /// the dies that run later find its memory.
     pub(crate) fn run<W: Work, R: Wait>(&mut self, rt: &R, alloc: Global, work: &mut W, number: u32)
         requires { IsFirstState self.old }
         ensures ran { WorksOff N.never_fails W.does number (self.old, work.old)
@@ -148,7 +135,6 @@ impl<'a, N: Nand> Driver<'a, N> {
         ensures gone { self.new.course.rest ≡ [] }
     {
         self.drive(rt, work, number);
-        self.turn.give_up();
         self.course.end(alloc);
     }
 
@@ -159,19 +145,17 @@ impl<'a, N: Nand> Driver<'a, N> {
             (self.new, work.new) }
     {
         // It says that the pass is live.
-        let _ = self.turn.number();
+        let _ = self.caller.number();
         let slots = self.course.slots();
         let from = self.course.from();
         self.look();
         let mut clock = from;
-        for done in 0..slots {
+        for _done in 0..slots {
             self.bring_due(rt, work, clock);
-            self.pause(work, done);
             work.before(number, clock);
             let Some(slot) = self.take_slot(rt, work) else {
                 return;
             };
-            self.pause(work, done);
             work.after(number, slot);
             clock = slot + 1;
         }

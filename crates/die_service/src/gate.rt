@@ -1,18 +1,13 @@
 //! What is called around each slot of a run.
 
-/// What a run calls around each of its slots. Both are called by the worker that has the die, without the die's turn
-/// unless they are free, and have to return.
+/// What a run calls around each of its slots. Both are called by the worker that has the die, without the die's turn,
+/// and have to return.
 pub trait Gate {
     /// Before a slot of the die: the slot that the worker asks for next.
     fn before(&self, die: u32, slot: u32);
 
     /// After a slot of the die was carried out: its number.
     fn after(&self, die: u32, slot: u32);
-
-    /// Whether the two do nothing: then a worker needn't give up the die's turn for them, and keeps it over 256 slots.
-    fn is_free(&self) -> bool {
-        false
-    }
 }
 
 /// A gate that does nothing.
@@ -23,8 +18,4 @@ impl Gate for FreeGate {
     fn before(&self, _die: u32, _slot: u32) {}
 
     fn after(&self, _die: u32, _slot: u32) {}
-
-    fn is_free(&self) -> bool {
-        true
-    }
 }

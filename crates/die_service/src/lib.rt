@@ -19,6 +19,7 @@
 
 mod batches;
 pub mod book;
+mod callers;
 mod closing;
 mod courses;
 mod die;
@@ -34,7 +35,6 @@ mod refused;
 mod renewing;
 mod runs;
 mod store;
-mod turns;
 mod work;
 mod workers;
 

@@ -127,8 +127,7 @@ fn run_drivers<N: Nand + Send, W: Work + Send, R: Threads + Wait + Sync>(
 /// in the order of the dies, and a feed has no slot among its events. The dies are dealt out in their order, as many to
 /// each worker as dies / workers, rounded up; a worker takes its dies one after the other, each wholly. Where no thread
 /// can be made for a worker, its dies come before or after those of another. Nothing is said of which thread has which
-/// die, nor of when. Each call of a die may wait for its turn. Where the gate does nothing ([`Gate::is_free`]) a worker
-/// keeps the turn over 256 slots, and else it gives it up before each call of the gate.
+/// die, nor of when. Each call of a die may wait for its turn, and no worker has one while it calls the gate.
 ///
 /// On each die a clock begins at the batch's `from`. Each event in front of the feed whose `at` isn't above the clock
 /// is asked for, in the order of the feed; `gate.before` is called with the die and the clock; then the slot is asked

@@ -8,9 +8,9 @@ ghost use Rattle.die_service.specs.Passes.{AddsEntry, AddsNone};
 ghost use Rattle.die_service.specs.Runs.{asked_event};
 ghost use Rattle.die_service.specs.Work.{Before, Asked, After};
 
+use crate::callers::Caller;
 use crate::gate::Gate;
 use crate::refused::RefusedAt;
-use crate::turns::DieTurn;
 use flash_die::Nand;
 use slot_core::{EventHead, ReplyNote, SlotNote};
 use slot_types::{Event, LentOps, Reply};
@@ -24,9 +24,6 @@ pub(crate) trait Work: Drop {
     // whether this call may turn one work into the other
     ghost does: { Self → WorkCall → Self → Type 0 };
 
-    /// Whether its hooks are free, so that the worker may keep its die's turn while they are called.
-    fn keeps_turn(&self) -> bool;
-
     /// The hook before a slot of the die: the clock.
     fn before(&mut self, die: u32, slot: u32)
         ensures { does self.old (Before die slot) self.new };
@@ -35,16 +32,16 @@ pub(crate) trait Work: Drop {
     fn event<N: Nand, R: Wait>(
         &mut self,
         rt: &R,
-        turn: &mut DieTurn<'_, N>,
+        caller: &mut Caller<'_, N>,
         head: EventHead,
         ops: &LentOps,
     ) -> Result<ReplyNote, RefusedAt>
-        ensures same { IsSamePass turn.old turn.new }
+        ensures same { IsSamePass caller.old caller.new }
         ensures accepted { IfOk result (λ note. IsAccepted (reply_of_note note)) }
         ensures added { IfOk result (λ note.
-            AddsEntry turn.old.view (with_ops head ops.now) (reply_of_note note) turn.new.view) }
+            AddsEntry caller.old.view (with_ops head ops.now) (reply_of_note note) caller.new.view) }
         ensures refused { IfErr result (λ refused.
-            AddsNone N.never_fails turn.old.view (with_ops head ops.now) refused turn.new.view) }
+            AddsNone N.never_fails caller.old.view (with_ops head ops.now) refused caller.new.view) }
         ensures called { IfOk result (λ note. does self.old
             (Asked (asked_event (with_ops head ops.now) (Ok (reply_of_note note)))) self.new) }
         ensures called_refused { IfErr result (λ refused. does self.old
@@ -54,13 +51,13 @@ pub(crate) trait Work: Drop {
     fn slot<N: Nand, R: Wait>(
         &mut self,
         rt: &R,
-        turn: &mut DieTurn<'_, N>,
+        caller: &mut Caller<'_, N>,
     ) -> Result<SlotNote, RefusedAt>
-        ensures same { IsSamePass turn.old turn.new }
+        ensures same { IsSamePass caller.old caller.new }
         ensures answered { IfOk result (λ reply.
-            AddsEntry turn.old.view Event.Slot (Reply.Slot reply) turn.new.view) }
+            AddsEntry caller.old.view Event.Slot (Reply.Slot reply) caller.new.view) }
         ensures refused { IfErr result (λ refused.
-            AddsNone N.never_fails turn.old.view Event.Slot refused turn.new.view) }
+            AddsNone N.never_fails caller.old.view Event.Slot refused caller.new.view) }
         ensures called { IfOk result (λ reply. does self.old
             (Asked (asked_event Event.Slot (Ok (Reply.Slot reply)))) self.new) }
         ensures called_refused { IfErr result (λ refused. does self.old
@@ -80,10 +77,6 @@ pub(crate) struct GatedWork<'a, G: Gate> {
 impl<G: Gate> Work for GatedWork<'_, G> {
     ghost does = { λ _ _ _. Unit {0} };
 
-    fn keeps_turn(&self) -> bool {
-        self.gate.is_free()
-    }
-
     fn before(&mut self, die: u32, slot: u32) {
         self.gate.before(die, slot);
     }
@@ -93,19 +86,19 @@ impl<G: Gate> Work for GatedWork<'_, G> {
     fn event<N: Nand, R: Wait>(
         &mut self,
         rt: &R,
-        turn: &mut DieTurn<'_, N>,
+        caller: &mut Caller<'_, N>,
         head: EventHead,
         ops: &LentOps,
     ) -> Result<ReplyNote, RefusedAt> {
-        turn.note(rt, head, ops)
+        caller.note(rt, head, ops)
     }
 
     fn slot<N: Nand, R: Wait>(
         &mut self,
         rt: &R,
-        turn: &mut DieTurn<'_, N>,
+        caller: &mut Caller<'_, N>,
     ) -> Result<SlotNote, RefusedAt> {
-        turn.note_slot(rt)
+        caller.note_slot(rt)
     }
 
     fn after(&mut self, die: u32, slot: u32) {

@@ -10,7 +10,7 @@ use std::env::Env;
 use std::sync::Wait;
 use std::test::Fail;
 use std::thread;
-use turn_lock::{Pass, Turn, Turned};
+use turn_lock::{Pass, Turned};
 
 // Applies 1 to `count`, each with a 0 after it, and says whether each was added and each 0 refused.
 fn count_up<R: Wait>(
@@ -141,52 +141,35 @@ fn passes_are_made_up_to_their_limit(rt: HostRuntime) -> Result<(), Fail> {
     Ok(())
 }
 
-// Notes 1 to `count`, and after each that `slots` divides gives up the turn, and says whether each was added.
+// Notes 1 to `count`, and says whether each was added.
 fn note_up<R: Wait>(
     rt: &R,
     lock: &Turned<Numbers>,
-    pass: Pass<Numbers>,
+    mut pass: Pass<Numbers>,
     count: u64,
-    slots: u64,
 ) -> (Pass<Numbers>, bool)
-    requires lock { pass.lock ≡ lock.now }
-    requires slots { 0 < slots }
+    requires { pass.lock ≡ lock.now }
     ensures { result.0.lock ≡ lock.now }
 {
-    let mut turn = Turn::new(lock, pass);
     let mut right = true;
     for below in 0..count {
-        let number = below + 1;
-        right = right && turn.note(rt, number, &()) == NumberReply::Added;
-        if number % slots == 0 {
-            turn.give_up();
-        }
+        right = right && lock.note(rt, &mut pass, below + 1, &()) == NumberReply::Added;
     }
-    (turn.into_pass(), right)
+    (pass, right)
 }
 
 #[test]
-fn a_turn_is_kept_until_it_is_given_up(rt: HostRuntime) -> Result<(), Fail> {
+fn a_turn_is_over_with_its_call(rt: HostRuntime) -> Result<(), Fail> {
     let (lock, mut first) = Turned::new(rt.alloc(), Numbers::new(rt.alloc()))?;
     let mut second = lock.split_pass(&rt, &mut first)?;
-    let mut turn = Turn::new(&lock, first);
-    assert_eq!(rt; turn.number(), 0);
-    assert_eq!(rt; turn.look(), 0);
-    assert!(rt; turn.note(&rt, 5, &()) == NumberReply::Added);
-    assert!(rt; turn.note(&rt, 0, &()) == NumberReply::Zero);
-    assert!(rt; turn.note(&rt, 6, &()) == NumberReply::Added);
-    // The turn is kept: this pass has seen its own entries, and another one none.
-    assert_eq!(rt; turn.look(), 2);
-    assert_eq!(rt; lock.look(&mut second), 0);
-    turn.give_up();
-    turn.give_up();
-    assert_eq!(rt; lock.look(&mut second), 2);
-    assert!(rt; lock.apply(&rt, &mut second, 7) == NumberReply::Added);
-    assert_eq!(rt; turn.look(), 3);
-    assert!(rt; turn.note(&rt, 8, &()) == NumberReply::Added);
-    // It is given up with the pass.
-    let mut first = turn.into_pass();
-    assert!(rt; lock.apply(&rt, &mut second, 9) == NumberReply::Added);
+    assert!(rt; lock.note(&rt, &mut first, 5, &()) == NumberReply::Added);
+    // Another pass sees the entry at once, and has a turn.
+    assert_eq!(rt; lock.look(&mut second), 1);
+    assert!(rt; lock.note(&rt, &mut second, 6, &()) == NumberReply::Added);
+    assert!(rt; lock.note(&rt, &mut first, 0, &()) == NumberReply::Zero);
+    assert_eq!(rt; lock.look(&mut first), 2);
+    assert!(rt; lock.note(&rt, &mut first, 7, &()) == NumberReply::Added);
+    assert!(rt; lock.apply(&rt, &mut second, 8) == NumberReply::Added);
     lock.join_pass(&mut first, second);
     let Ok(book) = lock.close(&rt, first) else {
         panic!(rt; "a pass is out")
@@ -196,16 +179,16 @@ fn a_turn_is_kept_until_it_is_given_up(rt: HostRuntime) -> Result<(), Fail> {
         assert_eq!(rt; entry.event, wanted);
         assert_eq!(rt;
             entry.caller,
-            if wanted == 7 || wanted == 9 { 1 } else { 0 }
+            if wanted == 6 || wanted == 8 { 1 } else { 0 }
         );
         wanted = entry.event.wrapping_add(1);
     }
-    assert_eq!(rt; wanted, 10);
+    assert_eq!(rt; wanted, 9);
     Ok(())
 }
 
 #[test]
-fn two_threads_keep_the_turn_in_turn(rt: HostRuntime) -> Result<(), Fail> {
+fn two_threads_note_by_turns(rt: HostRuntime) -> Result<(), Fail> {
     let (lock, mut first) = Turned::new(rt.alloc(), Numbers::new(rt.alloc()))?;
     let second = lock.split_pass(&rt, &mut first)?;
     let lock_ref = &lock;
@@ -214,11 +197,11 @@ fn two_threads_keep_the_turn_in_turn(rt: HostRuntime) -> Result<(), Fail> {
         || -> (Pass<Numbers>, bool)
             requires { first.lock ≡ lock_ref.now }
             ensures { result.0.lock ≡ lock_ref.entry.now }
-        { note_up(&rt, lock_ref, first, 1000, 7) },
+        { note_up(&rt, lock_ref, first, 1000) },
         || -> (Pass<Numbers>, bool)
             requires { second.lock ≡ lock_ref.now }
             ensures { result.0.lock ≡ lock_ref.entry.now }
-        { note_up(&rt, lock_ref, second, 1000, 300) },
+        { note_up(&rt, lock_ref, second, 1000) },
     );
     assert!(rt; first_right && second_right);
     lock.join_pass(&mut first, second);

@@ -1,5 +1,5 @@
 -- What each kind of step tells the pass that makes it.
-use Rattle.std.specs.Prelude.{◌≡◌, ◌≢◌, ℕ, ◌+◌, ◌*◌, ◌<◌, ◌≤◌, true, false, ◌==◌}
+use Rattle.std.specs.Prelude.{◌≡◌, ◌≢◌, ◌⊎◌, ℕ, ◌+◌, ◌*◌, ◌<◌, ◌≤◌, true, false, ◌==◌}
 use Rattle.std.specs.Prelude.{List, [], ◌∷◌, ◌++◌, length, Option, Some, None}
 use Rattle.atomic_table.specs.declared.shared.Seat.{Seat}
 use Rattle.atomic_table.specs.Seated.{TableId}
@@ -7,7 +7,7 @@ use Rattle.atomic_table.specs.Table.{Me, Step}
 use Rattle.turn_lock.specs.declared.entry.Entry.{Entry}
 use Rattle.turn_lock.specs.declared.view.View.{View}
 use Rattle.turn_lock.specs.declared.view.Kept.{Kept}
-use Rattle.turn_lock.specs.Log.{times, calls_by, NoneBy, AllBy, GrowsWithout}
+use Rattle.turn_lock.specs.Log.{times, entry, calls_by, NoneBy, AllBy, GrowsWithout}
 use Rattle.turn_lock.specs.Views.{numbers_of, SeesFitting, first_view, vacant_view}
 
 abbrev pub IsTurnTable : TableId → Type 0
@@ -21,15 +21,10 @@ module _ {E R A B : Type 0} where
   abbrev pub first_made : Step (Option (Kept B)) → Me (Option (Kept B)) (View E R A) → ℕ → Me (Option (Kept B)) (View E R A) → Type 0
   first_made st m r m' = (a : A) → m.0 ≡ vacant_view a → (m'.1 ≡ (0, None) ∷ m.1) × (m'.0 ≡ record (first_view a) { turn = true })
 
-module _ {E R : Type 0} where
-  -- no entry is of another caller
-  abbrev pub OnlyBy : ℕ → List (Entry E R) → Type 0
-  OnlyBy n es = (p : ℕ) → ¬ (p ≡ n) → calls_by p es ≡ []
-
 module _ {E R A : Type 0} where
-  -- these are the entries that the pass has seen, and then none but its own
+  -- these are the entries that the pass has seen, and then none, or one of its own
   abbrev pub AddsOwn : View E R A → List (Entry E R) → Type 0
-  AddsOwn v es = (more : List (Entry E R)) × (es ≡ v.seen ++ more) × OnlyBy v.number more
+  AddsOwn v es = (es ≡ v.seen) ⊎ ((event : E) × (reply : R) × (es ≡ v.seen ++ entry v.number event reply ∷ []))
 
   -- a look that shows, after a join, that the longer of what both had seen is the shorter and then nothing by the pass
   -- that had seen that, and that no number stands twice; what the pass has seen fits
@@ -68,6 +63,8 @@ module _ {E R A B : Type 0} (log : B → List (Entry E R)) (about : B → A) whe
       → Me (Option (Kept B)) (View E R A) → Type 0
   taken fits st m r m' = (r ≡ st.first → (k : Kept B) × (m'.1 ≡ (0, Some k) ∷ m.1) × Wins fits m.0 k m'.0) × (r ≢ st.first → m' ≡ m)
 
-  -- a release: the pass has seen the book that it puts back
+  -- a release: the pass has seen the book that it puts back, to which it added one entry of its own or none, and the word
+  -- is twice the number of its entries
   abbrev pub released : Step (Option (Kept B)) → Me (Option (Kept B)) (View E R A) → ℕ → Me (Option (Kept B)) (View E R A) → Type 0
-  released st m r m' = (k : Kept B) → m.1 ≡ (0, Some k) ∷ [] → (m'.1 ≡ []) × (m'.0 ≡ record m.0 { seen = log k.book; turn = false })
+  released st m n m' = (k : Kept B) → m.1 ≡ (0, Some k) ∷ []
+      → (m'.1 ≡ []) × (m'.0 ≡ record m.0 { seen = log k.book; turn = false }) × AddsOwn m.0 (log k.book) × (n ≡ 2 * length (log k.book))

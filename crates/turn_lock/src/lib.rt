@@ -1,9 +1,9 @@
 //! A lock round a book of entries, with passes that know what they have seen of it.
 //!
 //! A [`Book`] is a sequential object that keeps a list of its accepted calls. [`Turned`] lets any number of threads use
-//! one, each with a [`Pass`] of its own, one turn at a time. A [`Turn`] keeps the turn over several calls, of a
-//! [`NotingBook`], which takes events whose parts are lent. The clauses speak of what a pass knows, its [`View`]: the
-//! entries that it has seen are always the first of the book's list, and of its own calls they are all.
+//! one, each with a [`Pass`] of its own, one call a turn. A [`NotingBook`] also takes events whose parts are lent. The
+//! clauses speak of what a pass knows, its [`View`]: the entries that it has seen are always the first of the book's
+//! list, and of its own calls they are all.
 //!
 //! `look` and `join_pass` don't wait. `apply`, `note`, `ask`, `split_pass`, `out` and `close` may wait for the turn,
 //! and nothing is claimed of how long: a take that is lost is tried again, after a yield while another pass has the
@@ -20,7 +20,6 @@ mod pass;
 mod plays;
 mod rule;
 mod steps;
-mod turn;
 mod vacancy;
 mod view;
 
@@ -29,6 +28,5 @@ pub use entry::Entry;
 pub use lock::{Closing, Turned};
 pub use noting::NotingBook;
 pub use pass::Pass;
-pub use turn::Turn;
 pub use vacancy::Vacancy;
 pub use view::View;

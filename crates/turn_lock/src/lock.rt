@@ -7,6 +7,7 @@ ghost use Rattle.turn_lock.specs.Views.{first_view, IsLive, IsSamePass};
 ghost use Rattle.turn_lock.specs.Passes.{SeesMore, Answers, Replies, Parts, IsFull, IsJoined, IsOut, Closes, StaysOpen};
 
 use crate::book::Book;
+use crate::noting::NotingBook;
 use crate::pass::Pass;
 use crate::plays::{Compare, Cut, Glue, Look};
 use crate::rule::TableOf;
@@ -104,6 +105,31 @@ impl<B: Book> Turned<B> {
         let reply = kept.book.apply(pass.number, event);
         pass.free_word = release(shared, &mut pass.seat, kept);
         reply
+    }
+
+    /// The book's note of its reply to an event whose parts are lent, with the pass's number as the caller. May wait for
+    /// the turn.
+    ///
+    /// An accepted call is the last entry that the pass has then seen; a refused one leaves no entry.
+    #[inline(always)]
+    pub fn note<R: Wait, P>(&self, rt: &R, pass: &mut Pass<B>, head: B::Head, parts: &P) -> B::Note
+    where
+        B: NotingBook<P>,
+        requires { pass.old.lock ≡ self.now }
+        ensures same { IsSamePass pass.old pass.new }
+        ensures reply { Replies B.accepts B.fits B.gives pass.old.view (B.whole head parts.now)
+            (B.noted result) pass.new.view }
+        // the pass's own entries: those that it had, and this one where it was accepted
+        ensures own { let own = calls_by pass.old.view.number in
+            let call = entry pass.old.view.number (B.whole head parts.now) (B.noted result) in
+            own pass.new.view.seen
+            ≡ own pass.old.view.seen ++ (if B.accepts (B.noted result) then call ∷ [] else []) }
+    {
+        let shared = &self.table.shared;
+        let mut kept = take(rt, shared, &mut pass.seat, pass.free_word);
+        let note = kept.book.note(pass.number, head, parts);
+        pass.free_word = release(shared, &mut pass.seat, kept);
+        note
     }
 
     /// A pass with a number that no pass had, which has seen what this one then has. May wait for the turn.

@@ -15,23 +15,17 @@ pub bring_due-requires-2 : goal.bring_due-requires-2
 bring_due-requires-2 g c = still_fit g.N.Nand.never_fails _ _ _ _ _ c.loop-done.invariant.time.asks
 
 pub take_slot-requires : goal.take_slot-requires
-take_slot-requires g c = omega (
-  arith,
-  c.loop-done-test.true,
-  c.slots-slots.type_inv,
-  c.bring_due.ensures.brings.slots,
-  c.loop-done.invariant.time.slots_are,
-  ap (λ s. s.slots) c.pause.ensures,
-)
+take_slot-requires g c =
+    omega (arith, c.loop-done-test.true, c.slots-slots.type_inv, c.bring_due.ensures.brings.slots, c.loop-done.invariant.time.slots_are)
 
 pub loop-done-preserved : goal.loop-done-preserved
 loop-done-preserved g c =
-    rw c.pause-in-loop-done.ensures (working_goes_on g.W.Work.does g.N.Nand.never_fails c.args.number c.slots-slots.result c.from-from.result
-    c.loop-done.done c.loop-done.clock c.args.self.now c.loop-done.self c.bring_due.new.self
+    working_goes_on g.W.Work.does g.N.Nand.never_fails c.args.number c.slots-slots.result c.from-from.result
+    c.loop-done._done c.loop-done.clock c.args.self.now c.loop-done.self c.bring_due.new.self
     c.args.work.now c.loop-done.work c.bring_due.new.work c.loop-done.invariant c.bring_due.ensures
     _ (search rules) c.loop-done-test.true
     c.in-Some.slot (c.in-Some.slot + 1) c.take_slot.new.self c.take_slot.new.work c.after.new.self
-    (rw c.pause.ensures at c.in-Some.ensures.taken) c.after.ensures refl)
+    c.in-Some.ensures.taken c.after.ensures refl
 
 pub returns-in_default : goal.returns-in_default
 returns-in_default g c =
@@ -40,10 +34,10 @@ returns-in_default g c =
     (rw (← c.self.view_is) c.number.ensures.live) c.requires
     (rw (← c.self.view_is) c.slots-slots.ensures) (rw (← c.self.view_is) c.from-from.ensures)
     (working_gives_up g.W.Work.does g.N.Nand.never_fails c.args.number c.slots-slots.result c.from-from.result
-    c.loop-done.done c.loop-done.clock c.args.self.now c.loop-done.self c.bring_due.new.self
+    c.loop-done._done c.loop-done.clock c.args.self.now c.loop-done.self c.bring_due.new.self
     c.args.work.now c.loop-done.work c.bring_due.new.work c.loop-done.invariant c.bring_due.ensures
     _ (search rules) c.loop-done-test.true
-    c.take_slot.new.self c.take_slot.new.work (rw c.pause.ensures at c.in_default.ensures.stopped))
+    c.take_slot.new.self c.take_slot.new.work c.in_default.ensures.stopped)
 
 pub returns : goal.returns
 returns g c =
@@ -52,6 +46,6 @@ returns g c =
     (rw (← c.self.view_is) c.number.ensures.live) c.requires
     (rw (← c.self.view_is) c.slots-slots.ensures) (rw (← c.self.view_is) c.from-from.ensures)
     (working_ends g.W.Work.does g.N.Nand.never_fails c.args.number c.slots-slots.result c.from-from.result
-    c.loop-done.done c.loop-done.clock c.args.self.now c.loop-done.self c.bring_due-2.new.self
+    c.loop-done._done c.loop-done.clock c.args.self.now c.loop-done.self c.bring_due-2.new.self
     c.args.work.now c.loop-done.work c.bring_due-2.new.work c.loop-done.invariant c.bring_due-2.ensures
-    (omega (arith, c.loop-done-test.false, c.loop-done.auto.done-end)))
+    (omega (arith, c.loop-done-test.false, c.loop-done.auto._done-end)))

@@ -3,4 +3,4 @@ use Rattle.die_service.proofs.drivers.Driver.drive.Given as goal
 
 abbrev pub invariant-loop-done : goal.invariant-loop-done
 invariant-loop-done g l =
-    IsWorking g.N.Nand.never_fails g.W.Work.does l.number l.slots l.from l.done l.clock l.fn.self l.fn.work l.self l.work
+    IsWorking g.N.Nand.never_fails g.W.Work.does l.number l.slots l.from l._done l.clock l.fn.self l.fn.work l.self l.work

@@ -1,4 +1,4 @@
-use Rattle.std.proofs.Common.{◌≡◌, [], ◌∷◌, ◌++◌, length, Some, None, refl, sym, ap, ◌∙◌, subst, rules}
+use Rattle.std.proofs.Common.{◌≡◌, inl, [], ◌∷◌, length, Some, None, refl, sym, ap, ◌∙◌, subst, rules}
 use Rattle.turn_lock.specs.Views.{IsLive, SeesFitting, CountsOwn}
 use Rattle.turn_lock.proofs.Keeps.{makes}
 use Rattle.turn_lock.proofs.Turns.{first_is, first_counts}
@@ -15,7 +15,7 @@ release-free_word-requires-clause-held g c =
 pub release-free_word-requires-clause-more : goal.release-free_word-requires-clause-more
 release-free_word-requires-clause-more g c =
     let made = c.load.ensures.2 c.self.invariant.3.0 c.self.invariant.3.1 in
-    ([], c.requires.empty ∙ ap (λ l. l ++ []) (sym (ap (λ v. v.seen) made.1)), λ p _. refl)
+    inl (c.requires.empty ∙ sym (ap (λ v. v.seen) made.1))
 
 pub release-free_word-requires-clause-made : goal.release-free_word-requires-clause-made
 release-free_word-requires-clause-made g c =

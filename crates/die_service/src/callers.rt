@@ -8,7 +8,6 @@ ghost use Rattle.slot_core.specs.Events.{with_ops, reply_of_note};
 ghost use Rattle.die_service.specs.Passes.{HasGrown, AddsEntry, AddsNone, IsSlotReply};
 ghost use Rattle.die_service.specs.Replies.{HasExactLog};
 
-use crate::book::DieBook;
 use crate::die::{Die, DiePass};
 use crate::refused::RefusedAt;
 use flash_die::Nand;
@@ -16,20 +15,23 @@ use slot_core::{EventHead, ReplyNote, SlotNote};
 use slot_types::{Event, LentOps, Reply};
 use std::marker::Model;
 use std::sync::Wait;
-use turn_lock::Turn;
 
-/// A pass of a die, which keeps the die's turn from one call to the next, until it gives it up. Contracts see the pass.
+/// A die and a pass of it, as one worker has them. Contracts see the pass.
 #[derive(Drop)]
-pub(crate) struct DieTurn<'a, N: Nand> {
-    turn: Turn<'a, DieBook<N>>,
+pub(crate) struct Caller<'a, N: Nand> {
+    die: &'a Die<N>,
+    pass: DiePass<N>,
 }
 
-impl<'a, N: Nand> Model for DieTurn<'a, N> {
+impl<'a, N: Nand> Model for Caller<'a, N> {
+    ghost use Rattle.std.specs.Prelude.{◌≡◌};
     ghost use Rattle.die_service.specs.Stores.{DiePass};
 
     ghost Value = { DiePass };
 
-    ghost view = { λ t. t.turn };
+    ghost view = { λ c. c.pass };
+
+    ghost invariant = { λ c. c.pass.lock ≡ c.die.now };
 }
 
 /// The note of a slot.
@@ -43,22 +45,20 @@ fn slot_note(note: ReplyNote) -> SlotNote
     }
 }
 
-impl<'a, N: Nand> DieTurn<'a, N> {
-    /// A pass of the die, which doesn't have the turn yet.
-    pub(crate) fn new(die: &'a Die<N>, pass: DiePass<N>) -> DieTurn<'a, N>
+impl<'a, N: Nand> Caller<'a, N> {
+    /// A pass of the die.
+    pub(crate) fn new(die: &'a Die<N>, pass: DiePass<N>) -> Caller<'a, N>
         requires { pass.lock ≡ die.now }
         ensures { result ≡ pass }
     {
-        DieTurn {
-            turn: Turn::new(&die.turned, pass),
-        }
+        Caller { die, pass }
     }
 
-    /// The pass, without the turn.
+    /// The pass.
     pub(crate) fn into_pass(self) -> DiePass<N>
         ensures { result ≡ self.entry }
     {
-        self.turn.into_pass()
+        self.pass
     }
 
     /// The number of the pass, which is live, and has seen an exact log.
@@ -67,14 +67,7 @@ impl<'a, N: Nand> DieTurn<'a, N> {
         ensures live { IsLive self.now.view }
         ensures fits { SeesFitting HasExactLog self.now.view }
     {
-        self.turn.number()
-    }
-
-    /// Lets other passes have the turn, if it is kept.
-    pub(crate) fn give_up(&mut self)
-        ensures { self.new ≡ self.old }
-    {
-        self.turn.give_up();
+        self.pass.number()
     }
 
     /// How many entries the die's log has: this pass has then seen them all.
@@ -85,11 +78,11 @@ impl<'a, N: Nand> DieTurn<'a, N> {
         ensures own { calls_by self.old.view.number self.new.view.seen
             ≡ calls_by self.old.view.number self.old.view.seen }
     {
-        self.turn.look()
+        self.die.look(&mut self.pass)
     }
 
     /// Carries out an event, whose operations are lent, and hands back no more than a note of the reply. May wait for the
-    /// turn, which it keeps.
+    /// turn.
     #[inline(always)]
     pub(crate) fn note<R: Wait>(
         &mut self,
@@ -104,11 +97,11 @@ impl<'a, N: Nand> DieTurn<'a, N> {
         ensures refused { IfErr result (λ refused.
             AddsNone N.never_fails self.old.view (with_ops head ops.now) refused self.new.view) }
     {
-        self.turn.note(rt, head, ops)
+        let die = self.die;
+        die.turned.note(rt, &mut self.pass, head, ops)
     }
 
-    /// Carries out the present slot, as `Die::slot`, and hands back no more than its number. May wait for the turn, which
-    /// it keeps.
+    /// Carries out the present slot, as `Die::slot`, and hands back no more than its number. May wait for the turn.
     #[inline(always)]
     pub(crate) fn note_slot<R: Wait>(&mut self, rt: &R) -> Result<SlotNote, RefusedAt>
         ensures same { IsSamePass self.old self.new }
