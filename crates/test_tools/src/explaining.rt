@@ -19,8 +19,8 @@ die 0: while fewer than alpha pages are spare, at most 7 are free.
 die 0: the closed blocks that no collection works on are then at least 6.
 die 0: if none of these were worth collecting, at least 18 pages would be valid.
 die 0: logical is 12, which is below that.
-die 0: with its other numbers as they are, the least blocks that would do is 7.
-die 0: with its other numbers as they are, the greatest logical that would do is 17.
+plan: with its other numbers as they are, the least blocks that would do is 7.
+plan: with its other numbers as they are, the greatest logical that would do is 17.
 ",
     ),
     (
@@ -29,11 +29,13 @@ die 0: with its other numbers as they are, the greatest logical that would do is
         false,
         "The plan is refused: BadPlan.
 die 0: logical is 12, and has to be below 6: 7 too many.
-die 0: with its other numbers as they are, the least blocks that would do is 7.
-die 0: with its other numbers as they are, the greatest logical that would do is 5.
+die 0: with its other numbers as they are, the least blocks with which it meets the bound is 7.
+die 0: with its other numbers as they are, the greatest logical with which it meets the bound is 5.
 die 0: while fewer than alpha pages are spare, up to 7 may be free.
 die 0: the closed blocks that no collection works on are then at least 2.
 die 0: if none of these were worth collecting, at least 6 pages would be valid.
+plan: with its other numbers as they are, the least blocks that would do is 7.
+plan: with its other numbers as they are, the greatest logical that would do is 5.
 ",
     ),
     (
@@ -42,9 +44,11 @@ die 0: if none of these were worth collecting, at least 6 pages would be valid.
         false,
         "The plan is refused: BadPlan.
 die 0: blocks is 2, and has to be above 2, which may be free or collected: 1 missing.
-die 0: with its other numbers as they are, the least blocks that would do is 7.
-die 0: with its other numbers as they are, no logical would do.
+die 0: with its other numbers as they are, the least blocks with which it meets the bound is 7.
+die 0: with its other numbers as they are, it meets the bound with no logical.
 die 0: while fewer than alpha pages are spare, up to 7 may be free.
+plan: with its other numbers as they are, the least blocks that would do is 7.
+plan: with its other numbers as they are, no logical would do.
 ",
     ),
     (
@@ -53,11 +57,13 @@ die 0: while fewer than alpha pages are spare, up to 7 may be free.
         false,
         "The plan is refused: BadPlan.
 die 0: logical is 100000, and has to be below 18: 99983 too many.
-die 0: with its other numbers as they are, no blocks would do.
-die 0: with its other numbers as they are, the greatest logical that would do is 17.
+die 0: with its other numbers as they are, it meets the bound with no blocks.
+die 0: with its other numbers as they are, the greatest logical with which it meets the bound is 17.
 die 0: while fewer than alpha pages are spare, up to 7 may be free.
 die 0: the closed blocks that no collection works on are then at least 6.
 die 0: if none of these were worth collecting, at least 18 pages would be valid.
+plan: with its other numbers as they are, no blocks would do.
+plan: with its other numbers as they are, the greatest logical that would do is 17.
 ",
     ),
     (
@@ -66,9 +72,11 @@ die 0: if none of these were worth collecting, at least 18 pages would be valid.
         false,
         "The plan is refused: BadPlan.
 die 0: blocks is 8, and has to be above 1073741825, which may be free or collected: 1073741818 missing.
-die 0: with its other numbers as they are, no blocks would do.
-die 0: with its other numbers as they are, no logical would do.
+die 0: with its other numbers as they are, it meets the bound with no blocks.
+die 0: with its other numbers as they are, it meets the bound with no logical.
 die 0: while fewer than alpha pages are spare, up to 4294967298 may be free.
+plan: with its other numbers as they are, no blocks would do.
+plan: with its other numbers as they are, no logical would do.
 ",
     ),
 ];
@@ -130,8 +138,6 @@ die 0: while fewer than alpha pages are spare, at most 9 are free.
 die 0: the closed blocks that no collection works on are then at least 1.
 die 0: if none of these were worth collecting, at least 3 pages would be valid.
 die 0: logical is 2, which is below that.
-die 0: with its other numbers as they are, the least blocks that would do is 4.
-die 0: with its other numbers as they are, the greatest logical that would do is 2.
 [[task]] 1 (die 0 task 0): alpha * period is 20, and writes * collect_period is 20: 0 to spare.
 [[task]] 1 (die 0 task 0): cap is 6, and 2 * writes + 2 * alpha is 6: 0 to spare.
 [[task]] 1 (die 0 task 0): of each 20 slots its jobs take at most 4, its collections 7.
@@ -139,7 +145,9 @@ die 0: of each 20 slots all tasks take at most 11: 9 to spare.
 die 0: its 65536 numbers for jobs and collections last for 436900 slots; `renew` begins the next life.
 die 0: its periods end at each multiple of 20 slots by which the deadlines of its jobs have come.
 [[task]] 1 (die 0 task 0): for that no job may come in the 9 slots before; at the multiples of its period none does.
-die 0: with its other numbers as they are, the least common that would do is 20.
+plan: with its other numbers as they are, the least blocks that would do is 4.
+plan: with its other numbers as they are, the greatest logical that would do is 2.
+plan: with its other numbers as they are, the least common that would do is 20.
 [[task]] 1 (die 0 task 0): one at a time, these would do: least period 10, greatest collect_period 20, least cap 6, greatest work 6, greatest writes 1.
 die 0: with its other numbers as they are, alpha 2 would do: of each 20 slots 11 are taken.
 ",
@@ -155,12 +163,12 @@ die 0: while fewer than alpha pages are spare, at most 9 are free.
 die 0: the closed blocks that no collection works on are then at least 1.
 die 0: if none of these were worth collecting, at least 3 pages would be valid.
 die 0: logical is 2, which is below that.
-die 0: with its other numbers as they are, the least blocks that would do is 4.
-die 0: with its other numbers as they are, the greatest logical that would do is 2.
 [[task]] 1 (die 0 task 0): alpha * period is 20, and writes * collect_period is 20: 0 to spare.
 [[task]] 1 (die 0 task 0): cap is 6, and 2 * writes + 2 * alpha is 6: 0 to spare.
 die 0: its 65536 numbers for jobs and collections last for 436900 slots; `renew` begins the next life.
-die 0: with its other numbers as they are, the least common that would do is 20.
+plan: with its other numbers as they are, no blocks would do.
+plan: with its other numbers as they are, no logical would do.
+plan: with its other numbers as they are, the least common that would do is 20.
 [[task]] 1 (die 0 task 0): one at a time, these would do: no period, greatest collect_period 10, no cap, no work, no writes.
 ",
     ),
@@ -177,8 +185,6 @@ die 0: while fewer than alpha pages are spare, at most 9 are free.
 die 0: the closed blocks that no collection works on are then at least 1.
 die 0: if none of these were worth collecting, at least 3 pages would be valid.
 die 0: logical is 2, which is below that.
-die 0: with its other numbers as they are, the least blocks that would do is 4.
-die 0: with its other numbers as they are, the greatest logical that would do is 2.
 [[task]] 1 (die 0 task 0): alpha * period is 40, and writes * collect_period is 10: 30 to spare.
 [[task]] 1 (die 0 task 0): cap is 6, and 2 * writes + 2 * alpha is 6: 0 to spare.
 [[task]] 1 (die 0 task 0): of each 20 slots its jobs take at most 2, its collections 14.
@@ -186,7 +192,9 @@ die 0: of each 20 slots all tasks take at most 16: 4 to spare.
 die 0: its 65536 numbers for jobs and collections last for 436900 slots; `renew` begins the next life.
 die 0: its periods end at each multiple of 10 slots by which the deadlines of its jobs have come.
 [[task]] 1 (die 0 task 0): for that no job may come in the 19 slots before; at the multiples of its period one does.
-die 0: with its other numbers as they are, the least common that would do is 20.
+plan: with its other numbers as they are, the least blocks that would do is 4.
+plan: with its other numbers as they are, the greatest logical that would do is 2.
+plan: with its other numbers as they are, the least common that would do is 20.
 [[task]] 1 (die 0 task 0): one at a time, these would do: least period 10, greatest collect_period 20, least cap 6, greatest work 6, greatest writes 1.
 die 0: with its other numbers as they are, alpha 1 would do: of each 20 slots 20 are taken.
 die 0: with its other numbers as they are, alpha 2 would do: of each 20 slots 16 are taken.
@@ -201,15 +209,15 @@ die 0: while fewer than alpha pages are spare, at most 9 are free.
 die 0: the closed blocks that no collection works on are then at least 1.
 die 0: if none of these were worth collecting, at least 3 pages would be valid.
 die 0: logical is 2, which is below that.
-die 0: with its other numbers as they are, the least blocks that would do is 4.
-die 0: with its other numbers as they are, the greatest logical that would do is 2.
 [[task]] 1 (die 0 task 0): alpha * period is 4, and writes * collect_period is 0: 4 to spare.
 [[task]] 1 (die 0 task 0): cap is 6, and 2 * writes + 2 * alpha is 4: 2 to spare.
 [[task]] 1 (die 0 task 0): of each 200000 slots its jobs take at most 100000, its collections 7.
 die 0: of each 200000 slots all tasks take at most 100007: 99993 to spare.
 die 0: its 65536 numbers for jobs and collections last for 131070 slots; `renew` begins the next life.
 die 0: its periods end in no life: the least multiple of each collect_period is 200000.
-die 0: with its other numbers as they are, the least common that would do is 200000.
+plan: with its other numbers as they are, the least blocks that would do is 4.
+plan: with its other numbers as they are, the greatest logical that would do is 2.
+plan: with its other numbers as they are, the least common that would do is 200000.
 [[task]] 1 (die 0 task 0): one at a time, these would do: least period 2, greatest collect_period 200000, least cap 4, greatest work 1, greatest writes 0.
 die 0: with its other numbers as they are, alpha 1 would do: of each 200000 slots 100009 are taken.
 die 0: with its other numbers as they are, alpha 2 would do: of each 200000 slots 100007 are taken.
@@ -228,13 +236,13 @@ die 0: while fewer than alpha pages are spare, at most 8 are free.
 die 0: the closed blocks that no collection works on are then at least 1.
 die 0: if none of these were worth collecting, at least 3 pages would be valid.
 die 0: logical is 2, which is below that.
-die 0: with its other numbers as they are, the least blocks that would do is 4.
-die 0: with its other numbers as they are, the greatest logical that would do is 2.
 [[task]] 1 (die 0 task 0): alpha * period is 20, and writes * collect_period is 20: 0 to spare.
 [[task]] 1 (die 0 task 0): of each 20 slots its jobs take at most 4, its collections 7.
 die 0: of each 20 slots all tasks take at most 11: 9 to spare.
 die 0: its 65536 numbers for jobs and collections last for 436900 slots; `renew` begins the next life.
-die 0: with its other numbers as they are, no common would do.
+plan: with its other numbers as they are, no blocks would do.
+plan: with its other numbers as they are, no logical would do.
+plan: with its other numbers as they are, no common would do.
 [[task]] 1 (die 0 task 0): one at a time, these would do: no period, no collect_period, least cap 6, no work, greatest writes 0.
 ",
 );
@@ -250,13 +258,13 @@ die 0: while fewer than alpha pages are spare, at most 9 are free.
 die 0: the closed blocks that no collection works on are then at least 1.
 die 0: if none of these were worth collecting, at least 3 pages would be valid.
 die 0: logical is 2, which is below that.
-die 0: with its other numbers as they are, the least blocks that would do is 4.
-die 0: with its other numbers as they are, the greatest logical that would do is 2.
 [[task]] 1 (die 0 task 0): alpha * period is 20, and writes * collect_period is 20: 0 to spare.
 [[task]] 1 (die 0 task 0): cap is 6, and 2 * writes + 2 * alpha is 6: 0 to spare.
 [[task]] 1 (die 0 task 0): of each 20 slots its jobs take at most 14, its collections 7.
 die 0: its 65536 numbers for jobs and collections last for 436900 slots; `renew` begins the next life.
-die 0: with its other numbers as they are, no common would do.
+plan: with its other numbers as they are, no blocks would do.
+plan: with its other numbers as they are, no logical would do.
+plan: with its other numbers as they are, no common would do.
 [[task]] 1 (die 0 task 0): one at a time, these would do: least period 20, no collect_period, no cap, greatest work 6, no writes.
 ",
 );
@@ -274,12 +282,12 @@ die 0: while fewer than alpha pages are spare, at most 9 are free.
 die 0: the closed blocks that no collection works on are then at least 1.
 die 0: if none of these were worth collecting, at least 3 pages would be valid.
 die 0: logical is 2, which is below that.
-die 0: with its other numbers as they are, the least blocks that would do is 4.
-die 0: with its other numbers as they are, the greatest logical that would do is 2.
 [[task]] 1 (die 0 task 0): alpha * period is 2097150, and writes * collect_period is 1048574: 1048576 to spare.
 [[task]] 1 (die 0 task 0): cap is 6, and 2 * writes + 2 * alpha is 6: 0 to spare.
 die 0: its 1048576 slots end before its 65536 numbers do; `renew` begins the next life.
-die 0: with its other numbers as they are, no common would do.
+plan: with its other numbers as they are, no blocks would do.
+plan: with its other numbers as they are, no logical would do.
+plan: with its other numbers as they are, no common would do.
 [[task]] 1 (die 0 task 0): one at a time, these would do: no period, no collect_period, no cap, no work, no writes.
 ",
 );
@@ -296,12 +304,12 @@ die 0: while fewer than alpha pages are spare, at most 9 are free.
 die 0: the closed blocks that no collection works on are then at least 1.
 die 0: if none of these were worth collecting, at least 3 pages would be valid.
 die 0: logical is 2, which is below that.
-die 0: with its other numbers as they are, the least blocks that would do is 4.
-die 0: with its other numbers as they are, the greatest logical that would do is 2.
 [[task]] 1 (die 0 task 0): of each 20 slots its jobs take at most 4, its collections 7.
 die 0: of each 20 slots all tasks take at most 11: 9 to spare.
 die 0: its 65536 numbers for jobs and collections last for 436900 slots; `renew` begins the next life.
-die 0: with its other numbers as they are, no common would do.
+plan: with its other numbers as they are, no blocks would do.
+plan: with its other numbers as they are, no logical would do.
+plan: with its other numbers as they are, no common would do.
 [[task]] 1 (die 0 task 0): one at a time, these would do: no period, no collect_period, no cap, no work, greatest writes 1.
 ",
 );

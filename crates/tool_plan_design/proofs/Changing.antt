@@ -18,6 +18,8 @@ set_by f g (x ∷ xs) zero d same = ap (λ y. y ∷ xs) (same x)
 set_by f g (x ∷ xs) (suc i) d same = ap (λ ys. x ∷ ys) (set_by f g xs i d same)
 
 retimed_again : (which : Number) (m n : ℕ) (times : Times) → times_with which n (times_with which m times) ≡ times_with which n times
+retimed_again number.Blocks m n times = refl
+retimed_again number.Logical m n times = refl
 retimed_again number.Alpha m n times = refl
 retimed_again number.Common m n times = refl
 retimed_again (number.Cap task) m n times = refl
@@ -40,6 +42,8 @@ mapped_again which m n None = refl
 mapped_again which m n (Some times) = ap Some (retimed_again which m n times)
 
 pub changed_again : (which : Number) (plan : DiePlan) (m n : ℕ) → with_number which (with_number which plan m) n ≡ with_number which plan n
+changed_again number.Blocks plan m n = refl
+changed_again number.Logical plan m n = refl
 changed_again number.Alpha plan m n = refl
 changed_again (number.Cap task) plan m n = ap (λ (l : List ℕ). record plan { caps = l }) (set-set plan.caps task m n)
 changed_again number.Common plan m n =

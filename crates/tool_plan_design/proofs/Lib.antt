@@ -1,4 +1,7 @@
 mod Changing
 mod Dividing
+mod DieCommons
+mod Multiples
 mod Quotients
+mod Scaling
 mod Tries

@@ -3,7 +3,8 @@ use Rattle.std.proofs.Common.{◌≡◌, ℕ, ◌+◌, ◌-◌, ◌<◌, ◌≤�
 use Rattle.std.specs.Prelude.{IsTrue}
 use Rattle.std.proofs.lemmas.Bool.{cases_order, true≢false}
 use Rattle.slot_types.specs.declared.plans.DiePlan.{DiePlan}
-use Rattle.tool_plan_design.specs.Numbers.{IsAlike, WouldDo, with_number}
+use Rattle.plan_texts.specs.Stores.{IsUsable}
+use Rattle.tool_plan_design.specs.Numbers.{DieDoes, IsAlike, with_number}
 use Rattle.tool_plan_design.specs.declared.numbers.Number.{Number}
 
 -- upwards from a number
@@ -28,13 +29,13 @@ no_true b f t = true≢false (sym t ∙ f)
 
 -- an attempt that fails tells that the plan with this number doesn't do
 pub fails : (which : Number) (plan trial : DiePlan) (n : ℕ) (b : Bool) → IsAlike which trial plan
-    → (WouldDo (with_number which trial n) → IsTrue b) → b ≡ false → WouldDo (with_number which plan n) → ⊥
-fails which plan trial n b same if_does isnt does = no_true b isnt (if_does (subst WouldDo (sym (same n)) does))
+    → (DieDoes which trial n → IsTrue b) → b ≡ false → DieDoes which plan n → ⊥
+fails which plan trial n b same if_does isnt does = no_true b isnt (if_does (subst IsUsable (sym (same n)) does))
 
 -- and one that succeeds that it does
 pub succeeds : (which : Number) (plan trial : DiePlan) (n : ℕ) (b : Bool) → IsAlike which trial plan
-    → (IsTrue b → WouldDo (with_number which trial n)) → b ≡ true → WouldDo (with_number which plan n)
-succeeds which plan trial n b same if_true holds = subst WouldDo (same n) (if_true holds)
+    → (IsTrue b → DieDoes which trial n) → b ≡ true → DieDoes which plan n
+succeeds which plan trial n b same if_true holds = subst IsUsable (same n) (if_true holds)
 
 -- what differs from an attempt in that number alone differs so from the plan
 pub still_alike : (which : Number) (plan trial next : DiePlan) → IsAlike which next trial → IsAlike which trial plan → IsAlike which next plan

@@ -1,11 +1,11 @@
--- Plans with one number changed, and which numbers of a range would do.
-use Rattle.std.specs.Prelude.{◌≡◌, ℕ, ◌%◌, ◌<◌, ◌≤◌, ◌⊎◌, ⊤, length, Option, Some, None, option_map, slice_set, IsSomeAnd}
+-- The plan of a die with one number changed, and which numbers of a range would do.
+use Rattle.std.specs.Prelude.{◌≡◌, ℕ, ◌%◌, ◌<◌, ◌≤◌, ◌⊎◌, ⊤, length, Option, Some, None, option_map, slice_set}
 use Rattle.slot_types.specs.declared.limits.TheConstants.{MAX_SLOT}
 use Rattle.slot_types.specs.declared.plans.DiePlan.{DiePlan}
 use Rattle.slot_types.specs.declared.plans.TaskTimes.{TaskTimes}
 use Rattle.slot_types.specs.declared.plans.Times.{Times}
-use Rattle.plan_rules.specs.Bound.{MeetsBound}
-use Rattle.plan_rules.specs.Times.{Passes, times_of}
+use Rattle.plan_rules.specs.Times.{times_of}
+use Rattle.plan_texts.specs.Stores.{IsUsable}
 use Rattle.tool_plan_design.specs.Commons.{AreDivisors}
 use Rattle.tool_plan_design.specs.declared.commons.Periods.TheVariants as periods
 use Rattle.tool_plan_design.specs.declared.numbers.Number.{Number}
@@ -17,6 +17,8 @@ with_own times task own = record times { tasks = slice_set times.tasks task own 
 
 -- the times with one of their numbers changed
 abbrev pub times_with : Number → ℕ → Times → Times
+times_with number.Blocks n times = times
+times_with number.Logical n times = times
 times_with number.Alpha n times = times
 times_with number.Common n times = record times { common = n }
 times_with (number.Cap task) n times = times
@@ -27,6 +29,8 @@ times_with (number.Writes task) n times = with_own times task (record (times_of 
 
 -- the plan with one of its numbers changed
 abbrev pub with_number : Number → DiePlan → ℕ → DiePlan
+with_number number.Blocks plan n = record plan { shape = record plan.shape { blocks = n } }
+with_number number.Logical plan n = record plan { logical = n }
 with_number number.Alpha plan n = record plan { alpha = n }
 with_number (number.Cap task) plan n = record plan { caps = slice_set plan.caps task n }
 with_number number.Common plan n = record plan { times = option_map (times_with number.Common n) plan.times }
@@ -35,51 +39,52 @@ with_number (number.CollectPeriod task) plan n = record plan { times = option_ma
 with_number (number.Work task) plan n = record plan { times = option_map (times_with (number.Work task) n) plan.times }
 with_number (number.Writes task) plan n = record plan { times = option_map (times_with (number.Writes task) n) plan.times }
 
--- the plan meets its bound, and has times that pass their test
-pub record WouldDo (plan : DiePlan) : Type 0 where
-  pub bound : MeetsBound plan
-  pub passes : IsSomeAnd plan.times (Passes plan)
+-- with this number the die meets its bound, and passes the test of its times if it has any
+abbrev pub DieDoes : Number → DiePlan → ℕ → Type 0
+DieDoes which plan n = IsUsable (with_number which plan n)
 
--- with this number, from `from` to `to`, the plan would do, and with no smaller one from `from` on
-pub record IsLeast (which : Number) (plan : DiePlan) (from to n : ℕ) : Type 0 where
+-- a number of this kind from `from` to `to`, and no smaller one from `from` on is
+pub record IsLeast (P : ℕ → Type 0) (from to n : ℕ) : Type 0 where
   pub above : from ≤ n
   pub below : n ≤ to
-  pub does : WouldDo (with_number which plan n)
-  pub least : (fewer : ℕ) → from ≤ fewer → fewer < n → ¬ WouldDo (with_number which plan fewer)
+  pub does : P n
+  pub least : (fewer : ℕ) → from ≤ fewer → fewer < n → ¬ P fewer
 
--- with this number, from `from` to `to`, the plan would do, and with no greater one up to `to`
-pub record IsGreatest (which : Number) (plan : DiePlan) (from to n : ℕ) : Type 0 where
+-- a number of this kind from `from` to `to`, and no greater one up to `to` is
+pub record IsGreatest (P : ℕ → Type 0) (from to n : ℕ) : Type 0 where
   pub above : from ≤ n
   pub below : n ≤ to
-  pub does : WouldDo (with_number which plan n)
-  pub greatest : (more : ℕ) → n < more → more ≤ to → ¬ WouldDo (with_number which plan more)
+  pub does : P n
+  pub greatest : (more : ℕ) → n < more → more ≤ to → ¬ P more
 
--- with no number from `from` to `to` the plan would do
-abbrev pub NoneDoes : Number → DiePlan → ℕ → ℕ → Type 0
-NoneDoes which plan from to = (n : ℕ) → from ≤ n → n ≤ to → ¬ WouldDo (with_number which plan n)
+-- no number from `from` to `to` is of this kind
+abbrev pub NoneDoes : (ℕ → Type 0) → ℕ → ℕ → Type 0
+NoneDoes P from to = (n : ℕ) → from ≤ n → n ≤ to → ¬ P n
 
 -- the least such number, if there is one
-abbrev pub FindsLeast : Number → DiePlan → ℕ → ℕ → Option ℕ → Type 0
-FindsLeast which plan from to (Some n) = IsLeast which plan from to n
-FindsLeast which plan from to None = NoneDoes which plan from to
+abbrev pub FindsLeast : (ℕ → Type 0) → ℕ → ℕ → Option ℕ → Type 0
+FindsLeast P from to (Some n) = IsLeast P from to n
+FindsLeast P from to None = NoneDoes P from to
 
 -- the greatest such number, if there is one
-abbrev pub FindsGreatest : Number → DiePlan → ℕ → ℕ → Option ℕ → Type 0
-FindsGreatest which plan from to (Some n) = IsGreatest which plan from to n
-FindsGreatest which plan from to None = NoneDoes which plan from to
+abbrev pub FindsGreatest : (ℕ → Type 0) → ℕ → ℕ → Option ℕ → Type 0
+FindsGreatest P from to (Some n) = IsGreatest P from to n
+FindsGreatest P from to None = NoneDoes P from to
 
 -- two plans that differ in this number alone
 abbrev pub IsAlike : Number → DiePlan → DiePlan → Type 0
 IsAlike which one other = (n : ℕ) → with_number which one n ≡ with_number which other n
 
--- each number with which the plan would do divides so many slots, which are some of a run's
+-- each number with which the die would do divides so many slots, which are some of a run's
 pub record OnlyDivisorsDo (which : Number) (plan : DiePlan) (common : ℕ) : Type 0 where
   pub some : 1 ≤ common
   pub few : common ≤ MAX_SLOT
-  pub divides : (n : ℕ) → WouldDo (with_number which plan n) → common % n ≡ 0
+  pub divides : (n : ℕ) → DieDoes which plan n → common % n ≡ 0
 
 -- what has to be of a number of times, whatever the rest of the plan: a period of a task divides the hyperperiod
 abbrev pub MayBe : Number → Times → ℕ → Type 0
+MayBe number.Blocks times n = ⊤
+MayBe number.Logical times n = ⊤
 MayBe number.Alpha times n = ⊤
 MayBe number.Common times n = AreDivisors periods.All times.tasks n
 MayBe (number.Cap task) times n = ⊤

@@ -1,7 +1,7 @@
 //! A plan with one of its numbers changed, put to the test.
 
 ghost use Rattle.std.specs.Prelude.{◌≡◌, ◌↔◌, ◌%◌, ◌≤◌, ◌⊎◌, IsTrue, length};
-ghost use Rattle.tool_plan_design.specs.Numbers.{IsAlike, MayBe, WouldDo, with_number};
+ghost use Rattle.tool_plan_design.specs.Numbers.{DieDoes, IsAlike, MayBe};
 
 use crate::commons::{Periods, are_divisors};
 use crate::numbers::{Number, with_number, would_do};
@@ -43,18 +43,18 @@ fn may_be(times: &Times, which: Number, n: u32) -> bool
 
 /// Whether a plan could do with this number, by what is seen at once.
 fn may_do(plan: &DiePlan, which: Number, n: u32) -> bool
-    ensures { WouldDo (with_number which plan.now n) → IsTrue result }
+    ensures { DieDoes which plan.now n → IsTrue result }
 {
     match &plan.times {
         Some(times) => may_be(times, which, n),
-        None => false,
+        None => true,
     }
 }
 
 /// A plan with this number, put to the test. It takes any plan, and no memory.
 pub(crate) fn tried(plan: DiePlan, which: Number, n: u32) -> Attempt
     ensures alike { IsAlike which result.plan plan }
-    ensures does { IsTrue result.does ↔ WouldDo (with_number which plan n) }
+    ensures does { IsTrue result.does ↔ DieDoes which plan n }
 {
     if !may_do(&plan, which, n) {
         return Attempt { plan, does: false };

@@ -1,4 +1,4 @@
-//! The bound on a die, in sentences: what it comes to, what is missing, and what would mend it.
+//! The bound on a die, in sentences: what it comes to, or what is missing, and with which numbers it would be met.
 
 use crate::sayings::Sayings;
 use crate::subjects::Subject;
@@ -80,44 +80,40 @@ fn put_unmet(said: &mut Sayings, of: Subject, plan: &DiePlan) -> io::Result<()> 
     }
 }
 
-/// Writes the least number of blocks that would do.
+/// Writes the least number of blocks with which the bound is met.
 fn put_blocks(text: &mut Vec<u8>, of: Subject, plan: &mut DiePlan) -> io::Result<()> {
     match least_blocks(plan) {
         Some(blocks) => writeln!(
             text,
-            "{of}: with its other numbers as they are, the least blocks that would do is {blocks}."
+            "{of}: with its other numbers as they are, the least blocks with which it meets the bound is {blocks}."
         ),
         None => writeln!(
             text,
-            "{of}: with its other numbers as they are, no blocks would do."
+            "{of}: with its other numbers as they are, it meets the bound with no blocks."
         ),
     }
 }
 
-/// Writes the greatest `logical` that would do.
+/// Writes the greatest `logical` with which the bound is met.
 fn put_logical(text: &mut Vec<u8>, of: Subject, plan: &mut DiePlan) -> io::Result<()> {
     match greatest_logical(plan) {
         Some(logical) => writeln!(
             text,
-            "{of}: with its other numbers as they are, the greatest logical that would do is {logical}."
+            "{of}: with its other numbers as they are, the greatest logical with which it meets the bound is {logical}."
         ),
         None => writeln!(
             text,
-            "{of}: with its other numbers as they are, no logical would do."
+            "{of}: with its other numbers as they are, it meets the bound with no logical."
         ),
     }
 }
 
-/// Writes what the bound on a die comes to, or what is missing; and what would mend it, which stands with what is missing. The
-/// plan is afterwards what it was.
+/// Writes what the bound on a die comes to; or what is missing, and with which numbers it would be met. The plan is
+/// afterwards what it was.
 pub fn put_bound(said: &mut Sayings, die: u32, plan: &mut DiePlan) -> io::Result<()> {
     let of = Subject::Die(die);
     match bound(plan) {
-        Ok(()) => {
-            put_met(&mut said.figures, of, figures(plan), plan.logical)?;
-            put_blocks(&mut said.figures, of, plan)?;
-            put_logical(&mut said.figures, of, plan)
-        }
+        Ok(()) => put_met(&mut said.figures, of, figures(plan), plan.logical),
         Err(_) => {
             put_unmet(said, of, plan)?;
             put_blocks(&mut said.faults, of, plan)?;

@@ -1,7 +1,9 @@
 //! Numbers of slots that periods divide.
 
-ghost use Rattle.std.specs.Prelude.{◌≡◌, ◌↔◌, ◌%◌, IsTrue};
-ghost use Rattle.tool_plan_design.specs.Commons.{AreDivisors, Divide, FindsLeastCommon};
+ghost use Rattle.std.specs.Prelude.{◌≡◌, ◌↔◌, ◌%◌, ◌≤◌, IsTrue};
+ghost use Rattle.slot_types.specs.declared.limits.TheConstants.{MAX_SLOT};
+ghost use Rattle.tool_plan_design.specs.Commons.{AreDivisors, Divide, FindsDivisor, FindsLeastCommon};
+ghost use Rattle.tool_plan_design.specs.Commons.{IsCommonMultiple, IsMultiple, IsMultipleFor};
 
 use slot_types::{MAX_SLOT, TaskTimes};
 
@@ -42,15 +44,53 @@ pub fn are_divisors(periods: Periods, tasks: &[TaskTimes], common: u32) -> bool
     tasks.iter().all(|task| divide(periods, common, task))
 }
 
+/// The least multiple of `of`, up to 1,048,576, that a period divides; none where there is no such number.
+fn multiple_for(of: u32, period: u32) -> Option<u32>
+    requires some { 1 ≤ of }
+    requires few { of ≤ MAX_SLOT }
+    ensures { FindsDivisor (IsMultiple of period) result }
+{
+    let most = MAX_SLOT / of;
+    for before in 0..most {
+        let multiple = of * (before + 1);
+        if divides(multiple, period) {
+            return Some(multiple);
+        }
+    }
+    None
+}
+
+/// The least multiple of `of`, up to 1,048,576, that these periods of a task divide; none where there is no such number.
+fn multiple_for_task(periods: Periods, of: u32, task: &TaskTimes) -> Option<u32>
+    requires some { 1 ≤ of }
+    requires few { of ≤ MAX_SLOT }
+    ensures { FindsDivisor (IsMultipleFor periods of task.now) result }
+{
+    let multiple = multiple_for(of, task.collect_period)?;
+    match periods {
+        Periods::All => multiple_for(multiple, task.period),
+        Periods::Collect => Some(multiple),
+    }
+}
+
+/// The least multiple of `of`, which is from 1 to 1,048,576, that these periods of all tasks divide; none where there is no
+/// such number up to 1,048,576. It takes no memory.
+pub fn common_multiple(periods: Periods, of: u32, tasks: &[TaskTimes]) -> Option<u32>
+    requires some { 1 ≤ of }
+    requires few { of ≤ MAX_SLOT }
+    ensures { FindsDivisor (IsCommonMultiple periods of tasks.now) result }
+{
+    let mut multiple = of;
+    for task in tasks {
+        multiple = multiple_for_task(periods, multiple, task)?;
+    }
+    Some(multiple)
+}
+
 /// The least number of slots, from 1 to 1,048,576, that these periods of all tasks divide; none where there is no such
 /// number. It takes no memory.
 pub fn least_common(periods: Periods, tasks: &[TaskTimes]) -> Option<u32>
     ensures { FindsLeastCommon periods tasks.now result }
 {
-    for common in 1..=MAX_SLOT {
-        if are_divisors(periods, tasks, common) {
-            return Some(common);
-        }
-    }
-    None
+    common_multiple(periods, 1, tasks)
 }

@@ -1,9 +1,9 @@
-//! The least period and the greatest collect period with which a plan would do, the rest being as it is. A period divides the
+//! The least period and the greatest collect period with which a die would do, the rest being as it is. A period divides the
 //! hyperperiod, so the divisors of that are tried, and no other number.
 
 ghost use Rattle.std.specs.Prelude.{◌≤◌, IfSome};
 ghost use Rattle.slot_types.specs.declared.limits.TheConstants.{MAX_SLOT};
-ghost use Rattle.tool_plan_design.specs.Numbers.{FindsGreatest, FindsLeast, OnlyDivisorsDo};
+ghost use Rattle.tool_plan_design.specs.Numbers.{DieDoes, FindsGreatest, FindsLeast, OnlyDivisorsDo};
 
 use crate::attempts::{Attempt, tried};
 use crate::numbers::Number;
@@ -13,10 +13,10 @@ use slot_types::{DiePlan, MAX_SLOT};
 /// The root of the greatest hyperperiod: of a divisor of it and its quotient one is at most this.
 const ROOT: u32 = 1024;
 
-/// The least divisor of `common` with which a plan would do. Quotients of falling numbers rise.
+/// The least divisor of `common` with which a die would do. Quotients of falling numbers rise.
 fn least_divisor(plan: DiePlan, which: Number, common: u32) -> Option<u32>
     requires { OnlyDivisorsDo which plan common }
-    ensures { FindsLeast which plan 1 MAX_SLOT result }
+    ensures { FindsLeast (DieDoes which plan) 1 MAX_SLOT result }
 {
     let mut trial = plan;
     for n in 1..=ROOT {
@@ -37,10 +37,10 @@ fn least_divisor(plan: DiePlan, which: Number, common: u32) -> Option<u32>
     None
 }
 
-/// The greatest divisor of `common` with which a plan would do. Quotients of rising numbers fall.
+/// The greatest divisor of `common` with which a die would do. Quotients of rising numbers fall.
 fn greatest_divisor(plan: DiePlan, which: Number, common: u32) -> Option<u32>
     requires { OnlyDivisorsDo which plan common }
-    ensures { FindsGreatest which plan 1 MAX_SLOT result }
+    ensures { FindsGreatest (DieDoes which plan) 1 MAX_SLOT result }
 {
     let mut trial = plan;
     for part in 1..=ROOT {
@@ -76,10 +76,10 @@ fn common_of(plan: &DiePlan, task: u32) -> Option<u32>
     }
 }
 
-/// The least period of a task, from 1 to 1,048,576 slots, with which a plan meets its bound and passes its test, the rest
+/// The least period of a task, from 1 to 1,048,576 slots, with which a die meets its bound and passes its test, the rest
 /// being as it is; none where no such number would do. It takes any plan, and no memory.
 pub fn least_period(plan: DiePlan, task: u32) -> Option<u32>
-    ensures { FindsLeast (Number.Period task) plan 1 MAX_SLOT result }
+    ensures { FindsLeast (DieDoes (Number.Period task) plan) 1 MAX_SLOT result }
 {
     match common_of(&plan, task) {
         Some(common) => least_divisor(plan, Number::Period(task), common),
@@ -87,10 +87,10 @@ pub fn least_period(plan: DiePlan, task: u32) -> Option<u32>
     }
 }
 
-/// The greatest collect period of a task, from 1 to 1,048,576 slots, with which a plan meets its bound and passes its test,
+/// The greatest collect period of a task, from 1 to 1,048,576 slots, with which a die meets its bound and passes its test,
 /// the rest being as it is; none where no such number would do. It takes any plan, and no memory.
 pub fn greatest_collect_period(plan: DiePlan, task: u32) -> Option<u32>
-    ensures { FindsGreatest (Number.CollectPeriod task) plan 1 MAX_SLOT result }
+    ensures { FindsGreatest (DieDoes (Number.CollectPeriod task) plan) 1 MAX_SLOT result }
 {
     match common_of(&plan, task) {
         Some(common) => greatest_divisor(plan, Number::CollectPeriod(task), common),

@@ -1,17 +1,20 @@
 //! Why a plan is accepted or not, in sentences.
 
-ghost use Rattle.std.specs.Prelude.{◌↔◌, IsTrue, IfOk};
+ghost use Rattle.std.specs.Prelude.{◌≡◌, ◌↔◌, ◌++◌, ℕ, List, All, IsTrue, IfOk, OnOk};
 ghost use Rattle.slot_types.specs.Refusal.{FailsForMemory};
 ghost use Rattle.tool_plan_design.specs.AcceptedPlans.{IsAccepted};
+ghost use Rattle.tool_plan_design.specs.Findings.{AreSo, IsExplanation, IsSo, IsVerdict, findings_text};
 
 use crate::bounds::put_bound;
 use crate::causes::put_cause;
+use crate::findings::Finding;
 use crate::lifetimes::put_life;
 use crate::limits::{put_die_limits, put_shape, put_strays};
 use crate::loads::put_load;
-use crate::sayings::Sayings;
-use crate::solves::put_solves;
+use crate::sayings::{Sayings, put_findings};
+use crate::solves::findings_of;
 use crate::subjects::TaskName;
+use crate::wholes::are_named;
 use plan_texts::{PlanNumbers, TaskNumbers, die_plan, plan_numbers, read_plan};
 use slot_types::{DiePlan, MAX_DIES, Refusal};
 use std::alloc::Global;
@@ -28,17 +31,21 @@ pub struct Explained {
 
 /// Writes whether the plan of a text is accepted, as its reader judges it.
 fn put_verdict(alloc: Global, text: &mut Vec<u8>, plan: &[u8]) -> Result<bool, Refusal>
-    ensures said { IfOk result (λ is_accepted. IsTrue is_accepted ↔ IsAccepted plan.now) }
+    ensures accepted { IfOk result (λ is_accepted. IsTrue is_accepted ↔ IsAccepted plan.now) }
+    ensures said { OnOk result ((verdict : List ℕ) ×
+        ((text.new.items ≡ text.old.items ++ verdict) × IsVerdict plan.now verdict)) }
     ensures refused { FailsForMemory result }
 {
-    let (written, is_accepted) = match read_plan(alloc, plan) {
-        Ok(_) => (writeln!(text, "The plan is accepted."), true),
-        Err(Refusal::NoMemory) => return Err(Refusal::NoMemory),
-        Err(refusal) => (writeln!(text, "The plan is refused: {refusal}."), false),
-    };
-    match written {
-        Ok(()) => Ok(is_accepted),
-        Err(_) => Err(Refusal::NoMemory),
+    match read_plan(alloc, plan) {
+        Ok(_) => match writeln!(text, "The plan is accepted.") {
+            Ok(()) => Ok(true),
+            Err(_) => Err(Refusal::NoMemory),
+        },
+        Err(Refusal::NoMemory) => Err(Refusal::NoMemory),
+        Err(refusal) => match writeln!(text, "The plan is refused: {refusal}.") {
+            Ok(()) => Ok(false),
+            Err(_) => Err(Refusal::NoMemory),
+        },
     }
 }
 
@@ -56,6 +63,18 @@ fn names_of(alloc: Global, tasks: &[TaskNumbers], die: u32) -> Result<Vec<TaskNa
             };
             names.push(name)?;
         }
+    }
+    Ok(names)
+}
+
+/// The names of all tasks, by die. The only refusal is NoMemory.
+fn names_of_all(alloc: Global, plan: &PlanNumbers) -> Result<Vec<TaskName>, Refusal>
+    ensures { FailsForMemory result }
+{
+    let mut names = Vec::new(alloc);
+    for die in 0..plan.top.dies.min(MAX_DIES) {
+        let own = names_of(alloc, plan.tasks.as_slice(), die)?;
+        names.extend_from_slice(&own)?;
     }
     Ok(names)
 }
@@ -98,43 +117,66 @@ fn put_top(text: &mut Vec<u8>, plan: &PlanNumbers) -> io::Result<bool> {
     Ok(true)
 }
 
-/// Writes what the numbers of a die of a plan come to. The only refusal is NoMemory.
-fn put_one(alloc: Global, said: &mut Sayings, plan: &PlanNumbers, die: u32) -> Result<(), Refusal>
+/// Writes what the numbers of a die of a plan come to, and says whether they are within their limits. The only refusal is
+/// NoMemory.
+fn put_one(alloc: Global, said: &mut Sayings, plan: &PlanNumbers, die: u32) -> Result<bool, Refusal>
     ensures { FailsForMemory result }
 {
     let names = names_of(alloc, plan.tasks.as_slice(), die)?;
     let mut made = die_plan(alloc, plan, die)?;
     match put_die(said, die, &names, &mut made) {
-        Ok(true) => put_solves(alloc, &mut said.figures, plan, die, &names),
-        Ok(false) => Ok(()),
+        Ok(is_within) => Ok(is_within),
         Err(_) => Err(Refusal::NoMemory),
     }
 }
 
-/// Writes what the numbers of a plan come to. The only refusal is NoMemory.
-fn put_numbers(alloc: Global, said: &mut Sayings, plan: &PlanNumbers) -> Result<(), Refusal>
+/// Writes what the numbers of a plan come to, and says whether all are within their limits. The only refusal is NoMemory.
+fn put_numbers(alloc: Global, said: &mut Sayings, plan: &PlanNumbers) -> Result<bool, Refusal>
     ensures { FailsForMemory result }
 {
     match put_top(&mut said.faults, plan) {
         Ok(true) => {}
-        Ok(false) => return Ok(()),
+        Ok(false) => return Ok(false),
         Err(_) => return Err(Refusal::NoMemory),
     }
+    let mut are_within = are_named(plan.tasks.as_slice(), plan.top.dies);
     for die in 0..plan.top.dies.min(MAX_DIES) {
-        put_one(alloc, said, plan, die)?;
+        if !put_one(alloc, said, plan, die)? {
+            are_within = false;
+        }
     }
-    Ok(())
+    Ok(are_within)
 }
 
-/// Writes what a text's plan comes to, or the fault of the text. The only refusal is NoMemory.
-fn put_plan(alloc: Global, said: &mut Sayings, plan: &[u8]) -> Result<(), Refusal>
-    ensures { FailsForMemory result }
+/// Writes what the numbers of a plan come to, and gives with which it would do, where all are within their limits. The only
+/// refusal is NoMemory.
+fn explain_numbers(
+    alloc: Global,
+    said: &mut Sayings,
+    plan: &PlanNumbers,
+) -> Result<Vec<Finding>, Refusal>
+    ensures so { IfOk result (λ findings. All (IsSo plan.now) findings.items) }
+    ensures refused { FailsForMemory result }
 {
-    match plan_numbers(alloc, plan) {
-        Ok(numbers) => put_numbers(alloc, said, &numbers),
+    if put_numbers(alloc, said, plan)? {
+        let names = names_of_all(alloc, plan)?;
+        findings_of(alloc, plan, &names)
+    } else {
+        Ok(Vec::new(alloc))
+    }
+}
+
+/// Writes what a text's plan comes to, or the fault of the text; and gives what was found of the plan. The only refusal is
+/// NoMemory.
+fn explain_text(alloc: Global, said: &mut Sayings, text: &[u8]) -> Result<Vec<Finding>, Refusal>
+    ensures so { IfOk result (λ findings. AreSo text.now findings.items) }
+    ensures refused { FailsForMemory result }
+{
+    match plan_numbers(alloc, text) {
+        Ok(numbers) => explain_numbers(alloc, said, &numbers),
         Err(Refusal::PlanText { cause }) => {
-            match put_cause(alloc, &mut said.faults, plan, cause) {
-                Ok(()) => Ok(()),
+            match put_cause(alloc, &mut said.faults, text, cause) {
+                Ok(()) => Ok(Vec::new(alloc)),
                 Err(_) => Err(Refusal::NoMemory),
             }
         }
@@ -142,30 +184,33 @@ fn put_plan(alloc: Global, said: &mut Sayings, plan: &[u8]) -> Result<(), Refusa
     }
 }
 
-/// Adds what is said to a text. The only refusal is NoMemory.
-fn put_said(text: &mut Vec<u8>, said: &Sayings) -> Result<(), Refusal>
-    ensures { FailsForMemory result }
+/// Adds what is said, and what was found, to a text. The only refusal is NoMemory.
+fn put_said(text: &mut Vec<u8>, said: &Sayings, findings: &[Finding]) -> Result<(), Refusal>
+    ensures said { OnOk result ((more : List ℕ) ×
+        (text.new.items ≡ (text.old.items ++ more) ++ findings_text findings.now)) }
+    ensures refused { FailsForMemory result }
 {
-    match said.put(text) {
-        Ok(()) => Ok(()),
-        Err(_) => Err(Refusal::NoMemory),
+    if said.put(text).is_err() || put_findings(text, findings).is_err() {
+        return Err(Refusal::NoMemory);
     }
+    Ok(())
 }
 
 /// Explains the text of a plan, in sentences of a line each: whether the plan is accepted, as
 /// [`read_plan`](plan_texts::read_plan) judges it. If it isn't, its faults follow: the first of the text, or each
-/// number that is out of its limits or doesn't go with the others, and what would mend them. After these stand by die
-/// the figures of its bound, the least number of blocks and the greatest number of logical pages that would do; and for
-/// a plan with times the margins and the demand, by task and in sum, how long the die lives, and what each of its
-/// numbers could be. The only refusal is NoMemory.
+/// number that is out of its limits or doesn't go with the others, and with which blocks or logical pages the bound would be
+/// met. After these stand by die the figures of its bound, and for a plan with times the margins and the demand, by task
+/// and in sum, and how long the die lives. Last comes with which numbers, one at a time, each die would do, bound and test:
+/// each is the extreme one. The only refusal is NoMemory.
 pub fn explain(alloc: Global, plan: &[u8]) -> Result<Explained, Refusal>
-    ensures said { IfOk result (λ explained. IsTrue explained.is_accepted ↔ IsAccepted plan.now) }
+    ensures accepted { IfOk result (λ explained. IsTrue explained.is_accepted ↔ IsAccepted plan.now) }
+    ensures said { IfOk result (λ explained. IsExplanation plan.now explained.text.items) }
     ensures refused { FailsForMemory result }
 {
     let mut text = Vec::new(alloc);
     let is_accepted = put_verdict(alloc, &mut text, plan)?;
     let mut said = Sayings::new(alloc);
-    put_plan(alloc, &mut said, plan)?;
-    put_said(&mut text, &said)?;
+    let findings = explain_text(alloc, &mut said, plan)?;
+    put_said(&mut text, &said, &findings)?;
     Ok(Explained { text, is_accepted })
 }

@@ -1,16 +1,18 @@
-//! The numbers of a plan that are solved for, one at a time, and plans with one of them changed.
+//! The numbers of a plan that are solved for, one at a time, and plans of dies with one of them changed.
 
-ghost use Rattle.std.specs.Prelude.{◌≡◌, ◌↔◌, IsTrue, IsSomeAnd, option_map, slice_set};
-ghost use Rattle.plan_rules.specs.Bound.{MeetsBound};
-ghost use Rattle.plan_rules.specs.Times.{Passes, times_of};
-ghost use Rattle.tool_plan_design.specs.Numbers.{WouldDo, times_with, with_number};
+ghost use Rattle.std.specs.Prelude.{◌≡◌, ◌↔◌, IsTrue, option_map, slice_set};
+ghost use Rattle.plan_rules.specs.Times.{times_of};
+ghost use Rattle.plan_texts.specs.Stores.{IsUsable};
+ghost use Rattle.tool_plan_design.specs.Numbers.{times_with, with_number};
 
 use plan_rules::{bound, plan_test};
-use slot_types::{Caps, DiePlan, TaskTimes, Times, TimesList};
+use slot_types::{Caps, DiePlan, Shape, TaskTimes, Times, TimesList};
 
-/// A number of a plan. Tasks are those of the die.
+/// A number of a plan. All dies share the first four; the others are those of a task of a die.
 #[derive(Clone, Copy, PartialEq, Eq, Debug, Drop)]
 pub enum Number {
+    Blocks,
+    Logical,
     Alpha,
     Common,
     Cap(u32),
@@ -98,7 +100,7 @@ fn with_time(times: Times, which: Number, n: u32) -> Times
             let own = task_times(&times, task);
             with_task(times, task, TaskTimes { writes: n, ..own })
         }
-        Number::Alpha | Number::Cap(_) => times,
+        Number::Blocks | Number::Logical | Number::Alpha | Number::Cap(_) => times,
     }
 }
 
@@ -117,6 +119,14 @@ pub fn with_number(plan: DiePlan, which: Number, n: u32) -> DiePlan
     ensures { result ≡ with_number which plan n }
 {
     match which {
+        Number::Blocks => {
+            let shape = Shape {
+                blocks: n,
+                ..plan.shape
+            };
+            DiePlan { shape, ..plan }
+        }
+        Number::Logical => DiePlan { logical: n, ..plan },
         Number::Alpha => DiePlan { alpha: n, ..plan },
         Number::Cap(task) => DiePlan {
             caps: with_cap(plan.caps, task, n),
@@ -129,12 +139,9 @@ pub fn with_number(plan: DiePlan, which: Number, n: u32) -> DiePlan
     }
 }
 
-/// Whether a plan meets its bound, and has times that pass their test. It takes any plan, and no memory.
+/// Whether a die meets its bound, and passes the test of its times if it has any. It takes any plan, and no memory.
 pub fn would_do(plan: &DiePlan) -> bool
-    ensures { IsTrue result ↔ WouldDo plan.now }
+    ensures { IsTrue result ↔ IsUsable plan.now }
 {
-    match bound(plan) {
-        Ok(()) => plan_test(plan).is_ok(),
-        Err(_) => false,
-    }
+    bound(plan).is_ok() && (plan.times.is_none() || plan_test(plan).is_ok())
 }

@@ -1,7 +1,12 @@
 //! What is said of a plan, in sentences of a line each.
 
+ghost use Rattle.std.specs.Prelude.{◌≡◌, ◌++◌, ℕ, List, OnOk};
+ghost use Rattle.tool_plan_design.specs.Findings.{findings_text};
+
+use crate::findings::Finding;
 use std::alloc::Global;
 use std::io;
+use std::io::Write;
 
 /// What is said of a plan: first its faults, with what would mend them, and then what its numbers come to.
 #[derive(Drop)]
@@ -20,9 +25,21 @@ impl Sayings {
     }
 
     /// Adds all of it to a text, the faults first.
-    pub fn put(&self, text: &mut Vec<u8>) -> io::Result<()> {
+    pub fn put(&self, text: &mut Vec<u8>) -> io::Result<()>
+        ensures { OnOk result ((more : List ℕ) × (text.new.items ≡ text.old.items ++ more)) }
+    {
         text.extend_from_slice(&self.faults)?;
         text.extend_from_slice(&self.figures)?;
         Ok(())
     }
+}
+
+/// Adds what was found of a plan to a text, a line each.
+pub fn put_findings(text: &mut Vec<u8>, findings: &[Finding]) -> io::Result<()>
+    ensures { OnOk result (text.new.items ≡ text.old.items ++ findings_text findings.now) }
+{
+    for finding in findings {
+        writeln!(text, "{finding}")?;
+    }
+    Ok(())
 }

@@ -1,135 +1,125 @@
-//! What each number of a plan with times could be, the rest being as it is, in sentences.
+//! With which numbers a plan would do, one at a time: of those that all dies share for the whole plan, and of those of a
+//! task where the other dies do as they are.
 
+ghost use Rattle.std.specs.Prelude.{◌≡◌, All, IfOk, IfSome, IsSomeAnd, OnOk};
 ghost use Rattle.slot_types.specs.Refusal.{FailsForMemory};
+ghost use Rattle.slot_types.specs.declared.limits.TheConstants.{MAX_SLOT};
+ghost use Rattle.plan_rules.specs.Times.{demand};
+ghost use Rattle.tool_plan_design.specs.Numbers.{FindsGreatest, FindsLeast, with_number};
+ghost use Rattle.tool_plan_design.specs.Plans.{AllDo, OneDoes, OthersDo};
+ghost use Rattle.tool_plan_design.specs.Findings.{IsOfTask, IsSo};
 
 use crate::divisors::{greatest_collect_period, least_period};
+use crate::findings::{AlphaFinding, Finding, OwnPeriods, OwnWork, Taken, TaskFinding};
 use crate::numbers::{Number, with_number};
+use crate::plan_commons::least_common_of_all;
 use crate::solving::{greatest, least};
-use crate::subjects::{Subject, TaskName};
+use crate::subjects::TaskName;
+use crate::wholes::{all_do, greatest_logical_of_all, least_blocks_of_all, others_do};
 use plan_rules::{Load, bound, plan_test};
 use plan_texts::{PlanNumbers, die_plan};
-use slot_types::{DiePlan, MAX_OPS, MAX_PAGES, MAX_SLOT, Refusal};
+use slot_types::{DiePlan, MAX_OPS, MAX_PAGES, Refusal};
 use std::alloc::Global;
-use std::io;
-use std::io::Write;
 
 /// The greatest cap that may be needed: for two jobs of 64 writes, and for two collections that give 256 pages.
 const MOST_CAP: u32 = 2 * MAX_OPS + 2 * MAX_PAGES;
 
-/// What each number of a task could be; none where no number would do.
-#[derive(Clone, Copy, Drop)]
-struct TaskSolves {
-    period: Option<u32>,
-    collect_period: Option<u32>,
-    cap: Option<u32>,
-    work: Option<u32>,
-    writes: Option<u32>,
-}
-
-/// A die of a plan, whose numbers are solved for.
-#[derive(Clone, Copy)]
-struct Solver<'a> {
+/// The least of a range with which the task's die would do. Each other die does as it is. The only refusal is NoMemory.
+fn own_least(
     alloc: Global,
-    plan: &'a PlanNumbers,
-    die: u32,
+    plan: &PlanNumbers,
+    name: TaskName,
+    which: Number,
+    from: u32,
+    to: u32,
+) -> Result<Option<u32>, Refusal>
+    requires { OthersDo plan.now name.die }
+    ensures found { IfOk result (FindsLeast (OneDoes name.die which plan.now) from to) }
+    ensures refused { FailsForMemory result }
+{
+    let made = die_plan(alloc, plan, name.die)?;
+    Ok(least(made, which, from, to))
 }
 
-impl Solver<'_> {
-    /// The least of a range that would do. The only refusal is NoMemory.
-    fn least(&self, which: Number, from: u32, to: u32) -> Result<Option<u32>, Refusal>
-        ensures { FailsForMemory result }
-    {
-        let plan = die_plan(self.alloc, self.plan, self.die)?;
-        Ok(least(plan, which, from, to))
-    }
-
-    /// The greatest of a range that would do. The only refusal is NoMemory.
-    fn greatest(&self, which: Number, from: u32, to: u32) -> Result<Option<u32>, Refusal>
-        ensures { FailsForMemory result }
-    {
-        let plan = die_plan(self.alloc, self.plan, self.die)?;
-        Ok(greatest(plan, which, from, to))
-    }
-
-    /// The least period of a task that would do. The only refusal is NoMemory.
-    fn period(&self, task: u32) -> Result<Option<u32>, Refusal>
-        ensures { FailsForMemory result }
-    {
-        let plan = die_plan(self.alloc, self.plan, self.die)?;
-        Ok(least_period(plan, task))
-    }
-
-    /// The greatest collect period of a task that would do. The only refusal is NoMemory.
-    fn collect_period(&self, task: u32) -> Result<Option<u32>, Refusal>
-        ensures { FailsForMemory result }
-    {
-        let plan = die_plan(self.alloc, self.plan, self.die)?;
-        Ok(greatest_collect_period(plan, task))
-    }
-
-    /// What each number of a task could be. The only refusal is NoMemory.
-    fn of_task(&self, task: u32) -> Result<TaskSolves, Refusal>
-        ensures { FailsForMemory result }
-    {
-        Ok(TaskSolves {
-            period: self.period(task)?,
-            collect_period: self.collect_period(task)?,
-            cap: self.least(Number::Cap(task), 1, MOST_CAP)?,
-            work: self.greatest(Number::Work(task), 1, MAX_OPS)?,
-            writes: self.greatest(Number::Writes(task), 0, MAX_OPS)?,
-        })
-    }
+/// The greatest of a range with which the task's die would do. Each other die does as it is. The only refusal is NoMemory.
+fn own_greatest(
+    alloc: Global,
+    plan: &PlanNumbers,
+    name: TaskName,
+    which: Number,
+    from: u32,
+    to: u32,
+) -> Result<Option<u32>, Refusal>
+    requires { OthersDo plan.now name.die }
+    ensures found { IfOk result (FindsGreatest (OneDoes name.die which plan.now) from to) }
+    ensures refused { FailsForMemory result }
+{
+    let made = die_plan(alloc, plan, name.die)?;
+    Ok(greatest(made, which, from, to))
 }
 
-/// Adds a number that would do, after another one or not.
-fn put_number(
-    text: &mut Vec<u8>,
-    before: &str,
-    which: &str,
-    name: &str,
-    n: Option<u32>,
-) -> io::Result<()> {
-    match n {
-        Some(n) => write!(text, "{before}{which} {name} {n}"),
-        None => write!(text, "{before}no {name}"),
-    }
+/// The least period with which the task's die would do. Each other die does as it is. The only refusal is NoMemory.
+fn own_period(alloc: Global, plan: &PlanNumbers, name: TaskName) -> Result<Option<u32>, Refusal>
+    requires { OthersDo plan.now name.die }
+    ensures found { IfOk result (FindsLeast (OneDoes name.die (Number.Period name.task) plan.now) 1 MAX_SLOT) }
+    ensures refused { FailsForMemory result }
+{
+    let made = die_plan(alloc, plan, name.die)?;
+    Ok(least_period(made, name.task))
 }
 
-/// Adds some numbers, with a comma before each.
-fn put_work(text: &mut Vec<u8>, solves: TaskSolves) -> io::Result<()> {
-    put_number(text, ", ", "least", "cap", solves.cap)?;
-    put_number(text, ", ", "greatest", "work", solves.work)?;
-    put_number(text, ", ", "greatest", "writes", solves.writes)?;
-    writeln!(text, ".")
+/// The greatest collect period with which the task's die would do. Each other die does as it is. The only refusal is NoMemory.
+fn own_collect_period(
+    alloc: Global,
+    plan: &PlanNumbers,
+    name: TaskName,
+) -> Result<Option<u32>, Refusal>
+    requires { OthersDo plan.now name.die }
+    ensures found { IfOk result (FindsGreatest (OneDoes name.die (Number.CollectPeriod name.task) plan.now) 1 MAX_SLOT) }
+    ensures refused { FailsForMemory result }
+{
+    let made = die_plan(alloc, plan, name.die)?;
+    Ok(greatest_collect_period(made, name.task))
 }
 
-/// Writes what each number of a task could be.
-fn put_task(text: &mut Vec<u8>, name: TaskName, solves: TaskSolves) -> io::Result<()> {
-    let of = Subject::Task(name);
-    write!(text, "{of}: one at a time, these would do: ")?;
-    put_number(text, "", "least", "period", solves.period)?;
-    let collect = solves.collect_period;
-    put_number(text, ", ", "greatest", "collect_period", collect)?;
-    put_work(text, solves)
+/// What each number of a task could be. Each other die does as it is. The only refusal is NoMemory.
+fn of_task(alloc: Global, plan: &PlanNumbers, name: TaskName) -> Result<TaskFinding, Refusal>
+    requires { OthersDo plan.now name.die }
+    ensures found { IfOk result (IsOfTask plan.now) }
+    ensures refused { FailsForMemory result }
+{
+    let period = own_period(alloc, plan, name)?;
+    let collect_period = own_collect_period(alloc, plan, name)?;
+    let cap = own_least(alloc, plan, name, Number::Cap(name.task), 1, MOST_CAP)?;
+    let work = own_greatest(alloc, plan, name, Number::Work(name.task), 1, MAX_OPS)?;
+    let writes = own_greatest(alloc, plan, name, Number::Writes(name.task), 0, MAX_OPS)?;
+    Ok(TaskFinding {
+        name,
+        periods: OwnPeriods {
+            period,
+            collect_period,
+        },
+        work: OwnWork { cap, work, writes },
+    })
 }
 
-/// Writes the least hyperperiod that would do.
-fn put_common(text: &mut Vec<u8>, die: u32, common: Option<u32>) -> io::Result<()> {
-    let of = Subject::Die(die);
-    match common {
-        Some(common) => writeln!(
-            text,
-            "{of}: with its other numbers as they are, the least common that would do is {common}."
-        ),
-        None => writeln!(
-            text,
-            "{of}: with its other numbers as they are, no common would do."
-        ),
-    }
+/// Adds what holds of a plan. The only refusal is NoMemory.
+fn note(findings: &mut Vec<Finding>, plan: &PlanNumbers, finding: Finding) -> Result<(), Refusal>
+    requires so { All (IsSo plan.now) findings.old.items }
+    requires one { IsSo plan.now finding }
+    ensures so { OnOk result (All (IsSo plan.now) findings.new.items) }
+    ensures refused { FailsForMemory result }
+{
+    findings.push(finding)?;
+    Ok(())
 }
 
-/// The demand of a plan with another alpha, where it passes.
-fn load_with(plan: DiePlan, alpha: u32) -> Option<Load> {
+/// What a die takes with this alpha; none where it doesn't pass, or has no times.
+fn load_with(plan: DiePlan, alpha: u32) -> Option<Load>
+    ensures demand { IfSome result (λ load. IsSomeAnd plan.times (λ times.
+        load.demand ≡ demand (with_number Number.Alpha plan alpha) times)) }
+    ensures common { IfSome result (λ load. IsSomeAnd plan.times (λ times. load.common ≡ times.common)) }
+{
     let trial = with_number(plan, Number::Alpha, alpha);
     match bound(&trial) {
         Ok(()) => plan_test(&trial).ok(),
@@ -137,72 +127,88 @@ fn load_with(plan: DiePlan, alpha: u32) -> Option<Load> {
     }
 }
 
-/// Writes an alpha that would do, with its demand.
-fn put_alpha(text: &mut Vec<u8>, die: u32, alpha: u32, load: Option<Load>) -> io::Result<()> {
-    let of = Subject::Die(die);
-    match load {
-        Some(load) => {
-            let (demand, common) = (load.demand, load.common);
-            writeln!(
-                text,
-                "{of}: with its other numbers as they are, alpha {alpha} would do: of each {common} slots {demand} are taken."
-            )
-        }
-        None => Ok(()),
-    }
-}
-
-/// Writes each alpha that would do. The only refusal is NoMemory.
-fn put_alphas(text: &mut Vec<u8>, solver: &Solver<'_>, pages: u32) -> Result<(), Refusal>
-    ensures { FailsForMemory result }
-{
-    let mut from: u32 = 1;
-    for _ in 0..pages {
-        let Some(alpha) = solver.least(Number::Alpha, from, pages)? else {
-            break;
-        };
-        let plan = die_plan(solver.alloc, solver.plan, solver.die)?;
-        match put_alpha(text, solver.die, alpha, load_with(plan, alpha)) {
-            Ok(()) => {}
-            Err(_) => return Err(Refusal::NoMemory),
-        }
-        from = alpha.saturating_add(1);
-    }
-    Ok(())
-}
-
-/// Writes what each number of each task could be. The only refusal is NoMemory.
-fn put_tasks(text: &mut Vec<u8>, solver: &Solver<'_>, names: &[TaskName]) -> Result<(), Refusal>
-    ensures { FailsForMemory result }
-{
-    for name in names {
-        let solves = solver.of_task(name.task)?;
-        match put_task(text, *name, solves) {
-            Ok(()) => {}
-            Err(_) => return Err(Refusal::NoMemory),
-        }
-    }
-    Ok(())
-}
-
-/// Writes what each number of a die with times could be, the rest being as it is. The only refusal is NoMemory.
-pub fn put_solves(
+/// Adds what each die takes with an alpha with which each does. The only refusal is NoMemory.
+fn note_alpha(
     alloc: Global,
-    text: &mut Vec<u8>,
+    findings: &mut Vec<Finding>,
     plan: &PlanNumbers,
-    die: u32,
+    alpha: u32,
+) -> Result<(), Refusal>
+    requires so { All (IsSo plan.now) findings.old.items }
+    requires does { AllDo Number.Alpha plan.now alpha }
+    ensures so { OnOk result (All (IsSo plan.now) findings.new.items) }
+    ensures refused { FailsForMemory result }
+{
+    for die in 0..plan.top.dies {
+        if let Some(load) = load_with(die_plan(alloc, plan, die)?, alpha) {
+            let (demand, common) = (load.demand, load.common);
+            let taken = Taken { demand, common };
+            let found = AlphaFinding { die, alpha, taken };
+            note(findings, plan, Finding::Alpha(found))?;
+        }
+    }
+    Ok(())
+}
+
+/// Adds each alpha with which each die does. The only refusal is NoMemory.
+fn note_alphas(
+    alloc: Global,
+    findings: &mut Vec<Finding>,
+    plan: &PlanNumbers,
+) -> Result<(), Refusal>
+    requires so { All (IsSo plan.now) findings.old.items }
+    ensures so { OnOk result (All (IsSo plan.now) findings.new.items) }
+    ensures refused { FailsForMemory result }
+{
+    for alpha in 1..=plan.top.pages {
+        if all_do(alloc, plan, Number::Alpha, alpha)? {
+            note_alpha(alloc, findings, plan, alpha)?;
+        }
+    }
+    Ok(())
+}
+
+/// Adds what each number of each task could be, of each die beside which the others do. The only refusal is NoMemory.
+fn note_tasks(
+    alloc: Global,
+    findings: &mut Vec<Finding>,
+    plan: &PlanNumbers,
     names: &[TaskName],
 ) -> Result<(), Refusal>
-    ensures { FailsForMemory result }
+    requires so { All (IsSo plan.now) findings.old.items }
+    ensures so { OnOk result (All (IsSo plan.now) findings.new.items) }
+    ensures refused { FailsForMemory result }
 {
-    if plan.top.common.is_none() {
-        return Ok(());
+    for name in names {
+        if others_do(alloc, plan, name.die)? {
+            let found = of_task(alloc, plan, *name)?;
+            note(findings, plan, Finding::Task(found))?;
+        }
     }
-    let solver = Solver { alloc, plan, die };
-    match put_common(text, die, solver.least(Number::Common, 1, MAX_SLOT)?) {
-        Ok(()) => {}
-        Err(_) => return Err(Refusal::NoMemory),
+    Ok(())
+}
+
+/// With which numbers a plan would do, one at a time: of a plan without times with which blocks and logical pages; and else
+/// also with which hyperperiod, with which numbers of its tasks, which have these names, and with which alphas. The only
+/// refusal is NoMemory.
+pub fn findings_of(
+    alloc: Global,
+    plan: &PlanNumbers,
+    names: &[TaskName],
+) -> Result<Vec<Finding>, Refusal>
+    ensures so { IfOk result (λ findings. All (IsSo plan.now) findings.items) }
+    ensures refused { FailsForMemory result }
+{
+    let mut findings = Vec::new(alloc);
+    let blocks = least_blocks_of_all(alloc, plan)?;
+    note(&mut findings, plan, Finding::Blocks(blocks))?;
+    let logical = greatest_logical_of_all(alloc, plan)?;
+    note(&mut findings, plan, Finding::Logical(logical))?;
+    if plan.top.common.is_some() {
+        let common = least_common_of_all(alloc, plan)?;
+        note(&mut findings, plan, Finding::Common(common))?;
+        note_tasks(alloc, &mut findings, plan, names)?;
+        note_alphas(alloc, &mut findings, plan)?;
     }
-    put_tasks(text, &solver, names)?;
-    put_alphas(text, &solver, plan.top.pages)
+    Ok(findings)
 }

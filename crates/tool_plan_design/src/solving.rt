@@ -1,16 +1,15 @@
-//! The least and the greatest number with which a plan would do, the rest being as it is.
+//! The least and the greatest number with which a die would do, the rest being as it is.
 
-ghost use Rattle.std.specs.Prelude.{◌≡◌, ◌↔◌, IsTrue};
-ghost use Rattle.tool_plan_design.specs.Numbers.{FindsGreatest, FindsLeast};
+ghost use Rattle.tool_plan_design.specs.Numbers.{DieDoes, FindsGreatest, FindsLeast};
 
 use crate::attempts::{Attempt, tried};
 use crate::numbers::Number;
 use slot_types::DiePlan;
 
-/// The least number, of those from `from` to `to`, with which a plan meets its bound and passes its test, the rest being as
-/// it is; none where no such number would do. It takes any plan, and no memory.
+/// The least number, of those from `from` to `to`, with which a die meets its bound and passes the test of its times if it
+/// has any, the rest being as it is; none where no such number would do. It takes any plan, and no memory.
 pub fn least(plan: DiePlan, which: Number, from: u32, to: u32) -> Option<u32>
-    ensures { FindsLeast which plan from to result }
+    ensures { FindsLeast (DieDoes which plan) from to result }
 {
     let mut trial = plan;
     for n in from..=to {
@@ -23,10 +22,10 @@ pub fn least(plan: DiePlan, which: Number, from: u32, to: u32) -> Option<u32>
     None
 }
 
-/// The greatest number, of those from `from` to `to`, with which a plan meets its bound and passes its test, the rest being
-/// as it is; none where no such number would do. It takes any plan, and no memory.
+/// The greatest number, of those from `from` to `to`, with which a die meets its bound and passes the test of its times if
+/// it has any, the rest being as it is; none where no such number would do. It takes any plan, and no memory.
 pub fn greatest(plan: DiePlan, which: Number, from: u32, to: u32) -> Option<u32>
-    ensures { FindsGreatest which plan from to result }
+    ensures { FindsGreatest (DieDoes which plan) from to result }
 {
     if to < from {
         return None;

@@ -1,5 +1,8 @@
 //! What a sentence speaks of.
 
+ghost use Rattle.std.specs.Prelude.{Some};
+ghost use Rattle.tool_plan_design.specs.Findings.{name_text};
+
 use std::fmt;
 use std::fmt::{Display, Formatter, Write};
 
@@ -10,6 +13,15 @@ pub struct TaskName {
     pub nth: u64,
     pub die: u32,
     pub task: u32,
+}
+
+impl Display for TaskName {
+    ghost output = { λ name. Some (name_text name) };
+
+    fn fmt<W: Write>(&self, f: &mut Formatter<W>) -> fmt::Result {
+        let (nth, die, task) = (self.nth, self.die, self.task);
+        write!(f, "[[task]] {nth} (die {die} task {task})")
+    }
 }
 
 /// What a sentence speaks of.
@@ -25,10 +37,7 @@ impl Display for Subject {
         match self {
             Subject::Plan => f.write_str("plan"),
             Subject::Die(die) => write!(f, "die {die}"),
-            Subject::Task(name) => {
-                let (nth, die, task) = (name.nth, name.die, name.task);
-                write!(f, "[[task]] {nth} (die {die} task {task})")
-            }
+            Subject::Task(name) => write!(f, "{name}"),
         }
     }
 }

@@ -1,5 +1,5 @@
 use Rattle.std.proofs.Common.{◌/◌, refl, arith}
-use Rattle.tool_plan_design.specs.Numbers.{WouldDo, with_number}
+use Rattle.tool_plan_design.specs.Numbers.{DieDoes}
 use Rattle.tool_plan_design.proofs.Quotients.{not_above, part_up}
 use Rattle.tool_plan_design.proofs.Tries.{fails, still_alike}
 use Rattle.tool_plan_design.proofs.divisors.greatest_divisor.Goals as goal
@@ -14,7 +14,7 @@ pub loop-part-preserved : goal.loop-part-preserved
 loop-part-preserved c = record {
   same = still_alike c.args.which c.args.plan c.loop-part.trial c.tried-plan.result.plan c.tried-plan.ensures.alike
       c.loop-part.invariant.same;
-  none = part_up (λ n. WouldDo (with_number c.args.which c.args.plan n)) c.args.common c.loop-part.part
+  none = part_up (λ n. DieDoes c.args.which c.args.plan n) c.args.common c.loop-part.part
       (c.args.common / c.loop-part.part) (omega (arith, c.loop-part.auto.part)) c.requires.some refl c.requires.divides
       c.loop-part.invariant.none
       (fails c.args.which c.args.plan c.loop-part.trial (c.args.common / c.loop-part.part) _ c.loop-part.invariant.same

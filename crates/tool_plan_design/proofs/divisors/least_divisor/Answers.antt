@@ -1,13 +1,13 @@
 use Rattle.std.proofs.Common.{◌-◌, ◌*◌, ◌/◌, ◌<◌, refl, subst, arith}
 use Rattle.slot_types.specs.declared.limits.TheConstants.{MAX_SLOT}
-use Rattle.tool_plan_design.specs.Numbers.{WouldDo, with_number}
+use Rattle.tool_plan_design.specs.Numbers.{DieDoes}
 use Rattle.tool_plan_design.proofs.Quotients.{below_quotient, is_some, part_down, quotient_within}
 use Rattle.tool_plan_design.proofs.Tries.{fails, still_alike, succeeds}
 use Rattle.tool_plan_design.proofs.divisors.least_divisor.Goals as goal
 
 pub returns-then-does-2 : goal.returns-then-does-2
 returns-then-does-2 c =
-    let does : WouldDo (with_number c.args.which c.args.plan (c.args.common / (1024 - c.loop-back.back)))
+    let does : DieDoes c.args.which c.args.plan (c.args.common / (1024 - c.loop-back.back))
     = succeeds c.args.which c.args.plan c.loop-back.trial (c.args.common / (1024 - c.loop-back.back)) _
     c.loop-back.invariant.same c.tried-plan-in-loop-back.ensures.does.0 c.if-does-2.true in
     record {
@@ -24,7 +24,7 @@ loop-back-preserved c = record {
   same = still_alike c.args.which c.args.plan c.loop-back.trial c.tried-plan-in-loop-back.result.plan
       c.tried-plan-in-loop-back.ensures.alike c.loop-back.invariant.same;
   none = λ fewer one lt.
-      part_down (λ n. WouldDo (with_number c.args.which c.args.plan n)) c.args.common (1024 - c.loop-back.back)
+      part_down (λ n. DieDoes c.args.which c.args.plan n) c.args.common (1024 - c.loop-back.back)
       (c.args.common / (1024 - c.loop-back.back)) (omega (arith, c.loop-back-test.true)) refl c.requires.divides
       c.loop-back.invariant.none
       (fails c.args.which c.args.plan c.loop-back.trial (c.args.common / (1024 - c.loop-back.back)) _
