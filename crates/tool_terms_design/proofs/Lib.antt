@@ -1,0 +1,2 @@
+pub mod Dies
+pub mod Unusable

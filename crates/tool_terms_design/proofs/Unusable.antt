@@ -1,0 +1,32 @@
+-- What is said of a die that may not be used.
+use Rattle.std.proofs.Common.{◌≡◌, ◌∙◌, ℕ, List, ◌++◌, Option, Result, Ok, Err, IfOk, refl, append_assoc}
+use Rattle.terms_texts.specs.Stores.{die_of}
+use Rattle.terms_texts.specs.declared.faults.DieFault.{DieFault}
+use Rattle.terms_texts.specs.declared.faults.TermsRefusal.{TermsRefusal}
+use Rattle.terms_texts.specs.declared.faults.TermsRefusal.TheVariants.{Die}
+use Rattle.terms_texts.specs.declared.numbers.TermsNumbers.{TermsNumbers}
+use Rattle.terms_texts.specs.declared.stores.DieTerms.{DieTerms}
+use Rattle.tool_terms_design.specs.DieTexts.{numbers_text}
+use Rattle.tool_terms_design.specs.Explaining.{ExplainsDieFault, ExplainsRefusal, ExplainsUnusable}
+
+-- what follows of each value
+pub if_ok : {A E : Type 0} {P Q : A → Type 0} (answer : Result A E) → IfOk answer P → ((x : A) → P x → Q x) → IfOk answer Q
+if_ok (Ok x) holds then = then x holds
+if_ok (Err e) holds then = holds
+
+-- its numbers were added, and then why
+pub numbers-and-fault : (die : ℕ) (made : DieTerms) (fault : DieFault) (start middle end : List ℕ) → middle ≡ start ++ numbers_text die made
+    → (why : List ℕ) × ExplainsDieFault die made fault why × (end ≡ middle ++ why)
+    → (said : List ℕ) × ExplainsUnusable die made fault said × (end ≡ start ++ said)
+numbers-and-fault die made fault start middle end numbers (why, explained, put) = (
+  numbers_text die made ++ why,
+  record { why = why; explained = explained; is = refl },
+  put ∙ rw numbers (append_assoc start (numbers_text die made) why),
+)
+
+-- that of the first such die of a text
+pub refusal-of-die : (read : Result TermsNumbers TermsRefusal) (numbers : TermsNumbers) (die : ℕ) (fault : DieFault) (start end : List ℕ)
+    → read ≡ Ok numbers
+    → (said : List ℕ) × ExplainsUnusable die (die_of numbers die) fault said × (end ≡ start ++ said)
+    → (said : List ℕ) × ExplainsRefusal read (Die die fault) said × (end ≡ start ++ said)
+refusal-of-die read numbers die fault start end is (said, explained, put) = (said, rw is explained, put)

@@ -1,0 +1,70 @@
+-- What is said of the text of a plan with terms.
+use Rattle.std.specs.Prelude.{◌≡◌, ℕ, ◌+◌, List, [], ◌∷◌, ◌++◌, codes, Bool, true, false, Option, Result, Ok, IfOk}
+use Rattle.slot_types.specs.Texts.{refusal_text}
+use Rattle.demand_rules.specs.Faults.{IsDemandLoad}
+use Rattle.demand_rules.specs.declared.demands.DemandLoad.{DemandLoad}
+use Rattle.terms_texts.specs.Refusing.{refusal_of}
+use Rattle.terms_texts.specs.Stores.{IsStore, RefusesText, die_of}
+use Rattle.terms_texts.specs.TermsText.{read_numbers}
+use Rattle.terms_texts.specs.declared.faults.DieFault.{DieFault}
+use Rattle.terms_texts.specs.declared.faults.DieFault.TheVariants as die_fault
+use Rattle.terms_texts.specs.declared.faults.TermsRefusal.{TermsRefusal}
+use Rattle.terms_texts.specs.declared.faults.TermsRefusal.TheVariants.{Outside, Text, BadShape, NoDie, Die}
+use Rattle.terms_texts.specs.declared.numbers.TermsNumbers.{TermsNumbers}
+use Rattle.terms_texts.specs.declared.stores.DieTerms.{DieTerms}
+use Rattle.tool_plan_design.specs.Trials.{FindsBlocks, FindsLogical}
+use Rattle.tool_terms_design.specs.DieTexts.{full_stop, numbers_text, passing_text}
+use Rattle.tool_terms_design.specs.FaultTexts.{bound_text, shape_text, stray_text, terms_text, text_fault}
+
+-- the numbers of a die that passes, with what the demand test answers
+pub record ExplainsDie (die : ℕ) (made : DieTerms) (said : List ℕ) : Type 0 where
+  pub found : DemandLoad
+  pub tested : IsDemandLoad made.plan made.terms found
+  pub is : said ≡ passing_text die made found
+
+-- those of dies, the first of which has this number
+abbrev pub ExplainsDies : ℕ → List DieTerms → List ℕ → Type 0
+ExplainsDies die [] said = said ≡ []
+ExplainsDies die (made ∷ more) said =
+    (first rest : List ℕ) × (said ≡ first ++ rest) × ExplainsDie die made first × ExplainsDies (die + 1) more rest
+
+-- the plan makes a store, of whose dies this is said
+pub record ExplainsStore (plan : TermsNumbers) (text : List ℕ) : Type 0 where
+  pub store : List DieTerms
+  pub made : IsStore plan store
+  pub said : List ℕ
+  pub dies : ExplainsDies 0 store said
+  pub is : text ≡ (codes "The plan is accepted" ++ full_stop) ++ said
+
+-- a die that doesn't meet its bound, with the other logical and blocks with which it would; or its tests' fault
+abbrev pub ExplainsDieFault : ℕ → DieTerms → DieFault → List ℕ → Type 0
+ExplainsDieFault die made die_fault.Bound said = (logical blocks : Option ℕ) × FindsLogical made.plan logical
+    × FindsBlocks made.plan blocks × (said ≡ bound_text die logical blocks)
+ExplainsDieFault die made (die_fault.Terms fault) said = said ≡ terms_text die fault
+
+-- the numbers of a die that may not be used, and why
+pub record ExplainsUnusable (die : ℕ) (made : DieTerms) (fault : DieFault) (said : List ℕ) : Type 0 where
+  pub why : List ℕ
+  pub explained : ExplainsDieFault die made fault why
+  pub is : said ≡ numbers_text die made ++ why
+
+-- why the text makes no store
+abbrev pub ExplainsRefusal : Result TermsNumbers TermsRefusal → TermsRefusal → List ℕ → Type 0
+ExplainsRefusal read (Text cause place) said = said ≡ text_fault cause place
+ExplainsRefusal read BadShape said = said ≡ shape_text
+ExplainsRefusal read (NoDie task) said = said ≡ stray_text task
+ExplainsRefusal read (Die die fault) said = IfOk read (λ plan. ExplainsUnusable die (die_of plan die) fault said)
+ExplainsRefusal read (Outside refusal) said = ⊥
+
+-- the text makes no store: its refusal by name, and why
+pub record ExplainsRefused (read : Result TermsNumbers TermsRefusal) (text : List ℕ) : Type 0 where
+  pub refusal : TermsRefusal
+  pub refuses : RefusesText read refusal
+  pub said : List ℕ
+  pub why : ExplainsRefusal read refusal said
+  pub is : text ≡ (codes "The plan is refused: " ++ refusal_text (refusal_of refusal) ++ full_stop) ++ said
+
+-- what is said of a plan's text: whether it makes a store whose dies pass their tests
+abbrev pub ExplainsTerms : List ℕ → Bool → List ℕ → Type 0
+ExplainsTerms plan true text = (numbers : TermsNumbers) × (read_numbers plan ≡ Ok numbers) × ExplainsStore numbers text
+ExplainsTerms plan false text = ExplainsRefused (read_numbers plan) text

@@ -1,0 +1,4 @@
+pub mod Kinds
+pub mod DieTexts
+pub mod FaultTexts
+pub mod Explaining

@@ -1,0 +1,202 @@
+//! What is said of the text of a plan with terms.
+
+ghost use Rattle.std.specs.Prelude.{◌≡◌, ◌++◌, ℕ, All, List, IfOk, IsOk, OnOk, codes};
+ghost use Rattle.slot_types.specs.Refusal.{FailsForMemory};
+ghost use Rattle.slot_types.specs.Texts.{refusal_text};
+ghost use Rattle.demand_rules.specs.Faults.{IsDemandLoad};
+ghost use Rattle.terms_texts.specs.Refusing.{refusal_of};
+ghost use Rattle.terms_texts.specs.Stores.{IsUsable, die_of};
+ghost use Rattle.terms_texts.specs.TermsText.{read_numbers};
+ghost use Rattle.tool_terms_design.specs.DieTexts.{full_stop};
+ghost use Rattle.tool_terms_design.specs.Explaining.{ExplainsDie, ExplainsDieFault, ExplainsDies, ExplainsRefusal};
+ghost use Rattle.tool_terms_design.specs.Explaining.{ExplainsTerms, ExplainsUnusable};
+
+use crate::fault_texts::{put_bound, put_shape, put_stray, put_terms, put_text_fault};
+use crate::loads::put_passing;
+use crate::numbers::put_numbers;
+use demand_rules::terms_test;
+use slot_types::Refusal;
+use std::alloc::Global;
+use std::io;
+use std::io::Write;
+use terms_texts::{
+    DieFault, DieTerms, TermsNumbers, TermsRefusal, die_terms, read_terms, terms_numbers,
+};
+use tool_plan_design::{Explained, greatest_logical, least_blocks};
+
+/// A text that couldn't be written has run out of memory.
+fn written(put: io::Result<()>) -> Result<(), Refusal>
+    ensures said { IfOk result (λ _. IsOk put) }
+    ensures refused { FailsForMemory result }
+{
+    match put {
+        Ok(()) => Ok(()),
+        Err(_) => Err(Refusal::NoMemory),
+    }
+}
+
+/// Adds what is said of a die that passes its tests. The only refusal is NoMemory.
+fn put_die(text: &mut Vec<u8>, die: usize, made: &DieTerms) -> Result<(), Refusal>
+    requires { IsUsable made.now }
+    ensures said { IfOk result (λ _. (said : List ℕ) × ExplainsDie die made.now said
+        × (text.new.items ≡ text.old.items ++ said)) }
+    ensures refused { FailsForMemory result }
+{
+    let Ok(found) = terms_test(&made.plan, &made.terms) else {
+        return Err(Refusal::NoMemory);
+    };
+    written(put_passing(text, die, made, &found))
+}
+
+/// Adds what is said of dies that pass theirs. The only refusal is NoMemory.
+fn put_dies(text: &mut Vec<u8>, dies: &[DieTerms]) -> Result<(), Refusal>
+    requires { All IsUsable dies.now }
+    ensures said { IfOk result (λ _. (said : List ℕ) × ExplainsDies 0 dies.now said
+        × (text.new.items ≡ text.old.items ++ said)) }
+    ensures refused { FailsForMemory result }
+{
+    for die in 0..dies.len() {
+        put_die(text, die, &dies[die])?;
+    }
+    Ok(())
+}
+
+/// What is said of a store whose dies pass their tests. The only refusal is NoMemory.
+fn accepted(alloc: Global, dies: &[DieTerms]) -> Result<Vec<u8>, Refusal>
+    requires { All IsUsable dies.now }
+    ensures said { IfOk result (λ text. (said : List ℕ) × ExplainsDies 0 dies.now said
+        × (text.items ≡ (codes "The plan is accepted" ++ full_stop) ++ said)) }
+    ensures refused { FailsForMemory result }
+{
+    let mut text = Vec::new(alloc);
+    written(writeln!(text, "The plan is accepted."))?;
+    put_dies(&mut text, dies)?;
+    Ok(text)
+}
+
+/// Adds why a die may not be used.
+fn put_die_fault(
+    text: &mut Vec<u8>,
+    die: usize,
+    made: &mut DieTerms,
+    fault: DieFault,
+) -> io::Result<()>
+    ensures { OnOk result ((said : List ℕ) × ExplainsDieFault die made.old fault said
+        × (text.new.items ≡ text.old.items ++ said)) }
+{
+    match fault {
+        DieFault::Bound => {
+            let logical = greatest_logical(&mut made.plan);
+            let blocks = least_blocks(&mut made.plan);
+            put_bound(text, die, logical, blocks)
+        }
+        DieFault::Terms(fault) => put_terms(text, die, fault),
+    }
+}
+
+/// Adds the numbers of a die that may not be used, and why.
+fn put_unusable(
+    text: &mut Vec<u8>,
+    die: usize,
+    made: &mut DieTerms,
+    fault: DieFault,
+) -> io::Result<()>
+    ensures { OnOk result ((said : List ℕ) × ExplainsUnusable die made.old fault said
+        × (text.new.items ≡ text.old.items ++ said)) }
+{
+    put_numbers(text, die, made)?;
+    put_die_fault(text, die, made, fault)
+}
+
+/// Adds those of a die of a plan. The only refusal is NoMemory.
+fn put_planned(
+    alloc: Global,
+    text: &mut Vec<u8>,
+    numbers: &TermsNumbers,
+    die: u32,
+    fault: DieFault,
+) -> Result<(), Refusal>
+    ensures said { IfOk result (λ _. (said : List ℕ)
+        × ExplainsUnusable die (die_of numbers.now die) fault said
+        × (text.new.items ≡ text.old.items ++ said)) }
+    ensures refused { FailsForMemory result }
+{
+    let mut made = die_terms(alloc, numbers, die)?;
+    written(put_unusable(text, die as usize, &mut made, fault))
+}
+
+/// Adds those of a die of a text that is read. The only refusal is NoMemory.
+fn put_first(
+    alloc: Global,
+    text: &mut Vec<u8>,
+    plan: &[u8],
+    die: u32,
+    fault: DieFault,
+) -> Result<(), Refusal>
+    ensures said { IfOk result (λ _. (said : List ℕ)
+        × ExplainsRefusal (read_numbers plan.now) (TermsRefusal.Die die fault) said
+        × (text.new.items ≡ text.old.items ++ said)) }
+    ensures refused { FailsForMemory result }
+{
+    let Ok(numbers) = terms_numbers(alloc, plan) else {
+        return Err(Refusal::NoMemory);
+    };
+    put_planned(alloc, text, &numbers, die, fault)
+}
+
+/// Adds why a text makes no store. The only refusal is NoMemory.
+fn put_refusal(
+    alloc: Global,
+    text: &mut Vec<u8>,
+    plan: &[u8],
+    refusal: TermsRefusal,
+) -> Result<(), Refusal>
+    ensures said { IfOk result (λ _. (said : List ℕ) × ExplainsRefusal (read_numbers plan.now) refusal said
+        × (text.new.items ≡ text.old.items ++ said)) }
+    ensures refused { FailsForMemory result }
+{
+    match refusal {
+        TermsRefusal::Outside(_) => Err(Refusal::NoMemory),
+        TermsRefusal::Text { cause, place } => written(put_text_fault(text, cause, place)),
+        TermsRefusal::BadShape => written(put_shape(text)),
+        TermsRefusal::NoDie { task } => written(put_stray(text, task)),
+        TermsRefusal::Die { die, fault } => put_first(alloc, text, plan, die, fault),
+    }
+}
+
+/// What is said of a text that makes no store. The only refusal is NoMemory.
+fn refused(alloc: Global, plan: &[u8], refusal: TermsRefusal) -> Result<Vec<u8>, Refusal>
+    ensures said { IfOk result (λ text. (said : List ℕ) × ExplainsRefusal (read_numbers plan.now) refusal said
+        × (text.items
+        ≡ (codes "The plan is refused: " ++ refusal_text (refusal_of refusal) ++ full_stop) ++ said)) }
+    ensures refused { FailsForMemory result }
+{
+    let mut text = Vec::new(alloc);
+    let name = refusal.refusal();
+    written(writeln!(text, "The plan is refused: {name}."))?;
+    put_refusal(alloc, &mut text, plan, refusal)?;
+    Ok(text)
+}
+
+/// Explains the text of a plan with terms, in sentences of a line each: whether the plan is accepted, as
+/// [`read_terms`](terms_texts::read_terms) judges it. If it is, these follow by die: its numbers and those of its tasks,
+/// the most slots of a collection, the long-run load, the tightest interval with what may be asked of it and what is to
+/// spare, and by task what its collections give and what its cap has to cover. If it isn't, what is wrong first: the
+/// fault of the text and where it lies, or a number that is out of its limits; or the numbers of the first die that
+/// doesn't meet its bound or doesn't pass its tests, why, and what would do. The only refusal is NoMemory.
+pub fn explain_terms(alloc: Global, plan: &[u8]) -> Result<Explained, Refusal>
+    ensures said { IfOk result (λ explained.
+        ExplainsTerms plan.now explained.is_accepted explained.text.items) }
+    ensures refused { FailsForMemory result }
+{
+    match read_terms(alloc, plan) {
+        Ok(store) => Ok(Explained {
+            text: accepted(alloc, store.as_slice())?,
+            is_accepted: true,
+        }),
+        Err(refusal) => Ok(Explained {
+            text: refused(alloc, plan, refusal)?,
+            is_accepted: false,
+        }),
+    }
+}

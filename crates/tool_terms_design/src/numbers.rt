@@ -1,0 +1,121 @@
+//! The numbers of a die with terms, as lines of a text.
+
+ghost use Rattle.std.specs.Prelude.{◌≡◌, ◌++◌, OnOk, slice_index_or};
+ghost use Rattle.tool_terms_design.specs.DieTexts.{collections_line, die_line, jobs_line, numbers_text, of_die, of_task};
+ghost use Rattle.tool_terms_design.specs.DieTexts.{plan_line, task_line, task_lines};
+
+use demand_rules::TaskTerms;
+use slot_types::DiePlan;
+use std::io;
+use std::io::Write;
+use terms_texts::DieTerms;
+
+/// Adds what a sentence on a die begins with.
+pub fn put_die(text: &mut Vec<u8>, die: usize) -> io::Result<()>
+    ensures { OnOk result (text.new.items ≡ text.old.items ++ of_die die) }
+{
+    write!(text, "die {die}: ")
+}
+
+/// Adds what a sentence on a task of a die begins with.
+pub fn put_task(text: &mut Vec<u8>, die: usize, task: usize) -> io::Result<()>
+    ensures { OnOk result (text.new.items ≡ text.old.items ++ of_task die task) }
+{
+    write!(text, "die {die} task {task}: ")
+}
+
+/// The cap of a task; 0 where there is none.
+pub fn cap_of(caps: &[u32], task: usize) -> u32
+    ensures { result ≡ slice_index_or caps.now task 0 }
+{
+    if task < caps.len() { caps[task] } else { 0 }
+}
+
+/// Adds the numbers of a plan.
+fn put_plan(text: &mut Vec<u8>, plan: &DiePlan) -> io::Result<()>
+    ensures { OnOk result (text.new.items ≡ text.old.items ++ plan_line plan.now) }
+{
+    let (blocks, pages, erase_slots) = (
+        plan.shape.blocks,
+        plan.shape.pages,
+        plan.shape.erase_slots,
+    );
+    let (logical, alpha) = (plan.logical, plan.alpha);
+    writeln!(
+        text,
+        "blocks {blocks}, pages {pages}, erase_slots {erase_slots}, logical {logical}, alpha {alpha}."
+    )
+}
+
+/// Adds the numbers of a die.
+fn put_die_line(text: &mut Vec<u8>, die: usize, plan: &DiePlan) -> io::Result<()>
+    ensures { OnOk result (text.new.items ≡ text.old.items ++ die_line die plan.now) }
+{
+    put_die(text, die)?;
+    put_plan(text, plan)
+}
+
+/// Adds what a task's jobs ask for.
+fn put_jobs(text: &mut Vec<u8>, cap: u32, task: &TaskTerms) -> io::Result<()>
+    ensures { OnOk result (text.new.items ≡ text.old.items ++ jobs_line cap task.now) }
+{
+    let (period, deadline, held, work) = (task.period, task.deadline, task.held, task.work);
+    write!(
+        text,
+        "cap {cap}, period {period}, deadline {deadline}, held {held}, work {work}"
+    )
+}
+
+/// Adds what a task's jobs write, and its collections.
+fn put_collections(text: &mut Vec<u8>, task: &TaskTerms) -> io::Result<()>
+    ensures { OnOk result (text.new.items ≡ text.old.items ++ collections_line task.now) }
+{
+    let (writes, every, within) = (task.writes, task.collect_period, task.collect_deadline);
+    writeln!(
+        text,
+        ", writes {writes}, collect_period {every}, collect_deadline {within}."
+    )
+}
+
+/// Adds the numbers of a task.
+fn put_task_line(
+    text: &mut Vec<u8>,
+    die: usize,
+    task: usize,
+    cap: u32,
+    terms: &TaskTerms,
+) -> io::Result<()>
+    ensures { OnOk result (text.new.items ≡ text.old.items ++ task_line die task cap terms.now) }
+{
+    put_task(text, die, task)?;
+    put_jobs(text, cap, terms)?;
+    put_collections(text, terms)
+}
+
+/// Adds the numbers of a die's tasks.
+fn put_task_lines(
+    text: &mut Vec<u8>,
+    die: usize,
+    caps: &[u32],
+    tasks: &[TaskTerms],
+) -> io::Result<()>
+    ensures { OnOk result (text.new.items ≡ text.old.items ++ task_lines die caps.now tasks.now) }
+{
+    for task in 0..tasks.len() {
+        put_task_line(text, die, task, cap_of(caps, task), &tasks[task])?;
+    }
+    Ok(())
+}
+
+/// Adds the numbers of a die and of its tasks.
+pub fn put_numbers(text: &mut Vec<u8>, die: usize, made: &DieTerms) -> io::Result<()>
+    ensures { OnOk result (text.new.items ≡ text.old.items ++ numbers_text die made.now) }
+{
+    put_die_line(text, die, &made.plan)?;
+    put_task_lines(
+        text,
+        die,
+        made.plan.caps.as_slice(),
+        made.terms.tasks.as_slice(),
+    )
+}
