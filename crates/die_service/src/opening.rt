@@ -1,6 +1,6 @@
 //! Dies that get their locks.
 
-ghost use Rattle.std.specs.Prelude.{◌≡◌, ◌≤◌, [], All, Some, length, map, vec_len, vec_capacity, IfOk, IfErr, OnOk, OnErr};
+ghost use Rattle.std.specs.Prelude.{◌≡◌, ◌≤◌, [], All, length, map, vec_len, vec_capacity, IfOk, IfErr, OnOk, OnErr};
 ghost use Rattle.slot_types.specs.Refusal.{FailsForMemory};
 ghost use Rattle.turn_lock.specs.Views.{first_view};
 ghost use Rattle.die_service.specs.Stores.{IsAtStart};
@@ -11,31 +11,27 @@ use flash_die::Nand;
 use slot_core::DieCore;
 use slot_types::Refusal;
 use std::alloc::{AllocFailed, Global};
-use turn_lock::Vacancy;
+use turn_lock::NewLock;
 
-/// A die with all the memory that it needs behind its lock, and the lock that waits for it. Where memory is refused,
-/// the die is handed back.
-fn make_ready<N: Nand>(
-    alloc: Global,
-    core: DieCore<N>,
-) -> Result<(DieBook<N>, Vacancy<DieBook<N>>), DieCore<N>>
+/// A die behind a lock that nobody has used. Where memory is refused, the die is handed back.
+fn new_lock<N: Nand>(alloc: Global, core: DieCore<N>) -> Result<NewLock<DieBook<N>>, DieCore<N>>
     requires start { IsAtStart core }
-    ensures book { IfOk result (λ made. made.0 ≡ core) }
-    ensures vacancy { IfOk result (λ made. made.1 ≡ Some core.start) }
+    ensures locked { IfOk result (λ lock. lock ≡ core) }
     ensures back { IfErr result (λ kept. kept ≡ core) }
 {
     let book = match Box::new(alloc, core) {
         Ok(core) => DieBook::new(alloc, core),
         Err(AllocFailed { value }) => return Err(value),
     };
-    match Vacancy::new(alloc, &book) {
-        Ok(vacancy) => Ok((book, vacancy)),
-        Err(_) => Err(book.into_core()),
+    match NewLock::new(alloc, book) {
+        Ok(lock) => Ok(lock),
+        Err(AllocFailed { value }) => Err(value.into_core()),
     }
 }
 
 /// Puts each die behind a lock of its own, with its first pass, into room that was made. The only refusal is out of
-/// memory, and each die is in its place then: none goes behind its lock before there is memory for all.
+/// memory, and each die is in its place then: no lock is used before there is memory for all, and so each gives its die
+/// back as it was.
 pub(crate) fn open_each<N: Nand>(
     alloc: Global,
     cores: &mut Vec<DieCore<N>>,
@@ -61,18 +57,18 @@ pub(crate) fn open_each<N: Nand>(
     let Some(core) = cores.pop() else {
         return Ok(());
     };
-    let (book, vacancy) = match make_ready(alloc, core) {
-        Ok(ready) => ready,
+    let lock = match new_lock(alloc, core) {
+        Ok(lock) => lock,
         Err(core) => {
             cores.push_reserved(core);
             return Err(Refusal::NoMemory);
         }
     };
     if let Err(refusal) = open_each(alloc, cores, dies, passes) {
-        cores.push_reserved(book.into_core());
+        cores.push_reserved(lock.into_book().into_core());
         return Err(refusal);
     }
-    let (turned, pass) = vacancy.fill(book);
+    let (turned, pass) = lock.start();
     dies.push_reserved(Die { turned });
     passes.push_reserved(pass);
     Ok(())

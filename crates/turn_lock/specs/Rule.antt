@@ -21,13 +21,14 @@ module _ {E R A : Type 0} where
     pub below : v.made ≤ count
     pub seen : GrowsWithout (numbers_of v) v.seen log
     pub last_join : GrowsWithout v.beyond v.shorter_seen v.longer_seen
-    pub sole : v.sole ≡ true → (v.made ≡ count) × (length (numbers_of v) ≡ count) × (v.about ≡ Some about) × (count ≡ 0 → holder ≡ id)
-    pub turn : v.turn ≡ true → (bit ≡ 1) × (holder ≡ id) × (v.seen ≡ log) × (v.made ≡ count) × (0 < count)
+    pub sole : v.sole ≡ true → (v.made ≡ count) × (length (numbers_of v) ≡ count)
+    pub turn : v.turn ≡ true → (bit ≡ 1) × (holder ≡ id) × (v.seen ≡ log) × (v.made ≡ count)
 
-module _ {E R B : Type 0} where
-  -- before the first pass is made there is no book, and nobody can take the turn
-  abbrev pub IsVacant : List (Entry E R) → ℕ → List (maybe.Option (Option (Kept B))) → Type 0
-  IsVacant es bit homes = (es ≡ []) × (bit ≡ 1) × (homes ≡ some None ∷ [])
+module _ {E R A B : Type 0} where
+  -- while nobody has used the lock there is one pass, nobody has the turn, and the slot has the book that was put in
+  abbrev pub MayBeUnused : B → ℕ → ℕ → List (maybe.Option (Option (Kept B))) → View E R A → Type 0
+  MayBeUnused first count bit homes v = v.unused ≡ true
+      → (v.live ≡ true) × (count ≡ 1) × (bit ≡ 0) × (homes ≡ some (Some record { book = first; made = 1 }) ∷ [])
 
 module _ {E R A B : Type 0} (log : B → List (Entry E R)) (about : B → A) where
   -- the slot is at home with a book of these entries
@@ -35,8 +36,8 @@ module _ {E R A B : Type 0} (log : B → List (Entry E R)) (about : B → A) whe
   AtHome es count a homes = (k : Kept B) × (homes ≡ some (Some k) ∷ []) × (log k.book ≡ es) × (k.made ≡ count) × (about k.book ≡ a)
 
   -- Each number below the count stands in one view, once (`parted`, `sized`), and no entry has another number
-  -- (`named`).
-  pub record KeepsRule (fits : A → List (Entry E R) → Type 0) (s : State (Option (Kept B)) (View E R A)) : Type 0 where
+  -- (`named`). The lock was made with the book `first`.
+  pub record KeepsRule (fits : A → List (Entry E R) → Type 0) (first : B) (s : State (Option (Kept B)) (View E R A)) : Type 0 where
     pub entries : List (Entry E R)
     pub count : ℕ
     pub topic : A
@@ -47,9 +48,9 @@ module _ {E R A B : Type 0} (log : B → List (Entry E R)) (about : B → A) whe
     pub word : s.words ≡ (2 * length entries + bit) ∷ []
     pub width : length s.homes ≡ 1
     pub home : bit ≡ 0 → AtHome entries count topic s.homes
-    pub vacant : count ≡ 0 → IsVacant entries bit s.homes
     pub fitting : fits topic entries
     pub named : (p : ℕ) → count ≤ p → calls_by p entries ≡ []
     pub parted : (p : ℕ) → total (λ v. times p (numbers_of v)) s.views ≡ once_below p count
     pub sized : total (λ v. length (numbers_of v)) s.views ≡ count
     pub each : (id : ℕ) (v : View E R A) → get_elem? s.views id ≡ some v → Knows fits entries count topic bit holder id v
+    pub unused : (id : ℕ) (v : View E R A) → get_elem? s.views id ≡ some v → MayBeUnused first count bit s.homes v

@@ -8,7 +8,7 @@ use Rattle.turn_lock.specs.declared.entry.Entry.{Entry}
 use Rattle.turn_lock.specs.declared.view.View.{View}
 use Rattle.turn_lock.specs.declared.view.Kept.{Kept}
 use Rattle.turn_lock.specs.Log.{times, entry, calls_by, NoneBy, AllBy, GrowsWithout}
-use Rattle.turn_lock.specs.Views.{numbers_of, SeesFitting, first_view, vacant_view}
+use Rattle.turn_lock.specs.Views.{numbers_of, SeesFitting}
 
 abbrev pub IsTurnTable : TableId → Type 0
 IsTurnTable table = (table.words ≡ 1) × (table.slots ≡ 1)
@@ -17,9 +17,9 @@ module _ {E R A B : Type 0} where
   abbrev pub IsSameSeat : Seat (Option (Kept B)) (View E R A) → Seat (Option (Kept B)) (View E R A) → Type 0
   IsSameSeat s t = (t.table_id ≡ s.table_id) × (t.id ≡ s.id)
 
-  -- the first pass is made, and has the turn and the empty slot
-  abbrev pub first_made : Step (Option (Kept B)) → Me (Option (Kept B)) (View E R A) → ℕ → Me (Option (Kept B)) (View E R A) → Type 0
-  first_made st m r m' = (a : A) → m.0 ≡ vacant_view a → (m'.1 ≡ (0, None) ∷ m.1) × (m'.0 ≡ record (first_view a) { turn = true })
+  -- the lock is used from now on
+  abbrev pub begun : Step (Option (Kept B)) → Me (Option (Kept B)) (View E R A) → ℕ → Me (Option (Kept B)) (View E R A) → Type 0
+  begun st m r m' = (m'.1 ≡ m.1) × (m'.0 ≡ record m.0 { unused = false })
 
 module _ {E R A : Type 0} where
   -- these are the entries that the pass has seen, and then none, or one of its own

@@ -32,25 +32,6 @@ module _ {E R A : Type 0} where
   abbrev pub SeesFitting : (A → List (Entry E R) → Type 0) → View E R A → Type 0
   SeesFitting fits v = (a : A) × (v.about ≡ Some a) × fits a v.seen
 
-  -- what a lock knows that has no book yet, and no pass: what its book is to be about
-  abbrev pub vacant_view : A → View E R A
-  vacant_view a = record {
-    number = 0;
-    seen = [];
-    joined = [];
-    made = 0;
-    shorter_seen = [];
-    longer_seen = [];
-    beyond = [];
-    about = Some a;
-    live = false;
-    turn = false;
-    sole = true;
-  }
-
-  abbrev pub IsVacantView : View E R A → Type 0
-  IsVacantView v = (a : A) × (v ≡ vacant_view a)
-
   -- the first pass of a lock, which is its only one
   abbrev pub first_view : A → View E R A
   first_view a = record {
@@ -65,7 +46,12 @@ module _ {E R A : Type 0} where
     live = true;
     turn = false;
     sole = true;
+    unused = false;
   }
+
+  -- the same, while nobody has used the lock
+  abbrev pub unused_view : A → View E R A
+  unused_view a = record (first_view a) { unused = true }
 
   -- a pass that was joined into another
   abbrev pub spent_view : View E R A
@@ -81,6 +67,7 @@ module _ {E R A : Type 0} where
     live = false;
     turn = false;
     sole = false;
+    unused = false;
   }
 
   -- the pass that is split, where it knows of all passes made
@@ -101,6 +88,7 @@ module _ {E R A : Type 0} where
     live = true;
     turn = false;
     sole = false;
+    unused = false;
   }
 
   -- of two passes, the numbers of the one that has seen the shorter: of the second where they have seen as much
@@ -117,4 +105,5 @@ module _ {E R A : Type 0} where
     joined = v.joined ++ w.number ∷ w.joined;
     made = max v.made w.made;
     sole = false;
+    unused = false;
   }

@@ -7,26 +7,26 @@
 //!
 //! `look` and `join_pass` don't wait. `apply`, `note`, `ask`, `split_pass`, `out` and `close` may wait for the turn,
 //! and nothing is claimed of how long: a take that is lost is tried again, after a yield while another pass has the
-//! turn. No call but `new` takes memory, beyond what the book itself does: a [`Vacancy`] has all of a lock's, and takes
-//! the book when it is there.
+//! turn. No call but `new` takes memory, beyond what the book itself does. A [`NewLock`] is a lock that nobody has used
+//! yet, and still gives its book back.
 #![tactic(auto)]
 
 mod book;
 mod entry;
 pub mod laws;
 mod lock;
+mod new_lock;
 mod noting;
 mod pass;
 mod plays;
 mod rule;
 mod steps;
-mod vacancy;
 mod view;
 
 pub use book::Book;
 pub use entry::Entry;
 pub use lock::{Closing, Turned};
+pub use new_lock::NewLock;
 pub use noting::NotingBook;
 pub use pass::Pass;
-pub use vacancy::Vacancy;
 pub use view::View;

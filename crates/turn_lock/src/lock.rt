@@ -7,12 +7,12 @@ ghost use Rattle.turn_lock.specs.Views.{first_view, IsLive, IsSamePass};
 ghost use Rattle.turn_lock.specs.Passes.{SeesMore, Answers, Replies, Parts, IsFull, IsJoined, IsOut, Closes, StaysOpen};
 
 use crate::book::Book;
+use crate::new_lock::NewLock;
 use crate::noting::NotingBook;
 use crate::pass::Pass;
 use crate::plays::{Compare, Cut, Glue, Look};
 use crate::rule::TableOf;
 use crate::steps::{release, take};
-use crate::vacancy::Vacancy;
 use crate::view::Kept;
 use slot_types::{MAX_PASSES, Refusal};
 use std::alloc::Global;
@@ -57,8 +57,10 @@ impl<B: Book> Turned<B> {
         ensures live { IfOk result (λ made. IsLive made.1.view) }
         ensures refused { FailsForMemory result }
     {
-        let vacancy = Vacancy::new(alloc, &book)?;
-        Ok(vacancy.fill(book))
+        match NewLock::new(alloc, book) {
+            Ok(lock) => Ok(lock.start()),
+            Err(_) => Err(Refusal::NoMemory),
+        }
     }
 
     /// How many entries there are, also while a pass has the turn: this pass has then seen them all.

@@ -24,11 +24,12 @@ impl<B: Book> Model for Pass<B> {
 
     ghost view = { λ p. record { lock = p.seat.table_id; view = p.seat.me.0 } };
 
-    // Between two calls a pass has neither the turn nor the slot.
+    // Between two calls a pass has neither the turn nor the slot, and its lock is in use.
     ghost invariant = { λ p.
         (p.seat.me.1 ≡ []) × (p.seat.me.0.live ≡ true) × (p.seat.me.0.turn ≡ false)
         × (p.number ≡ p.seat.me.0.number) × (p.joined ≡ length p.seat.me.0.joined)
-        × CountsOwn p.seat.me.0 × (p.free_word % 2 ≡ 0) × SeesFitting B.fits p.seat.me.0 };
+        × CountsOwn p.seat.me.0 × (p.free_word % 2 ≡ 0) × SeesFitting B.fits p.seat.me.0
+        × (p.seat.me.0.unused ≡ false) };
 }
 
 impl<B: Book> Pass<B> {

@@ -4,8 +4,8 @@ use Rattle.die_service.specs.Stores.{IsAtStart}
 use Rattle.die_service.proofs.Making.{last_all}
 use Rattle.die_service.proofs.opening.+open_each.Goals as goal
 
-pub make_ready-requires : goal.make_ready-requires
-make_ready-requires g t c = record {
+pub new_lock-requires : goal.new_lock-requires
+new_lock-requires g t c = record {
   start = last_all IsAtStart _ c.in-Some.core (recursion_from_All IsAtStart _
       (subst (λ l. All IsAtStart l) c.in-Some.ensures.items c.requires.start));
 }

@@ -13,12 +13,12 @@ join_seat-requires g c = (
   search rules,
   search rules,
   search rules,
-  joins _ _ _ _ _ _ _ c.pass.invariant.1 c.other.invariant.1
+  joins _ _ _ _ _ _ _ _ c.pass.invariant.1 c.other.invariant.1
       c.pass.invariant.2,
 )
 
 pub load-requires : goal.load-requires
-load-requires g c = (search rules, search rules, compares _ _ _ _ _ _ (ap (λ m. m.0.live) c.join_seat.ensures.2 ∙ c.pass.invariant.1))
+load-requires g c = (search rules, search rules, compares _ _ _ _ _ _ _ (ap (λ m. m.0.live) c.join_seat.ensures.2 ∙ c.pass.invariant.1))
 
 pub returns-clause-joined : goal.returns-clause-joined
 returns-clause-joined g c = let said = c.load.ensures.2 in
@@ -40,6 +40,7 @@ invariant_of-pass g c =
       owns_joined v o w is c.pass.invariant.5 c.other.invariant.5,
       search rules,
       rw (ap (λ m. m.0) said.0) said.4,
+      ap (λ u. u.unused) is,
     )
 
 pub returns-clause-same : goal.returns-clause-same

@@ -7,7 +7,7 @@ use Rattle.turn_lock.proofs.lock.Turned.split_pass.Goals as goal
 
 pub split_seat-seat-requires : goal.split_seat-seat-requires
 split_seat-seat-requires g c = let view_is = c.take-kept.ensures.won.1.view_is in
-    (search rules, search rules, splits _ _ _ _ _ (ap (λ u. u.live) view_is ∙ c.pass.invariant.1) (ap (λ u. u.turn) view_is) (search rules))
+    (search rules, search rules, splits _ _ _ _ _ _ (ap (λ u. u.live) view_is ∙ c.pass.invariant.1) (ap (λ u. u.turn) view_is) (search rules))
 
 pub returns-clause-parts : goal.returns-clause-parts
 returns-clause-parts g c = let cut = c.split_seat-seat.ensures in
