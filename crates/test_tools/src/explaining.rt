@@ -314,6 +314,78 @@ plan: with its other numbers as they are, no common would do.
 ",
 );
 
+/// Two dies, of which each would do with other numbers than both: with 20 slots die 0 alone. Where die 1 fails, its own
+/// numbers alone can mend that.
+const TWO_DIES: [Said; 2] = [
+    (
+        "dies = 1\nblocks = 4\npages = 4\nerase_slots = 3\nlogical = 2\nalpha = 2\ncommon = 20\n\n[[task]]\ndie = 0",
+        "dies = 2\nblocks = 4\npages = 4\nerase_slots = 3\nlogical = 2\nalpha = 2\ncommon = 60\n\n[[task]]\ndie = 1\ncap = 6\nperiod = 60\ncollect_period = 60\nwork = 2\nwrites = 1\n\n[[task]]\ndie = 0",
+        true,
+        "The plan is accepted.
+die 0: while fewer than alpha pages are spare, at most 9 are free.
+die 0: the closed blocks that no collection works on are then at least 1.
+die 0: if none of these were worth collecting, at least 3 pages would be valid.
+die 0: logical is 2, which is below that.
+[[task]] 2 (die 0 task 0): alpha * period is 20, and writes * collect_period is 20: 0 to spare.
+[[task]] 2 (die 0 task 0): cap is 6, and 2 * writes + 2 * alpha is 6: 0 to spare.
+[[task]] 2 (die 0 task 0): of each 60 slots its jobs take at most 12, its collections 21.
+die 0: of each 60 slots all tasks take at most 33: 27 to spare.
+die 0: its 65536 numbers for jobs and collections last for 436900 slots; `renew` begins the next life.
+die 0: its periods end at each multiple of 20 slots by which the deadlines of its jobs have come.
+[[task]] 2 (die 0 task 0): for that no job may come in the 9 slots before; at the multiples of its period none does.
+die 1: while fewer than alpha pages are spare, at most 9 are free.
+die 1: the closed blocks that no collection works on are then at least 1.
+die 1: if none of these were worth collecting, at least 3 pages would be valid.
+die 1: logical is 2, which is below that.
+[[task]] 1 (die 1 task 0): alpha * period is 120, and writes * collect_period is 60: 60 to spare.
+[[task]] 1 (die 1 task 0): cap is 6, and 2 * writes + 2 * alpha is 6: 0 to spare.
+[[task]] 1 (die 1 task 0): of each 60 slots its jobs take at most 2, its collections 7.
+die 1: of each 60 slots all tasks take at most 9: 51 to spare.
+die 1: its 1048576 slots end before its 65536 numbers do; `renew` begins the next life.
+die 1: its periods end at each multiple of 60 slots by which the deadlines of its jobs have come.
+[[task]] 1 (die 1 task 0): for that no job may come in the 59 slots before; at the multiples of its period none does.
+plan: with its other numbers as they are, the least blocks that would do is 4.
+plan: with its other numbers as they are, the greatest logical that would do is 2.
+plan: with its other numbers as they are, the least common that would do is 60.
+[[task]] 2 (die 0 task 0): one at a time, these would do: least period 10, greatest collect_period 20, least cap 6, greatest work 6, greatest writes 1.
+[[task]] 1 (die 1 task 0): one at a time, these would do: least period 30, greatest collect_period 60, least cap 6, greatest work 53, greatest writes 1.
+die 0: with its other numbers as they are, alpha 2 would do: of each 60 slots 33 are taken.
+die 1: with its other numbers as they are, alpha 2 would do: of each 60 slots 9 are taken.
+",
+    ),
+    (
+        "dies = 1\nblocks = 4\npages = 4\nerase_slots = 3\nlogical = 2\nalpha = 2\ncommon = 20\n\n[[task]]\ndie = 0",
+        "dies = 2\nblocks = 4\npages = 4\nerase_slots = 3\nlogical = 2\nalpha = 2\ncommon = 60\n\n[[task]]\ndie = 1\ncap = 5\nperiod = 60\ncollect_period = 60\nwork = 2\nwrites = 1\n\n[[task]]\ndie = 0",
+        false,
+        "The plan is refused: BadPlan.
+[[task]] 1 (die 1 task 0): cap is 5, and has to be at least 2 * writes + 2 * alpha, which is 6: 1 missing.
+die 0: while fewer than alpha pages are spare, at most 9 are free.
+die 0: the closed blocks that no collection works on are then at least 1.
+die 0: if none of these were worth collecting, at least 3 pages would be valid.
+die 0: logical is 2, which is below that.
+[[task]] 2 (die 0 task 0): alpha * period is 20, and writes * collect_period is 20: 0 to spare.
+[[task]] 2 (die 0 task 0): cap is 6, and 2 * writes + 2 * alpha is 6: 0 to spare.
+[[task]] 2 (die 0 task 0): of each 60 slots its jobs take at most 12, its collections 21.
+die 0: of each 60 slots all tasks take at most 33: 27 to spare.
+die 0: its 65536 numbers for jobs and collections last for 436900 slots; `renew` begins the next life.
+die 0: its periods end at each multiple of 20 slots by which the deadlines of its jobs have come.
+[[task]] 2 (die 0 task 0): for that no job may come in the 9 slots before; at the multiples of its period none does.
+die 1: while fewer than alpha pages are spare, at most 8 are free.
+die 1: the closed blocks that no collection works on are then at least 1.
+die 1: if none of these were worth collecting, at least 3 pages would be valid.
+die 1: logical is 2, which is below that.
+[[task]] 1 (die 1 task 0): alpha * period is 120, and writes * collect_period is 60: 60 to spare.
+[[task]] 1 (die 1 task 0): of each 60 slots its jobs take at most 2, its collections 7.
+die 1: of each 60 slots all tasks take at most 9: 51 to spare.
+die 1: its 1048576 slots end before its 65536 numbers do; `renew` begins the next life.
+plan: with its other numbers as they are, no blocks would do.
+plan: with its other numbers as they are, no logical would do.
+plan: with its other numbers as they are, no common would do.
+[[task]] 1 (die 1 task 0): one at a time, these would do: no period, no collect_period, least cap 6, no work, greatest writes 0.
+",
+    ),
+];
+
 /// Times out of their limits.
 const TIMES: [Said; 1] = [(
     "work = 2",
@@ -355,6 +427,14 @@ fn numbers_out_of_their_limits_are_reported(rt: HostRuntime) -> Result<(), Fail>
 #[test]
 fn loads_are_reported_by_task_and_in_sum(rt: HostRuntime) -> Result<(), Fail> {
     for said in LOADS {
+        assert!(rt; is_said(rt.alloc(), TIMED, said)?, "{}", said.1);
+    }
+    Ok(())
+}
+
+#[test]
+fn numbers_that_dies_share_are_solved_for_all_of_them(rt: HostRuntime) -> Result<(), Fail> {
+    for said in TWO_DIES {
         assert!(rt; is_said(rt.alloc(), TIMED, said)?, "{}", said.1);
     }
     Ok(())
