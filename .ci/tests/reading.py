@@ -216,10 +216,6 @@ class Reading(unittest.TestCase):
         specs = docs.read_specs()
         self.assertEqual(docs.cited(specs, specs["high", "Good"], "other"), set())
 
-    def test_public_calls_and_their_clauses(self):
-        self.assertEqual([(name, clauses) for name, _, clauses in docs.public_calls("high")],
-                         [("ask", ["IfOk result (λ n. n ≡ size item) }", "(result ≡ Err NoMemory) ↔ is_scarce item }"])])
-
     def test_a_page_maps_each_module_once(self):
         page = self.top / "docs.md"
         page.write_text("<!-- docs: proofs high/laws is_good -->\n<!-- end -->\n<!-- docs: proofs high laws/is_good -->\n<!-- end -->\n")
