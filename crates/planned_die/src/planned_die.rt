@@ -200,9 +200,10 @@ impl<N: Nand> PlannedDie<N> {
         self.core.now()
     }
 
-    /// The slot of the clock of all lives in which the present one began.
+    /// The slot of the clock of all lives in which the present one began, up to 2 to the power of 61.
     pub fn first(&self) -> u64
-        ensures { result ≡ self.now.first }
+        ensures first { result ≡ self.now.first }
+        ensures early { result ≤ 2305843009213693952 }
     {
         self.first
     }
