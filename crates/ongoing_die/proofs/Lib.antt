@@ -1,0 +1,4 @@
+mod TermsOf
+mod Entering
+mod Standings
+
