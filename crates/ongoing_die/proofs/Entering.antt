@@ -1,6 +1,6 @@
 -- An ask of the die below is a move of its log; and what waited is entered task by task.
 use Rattle.std.proofs.Common.{◌≡◌, ℕ, zero, suc, ◌+◌, ◌<◌, ◌≤◌, true, false, List, [], ◌∷◌, length, map, drop, get_or, set, Option, None, Some, Result, Ok, Err}
-use Rattle.std.proofs.Common.{◌++◌, take, refl, ap, sym, ◌∙◌, inl, inr, arith, add-one}
+use Rattle.std.proofs.Common.{◌++◌, take, vec_capacity, refl, ap, sym, ◌∙◌, inl, inr, arith, add-one}
 use Rattle.std.proofs.lemmas.Bool.{true≢false}
 use Rattle.std.proofs.lemmas.List.{drop_more, get_or-map, length-map, map-set}
 use Rattle.slot_types.specs.declared.events.Op.{Op}
@@ -80,8 +80,8 @@ module _ {N : Type 0} (caller task : ℕ) (ops : List Op) (earlier : Lives) (bef
 pub entered_one : (start : Start) (terms : Terms) (earlier : Lives) (life : ℕ) (log : Log) (task : ℕ) (w : Option WaitingAsk) (rest : List (Option WaitingAsk))
     → after_moves start terms earlier life log (asks_of task (w ∷ rest))
     ≡ after_moves start terms earlier life (after_one start terms earlier life log task w) (asks_of (task + 1) rest)
-entered_one start terms earlier life log task None rest = refl
-entered_one start terms earlier life log task (Some w) rest = refl
+entered_one _ _ _ _ _ _ None _ = refl
+entered_one _ _ _ _ _ _ (Some w) _ = refl
 
 pub entered_more : (start : Start) (terms : Terms) (earlier : Lives) (life : ℕ) (ws : List (Option WaitingAsk)) (i : ℕ) (log next : Log) → i < length ws
     → next ≡ after_one start terms earlier life log i (get_or ws i None)
@@ -113,6 +113,15 @@ cleared_all [] (suc i) le = refl
 cleared_all (w ∷ ws) zero le = absurd (omega (arith, le))
 cleared_all (w ∷ ws) (suc i) le = ap (λ (l : List (Option WaitingAsk)). None ∷ l) (cleared_all ws i (omega (arith, le)))
 
+same_length : (ws : List (Option WaitingAsk)) (i : ℕ) → length (cleared i ws) ≡ length ws
+same_length [] zero = refl
+same_length [] (suc i) = refl
+same_length (w ∷ ws) zero = refl
+same_length (w ∷ ws) (suc i) = ap suc (same_length ws i)
+
+pub as_many : (kept left : List Waiting) (i : ℕ) → map ask_in left ≡ cleared i (map ask_in kept) → length left ≡ length kept
+as_many kept left i is = omega (arith, length-map left ask_in, ap length is, length-map kept ask_in, same_length (map ask_in kept) i)
+
 -- one more, in the lists that are kept of it
 module _ (kept left : List Waiting) (i : ℕ) (is : map ask_in left ≡ cleared i (map ask_in kept)) where
   pub here_waits : (w : Waiting) → i < length kept → w ≡ get_or left i w → ask_in w ≡ get_or (map ask_in kept) i None
@@ -122,13 +131,7 @@ module _ (kept left : List Waiting) (i : ℕ) (is : map ask_in left ≡ cleared 
       ∙ (ap (λ l. get_or l i None) is ∙ cleared_at (map ask_in kept) i))
     where
       lt_left : i < length left
-      lt_left = omega (arith, lt, length-map left ask_in, ap length is, length-map kept ask_in, same_length (map ask_in kept) i)
-        where
-          same_length : (ws : List (Option WaitingAsk)) (i : ℕ) → length (cleared i ws) ≡ length ws
-          same_length [] zero = refl
-          same_length [] (suc i) = refl
-          same_length (w ∷ ws) zero = refl
-          same_length (w ∷ ws) (suc i) = ap suc (same_length ws i)
+      lt_left = omega (arith, lt, as_many kept left i is)
 
   pub then_left : (w : Waiting) → ask_in w ≡ None → map ask_in (set left i w) ≡ cleared (i + 1) (map ask_in kept)
   then_left w none =
@@ -140,3 +143,12 @@ module _ (kept left : List Waiting) (i : ℕ) (is : map ask_in left ≡ cleared 
 pub all_left : (kept left : List Waiting) (i : ℕ) → length kept ≤ i → map ask_in left ≡ cleared i (map ask_in kept)
     → map ask_in left ≡ map (λ w. None) (map ask_in kept)
 all_left kept left i le is = is ∙ cleared_all (map ask_in kept) i (omega (arith, le, length-map kept ask_in))
+
+-- and their memory
+pub rooms_stay : (xs : List Waiting) (i : ℕ) (w old : Waiting) → i < length xs → old ≡ get_or xs i old → vec_capacity w.ops ≡ vec_capacity old.ops
+    → (task : ℕ) (d : Waiting) → vec_capacity (get_or (set xs i w) task d).ops ≡ vec_capacity (get_or xs task d).ops
+rooms_stay [] i w old lt is e task d = refl
+rooms_stay (x ∷ xs) zero w old lt is e zero d = e ∙ ap (λ (v : Waiting). vec_capacity v.ops) is
+rooms_stay (x ∷ xs) zero w old lt is e (suc task) d = refl
+rooms_stay (x ∷ xs) (suc i) w old lt is e zero d = refl
+rooms_stay (x ∷ xs) (suc i) w old lt is e (suc task) d = rooms_stay xs i w old (omega (arith, lt)) is e task d

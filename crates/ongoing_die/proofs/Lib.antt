@@ -1,4 +1,8 @@
 mod TermsOf
 mod Entering
 mod Standings
-
+mod NextLives
+mod Asking
+mod CarriedSlots
+mod NewDies
+mod Rooms

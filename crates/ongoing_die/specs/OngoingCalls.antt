@@ -10,8 +10,8 @@ use Rattle.die_log.specs.Model.Log.{now}
 use Rattle.die_log.specs.Model.Start.{Start}
 use Rattle.slot_core.specs.Core.{with_entry}
 use Rattle.planned_log.specs.Asks.{asked_job}
-use Rattle.planned_log.specs.Moves.{Ask, Slot, after_own}
-use Rattle.planned_log.specs.Ongoing.{Ongoing, Answer, answer_to, ongoing_after_move, start_of}
+use Rattle.planned_log.specs.Moves.{Ask, Slot}
+use Rattle.planned_log.specs.Ongoing.{Ongoing, Answer, answer_to, ongoing_after_move}
 use Rattle.planned_log.specs.Ongoing.{Enters, Waits, Refused, WaitsAlready}
 use Rattle.planned_die.specs.declared.refusals.LifeRefusal.TheVariants as lives
 use Rattle.planned_die.specs.PlannedCalls.{IsSlot, RefusesLife}
@@ -92,13 +92,14 @@ pub record HasCarried {N : Type 0} (ends : N → NandCall → Bool → N → Typ
   pub stands : StandsAs first (ongoing_after_move first before.die.terms before.die.life d (Slot caller)) after
   pub runs : after.die.core.stopped ≡ false
 
--- in a life that goes on the device fails once the collections of the slot have come, which stops the die
+-- in a life that goes on the device fails once the collections of the slot have come, which stops the die; the lives before
+-- are as they were
 pub record HasFailed {N : Type 0} (ends : N → NandCall → Bool → N → Type 0) (failures : N → ℕ) (never : Bool) (caller : ℕ) (first : Start)
     (d : Ongoing) (before after : OngoingParts N) : Type 0 where
   pub between : OngoingParts N
   pub begun : HasBegun first d before between
   pub failed : IsSlot ends failures never caller (Err because.DeviceFault) between.die after.die
-  pub stands : StandsAs first (record d { log = after_own (start_of first d) before.die.terms d.log caller }) after
+  pub stands : StandsAs first d after
   pub stops : after.die.core.stopped ≡ true
 
 abbrev pub IsOngoingSlot : {N : Type 0} → (N → NandCall → Bool → N → Type 0) → (N → ℕ) → Bool → ℕ → Start → Ongoing → Result SlotReply SlotStop

@@ -28,19 +28,23 @@ HaveRoom terms waiting =
 abbrev pub standing : {N : Type 0} → OngoingParts N → Lives → Ongoing
 standing parts earlier = record { earlier = earlier; log = parts.die.core.log; waiting = parts.waiting }
 
--- From its first start on the die stands so: it had some lives before the one of its log; those ended quiet and in time;
--- and if its log has reached the end of a life, the next one begins here, and the die does it with the next call. Unless a
--- fault has stopped it, all of this keeps the plan, and goes on to.
+-- This stands now, and keeps the plan; and if the log has reached the end of a life, the next one begins here, and the die
+-- does it with the next call.
+pub record RunsAs {N : Type 0} (first : Start) (d : Ongoing) (parts : OngoingParts N) (earlier : Lives) : Type 0 where
+  pub stands : d ≡ going_on first parts.die.terms parts.die.life (standing parts earlier)
+  pub goes_on : IsOngoing first parts.die.terms parts.die.life d
+  pub whole : parts.die.entered ≡ 0
+
+-- From its first start on the die had some lives before the one of its log, and those ended quiet and in time. Unless a
+-- fault has stopped it, it runs as this.
 pub record StandsAs {N : Type 0} (first : Start) (d : Ongoing) (parts : OngoingParts N) : Type 0 where
   pub earlier : Lives
   pub lived : HasLived parts.die earlier
   pub starts : parts.die.core.start ≡ start_after first earlier
-  pub stands : d ≡ going_on first parts.die.terms parts.die.life (standing parts earlier)
   pub ended : HaveEnded first earlier
   pub were : WereInTime first parts.die.life earlier
   pub one_each : length parts.waiting ≡ length parts.die.core.start.plan.caps
-  pub goes_on : parts.die.core.stopped ≡ false → IsOngoing first parts.die.terms parts.die.life d
-  pub whole : parts.die.core.stopped ≡ false → parts.die.entered ≡ 0
+  pub runs : parts.die.core.stopped ≡ false → RunsAs first d parts earlier
 
 -- its lives are long enough for a job of each task, and it stands somehow
 pub record IsOngoingDie {N : Type 0} (parts : OngoingParts N) : Type 0 where

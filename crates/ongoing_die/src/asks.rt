@@ -12,7 +12,7 @@ use crate::ongoing_die::OngoingDie;
 use crate::refusals::AskStop;
 use crate::waiting::keep_waiting;
 use flash_die::Nand;
-use planned_log::AskRefusal;
+use planned_log::{AskRefusal, a_die_goes_on_by_itself};
 use slot_types::{Op, TaskNo};
 use std::alloc::Global;
 
@@ -27,6 +27,7 @@ impl<N: Nand> OngoingDie<N> {
     /// asked for, as [`PlannedDie::ask`](planned_die::PlannedDie::ask) lists the causes, without `DieStopped` and
     /// `LifeEnd`; `WaitsAlready`, where it would wait, and an ask of the task does. There is no other: tokens, numbers,
     /// deadlines and memory are never lacking, and it takes no memory.
+    #[tactic(none)]
     pub fn ask(
         &mut self,
         alloc: Global,
@@ -42,6 +43,7 @@ impl<N: Nand> OngoingDie<N> {
             Ok(()) => {}
             Err(stop) => return Err(AskStop::Ended(stop)),
         }
+        a_die_goes_on_by_itself();
         let own = task.0 as usize;
         let deadline = u64::from(deadline_of(self.die.terms(), own));
         match self.die.ask(alloc, caller, task, ops) {

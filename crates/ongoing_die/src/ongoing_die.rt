@@ -18,6 +18,7 @@ use crate::waiting::{Waiting, none_waiting};
 use demand_rules::Terms;
 use flash_die::Nand;
 use planned_die::{PlanRefusal, PlannedDie};
+use planned_log::a_die_goes_on_by_itself;
 use slot_types::{DiePlan, Op, Refusal, TaskNo};
 use std::alloc::Global;
 use std::marker::Model;
@@ -54,6 +55,7 @@ impl<N: Nand> OngoingDie<N> {
     ///
     /// Refused as [`PlannedDie::new`] refuses it; else `ShortLife`, where a life has fewer slots than some task's deadline,
     /// with the first such task. Plan, terms and device are given up then.
+    #[tactic(none)]
     pub fn new(
         alloc: Global,
         plan: DiePlan,
@@ -80,8 +82,8 @@ impl<N: Nand> OngoingDie<N> {
             Ok(die) => die,
             Err(refusal) => return Err(OngoingRefusal::Plan(refusal)),
         };
-        die.core().promises();
         die.keeps_plan();
+        a_die_goes_on_by_itself();
         match first_too_late(die.terms(), die.life()) {
             Some(task) => return Err(OngoingRefusal::ShortLife { task }),
             None => {}
@@ -117,7 +119,7 @@ impl<N: Nand> OngoingDie<N> {
     pub fn clock(&self) -> u64
         ensures slot { result ≡ self.now.die.first + now self.now.die.core.log }
         ensures clock { (first : Start) (d : Ongoing) → StandsAs first d self.now
-            → result ≡ all_slots d.earlier + now d.log }
+            → self.now.die.core.stopped ≡ false → result ≡ all_slots d.earlier + now d.log }
     {
         self.die.first() + u64::from(self.die.now())
     }

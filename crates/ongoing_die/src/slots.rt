@@ -9,6 +9,7 @@ ghost use Rattle.ongoing_die.specs.OngoingCalls.{IsOngoingSlot, HaveOnePlan};
 use crate::ongoing_die::OngoingDie;
 use crate::refusals::SlotStop;
 use flash_die::Nand;
+use planned_log::a_die_goes_on_by_itself;
 use slot_types::SlotReply;
 use std::alloc::Global;
 
@@ -20,6 +21,7 @@ impl<N: Nand> OngoingDie<N> {
     /// The refusals: `Ended`, where the whole die carries out none, as [`LifeStop`](crate::LifeStop) lists the causes, and
     /// nothing changes; `DeviceFault`, which stops the die, once the slot's collections have come. There is no other: it
     /// takes no memory.
+    #[tactic(none)]
     pub fn slot(&mut self, alloc: Global, caller: u32) -> Result<SlotReply, SlotStop>
         ensures slot { (first : Start) (d : Ongoing) → StandsAs first d self.old
             → IsOngoingSlot N.ends N.failures N.never_fails caller first d result self.old self.new }
@@ -29,6 +31,7 @@ impl<N: Nand> OngoingDie<N> {
             Ok(()) => {}
             Err(stop) => return Err(SlotStop::Ended(stop)),
         }
+        a_die_goes_on_by_itself();
         match self.die.slot(alloc, caller) {
             Ok(reply) => Ok(reply),
             Err(_) => Err(SlotStop::DeviceFault),

@@ -10,7 +10,7 @@ use Rattle.ongoing_die.proofs.Entering.{cleared}
 use Rattle.ongoing_die.proofs.next_life.enter_waiting.Given as goal
 
 abbrev pub invariant-loop-task : goal.invariant-loop-task
-invariant-loop-task l = record {
+invariant-loop-task g l = record {
   log : (earlier : Lives) → HasLived l.fn.die earlier
       → after_moves l.fn.die.core.start l.fn.die.terms earlier l.fn.die.life l.die.core.log (asks_of l.task (drop l.task (map ask_in l.fn.waiting.items)))
       ≡ after_moves l.fn.die.core.start l.fn.die.terms earlier l.fn.die.life l.fn.die.core.log (asks_of 0 (map ask_in l.fn.waiting.items));
