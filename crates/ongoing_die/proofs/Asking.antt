@@ -45,8 +45,7 @@ pub late_ask : (plan : DiePlan) (terms : Terms) (life first slot : ℕ) (asked :
     → (task < length plan.caps) × (length ops ≤ most_operations (terms_of terms task))
 late_ask plan terms life first slot asked task ops e =
     let t : TaskTerms = terms_of terms task in
-    let f : List (Bool × AskRefusal) =
-    (
+    let f : List (Bool × AskRefusal) = (
       not (has_room t (first + slot) asked (length ops) (writes ops)),
       because.TooSoon (room_at t (counting t.period (first + slot) asked) (length ops) (writes ops) - first),
     )

@@ -12,5 +12,8 @@ pub enum Taken {
         number: JobNo,
     },
     /// It waits for the next life, and is released and due as a job of that.
-    Waits { release: u64, due: u64 },
+    Waits {
+        release: u64,
+        due: u64,
+    },
 }

@@ -27,7 +27,6 @@ impl<N: Nand> OngoingDie<N> {
     /// asked for, as [`PlannedDie::ask`](planned_die::PlannedDie::ask) lists the causes, without `DieStopped` and
     /// `LifeEnd`; `WaitsAlready`, where it would wait, and an ask of the task does. There is no other: tokens, numbers,
     /// deadlines and memory are never lacking, and it takes no memory.
-    #[tactic(none)]
     pub fn ask(
         &mut self,
         alloc: Global,

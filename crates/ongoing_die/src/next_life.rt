@@ -20,12 +20,7 @@ use slot_types::TaskNo;
 use std::alloc::Global;
 
 /// Enters the ask of a task that waited, if one did.
-fn enter_one<N: Nand>(
-    die: &mut PlannedDie<N>,
-    alloc: Global,
-    task: u32,
-    waiting: &mut Waiting,
-)
+fn enter_one<N: Nand>(die: &mut PlannedDie<N>, alloc: Global, task: u32, waiting: &mut Waiting)
     requires runs { die.old.core.stopped ≡ false }
     ensures log { (earlier : Lives) → HasLived die.old earlier
         → die.new.core.log ≡ after_one die.old.core.start die.old.terms earlier die.old.life die.old.core.log task (ask_in waiting.old) }

@@ -55,7 +55,6 @@ impl<N: Nand> OngoingDie<N> {
     ///
     /// Refused as [`PlannedDie::new`] refuses it; else `ShortLife`, where a life has fewer slots than some task's deadline,
     /// with the first such task. Plan, terms and device are given up then.
-    #[tactic(none)]
     pub fn new(
         alloc: Global,
         plan: DiePlan,

@@ -21,7 +21,6 @@ impl<N: Nand> OngoingDie<N> {
     /// The refusals: `Ended`, where the whole die carries out none, as [`LifeStop`](crate::LifeStop) lists the causes, and
     /// nothing changes; `DeviceFault`, which stops the die, once the slot's collections have come. There is no other: it
     /// takes no memory.
-    #[tactic(none)]
     pub fn slot(&mut self, alloc: Global, caller: u32) -> Result<SlotReply, SlotStop>
         ensures slot { (first : Start) (d : Ongoing) → StandsAs first d self.old
             → IsOngoingSlot N.ends N.failures N.never_fails caller first d result self.old self.new }

@@ -3,7 +3,9 @@
 use crate::ongoing_dies::{goes_on, goes_on_fused};
 use crate::ongoing_steps::Answer::{Enters, Waits};
 use crate::ongoing_steps::Turn;
-use crate::ongoing_steps::Turn::{Asks, Babbles, Carries, Clock, Done, InTime, NoSlot, Slots, Waiting};
+use crate::ongoing_steps::Turn::{
+    Asks, Babbles, Carries, Clock, Done, InTime, NoSlot, Slots, Waiting,
+};
 use crate::plans::{PLAN, Plan};
 use ongoing_die::AskRefusal::{EmptyJob, TooManyOps, TooSoon, UnknownTask};
 use ongoing_die::{AskStop, LifeStop, OngoingRefusal, SlotStop};
@@ -81,7 +83,10 @@ fn what_waits_is_a_job_of_the_next_life(rt: HostRuntime) {
 /// asks is taken, over ten lives, beside a task that asks in each slot for more than it may and for all that it may.
 #[test]
 fn a_babbler_changes_nothing_over_ten_lives(rt: HostRuntime) {
-    assert_eq!(rt; goes_on(&rt, rt.alloc(), PLAN, &[Babbles { slots: 800 }, InTime]), Ok(()));
+    assert_eq!(rt;
+        goes_on(&rt, rt.alloc(), PLAN, &[Babbles { slots: 800 }, InTime]),
+        Ok(())
+    );
 }
 
 /// The device passes one call.
@@ -130,5 +135,8 @@ fn a_life_is_long_enough_for_each_task(rt: HostRuntime) {
         deadline: 17,
         ..short
     };
-    assert_eq!(rt; goes_on(&rt, rt.alloc(), late, &[]), Err(OngoingRefusal::ShortLife { task: 0 }));
+    assert_eq!(rt;
+        goes_on(&rt, rt.alloc(), late, &[]),
+        Err(OngoingRefusal::ShortLife { task: 0 })
+    );
 }

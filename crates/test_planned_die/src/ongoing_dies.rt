@@ -69,9 +69,8 @@ fn plays_again(
     turns: &[Turn],
 ) -> Result<(), OngoingRefusal> {
     match plays_once(rt, alloc, plan, calls, turns) {
-        Err(
-            OngoingRefusal::Plan(PlanRefusal::Die(Refusal::NoMemory)),
-        ) if Memory::of(rt).asks_again() => plays_once(rt, alloc, plan, calls, turns),
+        Err(OngoingRefusal::Plan(PlanRefusal::Die(Refusal::NoMemory)))
+            if Memory::of(rt).asks_again() => plays_once(rt, alloc, plan, calls, turns),
         answer => answer,
     }
 }

@@ -13,11 +13,13 @@ use std::process::Abort;
 /// An answer as tables have it.
 fn numbered(answer: Result<Taken, AskStop>) -> Result<Answer, AskStop> {
     match answer {
-        Ok(Taken::Enters {
-            release,
-            due,
-            number,
-        }) => Ok(Answer::Enters {
+        Ok(
+            Taken::Enters {
+                release,
+                due,
+                number,
+            },
+        ) => Ok(Answer::Enters {
             release,
             due,
             number: number.0,

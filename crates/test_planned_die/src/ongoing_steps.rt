@@ -6,15 +6,8 @@ use slot_types::Op;
 /// What an ask is answered that isn't refused, with the job's number in its life.
 #[derive(Clone, Copy, PartialEq, Eq, Debug, Drop)]
 pub(crate) enum Answer {
-    Enters {
-        release: u64,
-        due: u64,
-        number: u32,
-    },
-    Waits {
-        release: u64,
-        due: u64,
-    },
+    Enters { release: u64, due: u64, number: u32 },
+    Waits { release: u64, due: u64 },
 }
 
 /// A step of a table. A `want` is the answer.
