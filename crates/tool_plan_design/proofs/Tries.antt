@@ -4,7 +4,7 @@ use Rattle.std.specs.Prelude.{IsTrue}
 use Rattle.std.proofs.lemmas.Bool.{cases_order, true≢false}
 use Rattle.slot_types.specs.declared.plans.DiePlan.{DiePlan}
 use Rattle.plan_texts.specs.Stores.{IsUsable}
-use Rattle.tool_plan_design.specs.Numbers.{DieDoes, IsAlike, with_number}
+use Rattle.tool_plan_design.specs.Numbers.{DieDoes, IsAlike}
 use Rattle.tool_plan_design.specs.declared.numbers.Number.{Number}
 
 -- upwards from a number

@@ -1,4 +1,4 @@
-use Rattle.std.proofs.Common.{◌≡◌, ℕ, ◌+◌, ◌%◌, ◌<◌, ◌≤◌, get_or, arith}
+use Rattle.std.proofs.Common.{get_or, arith}
 use Rattle.std.proofs.lemmas.List.Elements.{All-from_get_or, All-get_or}
 use Rattle.tool_plan_design.specs.Commons.{DividesAll, Divide, IsMultipleFor}
 use Rattle.tool_plan_design.proofs.Multiples.{next_divided, nobody, through}

@@ -1,4 +1,4 @@
-use Rattle.std.proofs.Common.{◌≡◌, ℕ, ◌+◌, ◌*◌, ◌%◌, ◌≤◌, arith}
+use Rattle.std.proofs.Common.{◌≡◌, ◌+◌, ◌*◌, ◌%◌, ◌≤◌, arith}
 use Rattle.slot_types.specs.declared.limits.TheConstants.{MAX_SLOT}
 use Rattle.tool_plan_design.proofs.Multiples.{few_product, least_divides, multiple_divides, none_divides, some_product}
 use Rattle.tool_plan_design.proofs.Tries.{next_up, no_true}

@@ -1,5 +1,4 @@
-use Rattle.std.proofs.Common.{◌≡◌, ℕ, ◌%◌, ◌≤◌, Option, Some, None, sym, subst}
-use Rattle.slot_types.specs.declared.limits.TheConstants.{MAX_SLOT}
+use Rattle.std.proofs.Common.{ℕ, Option, Some, None, sym, subst}
 use Rattle.slot_types.specs.declared.plans.TaskTimes.{TaskTimes}
 use Rattle.tool_plan_design.specs.Commons.{DividesAll, FindsDivisor, IsMultiple, IsMultipleFor}
 use Rattle.tool_plan_design.specs.declared.commons.Periods.TheVariants as periods

@@ -1,4 +1,3 @@
-use Rattle.std.proofs.Common.{◌≡◌}
 use Rattle.tool_plan_design.proofs.DieCommons.{least_if, none_if}
 use Rattle.tool_plan_design.proofs.Tries.{no_true}
 use Rattle.tool_plan_design.proofs.plan_commons.if_all_do.Goals as goal

@@ -1,4 +1,4 @@
-use Rattle.std.proofs.Common.{◌≡◌, ℕ, ◌+◌, ◌<◌, subst, arith}
+use Rattle.std.proofs.Common.{subst, arith}
 use Rattle.slot_types.specs.declared.plans.DiePlan.{DiePlan}
 use Rattle.plan_texts.specs.Stores.{die_of}
 use Rattle.tool_plan_design.specs.Commons.{DividesAll, IsMultipleOfTimes}

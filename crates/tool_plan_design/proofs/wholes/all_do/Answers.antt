@@ -1,6 +1,6 @@
-use Rattle.std.proofs.Common.{◌≡◌, subst, below_more, rules}
+use Rattle.std.proofs.Common.{subst, below_more, rules}
 use Rattle.slot_types.specs.declared.plans.DiePlan.{DiePlan}
-use Rattle.plan_texts.specs.Stores.{IsUsable, die_of}
+use Rattle.plan_texts.specs.Stores.{IsUsable}
 use Rattle.tool_plan_design.specs.Numbers.{DieDoes}
 use Rattle.tool_plan_design.proofs.wholes.all_do.Goals as goal
 

@@ -1,4 +1,4 @@
-use Rattle.std.proofs.Common.{◌≡◌, ℕ, ◌+◌, ◌<◌, ◌≤◌, arith, rules}
+use Rattle.std.proofs.Common.{arith, rules}
 use Rattle.tool_plan_design.specs.Plans.{AllDo}
 use Rattle.tool_plan_design.specs.declared.numbers.Number.TheVariants as number
 use Rattle.tool_plan_design.proofs.DieCommons.{all_fewer}

@@ -1,4 +1,4 @@
-use Rattle.std.proofs.Common.{ℕ, ◌<◌, ◌≤◌, ◌-◌}
+use Rattle.std.proofs.Common.{◌<◌, ◌≤◌, ◌-◌}
 use Rattle.tool_plan_design.specs.Plans.{AllDo}
 use Rattle.tool_plan_design.specs.declared.numbers.Number.TheVariants as number
 use Rattle.tool_plan_design.proofs.wholes.greatest_logical_of_all.Given as goal

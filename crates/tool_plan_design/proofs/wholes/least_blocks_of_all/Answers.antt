@@ -1,4 +1,4 @@
-use Rattle.std.proofs.Common.{◌≡◌, ℕ, false, arith}
+use Rattle.std.proofs.Common.{arith}
 use Rattle.slot_types.specs.declared.limits.TheConstants.{MIN_BLOCKS}
 use Rattle.tool_plan_design.specs.Plans.{AllDo}
 use Rattle.tool_plan_design.specs.declared.numbers.Number.TheVariants as number
