@@ -1,6 +1,6 @@
 -- What a command prints, and its status; and what it leaves where it is refused.
-use Rattle.std.specs.Prelude.{◌≡◌, ◌==◌, ◌↔◌, ◌⊎◌, List, [], ◌∷◌, ℕ, take, ⊤}
-use Rattle.std.specs.Prelude.{Option, Some, None, Result, Ok, Err, IfSome, is_none, IsTrue, Bool, true, false}
+use Rattle.std.specs.Prelude.{◌≡◌, ◌==◌, ◌↔◌, ◌⊎◌, List, [], ◌∷◌, ◌++◌, ℕ, take, ⊤}
+use Rattle.std.specs.Prelude.{Option, Some, None, Result, Ok, Err, IfSome, is_none, IsTrue, MatchBool, Bool, true, false}
 use Rattle.std.specs.Borrow.{Bor}
 use Rattle.std.specs.Prelude.{if◌then◌else◌}
 use Rattle.std.specs.Io.KnownBytes.{Appends}
@@ -14,6 +14,8 @@ use Rattle.tool_watched_runs.specs.WearText.{IsWearText}
 use Rattle.tool_plan_arrivals.specs.PlannedScripts.{IsPlannedScript}
 use Rattle.tool_plan_design.specs.AcceptedPlans.{IsAccepted}
 use Rattle.tool_plan_fit.specs.Fits.{IsPlanFor}
+use Rattle.tool_terms_design.specs.Explaining.{ExplainsTerms}
+use Rattle.tool_terms_design.specs.Kinds.{is_terms_text}
 use Rattle.tool_plan_fit.specs.declared.faults.FitFault.{FitFault}
 use Rattle.tool_plan_fit.specs.declared.faults.FitFault.TheVariants.{NotFound}
 use Rattle.tool_plan_breaches.specs.declared.breaches.Breach.{Breach}
@@ -30,9 +32,14 @@ use Rattle.task_script.specs.StoreRuns.{reports_of}
 use Rattle.tool_command_words.specs.declared.asked.Command.{Command}
 use Rattle.tool_command_words.specs.declared.asked.Command.TheVariants as command
 
--- whether a plan is accepted, by as much of its text as is read, where the text is known: a longer one is too long
-abbrev pub SaysOf : Option (List ℕ) → Bool → Type 0
-SaysOf text is_accepted = IfSome text (λ bytes. IsTrue is_accepted ↔ IsAccepted (take 1048577 bytes))
+-- what is said of a plan's text, and whether it is accepted: of one with terms, what its tests answer
+abbrev pub SaysText : List ℕ → Bool → List ℕ → Type 0
+SaysText plan is_accepted said =
+    MatchBool (is_terms_text plan) (ExplainsTerms plan is_accepted said) (IsTrue is_accepted ↔ IsAccepted plan)
+
+-- of as much of a plan's text as is read, where the text is known: a longer one is too long
+abbrev pub SaysOf : Option (List ℕ) → Bool → List ℕ → Type 0
+SaysOf text is_accepted said = IfSome text (λ bytes. SaysText (take 1048577 bytes) is_accepted said)
 
 -- memory ran out, or a reader or a writer failed
 abbrev pub IsHostFault : Refusal → Type 0
@@ -44,7 +51,11 @@ PrintsText old new = (text : List ℕ) × Appends old new text
 
 -- what is said of a plan is printed, and whether it is accepted
 abbrev pub Explains : Option (List ℕ) → Bool → Option (List ℕ) → Option (List ℕ) → Type 0
-Explains plan is_accepted old new = SaysOf plan is_accepted × PrintsText old new
+Explains plan is_accepted old new = (said : List ℕ) × SaysOf plan is_accepted said × Appends old new said
+
+-- and more after it
+abbrev pub ExplainsMore : Option (List ℕ) → Bool → Option (List ℕ) → Option (List ℕ) → Type 0
+ExplainsMore plan is_accepted old new = (said more : List ℕ) × SaysOf plan is_accepted said × Appends old new (said ++ more)
 
 -- the script of a plan's arrivals is printed: its rows keep the plans of the store that was read, with times that pass
 -- their test, so that its runs go as planned
@@ -208,8 +219,10 @@ EndsRun contents has_failed alone old new status =
 -- how a command ends
 abbrev pub EndsSo : {W : Type 0} → (W → Option (List ℕ)) → (W → Option Bool) → Command → Option (List ℕ) → Option (List ℕ) → W → W → ℕ
     → Type 0
-EndsSo contents has_failed (command.Explain plan from) text rows old new status =
+EndsSo contents has_failed (command.Explain plan None) text rows old new status =
     EndsSaying contents has_failed (Explains text) accepted_status old new status
+EndsSo contents has_failed (command.Explain plan (Some from)) text rows old new status =
+    EndsSaying contents has_failed (ExplainsMore text) accepted_status old new status
 EndsSo contents has_failed (command.Fit sheet) text rows old new status = EndsFit contents has_failed text old new status
 EndsSo contents has_failed (command.Arrivals plan slots seed fills phases jitter load) text rows old new status =
     Ends contents has_failed (PrintsArrivals text slots) old new status

@@ -6,7 +6,7 @@ ghost use Rattle.tool_commands.specs.Acts.{EndsSo};
 use crate::arriving::act_arrivals;
 use crate::checkpoint_acts::{Kept, act_failing, act_run};
 use crate::comparing::act_compare;
-use crate::explaining::act_explain;
+use crate::explaining::{act_explain, act_explain_from};
 use crate::fitting::act_fit;
 use crate::keeping::act_keeps;
 use crate::runs::{act_draw, act_report, act_wear};
@@ -51,8 +51,9 @@ fn failing_in(fail: Option<FailingDie>) -> Option<FailAt> {
 /// Carries a command out, with `plan` and `script` in place of its files, and `kept` in place of its checkpoints.
 /// Answers the status.
 ///
-/// `explain` prints what [`explain`](tool_plan_design::explain) says of the plan, whole; the status is 0 where the plan
-/// is accepted, and 1 where it isn't. `fit` prints the plan that [`fit`](tool_plan_fit::fit) finds for a datasheet, or
+/// `explain` prints what [`explain`](tool_plan_design::explain) says of the plan, or
+/// [`explain_terms`](tool_terms_design::explain_terms) of one with terms, whole; the status is 0 where the plan is
+/// accepted, and 1 where it isn't. `fit` prints the plan that [`fit`](tool_plan_fit::fit) finds for a datasheet, or
 /// tells why it found none (status 3). `arrivals` prints the script of what the plan's tasks ask for, as
 /// [`arrivals`](tool_plan_arrivals::arrivals) makes it: its rows keep the plan of each die, so that a run of it refuses
 /// none and is never late. A plan without times that pass their test is reported as `error 3 BadPlan`; then, and where
@@ -85,7 +86,8 @@ pub fn act<P: Read + Drop, S: Read + Drop, C: Read + Drop, K: Shelf, W: Output, 
         result }
 {
     match command {
-        Command::Explain { .. } => act_explain(alloc, plan, kept.from, out, err),
+        Command::Explain { from: None, .. } => act_explain(alloc, plan, out, err),
+        Command::Explain { .. } => act_explain_from(alloc, plan, kept.from, out, err),
         Command::Fit { .. } => act_fit(alloc, plan, out, err),
         Command::Arrivals {
             slots,

@@ -1,27 +1,44 @@
 //! What is said of a plan, and of a checkpoint of its dies.
 
-ghost use Rattle.std.specs.Prelude.{◌≡◌, IfErr, IfOk, OnErr};
+ghost use Rattle.std.specs.Prelude.{◌≡◌, ◌++◌, ℕ, IfErr, IfOk, List, OnErr};
+ghost use Rattle.slot_types.specs.Refusal.{FailsForMemory};
 ghost use Rattle.text_base.specs.Writing.{IsNotWhole};
-ghost use Rattle.tool_commands.specs.Acts.{EndsSaying, Explains, IsHostFault, Says, SaysOf, accepted_status, explained_status};
+ghost use Rattle.tool_commands.specs.Acts.{EndsSaying, Explains, ExplainsMore, IsHostFault, Says, SaysOf, SaysText};
+ghost use Rattle.tool_commands.specs.Acts.{accepted_status, explained_status};
 
 use crate::checkpoint_acts::{end_unrun, saved_in};
 use crate::endings::end_refused;
 use plan_texts::{plan_text, read_plan};
-use slot_types::Refusal;
+use slot_types::{Refusal, StorePlan};
 use std::alloc::Global;
 use std::io::{Read, Write};
+use terms_texts::read_terms;
 use text_base::{FlaggedReader, Output, write_whole};
 use tool_checkpoint_runs::{RunFault, explain as explain_checkpoint};
 use tool_plan_design::{Explained, explain};
+use tool_terms_design::{explain_terms, is_terms_text};
+
+/// What is said of the text of a plan, with terms or without. The only refusal is NoMemory.
+fn said_of(alloc: Global, plan: &[u8]) -> Result<Explained, Refusal>
+    ensures said { IfOk result (λ explained.
+        SaysText plan.now explained.is_accepted explained.text.items) }
+    ensures refused { FailsForMemory result }
+{
+    if is_terms_text(alloc, plan)? {
+        explain_terms(alloc, plan)
+    } else {
+        explain(alloc, plan)
+    }
+}
 
 /// What is said of a plan.
 fn explained_of<R: Read + Drop>(alloc: Global, plan: R) -> Result<Explained, Refusal>
     ensures said { IfOk result (λ explained.
-        SaysOf (R.remaining plan) explained.is_accepted) }
+        SaysOf (R.remaining plan) explained.is_accepted explained.text.items) }
     ensures refused { IfErr result IsHostFault }
 {
     let text = plan_text(alloc, &mut FlaggedReader::new(plan))?;
-    explain(alloc, &text)
+    said_of(alloc, &text)
 }
 
 /// Prints what is said of a plan, and says whether it is accepted.
@@ -41,46 +58,78 @@ fn print_explained<R: Read + Drop, W: Output>(
     Ok(explained.is_accepted)
 }
 
-/// Adds what is said of a checkpoint of the dies of a plan.
-fn add_checkpoint<C: Read + Drop>(
+/// The plans of the dies of a text, with terms or without.
+fn store_in(alloc: Global, plan: &[u8]) -> Result<StorePlan, Refusal> {
+    if !is_terms_text(alloc, plan)? {
+        return read_plan(alloc, plan);
+    }
+    let mut store = StorePlan::new(alloc);
+    match read_terms(alloc, plan) {
+        Ok(dies) => {
+            for die in dies.as_slice() {
+                store.push(die.plan.clone()?)?;
+            }
+            Ok(store)
+        }
+        Err(refusal) => Err(refusal.refusal()),
+    }
+}
+
+/// What is said of a checkpoint of the dies of a plan, where the plan is accepted and there is one.
+fn more_of<C: Read + Drop>(
     alloc: Global,
     plan: &[u8],
-    from: C,
-    text: &mut Vec<u8>,
-) -> Result<(), RunFault> {
-    let store = read_plan(alloc, plan)?;
-    let saved = saved_in(alloc, from)?;
-    explain_checkpoint(alloc, text, &store, &saved)
+    from: Option<C>,
+    is_accepted: bool,
+) -> Result<Vec<u8>, RunFault> {
+    let mut more = Vec::new(alloc);
+    if is_accepted {
+        if let Some(from) = from {
+            let store = store_in(alloc, plan)?;
+            let saved = saved_in(alloc, from)?;
+            explain_checkpoint(alloc, &mut more, &store, &saved)?;
+        }
+    }
+    Ok(more)
+}
+
+/// What is said, with more after it. The only refusal is NoMemory.
+fn with_more(explained: Explained, more: &[u8]) -> Result<Explained, Refusal>
+    ensures verdict { IfOk result (λ whole. whole.is_accepted ≡ explained.is_accepted) }
+    ensures text { IfOk result (λ whole. whole.text.items ≡ explained.text.items ++ more.now) }
+{
+    let mut explained = explained;
+    explained.text.extend_from_slice(more)?;
+    Ok(explained)
 }
 
 /// What is said of a plan, and, where it is accepted, of a checkpoint of its dies.
 fn explained_from<P: Read + Drop, C: Read + Drop>(
     alloc: Global,
     plan: P,
-    from: C,
+    from: Option<C>,
 ) -> Result<Explained, RunFault>
-    ensures said { IfOk result (λ explained.
-        SaysOf (P.remaining plan) explained.is_accepted) }
+    ensures said { IfOk result (λ explained. (said more : List ℕ)
+        × SaysOf (P.remaining plan) explained.is_accepted said
+        × (explained.text.items ≡ said ++ more)) }
 {
     let text = plan_text(alloc, &mut FlaggedReader::new(plan))?;
-    let mut explained = explain(alloc, &text)?;
-    if explained.is_accepted {
-        add_checkpoint(alloc, &text, from, &mut explained.text)?;
-    }
-    Ok(explained)
+    let explained = said_of(alloc, &text)?;
+    let more = more_of(alloc, &text, from, explained.is_accepted)?;
+    Ok(with_more(explained, &more)?)
 }
 
 /// Prints what is said of a plan, and, where it is accepted, of a checkpoint of its dies. Says whether it is accepted.
 fn print_explained_from<P: Read + Drop, C: Read + Drop, W: Output>(
     alloc: Global,
     plan: P,
-    from: C,
+    from: Option<C>,
     out: &mut W,
 ) -> Result<bool, RunFault>
     ensures printed { IfOk result (λ is_accepted.
-        Explains (P.remaining plan) is_accepted (W.contents out.old) (W.contents out.new)) }
+        ExplainsMore (P.remaining plan) is_accepted (W.contents out.old) (W.contents out.new)) }
     ensures part { OnErr result
-        (IsNotWhole W.contents W.has_failed (Says (Explains (P.remaining plan))) out.old out.new) }
+        (IsNotWhole W.contents W.has_failed (Says (ExplainsMore (P.remaining plan))) out.old out.new) }
 {
     let explained = explained_from(alloc, plan, from)?;
     write_whole(out, &explained.text)?;
@@ -110,14 +159,12 @@ fn end_explained<E: Write>(err: &mut E, explained: Result<bool, RunFault>) -> u8
     }
 }
 
-/// Prints what is said of a plan, and of a checkpoint of its dies if there is one, whole. Answers the status: 0 where the
-/// plan is accepted, and 1 where it isn't, or where something was refused, which is reported; nothing was written then,
-/// or not the whole.
+/// Prints what is said of a plan, whole. Answers the status: 0 where the plan is accepted, and 1 where it isn't, or where
+/// something was refused, which is reported; nothing was written then, or not the whole.
 #[tactic(auto, using(crate::proofs::EndedSo::ends_explained))]
-pub fn act_explain<P: Read + Drop, C: Read + Drop, W: Output, E: Write>(
+pub fn act_explain<P: Read + Drop, W: Output, E: Write>(
     alloc: Global,
     plan: P,
-    from: Option<C>,
     out: &mut W,
     err: &mut E,
 ) -> u8
@@ -125,14 +172,24 @@ pub fn act_explain<P: Read + Drop, C: Read + Drop, W: Output, E: Write>(
         out.old out.new
         result }
 {
-    match from {
-        Some(from) => {
-            let explained = print_explained_from(alloc, plan, from, out);
-            end_explained(err, explained)
-        }
-        None => {
-            let said = print_explained(alloc, plan, out);
-            end_said(err, said)
-        }
-    }
+    let said = print_explained(alloc, plan, out);
+    end_said(err, said)
+}
+
+/// Prints what is said of a plan, and of a checkpoint of its dies if there is one, whole. Answers the status, as
+/// [`act_explain`] does.
+#[tactic(auto, using(crate::proofs::EndedSo::ends_explained))]
+pub fn act_explain_from<P: Read + Drop, C: Read + Drop, W: Output, E: Write>(
+    alloc: Global,
+    plan: P,
+    from: Option<C>,
+    out: &mut W,
+    err: &mut E,
+) -> u8
+    ensures { EndsSaying W.contents W.has_failed (ExplainsMore (P.remaining plan)) accepted_status
+        out.old out.new
+        result }
+{
+    let explained = print_explained_from(alloc, plan, from, out);
+    end_explained(err, explained)
 }

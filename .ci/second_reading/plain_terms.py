@@ -1,0 +1,190 @@
+"""A second reading of docs/TEXTS.md and docs/RULES.md: what `flashplan explain` prints of a plan with terms, in plain Python.
+It reads nothing of the program, and looks at each interval of a life. `.ci/second_reading/plays` uses it."""
+
+from second_reading.plain_texts import LAST_SLOT, Refused, is_number, live_of, meets_bound, read_toml
+
+TOP = ["terms", "dies", "blocks", "pages", "erase_slots", "logical", "alpha"]
+NUMBERS = ["die", "cap", "period", "deadline", "held", "work", "writes", "collect_period", "collect_deadline"]
+WRONG = {
+    "ExtraKey": "is none that a plan with terms has there: its keys are terms, dies, blocks, pages, erase_slots, logical, alpha and task; "
+                "in each [[task]] die, cap, period, deadline, held, work, writes, collect_period and collect_deadline",
+    "MissingKey": "is missing",
+    "WrongKind": "has a value of another kind: task is an array of tables, the others are whole numbers from 0 to 4294967295",
+    "BadVersion": "has to be 1",
+}
+SHAPE = "plan: dies has to be from 1 to 8, blocks from 2 to 1024, pages from 2 to 256, erase_slots from 1 to 64."
+BOUND = "it has to have 1 to 16 tasks, an alpha of 1 to pages, caps and logical of at least 1, and to meet its bound; "
+
+
+class Fault(Exception):
+    """Why a plan is refused: its refusal, and what is said of that."""
+
+
+def fault(cause, place):
+    raise Fault(f"PlanText {cause}", f"{place} {WRONG[cause]}.\n")
+
+
+def check_table(table, table_name, keys, numbers):
+    """The first fault of a table: a key too many, a key too few, and then a value of another kind."""
+    if any(key not in keys for key in table):
+        fault("ExtraKey", f"{table_name}: a key")
+    for key in keys:
+        if key not in table:
+            fault("MissingKey", f"{table_name}: {key}")
+    for key in numbers:
+        if not is_number(table[key]):
+            fault("WrongKind", f"{table_name}: {key}")
+
+
+def read_dies(top):
+    """The dies of a plan whose text has no fault, each with its tasks."""
+    if "version" in top:
+        fault("ExtraKey", "plan: version")
+    check_table(top, "plan", TOP + ["task"], TOP)
+    tasks = top["task"]
+    if type(tasks) is not list or not all(isinstance(task, dict) for task in tasks):
+        fault("WrongKind", "plan: task")
+    if top["terms"] != 1:
+        fault("BadVersion", "plan: terms")
+    for nth, task in enumerate(tasks, 1):
+        check_table(task, f"[[task]] {nth}", NUMBERS, NUMBERS)
+    if not (1 <= top["dies"] <= 8 and 2 <= top["blocks"] <= 1_024 and 2 <= top["pages"] <= 256 and 1 <= top["erase_slots"] <= 64):
+        raise Fault("BadShape", SHAPE + "\n")
+    for nth, task in enumerate(tasks, 1):
+        if task["die"] >= top["dies"]:
+            raise Fault("BadPlan", f"[[task]] {nth}: it names a die that isn't there.\n")
+    return [dict(top, tasks=[task for task in tasks if task["die"] == die]) for die in range(top["dies"])]
+
+
+def numbers_text(at, die):
+    lines = [f"die {at}: " + ", ".join(f"{key} {die[key]}" for key in ("blocks", "pages", "erase_slots", "logical", "alpha"))]
+    for i, task in enumerate(die["tasks"]):
+        lines.append(f"die {at} task {i}: " + ", ".join(f"{key} {task[key]}" for key in NUMBERS[1:]))
+    return "".join(line + ".\n" for line in lines)
+
+
+def out_of_limits(task):
+    """What has to be of a task's first number that is out of its limits, or nothing."""
+    held, period = task["held"], task["collect_period"]
+    for is_within, said in (
+        (1 <= task["period"], "period has to be from 1 to 4294967295"),
+        (1 <= task["deadline"], "deadline has to be at least 1"),
+        (task["deadline"] <= held <= LAST_SLOT, "held has to be from deadline to 1048576"),
+        (1 <= task["work"] <= LAST_SLOT, "work has to be from 1 to 1048576"),
+        (task["writes"] <= task["work"], "writes has to be at most work"),
+        (1 <= period <= LAST_SLOT, "collect_period has to be from 1 to 1048576"),
+        (1 <= task["collect_deadline"] <= period, "collect_deadline has to be from 1 to collect_period"),
+    ):
+        if not is_within:
+            return said
+    return None
+
+
+def collection_of(die):
+    return 2 * (die["pages"] - die["alpha"]) + die["erase_slots"]
+
+
+def load_of(die):
+    return sum(task["work"] * 10**6 // task["period"] + collection_of(die) * 10**6 // task["collect_period"]
+               for task in die["tasks"])
+
+
+def demands_of(die):
+    """What may be asked of each number of slots up to a life's."""
+    due = {}
+    for task in die["tasks"]:
+        for amount, period, deadline in ((task["work"], task["period"], task["deadline"]),
+                                         (collection_of(die), task["collect_period"], task["collect_deadline"])):
+            for slots in range(deadline, LAST_SLOT + 1, period):
+                due[slots] = due.get(slots, 0) + amount
+    total, demands = 0, []
+    for slots in sorted(due):
+        total += due[slots]
+        demands.append((slots, total))
+    return demands
+
+
+def least_cap(die, task):
+    """The least cap that covers what a task writes in a period and while a job is held, and two collections."""
+    wanted = task["writes"] * (task["period"] + task["held"]) + 2 * die["alpha"] * task["period"]
+    return -(-wanted // task["period"])
+
+
+def lack_of(die, task):
+    writes, gained = task["writes"], die["alpha"] * task["period"]
+    if writes * task["collect_period"] > gained:
+        most = gained // writes
+        return f"its collections give it less than its jobs write; the greatest collect_period that would do is {most}"
+    if task["cap"] < least_cap(die, task):
+        return f"its cap is too small; the least that would do is {least_cap(die, task)}"
+    return None
+
+
+def bound_text(die):
+    """Which other number of logical pages or of blocks would do."""
+    some = dict(die, logical=1)
+    said = [f"with other logical it would, the greatest being {live_of(some) - 1}" if meets_bound(some)
+            else "with no other logical it would"]
+    would = [blocks for blocks in range(2, 1_025) if meets_bound(dict(die, blocks=blocks))]
+    said.append(f"with other blocks it would, the least being {would[0]}" if would else "with no other blocks it would")
+    return BOUND + "; ".join(said)
+
+
+def fault_of(at, die):
+    """Why a die may not be used, or nothing."""
+    if not meets_bound(die):
+        return f"die {at}: {bound_text(die)}.\n"
+    for i, task in enumerate(die["tasks"]):
+        if said := out_of_limits(task):
+            return f"die {at} task {i}: {said}.\n"
+    if (load := load_of(die)) > 10**6:
+        return f"die {at}: in the long run {load} of each 1000000 slots are asked for: {load - 10**6} missing.\n"
+    for slots, demand in demands_of(die):
+        if demand > slots:
+            return (f"die {at}: an interval of {slots} slots may be asked for {demand}: {demand - slots} missing; "
+                    "no shorter one is overfull.\n")
+    for i, task in enumerate(die["tasks"]):
+        if said := lack_of(die, task):
+            return f"die {at} task {i}: {said}.\n"
+    return None
+
+
+def passing_text(at, die):
+    demands = demands_of(die)
+    slack = min(slots - demand for slots, demand in demands)
+    tight = [(slots, demand) for slots, demand in demands if slots - demand == slack]
+    if len(tight) > 1:
+        raise ValueError(f"die {at}: several intervals are the tightest, and any of them may be named: {tight}")
+    slots, demand = tight[0]
+    lines = [
+        f"die {at}: a collection takes at most {collection_of(die)} slots.",
+        f"die {at}: in the long run {load_of(die)} of each 1000000 slots are asked for.",
+        f"die {at}: the tightest interval has {slots} slots, of which {demand} may be asked for: {slack} to spare.",
+    ]
+    for i, task in enumerate(die["tasks"]):
+        gained, written = die["alpha"] * task["period"], task["writes"] * task["collect_period"]
+        least = least_cap(die, task)
+        lines.append(f"die {at} task {i}: alpha * period is {gained}, and writes * collect_period is {written}: "
+                     f"{gained - written} to spare.")
+        lines.append(f"die {at} task {i}: cap is {task['cap']}, and has to be at least {least}: {task['cap'] - least} to spare.")
+    return numbers_text(at, die) + "".join(line + "\n" for line in lines)
+
+
+def is_terms_text(text):
+    try:
+        return "terms" in read_toml(text)
+    except Refused:
+        return False
+
+
+def explained(text):
+    """The status of `flashplan explain`, and what it prints, of a plan with terms."""
+    try:
+        dies = read_dies(read_toml(text))
+        for at, die in enumerate(dies):
+            if said := fault_of(at, die):
+                raise Fault("BadPlan", numbers_text(at, die) + said)
+    except Fault as refused:
+        refusal, said = refused.args
+        return 1, f"The plan is refused: {refusal}.\n{said}"
+    return 0, "The plan is accepted.\n" + "".join(passing_text(at, die) for at, die in enumerate(dies))
