@@ -13,6 +13,7 @@ use Rattle.text_base.specs.Writing.{IsNotWhole}
 use Rattle.tool_watched_runs.specs.WearText.{IsWearText}
 use Rattle.tool_plan_arrivals.specs.PlannedScripts.{IsPlannedScript}
 use Rattle.tool_plan_design.specs.AcceptedPlans.{IsAccepted}
+use Rattle.tool_plan_design.specs.Findings.{IsExplanation}
 use Rattle.tool_plan_fit.specs.Fits.{IsPlanFor}
 use Rattle.tool_terms_design.specs.Explaining.{ExplainsTerms}
 use Rattle.tool_terms_design.specs.Kinds.{is_terms_text}
@@ -32,10 +33,13 @@ use Rattle.task_script.specs.StoreRuns.{reports_of}
 use Rattle.tool_command_words.specs.declared.asked.Command.{Command}
 use Rattle.tool_command_words.specs.declared.asked.Command.TheVariants as command
 
+-- what is said of the text of a plan without terms, and whether it is accepted
+abbrev pub ExplainsPlan : List ℕ → Bool → List ℕ → Type 0
+ExplainsPlan plan is_accepted said = (IsTrue is_accepted ↔ IsAccepted plan) × IsExplanation plan said
+
 -- what is said of a plan's text, and whether it is accepted: of one with terms, what its tests answer
 abbrev pub SaysText : List ℕ → Bool → List ℕ → Type 0
-SaysText plan is_accepted said =
-    MatchBool (is_terms_text plan) (ExplainsTerms plan is_accepted said) (IsTrue is_accepted ↔ IsAccepted plan)
+SaysText plan is_accepted said = MatchBool (is_terms_text plan) (ExplainsTerms plan is_accepted said) (ExplainsPlan plan is_accepted said)
 
 -- of as much of a plan's text as is read, where the text is known: a longer one is too long
 abbrev pub SaysOf : Option (List ℕ) → Bool → List ℕ → Type 0
