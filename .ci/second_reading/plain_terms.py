@@ -1,4 +1,4 @@
-"""A second reading of docs/TEXTS.md and docs/RULES.md: what `flashplan explain` prints of a plan with terms, in plain Python.
+"""A second reading of docs/FORMATS.md and docs/RULES.md: what `flashplan explain` prints of a plan with terms, in plain Python.
 It reads nothing of the program, and looks at each interval of a life. `.ci/second_reading/plays` uses it."""
 
 from second_reading.plain_texts import LAST_SLOT, Refused, is_number, live_of, meets_bound, read_toml

@@ -1,4 +1,4 @@
-"""A second reading of docs/TEXTS.md and docs/RULES.md: what `flashrec` prints, in plain Python. It reads nothing of the
+"""A second reading of docs/FORMATS.md and docs/RULES.md: what `flashrec` prints, in plain Python. It reads nothing of the
 program, and is slow: a run walks all jobs in each slot that isn't idle. `.ci/second_reading/plays`,
 `chance-texts` and `.ci/bench/loads` use it."""
 

@@ -1,4 +1,4 @@
-/* The report of some dies, as `flashrec audit` reads it (docs/TEXTS.md), made of the answers to questions. */
+/* The report of some dies, as `flashrec audit` reads it (docs/FORMATS.md), made of the answers to questions. */
 #include "maulgreen.h"
 #include <stdbool.h>
 
