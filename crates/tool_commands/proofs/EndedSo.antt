@@ -1,12 +1,14 @@
 -- What was printed or refused is how a command ends.
 use Rattle.std.proofs.Common.{◌≡◌, ◌⊎◌, ℕ, Bool, true, false, List, [], Option, Some, None, Result, Ok, Err, IfOk, IfSome, OnErr, OnOk, is_ok, inl, inr, refl, ap}
-use Rattle.std.specs.Prelude.{if◌then◌else◌}
+use Rattle.std.proofs.Common.{subst, ◌∙◌}
+use Rattle.std.specs.Prelude.{if◌then◌else◌, take}
 use Rattle.slot_types.specs.declared.refusals.Refusal.{Refusal}
 use Rattle.text_base.specs.Writing.{IsNotWhole}
+use Rattle.tool_plan_design.specs.declared.explained.Explained.{Explained}
 use Rattle.tool_plan_fit.specs.Fits.{IsPlanFor}
 use Rattle.tool_plan_fit.specs.declared.faults.FitFault.{FitFault}
 use Rattle.tool_plan_fit.specs.declared.faults.FitFault.TheVariants.{NotFound, Refused, Sheet}
-use Rattle.tool_commands.specs.Acts.{Ends, EndsFit, EndsSaying, IsFoundFor, IsReadOf, IsUnfound, PrintsPlanFor, Says, accepted_status, explained_status}
+use Rattle.tool_commands.specs.Acts.{Ends, EndsFit, EndsSaying, IsFoundFor, IsReadOf, IsUnfound, PrintsPlanFor, Says, SaysOf, SaysText, accepted_status, explained_status}
 use Rattle.tool_commands.specs.Acts.{fit_status, kept_status, verdict_status}
 
 pub ends : {W A E : Type 0} (contents : W → Option (List ℕ)) (has_failed : W → Option Bool)
@@ -43,3 +45,13 @@ ends_fit contents has_failed sheet old new (Err (Sheet fault)) status printed pa
 
 pub found_for : (sheet : Option (List ℕ)) (text plan : List ℕ) → IsReadOf sheet text → IsPlanFor text plan → IsFoundFor sheet plan
 found_for sheet text plan read found = record { text = text; read = read; found = found }
+
+-- what is said of the text that was read is said of the plan's text
+pub says_of : (text : Option (List ℕ)) (read shown : List ℕ) (said : Result Explained Refusal)
+    → IfSome text (λ bytes. read ≡ take 1048577 bytes) → shown ≡ read
+    → IfOk said (λ (e : Explained). SaysText shown e.is_accepted e.text.items)
+    → IfOk said (λ (e : Explained). SaysOf text e.is_accepted e.text.items)
+says_of None read shown (Ok e) is same says = tt
+says_of (Some bytes) read shown (Ok e) is same says =
+    subst (λ (l : List ℕ). SaysText l e.is_accepted e.text.items) (same ∙ is) says
+says_of text read shown (Err r) is same says = tt
