@@ -20,7 +20,7 @@ impl<N: Nand> OngoingDie<N> {
     /// Asks for a job of the task. `Enters`: it is released in the present slot, and due as many slots later as the task's
     /// terms say (`deadline`). `Waits`: it would be due after the present life; so it waits, is released in the first slot
     /// of the next life, and due so many slots after that, which are fewer than twice its deadline from now on. It is done
-    /// by then, whatever the other tasks ask, as long as slots are carried out. Slots are told on the clock of all lives.
+    /// by then, whatever the other tasks ask, as long as slots are carried out. Slots are counted on the clock of all lives.
     ///
     /// The refusals, of which the first that stands is answered, and the die stands as it did: `Ended`, where the whole die
     /// takes nothing more, as [`LifeStop`](crate::LifeStop) lists the causes; `Plan`, for what the task itself asks and has
