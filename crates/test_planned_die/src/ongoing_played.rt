@@ -11,20 +11,28 @@ use std::alloc::Global;
 use std::process::Abort;
 
 /// An answer as tables have it.
-fn numbered(answer: Result<Taken, AskStop>) -> Result<Answer, AskStop> {
-    match answer {
-        Ok(
-            Taken::Enters {
-                release,
-                due,
-                number,
-            },
-        ) => Ok(Answer::Enters {
+fn taken_as(taken: &Taken) -> Answer {
+    match taken {
+        Taken::Enters {
             release,
             due,
+            number,
+        } => Answer::Enters {
+            release: *release,
+            due: *due,
             number: number.0,
-        }),
-        Ok(Taken::Waits { release, due }) => Ok(Answer::Waits { release, due }),
+        },
+        Taken::Waits { release, due } => Answer::Waits {
+            release: *release,
+            due: *due,
+        },
+    }
+}
+
+/// The same, or the refusal.
+fn numbered(answer: Result<Taken, AskStop>) -> Result<Answer, AskStop> {
+    match answer {
+        Ok(taken) => Ok(taken_as(&taken)),
         Err(refusal) => Err(refusal),
     }
 }
