@@ -15,11 +15,19 @@ mod dies;
 #[cfg(test)]
 mod faults;
 #[cfg(test)]
+mod going_on;
+#[cfg(test)]
 mod lives;
 #[cfg(test)]
 mod loud_tasks;
 #[cfg(test)]
 mod memory;
+#[cfg(test)]
+mod ongoing_dies;
+#[cfg(test)]
+mod ongoing_played;
+#[cfg(test)]
+mod ongoing_steps;
 #[cfg(test)]
 mod plans;
 #[cfg(test)]

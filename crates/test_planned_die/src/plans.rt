@@ -5,10 +5,11 @@ use demand_rules::{TaskTerms, Terms, TermsList};
 use slot_types::{Caps, DiePlan, Refusal, Shape};
 use std::alloc::Global;
 
-/// A plan, by the terms and the cap of its first task.
+/// A plan, by terms and the cap of its first task.
 #[derive(Clone, Copy, Drop)]
 pub(crate) struct Plan {
     pub(crate) period: u32,
+    pub(crate) deadline: u32,
     pub(crate) cap: u32,
     /// The most slots of a life.
     pub(crate) longest: u32,
@@ -24,6 +25,7 @@ pub(crate) const SHAPE: Shape = Shape {
 /// come to 7.6 pages.
 pub(crate) const PLAN: Plan = Plan {
     period: 10,
+    deadline: 6,
     cap: 8,
     longest: 95,
 };
@@ -56,8 +58,8 @@ impl Plan {
     pub(crate) fn terms(self, alloc: Global) -> Result<Terms, Refusal> {
         let first = TaskTerms {
             period: self.period,
-            deadline: 6,
-            held: 6,
+            deadline: self.deadline,
+            held: self.deadline,
             work: 2,
             writes: 1,
             collect_period: 20,

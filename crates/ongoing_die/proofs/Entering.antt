@@ -1,0 +1,154 @@
+-- An ask of the die below is a move of its log; and what waited is entered task by task.
+use Rattle.std.proofs.Common.{◌≡◌, ℕ, zero, suc, ◌+◌, ◌<◌, ◌≤◌, true, false, List, [], ◌∷◌, length, map, drop, get_or, set, Option, None, Some, Result, Ok, Err}
+use Rattle.std.proofs.Common.{◌++◌, take, vec_capacity, refl, ap, sym, ◌∙◌, inl, inr, arith, add-one}
+use Rattle.std.proofs.lemmas.Bool.{true≢false}
+use Rattle.std.proofs.lemmas.List.{drop_more, get_or-map, length-map, map-set}
+use Rattle.slot_types.specs.declared.events.Op.{Op}
+use Rattle.slot_types.specs.declared.replies.Reply.{Reply}
+use Rattle.demand_rules.specs.declared.terms.Terms.{Terms}
+use Rattle.die_log.specs.Model.Log.{Log}
+use Rattle.die_log.specs.Model.Start.{Start}
+use Rattle.die_log.specs.Model.Lives.{Lives}
+use Rattle.die_log.specs.Model.Answers.{with_answer}
+use Rattle.slot_core.specs.Core.{Core}
+use Rattle.planned_log.specs.declared.refusals.AskRefusal.{AskRefusal}
+use Rattle.planned_log.specs.Asks.{asked_job}
+use Rattle.planned_log.specs.Moves.{Ask, after_ask, after_move, after_moves}
+use Rattle.planned_log.specs.Ongoing.{WaitingAsk, asks_of}
+use Rattle.planned_die.specs.Planned.{Planned}
+use Rattle.planned_die.specs.PlannedCalls.{IsAsk}
+use Rattle.ongoing_die.specs.declared.waiting.Waiting.{Waiting}
+use Rattle.ongoing_die.specs.Standing.{ask_in}
+use Rattle.ongoing_die.specs.Entering.{after_one, IsSameDie}
+
+pub same_die : {N : Type 0} (one two three : Planned N) → IsSameDie one two → IsSameDie two three → IsSameDie one three
+same_die one two three a b = record {
+  start = b.start ∙ a.start;
+  device = b.device ∙ a.device;
+  stopped = b.stopped ∙ a.stopped;
+  terms = b.terms ∙ a.terms;
+  life = b.life ∙ a.life;
+  entered = b.entered ∙ a.entered;
+  first = b.first ∙ a.first;
+}
+
+pub itself : {N : Type 0} (one : Planned N) → IsSameDie one one
+itself one = record { start = refl; device = refl; stopped = refl; terms = refl; life = refl; entered = refl; first = refl }
+
+module _ {N : Type 0} (caller task : ℕ) (ops : List Op) (earlier : Lives) (before after : Planned N) where
+  -- it leaves the die but for its log
+  pub asked_same : (result : Result ℕ AskRefusal) → IsAsk caller task ops earlier result before after → IsSameDie before after
+  asked_same (Ok number) h = record {
+    start = ap (λ (c : Core N). c.start) h.entered.logged;
+    device = ap (λ (c : Core N). c.device) h.entered.logged;
+    stopped = ap (λ (c : Core N). c.stopped) h.entered.logged;
+    terms = ap (λ (d : Planned N). d.terms) h.stays;
+    life = ap (λ (d : Planned N). d.life) h.stays;
+    entered = ap (λ (d : Planned N). d.entered) h.stays;
+    first = ap (λ (d : Planned N). d.first) h.stays;
+  }
+  asked_same (Err refusal) h = record {
+    start = ap (λ (d : Planned N). d.core.start) h.0;
+    device = ap (λ (d : Planned N). d.core.device) h.0;
+    stopped = ap (λ (d : Planned N). d.core.stopped) h.0;
+    terms = ap (λ (d : Planned N). d.terms) h.0;
+    life = ap (λ (d : Planned N). d.life) h.0;
+    entered = ap (λ (d : Planned N). d.entered) h.0;
+    first = ap (λ (d : Planned N). d.first) h.0;
+  }
+
+  abbrev start : Start
+  start = before.core.start
+
+  abbrev log : Log
+  log = before.core.log
+
+  -- the log is that after this move, whatever is answered
+  pub asked_log : (result : Result ℕ AskRefusal) → before.core.stopped ≡ false → IsAsk caller task ops earlier result before after
+      → after.core.log ≡ after_move start before.terms earlier before.life log (Ask caller task ops)
+  asked_log (Ok number) runs h =
+      ap (λ (c : Core N). c.log) h.entered.logged
+      ∙ (sym (ap (λ (r : Reply). with_answer caller (asked_job before.terms log task ops) r log) h.entered.answered)
+      ∙ sym (ap (λ (o : Option AskRefusal). after_ask start before.terms log caller task ops o) h.unrefused))
+  asked_log (Err refusal) runs h = elim h.1 [
+    | inl stopped ↦ absurd (true≢false (sym stopped.0 ∙ runs))
+    | inr refused ↦ ap (λ (d : Planned N). d.core.log) h.0
+        ∙ sym (ap (λ (o : Option AskRefusal). after_ask start before.terms log caller task ops o) refused.1)
+  ]
+
+-- what waited from a task on
+pub entered_one : (start : Start) (terms : Terms) (earlier : Lives) (life : ℕ) (log : Log) (task : ℕ) (w : Option WaitingAsk) (rest : List (Option WaitingAsk))
+    → after_moves start terms earlier life log (asks_of task (w ∷ rest))
+    ≡ after_moves start terms earlier life (after_one start terms earlier life log task w) (asks_of (task + 1) rest)
+entered_one _ _ _ _ _ _ None _ = refl
+entered_one _ _ _ _ _ _ (Some w) _ = refl
+
+pub entered_more : (start : Start) (terms : Terms) (earlier : Lives) (life : ℕ) (ws : List (Option WaitingAsk)) (i : ℕ) (log next : Log) → i < length ws
+    → next ≡ after_one start terms earlier life log i (get_or ws i None)
+    → after_moves start terms earlier life next (asks_of (i + 1) (drop (i + 1) ws)) ≡ after_moves start terms earlier life log (asks_of i (drop i ws))
+entered_more start terms earlier life ws i log next lt e =
+    ap (λ (l : Log). after_moves start terms earlier life l (asks_of (i + 1) (drop (i + 1) ws))) e
+    ∙ (sym (entered_one start terms earlier life log i (get_or ws i None) (drop (i + 1) ws))
+    ∙ ap (λ (l : List (Option WaitingAsk)). after_moves start terms earlier life log (asks_of i l)) (sym (drop_more ws i None lt)))
+
+-- of the first tasks none waits any more
+abbrev pub cleared : ℕ → List (Option WaitingAsk) → List (Option WaitingAsk)
+cleared i ws = map (λ w. None) (take i ws) ++ drop i ws
+
+cleared_at : (ws : List (Option WaitingAsk)) (i : ℕ) → get_or (cleared i ws) i None ≡ get_or ws i None
+cleared_at [] zero = refl
+cleared_at [] (suc i) = refl
+cleared_at (w ∷ ws) zero = refl
+cleared_at (w ∷ ws) (suc i) = cleared_at ws i
+
+cleared_next : (ws : List (Option WaitingAsk)) (i : ℕ) → set (cleared i ws) i None ≡ cleared (suc i) ws
+cleared_next [] zero = refl
+cleared_next [] (suc i) = refl
+cleared_next (w ∷ ws) zero = refl
+cleared_next (w ∷ ws) (suc i) = ap (λ (l : List (Option WaitingAsk)). None ∷ l) (cleared_next ws i)
+
+cleared_all : (ws : List (Option WaitingAsk)) (i : ℕ) → length ws ≤ i → cleared i ws ≡ map (λ w. None) ws
+cleared_all [] zero le = refl
+cleared_all [] (suc i) le = refl
+cleared_all (w ∷ ws) zero le = absurd (omega (arith, le))
+cleared_all (w ∷ ws) (suc i) le = ap (λ (l : List (Option WaitingAsk)). None ∷ l) (cleared_all ws i (omega (arith, le)))
+
+same_length : (ws : List (Option WaitingAsk)) (i : ℕ) → length (cleared i ws) ≡ length ws
+same_length [] zero = refl
+same_length [] (suc i) = refl
+same_length (w ∷ ws) zero = refl
+same_length (w ∷ ws) (suc i) = ap suc (same_length ws i)
+
+pub as_many : (kept left : List Waiting) (i : ℕ) → map ask_in left ≡ cleared i (map ask_in kept) → length left ≡ length kept
+as_many kept left i is = omega (arith, length-map left ask_in, ap length is, length-map kept ask_in, same_length (map ask_in kept) i)
+
+-- one more, in the lists that are kept of it
+module _ (kept left : List Waiting) (i : ℕ) (is : map ask_in left ≡ cleared i (map ask_in kept)) where
+  pub here_waits : (w : Waiting) → i < length kept → w ≡ get_or left i w → ask_in w ≡ get_or (map ask_in kept) i None
+  here_waits w lt e =
+      ap ask_in e
+      ∙ (sym (get_or-map ask_in left i w None lt_left)
+      ∙ (ap (λ l. get_or l i None) is ∙ cleared_at (map ask_in kept) i))
+    where
+      lt_left : i < length left
+      lt_left = omega (arith, lt, as_many kept left i is)
+
+  pub then_left : (w : Waiting) → ask_in w ≡ None → map ask_in (set left i w) ≡ cleared (i + 1) (map ask_in kept)
+  then_left w none =
+      map-set ask_in left i w
+      ∙ (ap (λ v. set (map ask_in left) i v) none
+      ∙ (ap (λ l. set l i None) is
+      ∙ (cleared_next (map ask_in kept) i ∙ ap (λ n. cleared n (map ask_in kept)) (sym (add-one i)))))
+
+pub all_left : (kept left : List Waiting) (i : ℕ) → length kept ≤ i → map ask_in left ≡ cleared i (map ask_in kept)
+    → map ask_in left ≡ map (λ w. None) (map ask_in kept)
+all_left kept left i le is = is ∙ cleared_all (map ask_in kept) i (omega (arith, le, length-map kept ask_in))
+
+-- and their memory
+pub rooms_stay : (xs : List Waiting) (i : ℕ) (w old : Waiting) → i < length xs → old ≡ get_or xs i old → vec_capacity w.ops ≡ vec_capacity old.ops
+    → (task : ℕ) (d : Waiting) → vec_capacity (get_or (set xs i w) task d).ops ≡ vec_capacity (get_or xs task d).ops
+rooms_stay [] i w old lt is e task d = refl
+rooms_stay (x ∷ xs) zero w old lt is e zero d = e ∙ ap (λ (v : Waiting). vec_capacity v.ops) is
+rooms_stay (x ∷ xs) zero w old lt is e (suc task) d = refl
+rooms_stay (x ∷ xs) (suc i) w old lt is e zero d = refl
+rooms_stay (x ∷ xs) (suc i) w old lt is e (suc task) d = rooms_stay xs i w old (omega (arith, lt)) is e task d

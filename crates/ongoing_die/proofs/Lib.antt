@@ -1,0 +1,9 @@
+mod TermsOf
+mod Entering
+mod Standings
+mod NextLives
+mod Asking
+mod CarriedSlots
+mod NewDies
+mod Rooms
+mod AskEnds

@@ -1,0 +1,99 @@
+-- What stands of a die over all its lives.
+use Rattle.std.proofs.Common.{◌≡◌, ℕ, ◌+◌, ◌<◌, ◌≤◌, ◌==◌, Bool, true, false, List, [], ◌∷◌, length, Option, None, Some, refl, ap, sym, subst, ◌∙◌, arith}
+use Rattle.std.proofs.lemmas.List.Sums.{sum_by-cons}
+use Rattle.std.proofs.lemmas.Bool.Decides.{nat_tests}
+use Rattle.slot_types.specs.declared.events.Op.{Op}
+use Rattle.slot_types.specs.declared.events.Event.TheVariants as events
+use Rattle.slot_types.specs.declared.refusals.Refusal.{Refusal}
+use Rattle.demand_rules.specs.declared.terms.Terms.{Terms}
+use Rattle.demand_rules.specs.Demand.{terms_of}
+use Rattle.die_log.specs.Model.Log.{Log, now}
+use Rattle.die_log.specs.Model.Start.{Start}
+use Rattle.die_log.specs.Model.Lives.{Lives, all_slots, start_after, HaveEnded}
+use Rattle.die_log.specs.Model.Answers.{answer, answer_by, refusal_of, with_answer, after_call}
+use Rattle.planned_log.specs.declared.refusals.AskRefusal.{AskRefusal}
+use Rattle.planned_log.specs.Asks.{ask_refusal}
+use Rattle.planned_log.specs.Moves.{Ask, after_ask, after_move, after_moves}
+use Rattle.planned_log.specs.Ongoing.{Ongoing, WaitingAsk, asks_of, start_of, next_life, going_on, WereInTime, IsOngoing}
+use Rattle.planned_die.specs.Planned.{HasLived}
+use Rattle.ongoing_die.specs.Standing.{OngoingParts, standing, StandsAs}
+
+-- in a life that hasn't ended
+pub not_ended : (first : Start) (terms : Terms) (life : ℕ) (d : Ongoing) → now d.log < life → going_on first terms life d ≡ d
+not_ended first terms life d lt =
+    let away : (now d.log == life) ≡ false = grind (arith, nat_tests, lt) in
+    rw away refl
+
+-- and in one that has
+pub has_ended : (first : Start) (terms : Terms) (life : ℕ) (d : Ongoing) → now d.log ≡ life → going_on first terms life d ≡ next_life first terms life d
+has_ended first terms life d over =
+    let there : (now d.log == life) ≡ true = grind (arith, nat_tests, over) in
+    rw there refl
+
+module _ {N : Type 0} (first : Start) (d : Ongoing) (parts : OngoingParts N) where
+  -- within a life the die stands as its parts say
+  pub within : (s : StandsAs first d parts) → parts.die.core.stopped ≡ false → now parts.die.core.log < parts.die.life → d ≡ standing parts s.earlier
+  within s runs lt = (s.runs runs).stands ∙ not_ended first parts.die.terms parts.die.life (standing parts s.earlier) lt
+
+  -- what its parts say keeps the plan
+  pub stands_in : (earlier : Lives) → HasLived parts.die earlier → parts.die.core.start ≡ start_after first earlier → d ≡ standing parts earlier
+      → IsOngoing first parts.die.terms parts.die.life d → parts.die.entered ≡ 0 → StandsAs first d parts
+  stands_in earlier lived starts is k whole = record {
+    earlier = earlier;
+    lived = lived;
+    starts = starts;
+    ended = subst (λ (e : Ongoing). HaveEnded first e.earlier) is k.ended;
+    were = subst (λ (e : Ongoing). WereInTime first parts.die.life e.earlier) is k.were;
+    one_each = ap (λ (e : Ongoing). length e.waiting) (sym is)
+        ∙ (k.tasks ∙ (ap (λ (e : Ongoing). length (start_of first e).plan.caps) is ∙ ap (λ (s : Start). length s.plan.caps) (sym starts)));
+    runs = λ runs. record {
+      stands = is ∙ sym (not_ended first parts.die.terms parts.die.life (standing parts earlier)
+          (subst (λ (e : Ongoing). now e.log < parts.die.life) is k.goes_on));
+      goes_on = k;
+      whole = whole;
+    };
+  }
+
+-- The clock
+
+-- no ask carries a slot out
+asked_now : (start : Start) (log : Log) (caller task release due : ℕ) (ops : List Op)
+    → now (after_call start log (caller, events.Submit task release due ops)) ≡ now log
+unfolding answer
+asked_now start log caller task release due ops = by (refusal_of start log (events.Submit task release due ops))
+  where
+    by : (o : Option Refusal) → now (with_answer caller (events.Submit task release due ops) (answer_by start log (events.Submit task release due ops) o) log) ≡ now log
+    by None = refl
+    by (Some refusal) = refl
+
+entered_now : (start : Start) (terms : Terms) (earlier : Lives) (life n : ℕ) (ws : List (Option WaitingAsk)) (log : Log)
+    → now (after_moves start terms earlier life log (asks_of n ws)) ≡ now log
+entered_now start terms earlier life n [] log = refl
+entered_now start terms earlier life n (None ∷ ws) log = entered_now start terms earlier life (n + 1) ws log
+entered_now start terms earlier life n (Some w ∷ ws) log =
+    entered_now start terms earlier life (n + 1) ws (after_move start terms earlier life log (Ask w.caller n w.ops))
+    ∙ by (ask_refusal start.plan terms life earlier log n w.ops)
+  where
+    by : (o : Option AskRefusal) → now (after_ask start terms log w.caller n w.ops o) ≡ now log
+    by None = asked_now start log w.caller n (now log) (now log + (terms_of terms n).deadline) w.ops
+    by (Some refusal) = refl
+
+-- the next life begins in the slot in which the one before ended
+same_slot : (first : Start) (terms : Terms) (life : ℕ) (d : Ongoing) (b : Bool) → (now d.log == life) ≡ b
+    → all_slots (going_on first terms life d).earlier + now (going_on first terms life d).log ≡ all_slots d.earlier + now d.log
+same_slot first terms life d true e =
+    let lives : Lives = d.log ∷ d.earlier in
+    rw e (omega (arith, sum_by-cons now d.log d.earlier, entered_now (start_after first lives) terms lives life 0 d.waiting []))
+same_slot first terms life d false e = rw e refl
+
+pub clock_is : {N : Type 0} (first : Start) (d : Ongoing) (parts : OngoingParts N) → StandsAs first d parts → parts.die.core.stopped ≡ false
+    → parts.die.first + now parts.die.core.log ≡ all_slots d.earlier + now d.log
+clock_is first d parts s runs =
+    let here : Ongoing = standing parts s.earlier in
+    ap (λ n. n + now parts.die.core.log) s.lived.began
+    ∙ (sym (same_slot first parts.die.terms parts.die.life here (now parts.die.core.log == parts.die.life) refl)
+    ∙ sym (ap (λ (e : Ongoing). all_slots e.earlier + now e.log) (s.runs runs).stands))
+
+-- there are few tasks
+pub few_wait : {N : Type 0} (first : Start) (d : Ongoing) (parts : OngoingParts N) → StandsAs first d parts → length parts.waiting ≤ 16
+few_wait first d parts s = omega (arith, s.one_each, s.lived.kept.opens.bound.limits.few_tasks)

@@ -1,0 +1,4 @@
+pub mod Standing
+pub mod Entering
+pub mod OngoingCalls
+pub mod OngoingPlans

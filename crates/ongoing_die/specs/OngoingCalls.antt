@@ -1,0 +1,109 @@
+-- What a die that goes on by itself answers, and what it leaves.
+use Rattle.std.specs.Prelude.{◌≡◌, ℕ, ◌<◌, Bool, true, false, ◌∷◌, List, Option, Some, None, Result, Ok, Err}
+use Rattle.slot_types.specs.declared.events.Op.{Op}
+use Rattle.slot_types.specs.declared.refusals.Refusal.{Refusal}
+use Rattle.slot_types.specs.declared.refusals.Refusal.TheVariants as because
+use Rattle.slot_types.specs.declared.replies.Reply.TheVariants as replies
+use Rattle.slot_types.specs.declared.replies.SlotReply.{SlotReply}
+use Rattle.flash_die.specs.declared.nand.NandCall.{NandCall}
+use Rattle.die_log.specs.Model.Log.{now}
+use Rattle.die_log.specs.Model.Start.{Start}
+use Rattle.slot_core.specs.Core.{with_entry}
+use Rattle.planned_log.specs.Asks.{asked_job}
+use Rattle.planned_log.specs.Moves.{Ask, Slot}
+use Rattle.planned_log.specs.Ongoing.{Ongoing, Answer, answer_to, ongoing_after_move}
+use Rattle.planned_log.specs.Ongoing.{Enters, Waits, Refused, WaitsAlready}
+use Rattle.planned_die.specs.declared.refusals.LifeRefusal.TheVariants as lives
+use Rattle.planned_die.specs.PlannedCalls.{IsSlot, RefusesLife}
+use Rattle.ongoing_die.specs.declared.answers.Taken.{Taken}
+use Rattle.ongoing_die.specs.declared.answers.Taken.TheVariants as taken
+use Rattle.ongoing_die.specs.declared.refusals.LifeStop.{LifeStop}
+use Rattle.ongoing_die.specs.declared.refusals.LifeStop.TheVariants as stops
+use Rattle.ongoing_die.specs.declared.refusals.AskStop.{AskStop}
+use Rattle.ongoing_die.specs.declared.refusals.AskStop.TheVariants as asks
+use Rattle.ongoing_die.specs.declared.refusals.SlotStop.{SlotStop}
+use Rattle.ongoing_die.specs.declared.refusals.SlotStop.TheVariants as slots
+use Rattle.ongoing_die.specs.Standing.{OngoingParts, StandsAs}
+
+-- The next life
+
+-- Why the die takes nothing more: a fault has stopped it; or its life has ended, and the next one can't begin.
+abbrev pub HasStopped : {N : Type 0} → OngoingParts N → LifeStop → Type 0
+HasStopped parts stops.DieStopped = RefusesLife parts.die lives.DieStopped
+HasStopped parts stops.ClockEnd = RefusesLife parts.die lives.ClockEnd
+HasStopped parts (stops.WornOut block) = RefusesLife parts.die (lives.WornOut block)
+
+-- its plan stays the same, and how long its lives are
+pub record HaveOnePlan {N : Type 0} (before after : OngoingParts N) : Type 0 where
+  pub terms : after.die.terms ≡ before.die.terms
+  pub life : after.die.life ≡ before.die.life
+
+-- The die runs in a life that goes on. If its life had ended, the next one has begun with what waited. So it stands as it
+-- did, and the device has had no call.
+pub record HasBegun {N : Type 0} (first : Start) (d : Ongoing) (before after : OngoingParts N) : Type 0 where
+  pub ran : before.die.core.stopped ≡ false
+  pub runs : after.die.core.stopped ≡ false
+  pub stands : StandsAs first d after
+  pub early : now after.die.core.log < after.die.life
+  pub plan : HaveOnePlan before after
+  pub device : after.die.core.device ≡ before.die.core.device
+
+-- Asks
+
+-- the answer, as the rules have it
+abbrev pub told : Taken → Answer
+told (taken.Enters release due number) = Enters release due
+told (taken.Waits release due) = Waits release due
+
+-- an accepted job is the next entry of the log, and has its number
+abbrev pub IsNumbered : {N : Type 0} → ℕ → ℕ → List Op → Ongoing → Taken → OngoingParts N → Type 0
+IsNumbered caller task ops d (taken.Enters release due number) after =
+    after.die.core.log ≡ with_entry caller (asked_job after.die.terms d.log task ops) (replies.Taken number) d.log
+IsNumbered caller task ops d (taken.Waits release due) after = after.die.core.log ≡ d.log
+
+-- it is answered by the rules, and the die stands as after this move
+pub record HasTaken {N : Type 0} (caller task : ℕ) (ops : List Op) (first : Start) (d : Ongoing) (answer : Taken) (before after : OngoingParts N) : Type 0 where
+  pub ran : before.die.core.stopped ≡ false
+  pub answered : answer_to first before.die.terms before.die.life d task ops ≡ told answer
+  pub stands : StandsAs first (ongoing_after_move first before.die.terms before.die.life d (Ask caller task ops)) after
+  pub numbered : IsNumbered caller task ops d answer after
+
+-- Why it is refused: the whole die takes none, and nothing changes; or by the rules, and the die stands as it did, and as
+-- after this move. Memory is no cause.
+abbrev pub RefusesAsk : {N : Type 0} → ℕ → List Op → Start → Ongoing → AskStop → OngoingParts N → OngoingParts N → Type 0
+RefusesAsk task ops first d (asks.Ended stop) before after = HasStopped before stop × (after ≡ before)
+RefusesAsk task ops first d (asks.Plan refusal) before after =
+    (answer_to first before.die.terms before.die.life d task ops ≡ Refused refusal) × HasBegun first d before after
+RefusesAsk task ops first d asks.WaitsAlready before after =
+    (answer_to first before.die.terms before.die.life d task ops ≡ WaitsAlready) × HasBegun first d before after
+
+abbrev pub IsOngoingAsk : {N : Type 0} → ℕ → ℕ → List Op → Start → Ongoing → Result Taken AskStop → OngoingParts N → OngoingParts N → Type 0
+IsOngoingAsk caller task ops first d (Ok answer) before after = HasTaken caller task ops first d answer before after
+IsOngoingAsk caller task ops first d (Err refusal) before after = RefusesAsk task ops first d refusal before after
+
+-- Slots
+
+-- in a life that goes on the slot is carried out as one of the die below, and the die stands as after this move
+pub record HasCarried {N : Type 0} (ends : N → NandCall → Bool → N → Type 0) (failures : N → ℕ) (never : Bool) (caller : ℕ) (first : Start)
+    (d : Ongoing) (reply : SlotReply) (before after : OngoingParts N) : Type 0 where
+  pub between : OngoingParts N
+  pub begun : HasBegun first d before between
+  pub carried : IsSlot ends failures never caller (Ok reply) between.die after.die
+  pub stands : StandsAs first (ongoing_after_move first before.die.terms before.die.life d (Slot caller)) after
+  pub runs : after.die.core.stopped ≡ false
+
+-- in a life that goes on the device fails once the collections of the slot have come, which stops the die; the lives before
+-- are as they were
+pub record HasFailed {N : Type 0} (ends : N → NandCall → Bool → N → Type 0) (failures : N → ℕ) (never : Bool) (caller : ℕ) (first : Start)
+    (d : Ongoing) (before after : OngoingParts N) : Type 0 where
+  pub between : OngoingParts N
+  pub begun : HasBegun first d before between
+  pub failed : IsSlot ends failures never caller (Err because.DeviceFault) between.die after.die
+  pub stands : StandsAs first d after
+  pub stops : after.die.core.stopped ≡ true
+
+abbrev pub IsOngoingSlot : {N : Type 0} → (N → NandCall → Bool → N → Type 0) → (N → ℕ) → Bool → ℕ → Start → Ongoing → Result SlotReply SlotStop
+    → OngoingParts N → OngoingParts N → Type 0
+IsOngoingSlot ends failures never caller first d (Ok reply) before after = HasCarried ends failures never caller first d reply before after
+IsOngoingSlot ends failures never caller first d (Err (slots.Ended stop)) before after = HasStopped before stop × (after ≡ before)
+IsOngoingSlot ends failures never caller first d (Err slots.DeviceFault) before after = HasFailed ends failures never caller first d before after

@@ -1,0 +1,74 @@
+//! Asks of tasks.
+
+ghost use Rattle.std.specs.Prelude.{};
+ghost use Rattle.die_log.specs.Model.Start.{Start};
+ghost use Rattle.planned_log.specs.Ongoing.{Ongoing};
+ghost use Rattle.ongoing_die.specs.Standing.{StandsAs};
+ghost use Rattle.ongoing_die.specs.OngoingCalls.{IsOngoingAsk, HaveOnePlan};
+
+use crate::answers::Taken;
+use crate::lengths::deadline_of;
+use crate::ongoing_die::OngoingDie;
+use crate::refusals::AskStop;
+use crate::waiting::keep_waiting;
+use flash_die::Nand;
+use planned_log::{AskRefusal, a_die_goes_on_by_itself};
+use slot_types::{Op, TaskNo};
+use std::alloc::Global;
+
+impl<N: Nand> OngoingDie<N> {
+    /// Asks for a job of the task. `Enters`: it is released in the present slot, and due as many slots later as the task's
+    /// terms say (`deadline`). `Waits`: it would be due after the present life; so it waits, is released in the first slot
+    /// of the next life, and due so many slots after that, which are fewer than twice its deadline from now on. It is done
+    /// by then, whatever the other tasks ask, as long as slots are carried out. Slots are counted on the clock of all lives.
+    ///
+    /// The refusals, of which the first that stands is answered, and the die stands as it did: `Ended`, where the whole die
+    /// takes nothing more, as [`LifeStop`](crate::LifeStop) lists the causes; `Plan`, for what the task itself asks and has
+    /// asked for, as [`PlannedDie::ask`](planned_die::PlannedDie::ask) lists the causes, without `DieStopped` and
+    /// `LifeEnd`; `WaitsAlready`, where it would wait, and an ask of the task does. There is no other: tokens, numbers,
+    /// deadlines and memory are never lacking, and it takes no memory.
+    pub fn ask(
+        &mut self,
+        alloc: Global,
+        caller: u32,
+        task: TaskNo,
+        ops: &[Op],
+    ) -> Result<Taken, AskStop>
+        ensures ask { (first : Start) (d : Ongoing) → StandsAs first d self.old
+            → IsOngoingAsk caller task ops.now first d result self.old self.new }
+        ensures plan { HaveOnePlan self.old self.new }
+    {
+        match self.go_on(alloc) {
+            Ok(()) => {}
+            Err(stop) => return Err(AskStop::Ended(stop)),
+        }
+        a_die_goes_on_by_itself();
+        let own = task.0 as usize;
+        let deadline = u64::from(deadline_of(self.die.terms(), own));
+        match self.die.ask(alloc, caller, task, ops) {
+            Ok(number) => {
+                let release = self.die.first() + u64::from(self.die.now());
+                Ok(Taken::Enters {
+                    release,
+                    due: release + deadline,
+                    number,
+                })
+            }
+            Err(refusal) => {
+                match refusal {
+                    AskRefusal::LifeEnd => {}
+                    _ => return Err(AskStop::Plan(refusal)),
+                }
+                if self.waiting[own].waits {
+                    return Err(AskStop::WaitsAlready);
+                }
+                keep_waiting(&mut self.waiting, own, caller, ops);
+                let release = self.die.first() + u64::from(self.die.life());
+                Ok(Taken::Waits {
+                    release,
+                    due: release + deadline,
+                })
+            }
+        }
+    }
+}

@@ -1,0 +1,45 @@
+//! How long the jobs of a task take at most, and how large they are; whether lives are long enough for them.
+
+ghost use Rattle.std.specs.Prelude.{◌≡◌, ◌≤◌, ◌<◌, ℕ, length, IfSome, IfNone};
+ghost use Rattle.demand_rules.specs.Demand.{terms_of};
+ghost use Rattle.planned_log.specs.Asks.{most_operations};
+ghost use Rattle.ongoing_die.specs.OngoingPlans.{IsFirstTooLate};
+
+use demand_rules::Terms;
+use slot_types::MAX_OPS;
+
+/// After how many slots a job of the task is due; of a task that the plan doesn't have it is 0.
+pub(crate) fn deadline_of(terms: &Terms, task: usize) -> u32
+    ensures { result ≡ (terms_of terms.now task).deadline }
+{
+    match terms.tasks.get(task) {
+        Some(own) => own.deadline,
+        None => 0,
+    }
+}
+
+/// The most operations that an ask of the task has; of a task that the plan doesn't have it is 0.
+pub(crate) fn most_of(terms: &Terms, task: usize) -> u32
+    ensures { result ≡ most_operations (terms_of terms.now task) }
+{
+    match terms.tasks.get(task) {
+        Some(own) if own.work > MAX_OPS => MAX_OPS,
+        Some(own) => own.work,
+        None => 0,
+    }
+}
+
+/// The first task whose deadline is longer than a life of so many slots, if there is one.
+pub(crate) fn first_too_late(terms: &Terms, life: u32) -> Option<u32>
+    requires few { length terms.now.tasks ≤ 16 }
+    ensures some { IfSome result (IsFirstTooLate terms.now life) }
+    ensures none { IfNone result ((task : ℕ) → task < length terms.now.tasks
+        → (terms_of terms.now task).deadline ≤ life) }
+{
+    for task in 0..terms.tasks.len() {
+        if deadline_of(terms, task) > life {
+            return Some(task as u32);
+        }
+    }
+    None
+}

@@ -1,0 +1,82 @@
+//! The next life, which begins with the first call after the end of the one before.
+
+ghost use Rattle.std.specs.Prelude.{◌≡◌, ◌≤◌, ◌<◌, ℕ, false, None, length, map, vec_capacity, slice_index_or, OnOk, OnErr, IfErr};
+ghost use Rattle.die_log.specs.Model.Log.{now};
+ghost use Rattle.die_log.specs.Model.Start.{Start};
+ghost use Rattle.die_log.specs.Model.Lives.{Lives};
+ghost use Rattle.planned_log.specs.Moves.{after_moves};
+ghost use Rattle.planned_log.specs.Ongoing.{Ongoing, asks_of};
+ghost use Rattle.planned_die.specs.Planned.{HasLived};
+ghost use Rattle.ongoing_die.specs.declared.waiting.Waiting.{Waiting};
+ghost use Rattle.ongoing_die.specs.Standing.{ask_in, StandsAs};
+ghost use Rattle.ongoing_die.specs.OngoingCalls.{HasStopped, HasBegun, HaveOnePlan};
+ghost use Rattle.ongoing_die.specs.Entering.{after_one, IsSameDie};
+
+use crate::ongoing_die::OngoingDie;
+use crate::refusals::LifeStop;
+use crate::waiting::Waiting;
+use flash_die::Nand;
+use planned_die::{LifeRefusal, PlannedDie};
+use slot_types::TaskNo;
+use std::alloc::Global;
+
+/// Enters the ask of a task that waited, if one did.
+fn enter_one<N: Nand>(die: &mut PlannedDie<N>, alloc: Global, task: u32, waiting: &mut Waiting)
+    requires runs { die.old.core.stopped ≡ false }
+    ensures log { (earlier : Lives) → HasLived die.old earlier
+        → die.new.core.log ≡ after_one die.old.core.start die.old.terms earlier die.old.life die.old.core.log task (ask_in waiting.old) }
+    ensures lived { (earlier : Lives) → HasLived die.old earlier → HasLived die.new earlier }
+    ensures same { IsSameDie die.old die.new }
+    ensures none { ask_in waiting.new ≡ None }
+    ensures room { vec_capacity waiting.new.ops ≡ vec_capacity waiting.old.ops }
+{
+    die.keeps_plan();
+    if !waiting.waits {
+        return;
+    }
+    waiting.waits = false;
+    // It is never refused, since the life is long enough for it.
+    let _ = die.ask(alloc, waiting.caller, TaskNo(task), waiting.ops.as_slice());
+}
+
+/// Enters what waited, task by task.
+fn enter_waiting<N: Nand>(die: &mut PlannedDie<N>, alloc: Global, waiting: &mut Vec<Waiting>)
+    requires runs { die.old.core.stopped ≡ false }
+    requires few { length waiting.old.items ≤ 16 }
+    ensures log { (earlier : Lives) → HasLived die.old earlier
+        → die.new.core.log ≡ after_moves die.old.core.start die.old.terms earlier die.old.life die.old.core.log
+        (asks_of 0 (map ask_in waiting.old.items)) }
+    ensures lived { (earlier : Lives) → HasLived die.old earlier → HasLived die.new earlier }
+    ensures same { IsSameDie die.old die.new }
+    ensures none { map ask_in waiting.new.items ≡ map (λ w. None) (map ask_in waiting.old.items) }
+    ensures room { (task : ℕ) (d : Waiting) → vec_capacity (slice_index_or waiting.new.items task d).ops
+        ≡ vec_capacity (slice_index_or waiting.old.items task d).ops }
+{
+    for task in 0..waiting.len() {
+        enter_one(die, alloc, task as u32, &mut waiting[task]);
+    }
+}
+
+impl<N: Nand> OngoingDie<N> {
+    /// Begins the next life with what waits, if the present one has ended.
+    pub(crate) fn go_on(&mut self, alloc: Global) -> Result<(), LifeStop>
+        ensures ok { OnOk result ((first : Start) (d : Ongoing) → StandsAs first d self.old
+            → HasBegun first d self.old self.new) }
+        ensures plan { OnOk result (HaveOnePlan self.old self.new) }
+        ensures runs { OnOk result (self.new.die.core.stopped ≡ false) }
+        ensures early { OnOk result (now self.new.die.core.log < self.new.die.life) }
+        ensures stopped { IfErr result (HasStopped self.old) }
+        ensures unchanged { OnErr result (self.new ≡ self.old) }
+    {
+        match self.die.renew() {
+            Ok(()) => {
+                enter_waiting(&mut self.die, alloc, &mut self.waiting);
+                Ok(())
+            }
+            Err(LifeRefusal::NotEnded { .. }) => Ok(()),
+            Err(LifeRefusal::DieStopped) => Err(LifeStop::DieStopped),
+            Err(LifeRefusal::ClockEnd) => Err(LifeStop::ClockEnd),
+            Err(LifeRefusal::WornOut { block }) => Err(LifeStop::WornOut { block }),
+        }
+    }
+}

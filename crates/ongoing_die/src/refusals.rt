@@ -1,0 +1,44 @@
+//! Why no die is made that goes on by itself, and why its calls are refused.
+
+use planned_die::{AskRefusal, PlanRefusal};
+
+/// Why no die is made that keeps its plan and goes on by itself.
+#[derive(Clone, Copy, PartialEq, Eq, Debug, Drop)]
+pub enum OngoingRefusal {
+    /// As no die is made that keeps its plan.
+    Plan(PlanRefusal),
+    /// The longest life that was allowed is shorter than the deadline of this task's jobs: the first such task.
+    ShortLife { task: u32 },
+}
+
+/// Why a die takes no further ask and carries out no further slot.
+#[derive(Clone, Copy, PartialEq, Eq, Debug, Drop)]
+pub enum LifeStop {
+    /// A fault of the device has stopped the die.
+    DieStopped,
+    /// The life has ended, and the clock of all lives would go beyond slot 2 to the power of 61.
+    ClockEnd,
+    /// The life has ended, and a block was erased so often that its count might not suffice for a life more: the first
+    /// such.
+    WornOut { block: u32 },
+}
+
+/// Why an ask is refused.
+#[derive(Clone, Copy, PartialEq, Eq, Debug, Drop)]
+pub enum AskStop {
+    /// The whole die takes none.
+    Ended(LifeStop),
+    /// The task's own part of the plan refuses it.
+    Plan(AskRefusal),
+    /// Its job would be due after the life, and an ask of the task waits for the next one already.
+    WaitsAlready,
+}
+
+/// Why a slot isn't carried out.
+#[derive(Clone, Copy, PartialEq, Eq, Debug, Drop)]
+pub enum SlotStop {
+    /// The die carries out none.
+    Ended(LifeStop),
+    /// The device fails in this slot, which stops the die.
+    DeviceFault,
+}

@@ -1,0 +1,72 @@
+//! Asks that wait for the next life, one a task.
+
+ghost use Rattle.std.specs.Prelude.{◌≡◌, ◌≤◌, ◌<◌, ◌∷◌, List, [], ℕ, length, map, replicate, slice_index_or, slice_set, vec_capacity, None, Some, IfOk};
+ghost use Rattle.ongoing_die.specs.Standing.{ask_in, HaveRoom};
+ghost use Rattle.ongoing_die.specs.declared.waiting.Waiting.{Waiting};
+
+use crate::lengths::most_of;
+use demand_rules::Terms;
+use slot_types::Op;
+use std::alloc::{AllocError, Global};
+
+/// The ask of a task that waits for the next life, if one does, and memory for it.
+#[derive(Drop)]
+pub struct Waiting {
+    pub(crate) waits: bool,
+    pub(crate) caller: u32,
+    pub(crate) ops: Vec<Op>,
+}
+
+impl Waiting {
+    /// None waits, and there is memory for an ask of so many operations.
+    fn new(alloc: Global, most: u32) -> Result<Waiting, AllocError>
+        ensures none { IfOk result (λ w. ask_in w ≡ None) }
+        ensures room { IfOk result (λ w. vec_capacity w.ops ≡ most) }
+    {
+        let ops = Vec::with_capacity(alloc, most as usize)?;
+        Ok(Waiting {
+            waits: false,
+            caller: 0,
+            ops,
+        })
+    }
+
+    /// This ask waits from now on. It takes no memory.
+    fn keep(&mut self, caller: u32, ops: &[Op])
+        requires room { length ops.now ≤ vec_capacity self.old.ops }
+        ensures kept { ask_in self.new ≡ Some (record { caller = caller; ops = ops.now }) }
+        ensures room { vec_capacity self.new.ops ≡ vec_capacity self.old.ops }
+    {
+        self.ops.clear();
+        for op in ops {
+            self.ops.push_reserved(*op);
+        }
+        self.caller = caller;
+        self.waits = true;
+    }
+}
+
+/// Of no task an ask waits, and there is memory for one of each.
+pub(crate) fn none_waiting(alloc: Global, terms: &Terms) -> Result<Vec<Waiting>, AllocError>
+    ensures none { IfOk result (λ waiting. map ask_in waiting.items ≡ replicate (length terms.now.tasks) None) }
+    ensures room { IfOk result (λ waiting. HaveRoom terms.now waiting.items) }
+{
+    let mut waiting = Vec::with_capacity(alloc, terms.tasks.len())?;
+    for task in 0..terms.tasks.len() {
+        let none = Waiting::new(alloc, most_of(terms, task))?;
+        waiting.push(none)?;
+    }
+    Ok(waiting)
+}
+
+/// The ask of a task waits from now on. It takes no memory.
+pub(crate) fn keep_waiting(waiting: &mut Vec<Waiting>, task: usize, caller: u32, ops: &[Op])
+    requires task { task < length waiting.old.items }
+    requires room { (d : Waiting) → length ops.now ≤ vec_capacity (slice_index_or waiting.old.items task d).ops }
+    ensures kept { map ask_in waiting.new.items
+        ≡ slice_set (map ask_in waiting.old.items) task (Some (record { caller = caller; ops = ops.now })) }
+    ensures room { (own : ℕ) (d : Waiting) → vec_capacity (slice_index_or waiting.new.items own d).ops
+        ≡ vec_capacity (slice_index_or waiting.old.items own d).ops }
+{
+    waiting[task].keep(caller, ops)
+}

@@ -1,0 +1,57 @@
+//! The words of a test of a die that goes on by itself.
+
+use ongoing_die::{AskStop, SlotStop};
+use slot_types::Op;
+
+/// What an ask is answered that isn't refused, with the job's number in its life.
+#[derive(Clone, Copy, PartialEq, Eq, Debug, Drop)]
+pub(crate) enum Answer {
+    Enters { release: u64, due: u64, number: u32 },
+    Waits { release: u64, due: u64 },
+}
+
+/// A step of a table. A `want` is the answer.
+#[derive(Drop)]
+pub(crate) enum Turn<'a> {
+    /// A task asks for a job.
+    Asks {
+        task: u32,
+        ops: &'a [Op],
+        want: Result<Answer, AskStop>,
+    },
+    /// The next slots carry out these jobs or collections, one a slot, or are idle.
+    Carries {
+        jobs: &'a [Option<u32>],
+    },
+    /// So many slots are carried out.
+    Slots {
+        count: u32,
+    },
+    /// In each of so many slots the second task asks for more than it ever may, and for as much as it may at once,
+    /// whatever it is answered. The first task asks for a read each 10 slots, from the fifth on: it is taken, and is done
+    /// by its deadline.
+    Babbles {
+        slots: u32,
+    },
+    /// The present slot is refused.
+    NoSlot {
+        want: SlotStop,
+    },
+    /// The task's ask that waits has so many operations; 0 where none waits.
+    Waiting {
+        task: u32,
+        ops: usize,
+    },
+    /// The present slot of the clock of all lives.
+    Clock {
+        slot: u64,
+    },
+    /// The job of the present life is done.
+    Done {
+        job: u32,
+        completion: u32,
+        lateness: i64,
+    },
+    /// Nothing was done late in the present life.
+    InTime,
+}
