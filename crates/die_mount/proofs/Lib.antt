@@ -4,3 +4,10 @@ pub mod Blocks
 pub mod Serials
 pub mod Telling
 pub mod Finding
+pub mod Parts
+pub mod Fewest
+pub mod Rounds
+pub mod Stepping
+pub mod Beginning
+pub mod Outcomes
+pub mod Cutting

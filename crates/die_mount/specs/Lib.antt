@@ -3,3 +3,10 @@ pub mod Scanned
 pub mod SoundScan
 pub mod Erasing
 pub mod Faults
+pub mod PartState
+pub mod SoundPart
+pub mod Mounting
+pub mod SoundMount
+pub mod Choosing
+pub mod Beginning
+pub mod Cutting

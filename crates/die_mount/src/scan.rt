@@ -10,6 +10,7 @@ ghost use Rattle.power_loss.specs.Aside.{part_of};
 ghost use Rattle.power_loss.specs.Labels.{Label as Stands, Shown, FitPlan};
 ghost use Rattle.power_loss.specs.Mounted.{all_count, mounted_place, mounted_places};
 ghost use Rattle.power_loss.specs.Recovery.{CanUndo, IsAbove, MayErase, without_block};
+ghost use Rattle.die_mount.specs.Beginning.{HasIdle, IsIdleIn, IsScanned};
 ghost use Rattle.die_mount.specs.Erasing.{block_of, IsFirstIdle, IsFirstLost, HasAllOf};
 ghost use Rattle.die_mount.specs.Faults.{HasMountFault, HasScanFault, IsFirstBad, IsNextBlock};
 ghost use Rattle.die_mount.specs.Scanned.{IsScanOf};
@@ -218,6 +219,49 @@ impl Scan {
             }
         }
         None
+    }
+}
+
+impl Scan {
+    /// Whether this is the plan for which the part was scanned, and a mount may go by it.
+    pub(crate) fn fits(&self, plan: &DiePlan) -> bool
+        ensures { IsTrue result ↔ IsScanned plan.now self.now }
+    {
+        if bound(plan).is_err() || plan.shape.blocks >= MAX_BLOCKS {
+            return false;
+        }
+        self.shape.blocks == plan.shape.blocks + 1
+            && self.shape.pages == plan.shape.pages
+            && self.shape.erase_slots == plan.shape.erase_slots
+            && self.map.pages() == plan.logical
+    }
+
+    /// Whether this is a block of the part in which no page is found.
+    pub(crate) fn is_idle(&self, block: u32) -> bool
+        ensures { IsTrue result ↔ IsIdleIn self.now block }
+    {
+        block < self.shape.blocks && self.map.valid(block) == 0
+    }
+
+    /// The first block in which no page is found. It looks at each block at most once.
+    pub(crate) fn idle_block(&self) -> Option<u32>
+        ensures some { IfSome result (IsIdleIn self.now) }
+        ensures none { IfNone result (¬ HasIdle self.now) }
+    {
+        for block in 0..self.shape.blocks {
+            if self.is_idle(block) {
+                return Some(block);
+            }
+        }
+        None
+    }
+
+    /// The part's shape, and where the pages lie. The memory of the serials is given back.
+    pub(crate) fn into_map(self) -> (Shape, PageMap)
+        ensures shape { result.0 ≡ self.shape }
+        ensures map { result.1 ≡ record { shape = self.shape; places = self.places } }
+    {
+        (self.shape, self.map)
     }
 }
 

@@ -33,38 +33,38 @@ use Rattle.power_loss.proofs.Remounting.{placed_in, free_unplaced}
 -- Acts, one after the other
 
 -- how many of them are copies, and slots of erases
-abbrev copies_in : List Act → ℕ
+abbrev pub copies_in : List Act → ℕ
 copies_in acts = count_by is_copy_program acts
 
-abbrev slots_in : List Act → ℕ
+abbrev pub slots_in : List Act → ℕ
 slots_in acts = count_by is_erase acts
 
-copy_counts : (page : ℕ) (acts : List Act)
+pub copy_counts : (page : ℕ) (acts : List Act)
     → (copies_in (does.CopyProgram page ∷ acts) ≡ copies_in acts + 1) × (slots_in (does.CopyProgram page ∷ acts) ≡ slots_in acts)
 copy_counts page acts = (
   omega (arith, sum_by-cons (λ (a : Act). cond (is_copy_program a) 1 0) (does.CopyProgram page) acts),
   omega (arith, sum_by-cons (λ (a : Act). cond (is_erase a) 1 0) (does.CopyProgram page) acts),
 )
 
-slot_counts : (b : ℕ) (acts : List Act)
+pub slot_counts : (b : ℕ) (acts : List Act)
     → (copies_in (does.Erase b ∷ acts) ≡ copies_in acts) × (slots_in (does.Erase b ∷ acts) ≡ slots_in acts + 1)
 slot_counts b acts = (
   omega (arith, sum_by-cons (λ (a : Act). cond (is_copy_program a) 1 0) (does.Erase b) acts),
   omega (arith, sum_by-cons (λ (a : Act). cond (is_erase a) 1 0) (does.Erase b) acts),
 )
 
-abbrev free_of : DiePlan → Cells → ℕ
+abbrev pub free_of : DiePlan → Cells → ℕ
 free_of plan c = sum_by (free_in plan) c.blocks
 
 -- acts of a mount lead from the first cells to these, which are sound, and at each moment of them the power may go
-record Reaches (plan : DiePlan) (first c : Cells) : Type 0 where
-  acts : List Act
-  may : AreMountActs plan first acts
-  safe : AreSafe plan first acts
-  is : cells_of plan acts first ≡ c
-  sound : AreSoundCells plan c
+pub record Reaches (plan : DiePlan) (first c : Cells) : Type 0 where
+  pub acts : List Act
+  pub may : AreMountActs plan first acts
+  pub safe : AreSafe plan first acts
+  pub is : cells_of plan acts first ≡ c
+  pub sound : AreSoundCells plan c
 
-further : (plan : DiePlan) (first c : Cells) (act : Act) → MeetsBound plan → (r : Reaches plan first c) → MayMount plan c act
+pub further : (plan : DiePlan) (first c : Cells) (act : Act) → MeetsBound plan → (r : Reaches plan first c) → MayMount plan c act
     → IsSafe plan first (act ∷ r.acts) → Reaches plan first (cells_after plan (Some (0, act)) c)
 further plan first c act bound r may safe = record {
   acts = act ∷ r.acts;
@@ -75,22 +75,22 @@ further plan first c act bound r may safe = record {
 }
 
 -- a block is wholly free
-record IsWhollyFree (c : Cells) : Type 0 where
-  b : ℕ
-  stands : b < length c.blocks
-  none : (block_at c b).filled ≡ 0
+pub record IsWhollyFree (c : Cells) : Type 0 where
+  pub b : ℕ
+  pub stands : b < length c.blocks
+  pub none : (block_at c b).filled ≡ 0
 
 -- while pages are copied
-abbrev MayCopyOn : DiePlan → (first c : Cells) → List Act → Type 0
+abbrev pub MayCopyOn : DiePlan → (first c : Cells) → List Act → Type 0
 MayCopyOn plan first c acts = IsWhollyFree c ⊎ CanGoBack plan first acts
 
-safe_there : (plan : DiePlan) (first c : Cells) (acts : List Act) → cells_of plan acts first ≡ c → AreSoundCells plan c → MayCopyOn plan first c acts
+pub safe_there : (plan : DiePlan) (first c : Cells) (acts : List Act) → cells_of plan acts first ≡ c → AreSoundCells plan c → MayCopyOn plan first c acts
     → IsSafe plan first acts
 safe_there plan first c acts is s (inl free) = inl (subst HasUnplaced (sym is) (free_unplaced plan c free.b s free.stands free.none))
 safe_there plan first c acts is s (inr back) = inr back
 
 -- a copy goes to the open block, or opens one that was wholly free
-copies_on : (plan : DiePlan) (first c : Cells) (page : ℕ) → MeetsBound plan → (r : Reaches plan first c) → AreIdle c → 0 < free_of plan c
+pub copies_on : (plan : DiePlan) (first c : Cells) (page : ℕ) → MeetsBound plan → (r : Reaches plan first c) → AreIdle c → 0 < free_of plan c
     → MayCopyOn plan first c r.acts → MayCopyOn plan first (cells_after_program plan page c) (does.CopyProgram page ∷ r.acts)
 copies_on plan first c page bound r idle room (inr back) = inr (record {
   copies = does.CopyProgram page ∷ back.copies;
@@ -141,13 +141,13 @@ copies_on plan first c page bound r idle room (inl free) =
 -- Copies
 
 -- what a copy out of a closed block does
-record IsCopied (plan : DiePlan) (c d : Cells) (b : ℕ) : Type 0 where
-  idle : AreIdle d
-  closed : IsClosed plan d b
-  fewer : valid d b + 1 ≤ valid c b
-  free : free_of plan d + 1 ≡ free_of plan c
+pub record IsCopied (plan : DiePlan) (c d : Cells) (b : ℕ) : Type 0 where
+  pub idle : AreIdle d
+  pub closed : IsClosed plan d b
+  pub fewer : valid d b + 1 ≤ valid c b
+  pub free : free_of plan d + 1 ≡ free_of plan c
 
-copied : (plan : DiePlan) (c : Cells) (b page : ℕ) (q : Place) → MeetsBound plan → AreSoundCells plan c → AreIdle c → IsClosed plan c b
+pub copied : (plan : DiePlan) (c : Cells) (b page : ℕ) (q : Place) → MeetsBound plan → AreSoundCells plan c → AreIdle c → IsClosed plan c b
     → 0 < free_of plan c → place_of c.places page ≡ Some q → q.block ≡ b → IsCopied plan c (cells_after_program plan page c) b
 copied plan c b page q bound s idle closed room e is =
     let o = opens plan c room in
@@ -233,11 +233,11 @@ record IsErased (plan : DiePlan) (first c : Cells) (r : Reaches plan first c) (s
   copies : copies_in reached.acts ≤ copies_in r.acts
   slots_too : slots_in reached.acts ≤ slots_in r.acts + slots
 
-abbrev after_erase : DiePlan → ℕ → Cells → Cells
+abbrev pub after_erase : DiePlan → ℕ → Cells → Cells
 after_erase plan b c = cells_after plan (Some (0, does.Erase b)) c
 
 -- during its erase no page is placed in the block
-erase_safe : (plan : DiePlan) (first c : Cells) (b : ℕ) (acts : List Act) → cells_of plan acts first ≡ c
+pub erase_safe : (plan : DiePlan) (first c : Cells) (b : ℕ) (acts : List Act) → cells_of plan acts first ≡ c
     → IsEraseSlot plan b c (after_erase plan b c) → b < length c.blocks → valid c b ≡ 0 → IsSafe plan first (does.Erase b ∷ acts)
 erase_safe plan first c b acts is w stands none =
     inl (subst (λ (x : Cells). HasUnplaced (after_erase plan b x)) (sym is) (record { b = b; stands = omega (arith, w.blocks); none = none }))
@@ -326,7 +326,7 @@ erases_out plan first c b (suc k) bound r others closed none left =
 -- A block that is worth it
 
 -- where a block is wholly free, so many pages are
-free_pages : (plan : DiePlan) (c : Cells) → AreIdle c → IsWhollyFree c → plan.shape.pages ≤ free_of plan c
+pub free_pages : (plan : DiePlan) (c : Cells) → AreIdle c → IsWhollyFree c → plan.shape.pages ≤ free_of plan c
 free_pages plan c idle f =
     let one : free_in plan (block_at c f.b) ≡ plan.shape.pages = free_idle plan (block_at c f.b) (idle f.b) ∙ omega (arith, f.none) in
     omega (arith, one, get_or-le-sum_by (free_in plan) c.blocks f.b free_block f.stands)
@@ -367,7 +367,7 @@ gains plan first c b bound r idle worth free =
       slots = omega (arith, x.slots_too, e.slots, slots);
     }
 
-rounded : (x a : ℕ) → 0 < a → x ≤ (x + a - 1) / a * a
+pub rounded : (x a : ℕ) → 0 < a → x ≤ (x + a - 1) / a * a
 rounded x a some = omega (arith, lt-div-mul-add {a = x + a - 1} {b = a} some, some)
 
 ended : (plan : DiePlan) (first c : Cells) → (r : Reaches plan first c) → AreIdle c → length r.acts ≤ most_acts plan

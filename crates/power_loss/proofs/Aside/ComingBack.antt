@@ -44,11 +44,11 @@ use Rattle.power_loss.proofs.Seeing.{placed_during, shows}
 
 -- The part as a plan
 
-raised_length : (pages : ℕ) (caps : List ℕ) → length (raised pages caps) ≡ length caps
+pub raised_length : (pages : ℕ) (caps : List ℕ) → length (raised pages caps) ≡ length caps
 raised_length pages [] = refl
 raised_length pages (own ∷ caps) = refl
 
-raised_sum : (pages : ℕ) (caps : List ℕ) → 1 ≤ length caps → sum (raised pages caps) ≡ sum caps + pages
+pub raised_sum : (pages : ℕ) (caps : List ℕ) → 1 ≤ length caps → sum (raised pages caps) ≡ sum caps + pages
 raised_sum pages [] some = absurd (omega (arith, some))
 raised_sum pages (own ∷ caps) some =
     omega (arith, sum_by-cons (λ (n : ℕ). n) (own + pages) caps, sum_by-cons (λ (n : ℕ). n) own caps)
