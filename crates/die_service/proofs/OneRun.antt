@@ -41,7 +41,7 @@ by_log : (never : Bool) (start : Start) (log : Log) (event : Event) (refusal : R
     → ¬ IsForMemoryOrFault never refusal → answer start log event ≡ replies.Refused refusal
 by_log never start log event refusal (inl (inl is)) not = is
 by_log never start log event refusal (inl (inr memory)) not = absurd (not (inl (inl memory.1)))
-by_log never start log event refusal (inr (inl fault)) not = absurd (not (inr (fault.0, fault.3)))
+by_log never start log event refusal (inr (inl fault)) not = absurd (not (inr (fault.0, inr (ap Err fault.3))))
 by_log never start log event refusal (inr (inr stopped)) not = absurd (not (inl (inr (stopped.0, stopped.1))))
 
 stands : (P : AskedEvent → Type 0) (before after : List AskedEvent) (s : AskedEvent) → AllByRecursion P (before ++ s ∷ after) → P s

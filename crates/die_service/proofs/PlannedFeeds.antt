@@ -385,7 +385,7 @@ stops_after (s ∷ front) rest h = heard_on s.event s.reply (stop_of (front ++ r
 stops_for_memory : (never : Bool) (start : Start) (past : Log) (refusal : Refusal) → now past < MAX_SLOT
     → MayRefuse never start past events.Slot refusal → IsForMemoryOrFault never refusal
 stops_for_memory never start past refusal few (inl own) = inl (inl (slot_refused start past refusal few own))
-stops_for_memory never start past refusal few (inr (inl fault)) = inr (fault.0, fault.3)
+stops_for_memory never start past refusal few (inr (inl fault)) = inr (fault.0, inr (ap Err fault.3))
 stops_for_memory never start past refusal few (inr (inr stopped)) = inl (inr stopped)
 
 -- All together

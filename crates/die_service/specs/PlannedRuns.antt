@@ -1,14 +1,15 @@
 -- What a run on a new die promises of a feed that keeps to the die's plan with times.
-use Rattle.std.specs.Prelude.{◌≡◌, ⊤, ◌⊎◌, ℕ, zero, suc, ◌+◌, Bool, false, List, [], ◌∷◌, ◌++◌, map, IfSome}
+use Rattle.std.specs.Prelude.{◌≡◌, ⊤, ◌⊎◌, ℕ, zero, suc, ◌+◌, Bool, false, List, [], ◌∷◌, ◌++◌, map, IfSome, Err}
 use Rattle.slot_types.specs.Arriving.{arrivals_by, arrivals_after}
 use Rattle.slot_types.specs.declared.events.Event.{Event}
 use Rattle.slot_types.specs.declared.events.Event.TheVariants as events
 use Rattle.slot_types.specs.declared.plans.DiePlan.{DiePlan}
 use Rattle.slot_types.specs.declared.plans.Times.{Times}
 use Rattle.slot_types.specs.declared.refusals.Refusal.{Refusal}
-use Rattle.slot_types.specs.declared.refusals.Refusal.TheVariants.{NoMemory, DeviceFault, DieStopped}
+use Rattle.slot_types.specs.declared.refusals.Refusal.TheVariants.{NoMemory, DieStopped}
 use Rattle.plan_rules.specs.Times.{Passes}
 use Rattle.plan_rules.specs.Keeping.{KeepsPlan}
+use Rattle.slot_core.specs.Calls.{IsByChance}
 use Rattle.turn_lock.specs.Log.{AllBy}
 use Rattle.turn_lock.specs.Views.{first_view, IsSamePass}
 use Rattle.die_log.specs.Model.Log.{Log}
@@ -59,9 +60,9 @@ pub record RanAlone (never_fails : Bool) (start : Start) (slots : ℕ) (feed : L
 abbrev pub IsForMemory : Bool → Refusal → Type 0
 IsForMemory never_fails refusal = (refusal ≡ NoMemory) ⊎ ((never_fails ≡ false) × (refusal ≡ DieStopped))
 
--- so was a slot, or its device failed
+-- so was a slot, or its device failed, which may fail
 abbrev pub IsForMemoryOrFault : Bool → Refusal → Type 0
-IsForMemoryOrFault never_fails refusal = IsForMemory never_fails refusal ⊎ ((never_fails ≡ false) × (refusal ≡ DeviceFault))
+IsForMemoryOrFault never_fails refusal = IsForMemory never_fails refusal ⊎ ((never_fails ≡ false) × IsByChance (Err refusal))
 
 -- none was refused, or the first that was, was out of memory
 abbrev pub AreTakenUntilMemory : Bool → List RefusedEvent → Type 0

@@ -15,11 +15,11 @@ use Rattle.flash_die.specs.declared.nand.NandCall.{NandCall}
 use Rattle.demand_rules.specs.Demand.{terms_of}
 use Rattle.die_log.specs.Model.Log.{now}
 use Rattle.die_log.specs.Model.Start.{Start}
-use Rattle.die_log.specs.Model.Lives.{Lives}
+use Rattle.die_log.specs.Model.Lives.{Lives, all_slots}
 use Rattle.slot_core.specs.Core.{Core}
 use Rattle.slot_core.specs.Calls.{IsCall}
 use Rattle.planned_log.specs.declared.refusals.AskRefusal.{AskRefusal}
-use Rattle.planned_log.specs.Asks.{asked_by, ask_refusals, first_refusal}
+use Rattle.planned_log.specs.Asks.{asked_by, most_operations, refusals_above, ask_refusals, first_refusal}
 use Rattle.planned_die.specs.declared.memory.AskedJob.{AskedJob}
 use Rattle.planned_die.specs.declared.task_asks.TaskAsks.{TaskAsks}
 use Rattle.planned_die.specs.Remembered.{own_asks, jobs_of, AreKept}
@@ -30,22 +30,31 @@ use Rattle.planned_die.proofs.Counting.{refused_alike}
 use Rattle.planned_die.proofs.Cores.{ask_entered, ask_keeps, ask_stands, ask_reserved}
 use Rattle.planned_die.proofs.Lived.{ask_lived}
 
--- the answer by what is remembered is the one by the lives
+-- the answer by what is remembered is the one by the lives, to an ask or a burst of at most so many operations
+pub refusal_above : {N : Type 0} (most : ℕ) (die : Planned N) (earlier : Lives) → HasLived die earlier → (plan : DiePlan) (slot : ℕ)
+    (jobs : List (List AskedJob)) (task : ℕ) (ops : List Op) (o : Option AskRefusal)
+    → o ≡ first_refusal (refusals_above most plan die.terms die.life die.first slot (own_asks task jobs) task ops)
+    → plan ≡ die.core.start.plan → slot ≡ now die.core.log → jobs ≡ die.asked
+    → o ≡ first_refusal (refusals_above most die.core.start.plan die.terms die.life (all_slots earlier) (now die.core.log)
+    (asked_by task (die.core.log ∷ earlier)) task ops)
+refusal_above most die earlier h plan slot jobs task ops o is plan_is slot_is jobs_is =
+    is
+    ∙ (ap (λ (p : DiePlan). first_refusal (refusals_above most p die.terms die.life die.first slot (own_asks task jobs) task ops)) plan_is
+    ∙ (ap (λ n. first_refusal (refusals_above most die.core.start.plan die.terms die.life die.first n (own_asks task jobs) task ops)) slot_is
+    ∙ (ap (λ (l : List (List AskedJob)). first_refusal (refusals_above most die.core.start.plan die.terms die.life die.first (now die.core.log) (own_asks task l)
+    task ops)) jobs_is
+    ∙ (refused_alike most die.core.start.plan die.terms die.life die.first (now die.core.log) (own_asks task die.asked)
+    (asked_by task (die.core.log ∷ earlier)) task ops (λ lt. h.counts task (die.first + now die.core.log) lt (omega arith))
+    ∙ ap (λ n. first_refusal (refusals_above most die.core.start.plan die.terms die.life n (now die.core.log) (asked_by task (die.core.log ∷ earlier)) task
+    ops)) h.began))))
+
+-- of an ask
 pub refusal_is : {N : Type 0} (die : Planned N) (earlier : Lives) → HasLived die earlier → (plan : DiePlan) (slot : ℕ) (jobs : List (List AskedJob)) (task : ℕ)
     (ops : List Op) (o : Option AskRefusal)
     → o ≡ first_refusal (ask_refusals plan die.terms die.life die.first slot (own_asks task jobs) task ops)
     → plan ≡ die.core.start.plan → slot ≡ now die.core.log → jobs ≡ die.asked
     → o ≡ refusal_in die earlier task ops
-refusal_is die earlier h plan slot jobs task ops o is plan_is slot_is jobs_is =
-    is
-    ∙ (ap (λ (p : DiePlan). first_refusal (ask_refusals p die.terms die.life die.first slot (own_asks task jobs) task ops)) plan_is
-    ∙ (ap (λ n. first_refusal (ask_refusals die.core.start.plan die.terms die.life die.first n (own_asks task jobs) task ops)) slot_is
-    ∙ (ap (λ (l : List (List AskedJob)). first_refusal (ask_refusals die.core.start.plan die.terms die.life die.first (now die.core.log) (own_asks task l)
-    task ops)) jobs_is
-    ∙ (refused_alike die.core.start.plan die.terms die.life die.first (now die.core.log) (own_asks task die.asked)
-    (asked_by task (die.core.log ∷ earlier)) task ops (λ lt. h.counts task (die.first + now die.core.log) lt (omega arith))
-    ∙ ap (λ n. first_refusal (ask_refusals die.core.start.plan die.terms die.life n (now die.core.log) (asked_by task (die.core.log ∷ earlier)) task
-    ops)) h.began))))
+refusal_is die earlier h plan slot jobs task ops o = refusal_above (most_operations (terms_of die.terms task)) die earlier h plan slot jobs task ops o
 
 -- what was passed by, and memory, change nothing of what contracts see
 pub asked_same : {N : Type 0} (die : Planned N) (asked : List (List AskedJob)) → asked ≡ die.asked → record die { asked = asked } ≡ die

@@ -40,7 +40,7 @@ core_kept before after terms earlier life more next starts logs k =
     (subst (λ (l : Log). IsKept before.start terms earlier life more l) (sym logs) k)
 
 -- the log after what was entered
-entered_log : {N : Type 0} (caller : ℕ) (event : Event) (number : ℕ) (before after : Core N) → HasEntered caller event number before after
+pub entered_log : {N : Type 0} (caller : ℕ) (event : Event) (number : ℕ) (before after : Core N) → HasEntered caller event number before after
     → after ≡ record before { reserved = reserved_after event before.reserved; log = after_call before.start before.log (caller, event) }
 entered_log caller event number before after h =
     h.logged ∙ ap (λ (r : Reply). record before { reserved = reserved_after event before.reserved; log = with_answer caller event r before.log })

@@ -19,7 +19,7 @@ use Rattle.die_log.specs.Model.Start.{Start}
 use Rattle.die_log.specs.Model.Lives.{Lives, all_slots}
 use Rattle.die_log.specs.Model.Answers.{answer, with_answer, after_call, run}
 use Rattle.planned_log.specs.Asks.{Asked, asked_in, asked_by, counts_in, counting, operations_in, writes_in, has_room}
-use Rattle.planned_log.specs.Asks.{ask_refusals, first_refusal}
+use Rattle.planned_log.specs.Asks.{refusals_above, first_refusal}
 use Rattle.planned_log.specs.KeptLogs.{comes_at, collections_at}
 use Rattle.planned_die.specs.declared.memory.AskedJob.{AskedJob}
 use Rattle.planned_die.specs.declared.task_asks.TaskAsks.{TaskAsks}
@@ -41,11 +41,11 @@ same_room t slot one two ops written e =
     ∙ ap (λ n. nat_le (operations_in t.period slot two + ops) t.work && nat_le (n + written) t.writes)
     (same_sum t.period slot (λ a. a.writes) one two e)
 
--- an ask is refused alike where what counts now is the same; a task that isn't there is refused anyway
-pub refused_alike : (plan : DiePlan) (terms : Terms) (life first slot : ℕ) (one two : List Asked) (task : ℕ) (ops : List Op)
+-- what is asked for is refused alike where what counts now is the same; a task that isn't there is refused anyway
+pub refused_alike : (most : ℕ) (plan : DiePlan) (terms : Terms) (life first slot : ℕ) (one two : List Asked) (task : ℕ) (ops : List Op)
     → (task < length plan.caps → counting (terms_of terms task).period (first + slot) one ≡ counting (terms_of terms task).period (first + slot) two)
-    → first_refusal (ask_refusals plan terms life first slot one task ops) ≡ first_refusal (ask_refusals plan terms life first slot two task ops)
-refused_alike plan terms life first slot one two task ops same = elim (cases_Bool (nat_le (length plan.caps) task)) [
+    → first_refusal (refusals_above most plan terms life first slot one task ops) ≡ first_refusal (refusals_above most plan terms life first slot two task ops)
+refused_alike most plan terms life first slot one two task ops same = elim (cases_Bool (nat_le (length plan.caps) task)) [
   | inl unknown ↦ rw unknown refl
   | inr known ↦
       let e = same (grind (arith, nat_tests, known)) in

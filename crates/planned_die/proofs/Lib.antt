@@ -14,3 +14,4 @@ mod NextLife
 mod Beginning
 mod NeverLate
 mod Asked
+mod InTurn

@@ -1,5 +1,5 @@
 -- What a die that keeps its plan itself answers, and what it leaves.
-use Rattle.std.specs.Prelude.{◌≡◌, ◌⊎◌, ℕ, ◌+◌, ◌-◌, ◌<◌, ◌≤◌, Bool, true, false, List, length, map, take, drop, Option, Some, None}
+use Rattle.std.specs.Prelude.{◌≡◌, ◌⊎◌, ℕ, ◌+◌, ◌-◌, ◌<◌, ◌≤◌, Bool, true, false, List, [], ◌∷◌, length, map, take, drop, Option, Some, None}
 use Rattle.std.specs.Prelude.{Result, Ok, Err}
 use Rattle.slot_types.specs.declared.events.Op.{Op}
 use Rattle.slot_types.specs.declared.events.Event.{Event}
@@ -18,8 +18,10 @@ use Rattle.slot_core.specs.Calls.{IsCall, HasEntered}
 use Rattle.slot_core.specs.Renewals.{IsFirstWorn}
 use Rattle.planned_log.specs.declared.refusals.AskRefusal.{AskRefusal}
 use Rattle.planned_log.specs.declared.refusals.AskRefusal.TheVariants as asks
-use Rattle.planned_log.specs.Asks.{asked_job, ask_refusal}
+use Rattle.planned_log.specs.Asks.{asked_job, ask_refusal, burst_refusal}
+use Rattle.planned_log.specs.Bursts.{jobs_of}
 use Rattle.planned_log.specs.KeptLogs.{collections_at}
+use Rattle.planned_die.specs.declared.bursts.Burst.{Burst}
 use Rattle.planned_die.specs.declared.refusals.LifeRefusal.{LifeRefusal}
 use Rattle.planned_die.specs.declared.refusals.LifeRefusal.TheVariants as lives
 use Rattle.planned_die.specs.Planned.{Planned}
@@ -48,6 +50,37 @@ RefusesAsk task ops earlier refusal die =
 abbrev pub IsAsk : {N : Type 0} → ℕ → ℕ → List Op → Lives → Result ℕ AskRefusal → Planned N → Planned N → Type 0
 IsAsk caller task ops earlier (Ok number) before after = HasAsked caller task ops earlier number before after
 IsAsk caller task ops earlier (Err refusal) before after = (after ≡ before) × RefusesAsk task ops earlier refusal before
+
+-- Bursts
+
+-- why the plan refuses a burst after these earlier lives, if it does
+abbrev pub burst_refusal_in : {N : Type 0} → Planned N → Lives → ℕ → List Op → Option AskRefusal
+burst_refusal_in die earlier task ops =
+    burst_refusal die.core.start.plan die.terms die.life earlier die.core.log task ops
+
+-- these jobs of a task are asked for one after the other, and have one number after the other, from this one on
+abbrev pub HaveAsked : {N : Type 0} → (caller task : ℕ) → List (List Op) → Lives → ℕ → Planned N → Planned N → Type 0
+HaveAsked caller task [] earlier number before after = after ≡ before
+HaveAsked {N} caller task (ops ∷ jobs) earlier number before after =
+    (between : Planned N) × (HasAsked caller task ops earlier number before between × HaveAsked caller task jobs earlier (number + 1) between after)
+
+-- the plan doesn't refuse the burst, and its jobs are asked for, all of them
+pub record HasAskedAll {N : Type 0} (caller task : ℕ) (ops : List Op) (earlier : Lives) (burst : Burst) (before after : Planned N) : Type 0 where
+  pub ran : before.core.stopped ≡ false
+  pub unrefused : burst_refusal_in before earlier task ops ≡ None
+  pub asked : HaveAsked caller task (jobs_of ops) earlier burst.first before after
+  pub counted : burst.jobs ≡ length (jobs_of ops)
+
+-- a fault had stopped the die; or this is the first cause in the plan. Memory is none.
+abbrev pub RefusesBurst : {N : Type 0} → ℕ → List Op → Lives → AskRefusal → Planned N → Type 0
+RefusesBurst task ops earlier refusal die =
+    ((die.core.stopped ≡ true) × (refusal ≡ asks.DieStopped))
+    ⊎ ((die.core.stopped ≡ false) × (burst_refusal_in die earlier task ops ≡ Some refusal))
+
+-- where it is refused nothing changes
+abbrev pub IsBurst : {N : Type 0} → ℕ → ℕ → List Op → Lives → Result Burst AskRefusal → Planned N → Planned N → Type 0
+IsBurst caller task ops earlier (Ok burst) before after = HasAskedAll caller task ops earlier burst before after
+IsBurst caller task ops earlier (Err refusal) before after = (after ≡ before) × RefusesBurst task ops earlier refusal before
 
 -- Slots
 

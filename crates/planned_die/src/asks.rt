@@ -5,6 +5,7 @@ ghost use Rattle.planned_die.specs.Planned.{HasLived};
 ghost use Rattle.planned_die.specs.PlannedCalls.{IsAsk};
 
 use crate::all_asks::note_job;
+use crate::ask_kinds::AskKind;
 use crate::memory::job_of;
 use crate::planned_die::PlannedDie;
 use crate::rooms::why_refused;
@@ -46,6 +47,7 @@ impl<N: Nand> PlannedDie<N> {
             self.first,
             now,
             &mut self.asked,
+            AskKind::Job,
             task,
             ops,
         ) {

@@ -2,7 +2,10 @@
 #![tactic(auto)]
 
 pub mod all_asks;
+pub mod ask_kinds;
 pub mod asks;
+pub mod burst_jobs;
+pub mod bursts;
 pub mod collections;
 pub mod life;
 pub mod memory;
@@ -14,6 +17,7 @@ pub mod slots;
 pub mod task_asks;
 pub mod terms;
 
+pub use bursts::Burst;
 pub use memory::AskedJob;
 pub use planned_die::PlannedDie;
 pub use planned_log::AskRefusal;

@@ -3,11 +3,12 @@
 ghost use Rattle.std.specs.Prelude.{◌≡◌, ◌+◌, ◌≤◌, ◌<◌, All, IfNone, length, map, slice_index_or};
 ghost use Rattle.slot_types.specs.Operations.{writes};
 ghost use Rattle.demand_rules.specs.Demand.{terms_of};
-ghost use Rattle.planned_log.specs.Asks.{ask_refusals, first_refusal, most_operations};
+ghost use Rattle.planned_log.specs.Asks.{refusals_above, first_refusal};
 ghost use Rattle.planned_die.specs.declared.task_asks.TaskAsks.{TaskAsks};
-ghost use Rattle.planned_die.specs.Remembered.{own_asks, jobs_of, AreKept, HasRoomFor, HaveMemory};
+ghost use Rattle.planned_die.specs.Remembered.{most_of, own_asks, jobs_of, AreKept, HasRoomFor, HaveMemory};
 
 use crate::all_asks::too_soon;
+use crate::ask_kinds::AskKind;
 use crate::task_asks::TaskAsks;
 use crate::terms::terms_at;
 use demand_rules::{TaskTerms, Terms};
@@ -15,17 +16,18 @@ use job_table::CountedOps;
 use planned_log::AskRefusal;
 use slot_types::{DiePlan, LentOps, MAX_OPS, Op, TaskNo};
 
-fn most_ops(own: &TaskTerms) -> u32
-    ensures { result ≡ most_operations own.now }
+/// The most operations that a task may ask for at once.
+fn most_ops(kind: AskKind, own: &TaskTerms) -> u32
+    ensures most { result ≡ most_of kind own.now }
+    ensures within { result ≤ own.now.work }
 {
-    if own.work <= MAX_OPS {
-        own.work
-    } else {
-        MAX_OPS
+    match kind {
+        AskKind::Job if own.work > MAX_OPS => MAX_OPS,
+        _ => own.work,
     }
 }
 
-/// Why an ask of a task is refused in slot `now` of a life that began in slot `first` of the clock of all lives, if it
+/// Why an ask or a burst of a task is refused in slot `now` of a life that began in slot `first` of the clock of all lives, if it
 /// is, after these jobs. Never `DieStopped`. Those of the task that count no more are passed by.
 pub(crate) fn why_refused(
     plan: &DiePlan,
@@ -34,6 +36,7 @@ pub(crate) fn why_refused(
     first: u64,
     now: u32,
     asked: &mut Vec<TaskAsks>,
+    kind: AskKind,
     task: TaskNo,
     ops: &[Op],
 ) -> Option<AskRefusal>
@@ -41,7 +44,8 @@ pub(crate) fn why_refused(
     requires kept { AreKept terms.now (first + now) asked.old.items }
     requires early { All (All (λ j. j.at ≤ 4611686018427387904)) (map jobs_of asked.old.items) }
     requires first { first ≤ 2305843009213693952 }
-    ensures refused { result ≡ first_refusal (ask_refusals plan.now terms.now life first now
+    ensures refused { result ≡ first_refusal (refusals_above
+        (most_of kind (terms_of terms.now task)) plan.now terms.now life first now
         (own_asks task (map jobs_of asked.old.items)) task ops.now) }
     ensures jobs { map jobs_of asked.new.items ≡ map jobs_of asked.old.items }
     ensures kept { AreKept terms.now (first + now) asked.new.items }
@@ -60,7 +64,7 @@ pub(crate) fn why_refused(
     if ops.len() == 0 {
         return Some(AskRefusal::EmptyJob);
     }
-    let most = most_ops(&own);
+    let most = most_ops(kind, &own);
     if ops.len() > most as usize {
         return Some(AskRefusal::TooManyOps { most });
     }

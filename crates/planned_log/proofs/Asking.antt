@@ -3,7 +3,7 @@ use Rattle.std.proofs.Common.{◌≡◌, ℕ, ◌+◌, ◌<◌, ◌≤◌, ◌==
 use Rattle.std.proofs.Common.{[], ◌∷◌, ◌++◌, length, map}
 use Rattle.std.proofs.Common.{Some, None, is_some, find, option_map, sum_by, refl, ap, subst, ◌∙◌, arith}
 use Rattle.std.specs.List.{AllByRecursion}
-use Rattle.std.proofs.lemmas.Bool.{true≢false, and_parts, leb-true, eqb-true, ltb-true}
+use Rattle.std.proofs.lemmas.Bool.{true≢false, and_parts, and_from, leb-true, le-leb, eqb-true, ltb-true}
 use Rattle.std.proofs.lemmas.Bool.Decides.{nat_tests}
 use Rattle.std.proofs.lemmas.List.Sums.{sum_by-cons, sum_by-append}
 use Rattle.slot_types.specs.declared.limits.TheConstants.{MAX_OPS}
@@ -25,7 +25,7 @@ use Rattle.die_log.specs.Model.Answers.{bad_page}
 use Rattle.die_log.specs.Results.InTime.{events_of_log}
 use Rattle.planned_log.specs.declared.refusals.AskRefusal.{AskRefusal}
 use Rattle.planned_log.specs.Asks.{Asked, with_ask, asked_in, asked_by, counts_in, operations_in, writes_in, has_room}
-use Rattle.planned_log.specs.Asks.{ask_refusals, first_refusal}
+use Rattle.planned_log.specs.Asks.{most_operations, refusals_above, ask_refusals, first_refusal}
 use Rattle.planned_log.specs.KeptLogs.{is_asked_in, amount_in, AskForFew}
 use Rattle.planned_log.specs.Lives.{all_came, IsWithinLife, ArePlannedLives}
 use Rattle.std.proofs.lemmas.List.Elements.{recursion_from_All}
@@ -51,6 +51,31 @@ all_pages plan (op ∷ ops) h = by_test (nat_le plan.logical (page_of op)) refl 
     by_test true e rest k = absurd (true≢false k)
     by_test false e rest k = (below e, rest k)
 
+-- where each condition is false, none stands
+none_refuses : (cs : List (Bool × AskRefusal)) → AllByRecursion (λ c. c.0 ≡ false) cs → first_refusal cs ≡ None
+none_refuses [] h = refl
+none_refuses ((true, r) ∷ cs) h = absurd (true≢false h.0)
+none_refuses ((false, r) ∷ cs) h = none_refuses cs h.1
+
+no_bad_page : (plan : DiePlan) (ops : List Op) → AllByRecursion (λ op. page_of op < plan.logical) ops → is_some (bad_page plan ops) ≡ false
+no_bad_page plan [] h = refl
+no_bad_page plan (op ∷ ops) h = by_test (nat_le plan.logical (page_of op)) refl (no_bad_page plan ops h.1)
+  where
+    by_test : (b : Bool) → nat_le plan.logical (page_of op) ≡ b → is_some (bad_page plan ops) ≡ false
+        → is_some (option_map page_of (cond b (Some op) (find (λ o. nat_le plan.logical (page_of o)) ops))) ≡ false
+    by_test true e k = absurd (omega (arith, leb-true plan.logical (page_of op) e, h.0))
+    by_test false e k = k
+
+-- what is asked for, of at most so many operations, says where it isn't refused
+pub record IsTimely (most : ℕ) (plan : DiePlan) (terms : Terms) (life first slot : ℕ) (asked : List Asked) (task : ℕ) (ops : List Op) : Type 0 where
+  pub task_is : task < length plan.caps
+  pub some : 1 ≤ length ops
+  pub few : length ops ≤ most
+  pub pages : AllByRecursion (λ op. page_of op < plan.logical) ops
+  pub operations : operations_in (terms_of terms task).period (first + slot) asked + length ops ≤ (terms_of terms task).work
+  pub writes_fit : writes_in (terms_of terms task).period (first + slot) asked + writes ops ≤ (terms_of terms task).writes
+  pub due : slot + (terms_of terms task).deadline ≤ life
+
 -- what an ask that isn't refused says
 pub record IsTimelyAsk (plan : DiePlan) (terms : Terms) (life first slot : ℕ) (asked : List Asked) (task : ℕ) (ops : List Op) : Type 0 where
   pub task_is : task < length plan.caps
@@ -65,38 +90,85 @@ not_not : (b : Bool) → not b ≡ false → b ≡ true
 not_not true e = refl
 not_not false e = absurd (true≢false e)
 
+module _ (most : ℕ) (plan : DiePlan) (terms : Terms) (life first slot : ℕ) (asked : List Asked) (task : ℕ) (ops : List Op) where
+  pub timely : first_refusal (refusals_above most plan terms life first slot asked task ops) ≡ None → IsTimely most plan terms life first slot asked task ops
+  timely e =
+      let n = none_stands (refusals_above most plan terms life first slot asked task ops) e in
+      let room = and_parts (nat_le (operations_in (terms_of terms task).period (first + slot) asked + length ops) (terms_of terms task).work)
+      (nat_le (writes_in (terms_of terms task).period (first + slot) asked + writes ops) (terms_of terms task).writes)
+      (not_not (has_room (terms_of terms task) (first + slot) asked (length ops) (writes ops)) n.1.1.1.1.1.0) in
+      record {
+        task_is = below (length plan.caps) task n.0;
+        some = some_if (length ops) n.1.0;
+        few = not_above most (length ops) n.1.1.0;
+        pages = all_pages plan ops n.1.1.1.0;
+        operations = leb-true _ _ room.0;
+        writes_fit = leb-true _ _ room.1;
+        due = not_above life (slot + (terms_of terms task).deadline) n.1.1.1.1.1.1.0;
+      }
+    where
+      not_above : (m k : ℕ) → nat_lt m k ≡ false → k ≤ m
+      not_above m k h = grind (arith, nat_tests, h)
+
+      below : (m k : ℕ) → nat_le m k ≡ false → k < m
+      below m k h = grind (arith, nat_tests, h)
+
+      some_if : (n : ℕ) → (n == 0) ≡ false → 1 ≤ n
+      some_if n h = grind (arith, nat_tests, h)
+
+  -- and where it says so it isn't refused
+  pub unrefused : IsTimely most plan terms life first slot asked task ops → first_refusal (refusals_above most plan terms life first slot asked task ops) ≡ None
+  unrefused t = none_refuses (refusals_above most plan terms life first slot asked task ops) (
+    not_below (length plan.caps) task t.task_is,
+    (
+      not_none (length ops) t.some,
+      (
+        above most (length ops) t.few,
+        (
+          no_bad_page plan ops t.pages,
+          (
+            above (terms_of terms task).writes (writes ops) (omega (arith, t.writes_fit)),
+            (
+              ap not room,
+              (above life (slot + (terms_of terms task).deadline) t.due, tt),
+            ),
+          ),
+        ),
+      ),
+    ),
+  )
+    where
+      not_below : (m k : ℕ) → k < m → nat_le m k ≡ false
+      not_below m k h = grind (arith, nat_tests, h)
+
+      not_none : (n : ℕ) → 1 ≤ n → (n == 0) ≡ false
+      not_none n h = grind (arith, nat_tests, h)
+
+      above : (m k : ℕ) → k ≤ m → nat_lt m k ≡ false
+      above m k h = grind (arith, nat_tests, h)
+
+      room : has_room (terms_of terms task) (first + slot) asked (length ops) (writes ops) ≡ true
+      room = and_from (nat_le (operations_in (terms_of terms task).period (first + slot) asked + length ops) (terms_of terms task).work)
+          (nat_le (writes_in (terms_of terms task).period (first + slot) asked + writes ops) (terms_of terms task).writes)
+          (le-leb _ _ t.operations) (le-leb _ _ t.writes_fit)
+
 pub timely_ask : (plan : DiePlan) (terms : Terms) (life first slot : ℕ) (asked : List Asked) (task : ℕ) (ops : List Op)
     → first_refusal (ask_refusals plan terms life first slot asked task ops) ≡ None → IsTimelyAsk plan terms life first slot asked task ops
 timely_ask plan terms life first slot asked task ops e =
-    let n = none_stands (ask_refusals plan terms life first slot asked task ops) e in
-    let room = and_parts (nat_le (operations_in (terms_of terms task).period (first + slot) asked + length ops) (terms_of terms task).work)
-    (nat_le (writes_in (terms_of terms task).period (first + slot) asked + writes ops) (terms_of terms task).writes)
-    (not_not (has_room (terms_of terms task) (first + slot) asked (length ops) (writes ops)) n.1.1.1.1.1.0) in
+    let t = timely (most_operations (terms_of terms task)) plan terms life first slot asked task ops e in
     record {
-      task_is = below (length plan.caps) task n.0;
-      some = some_if (length ops) n.1.0;
-      few = under (terms_of terms task).work (length ops) n.1.1.0;
-      pages = all_pages plan ops n.1.1.1.0;
-      operations = leb-true _ _ room.0;
-      writes_fit = leb-true _ _ room.1;
-      due = not_above life (slot + (terms_of terms task).deadline) n.1.1.1.1.1.1.0;
+      task_is = t.task_is;
+      some = t.some;
+      few = under (terms_of terms task).work (length ops) (nat_le (terms_of terms task).work MAX_OPS) refl t.few;
+      pages = t.pages;
+      operations = t.operations;
+      writes_fit = t.writes_fit;
+      due = t.due;
     }
   where
-    not_above : (m k : ℕ) → nat_lt m k ≡ false → k ≤ m
-    not_above m k h = grind (arith, nat_tests, h)
-
-    below : (m k : ℕ) → nat_le m k ≡ false → k < m
-    below m k h = grind (arith, nat_tests, h)
-
-    some_if : (n : ℕ) → (n == 0) ≡ false → 1 ≤ n
-    some_if n h = grind (arith, nat_tests, h)
-
-    under : (work n : ℕ) → nat_lt (cond (nat_le work MAX_OPS) work MAX_OPS) n ≡ false → n ≤ MAX_OPS
-    under work n h = by_test (nat_le work MAX_OPS) refl (not_above _ n h)
-      where
-        by_test : (b : Bool) → nat_le work MAX_OPS ≡ b → n ≤ cond b work MAX_OPS → n ≤ MAX_OPS
-        by_test true e le = omega (arith, le, leb-true work MAX_OPS e)
-        by_test false e le = le
+    under : (work n : ℕ) (b : Bool) → nat_le work MAX_OPS ≡ b → n ≤ cond b work MAX_OPS → n ≤ MAX_OPS
+    under work n true e le = omega (arith, le, leb-true work MAX_OPS e)
+    under work n false e le = le
 
 -- What came of a task's jobs
 

@@ -4,6 +4,7 @@ pub mod Asking
 mod Steps
 pub mod Kept
 pub mod Served
+pub mod Bursts
 mod Moving
 mod Answered
 pub mod Waiting

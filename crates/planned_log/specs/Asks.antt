@@ -86,14 +86,14 @@ asked_job terms log task ops = events.Submit task (now log) (now log + (terms_of
 abbrev pub most_operations : TaskTerms → ℕ
 most_operations t = if nat_le t.work MAX_OPS then t.work else MAX_OPS
 
--- What refuses an ask in slot `slot` of a life that began in slot `first` of the clock, of a task that asked for this
--- before, in the order in which it is looked at
-abbrev pub ask_refusals : DiePlan → Terms → (life first slot : ℕ) → List Asked → ℕ → List Op → List (Bool × AskRefusal)
-ask_refusals plan terms life first slot asked task ops =
+-- What refuses that a task asks for these operations in slot `slot` of a life that began in slot `first` of the clock,
+-- where it may ask for at most so many at once and asked for this before, in the order in which it is looked at
+abbrev pub refusals_above : (most : ℕ) → DiePlan → Terms → (life first slot : ℕ) → List Asked → ℕ → List Op → List (Bool × AskRefusal)
+refusals_above most plan terms life first slot asked task ops =
     let t = terms_of terms task in
     (nat_le (length plan.caps) task, because.UnknownTask)
     ∷ (length ops == 0, because.EmptyJob)
-    ∷ (nat_lt (most_operations t) (length ops), because.TooManyOps (most_operations t))
+    ∷ (nat_lt most (length ops), because.TooManyOps most)
     ∷ (is_some (bad_page plan ops), because.BadPage (unwrap_or (bad_page plan ops) 0))
     ∷ (nat_lt t.writes (counted.writes ops), because.TooManyWrites t.writes)
     ∷ (
@@ -102,6 +102,15 @@ ask_refusals plan terms life first slot asked task ops =
     )
     ∷ (nat_lt life (slot + t.deadline), because.LifeEnd)
     ∷ []
+
+-- an ask is for one job
+abbrev pub ask_refusals : DiePlan → Terms → (life first slot : ℕ) → List Asked → ℕ → List Op → List (Bool × AskRefusal)
+ask_refusals plan terms life first slot asked task ops =
+    refusals_above (most_operations (terms_of terms task)) plan terms life first slot asked task ops
+
+-- a burst is for as many jobs as it takes, and may have all operations that the task may ask for in a period
+abbrev pub burst_refusals : DiePlan → Terms → (life first slot : ℕ) → List Asked → ℕ → List Op → List (Bool × AskRefusal)
+burst_refusals plan terms life first slot asked task ops = refusals_above (terms_of terms task).work plan terms life first slot asked task ops
 
 -- the first whose condition stands
 abbrev pub first_refusal : List (Bool × AskRefusal) → Option AskRefusal
@@ -113,3 +122,8 @@ first_refusal (c ∷ rest) = if c.0 then Some c.1 else first_refusal rest
 abbrev pub ask_refusal : DiePlan → Terms → ℕ → Lives → Log → ℕ → List Op → Option AskRefusal
 ask_refusal plan terms life earlier log task ops =
     first_refusal (ask_refusals plan terms life (all_slots earlier) (now log) (asked_by task (log ∷ earlier)) task ops)
+
+-- and why a burst is, which sees no more
+abbrev pub burst_refusal : DiePlan → Terms → ℕ → Lives → Log → ℕ → List Op → Option AskRefusal
+burst_refusal plan terms life earlier log task ops =
+    first_refusal (burst_refusals plan terms life (all_slots earlier) (now log) (asked_by task (log ∷ earlier)) task ops)

@@ -1,4 +1,5 @@
 pub mod Asks
+pub mod Bursts
 pub mod Lives
 pub mod KeptLogs
 pub mod Moves

@@ -1,12 +1,12 @@
 //! What holds of the log of a die that keeps its plan itself. Each law is a function that does nothing.
 
-ghost use Rattle.std.specs.Prelude.{◌≡◌, ◌≤◌, ◌↔◌, IsTrue, ◌∷◌, ◌+◌, ◌<◌, ℕ, List, [], None, true, false, length};
+ghost use Rattle.std.specs.Prelude.{◌≡◌, ◌≤◌, ◌↔◌, IsTrue, ◌∷◌, ◌+◌, ◌<◌, ℕ, List, [], None, true, false, length, flat_map, All};
 ghost use Rattle.slot_types.specs.declared.plans.DiePlan.{DiePlan};
 ghost use Rattle.slot_types.specs.declared.events.Op.{Op};
 ghost use Rattle.slot_types.specs.declared.events.Event.TheVariants as events;
 ghost use Rattle.demand_rules.specs.declared.terms.Terms.{Terms};
 ghost use Rattle.demand_rules.specs.Demand.{terms_of, PassesDemand};
-ghost use Rattle.slot_types.specs.declared.limits.TheConstants.{MAX_SLOT};
+ghost use Rattle.slot_types.specs.declared.limits.TheConstants.{MAX_SLOT, MAX_OPS};
 ghost use Rattle.planned_log.specs.Lives.{most_arrivals, came_in};
 ghost use Rattle.die_log.specs.Model.Log.{Log, now};
 ghost use Rattle.die_log.specs.Model.Start.{Start};
@@ -14,7 +14,8 @@ ghost use Rattle.die_log.specs.Model.Opening.{IsQuiet, renewed_start};
 ghost use Rattle.die_log.specs.Model.Answers.{refusal_of, after_call};
 ghost use Rattle.die_log.specs.Model.Lives.{Lives, all_slots, start_after, HaveEnded};
 ghost use Rattle.die_log.specs.Results.InTime.{IsInTime};
-ghost use Rattle.planned_log.specs.Asks.{asked_by, counting, has_room, room_at, asked_job, ask_refusal};
+ghost use Rattle.planned_log.specs.Asks.{asked_by, counting, has_room, room_at, asked_job, ask_refusal, burst_refusal};
+ghost use Rattle.planned_log.specs.Bursts.{jobs_of, AreUnrefused};
 ghost use Rattle.planned_log.specs.KeptLogs.{comes_at, own_collection};
 ghost use Rattle.planned_log.specs.Moves.{Move, after_moves, lives_after, ReachTheEnd};
 ghost use Rattle.planned_log.specs.Laws.{IsKept, ForKeptLogs, StartsFull, AreDoneInTime, seen_by, answers_of};
@@ -100,7 +101,7 @@ pub fn no_more_comes_than_a_life_has()
 {}
 
 /// What a task is answered depends on the slots and on its own asks, and on nothing that other tasks do. Of two logs
-/// it is refused alike where the slot is the same, and what it asked for before. And of two runs that agree on their
+/// it is refused alike, an ask or a burst, where the slot is the same, and what it asked for before. And of two runs that agree on their
 /// slots and on the task's asks, from such logs, each of its asks is refused for the same cause, with the same slot to
 /// come again, or accepted with the same release and the same deadline.
 pub fn tasks_are_answered_for_their_own_asks()
@@ -109,6 +110,11 @@ pub fn tasks_are_answered_for_their_own_asks()
         now one ≡ now two → asked_by task (one ∷ earlier) ≡ asked_by task (two ∷ before)
         → ask_refusal plan terms life earlier one task ops
         ≡ ask_refusal plan terms life before two task ops }
+    ensures bursts { (plan : DiePlan) (terms : Terms) (life : ℕ) (earlier before : Lives)
+        (one two : Log) (task : ℕ) (ops : List Op) → all_slots earlier ≡ all_slots before →
+        now one ≡ now two → asked_by task (one ∷ earlier) ≡ asked_by task (two ∷ before)
+        → burst_refusal plan terms life earlier one task ops
+        ≡ burst_refusal plan terms life before two task ops }
     ensures runs { (start other : Start) (terms : Terms) (earlier before : Lives) (life task : ℕ)
         (one two : Log) → IsKept start terms earlier life 0 one →
         IsKept other terms before life 0 two → start.plan ≡ other.plan →
@@ -119,8 +125,8 @@ pub fn tasks_are_answered_for_their_own_asks()
         ≡ answers_of other terms before life task two others }
 {}
 
-/// `TooSoon` has the first slot that serves. Of an ask that the task may make at all, with no more operations and
-/// writes than it may have, there is room in a slot of this life or a later one exactly from that slot on, if the
+/// `TooSoon` has the first slot that serves. Of an ask or a burst that the task may make at all, with no more operations
+/// and writes than it may have, there is room in a slot of this life or a later one exactly from that slot on, if the
 /// task asks for nothing else before.
 pub fn too_soon_says_from_when()
     ensures { ForKeptLogs (λ start terms earlier life entered log.
@@ -155,4 +161,26 @@ pub fn kept_lives_go_on()
         let start = start_after first lives in
         IsKept start terms lives life 0 (after_moves start terms lives life [] moves)
         × AreDoneInTime start.plan (after_moves start terms lives life [] moves) }
+{}
+
+/// The jobs of a burst are the burst, in order: each has some operations, and no more than a job may have. One of no more
+/// operations than a job may have is one job, and is refused as an ask for it is.
+pub fn bursts_are_cut_into_jobs()
+    ensures whole { (ops : List Op) → flat_map (λ job. job) (jobs_of ops) ≡ ops }
+    ensures sizes { (ops : List Op)
+        → All (λ job. (1 ≤ length job) × (length job ≤ MAX_OPS)) (jobs_of ops) }
+    ensures one { (ops : List Op) → 1 ≤ length ops → length ops ≤ MAX_OPS → jobs_of ops ≡ ops ∷ [] }
+    ensures short { (plan : DiePlan) (terms : Terms) (life : ℕ) (earlier : Lives) (log : Log)
+        (task : ℕ) (ops : List Op) → length ops ≤ MAX_OPS
+        → burst_refusal plan terms life earlier log task ops
+        ≡ ask_refusal plan terms life earlier log task ops }
+{}
+
+/// A burst that its task's part of the plan doesn't refuse is nothing but asks: each of its jobs in turn is an ask that
+/// isn't refused. So all that holds of asks holds of bursts: the log keeps the plan with each of their jobs, and each is
+/// done by its deadline.
+pub fn bursts_are_asks()
+    ensures { ForKeptLogs (λ start terms earlier life entered log. (caller task : ℕ) (ops : List Op)
+        → burst_refusal start.plan terms life earlier log task ops ≡ None
+        → AreUnrefused start terms earlier life log caller task (jobs_of ops)) }
 {}

@@ -9,6 +9,7 @@ ghost use Rattle.plan_rules.specs.Bound.{MeetsBound};
 ghost use Rattle.die_log.specs.Model.Log.{now};
 ghost use Rattle.slot_core.specs.Calls.{HasEntered};
 ghost use Rattle.slot_core.specs.WithinSlot.{idle_reply};
+ghost use Rattle.slot_core.specs.Overdues.{overdue_of};
 ghost use Rattle.slot_core.specs.Renewals.{MayBeRenewed, renewed_core};
 ghost use Rattle.stepped_die.specs.Steps.{HoldsBack};
 ghost use Rattle.slot_core.specs.Core.{nothing_reserved, with_slots, with_arrivals};
@@ -19,7 +20,7 @@ use crate::mirror::MirrorNand;
 use crate::refusals::{StepRefusal, StepRenewalRefusal};
 use flash_die::NandCall;
 use plan_rules::bound;
-use slot_core::{DieCore, NextAct, NextSlot, RenewalRefusal};
+use slot_core::{DieCore, NextAct, NextSlot, Overdue, RenewalRefusal};
 use slot_types::{DiePlan, JobNo, Op, PageData, Refusal, SlotReply, TaskNo};
 use std::alloc::Global;
 use std::marker::Model;
@@ -324,6 +325,17 @@ impl SteppedDie {
         ensures { result ≡ self.now.begun }
     {
         self.begun
+    }
+
+    /// The work that is overdue, as [`DieCore::overdue`]: by the log, in which a slot that has begun isn't. A die that a
+    /// fault has stopped answers none.
+    pub fn overdue(&mut self) -> Option<Overdue>
+        ensures overdue { self.old.core.stopped ≡ false
+            → result ≡ overdue_of self.old.core.start.plan self.old.core.log }
+        ensures stopped { self.old.core.stopped ≡ true → result ≡ None }
+        ensures unchanged { self.new ≡ self.old }
+    {
+        self.core.overdue()
     }
 
     /// The die, for questions. They are answered by the log, in which a slot that has begun, or has failed, isn't.

@@ -4,7 +4,7 @@
 
 use crate::memory::Memory;
 use flash_die::Nand;
-use planned_die::{AskRefusal, PlannedDie};
+use planned_die::{AskRefusal, Burst, PlannedDie};
 use slot_core::Outcome;
 use slot_types::{JobNo, Op, Refusal, SlotReply, TaskNo};
 use std::alloc::Global;
@@ -17,6 +17,16 @@ pub(crate) fn ask<N: Nand>(
     ops: &[Op],
 ) -> Result<JobNo, AskRefusal> {
     die.ask(alloc, task, TaskNo(task), ops)
+}
+
+/// What becomes of a burst: its jobs, or why it is refused.
+pub(crate) fn ask_all<N: Nand>(
+    die: &mut PlannedDie<N>,
+    alloc: Global,
+    task: u32,
+    ops: &[Op],
+) -> Result<Burst, AskRefusal> {
+    die.ask_all(alloc, task, TaskNo(task), ops)
 }
 
 /// Carries out the present slot.

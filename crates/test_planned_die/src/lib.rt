@@ -9,6 +9,8 @@ mod again;
 #[cfg(test)]
 mod asks;
 #[cfg(test)]
+mod bursts;
+#[cfg(test)]
 mod collections;
 #[cfg(test)]
 mod dies;

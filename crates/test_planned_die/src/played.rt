@@ -1,11 +1,11 @@
 //! Plays a table on a die: what each step asks, and the answer beside what the step wants.
 
-use crate::again::{ask, carry, outcome_of};
+use crate::again::{ask, ask_all, carry, outcome_of};
 use crate::memory::Memory;
 use crate::said::Reported;
-use crate::steps::{Fact, Step};
+use crate::steps::{Fact, Jobs, Step};
 use flash_die::Nand;
-use planned_die::{AskRefusal, PlannedDie};
+use planned_die::{AskRefusal, Burst, PlannedDie};
 use slot_core::{Outcome, Worst};
 use slot_types::{JobNo, Op, PageData, Refusal, SlotReply};
 use std::alloc::Global;
@@ -15,6 +15,17 @@ use std::process::Abort;
 fn numbered(answer: Result<JobNo, AskRefusal>) -> Result<u32, AskRefusal> {
     match answer {
         Ok(number) => Ok(number.0),
+        Err(refusal) => Err(refusal),
+    }
+}
+
+/// What became of a burst as tables have it.
+fn jobs_of(answer: Result<Burst, AskRefusal>) -> Result<Jobs, AskRefusal> {
+    match answer {
+        Ok(burst) => Ok(Jobs {
+            first: burst.first.0,
+            jobs: burst.jobs,
+        }),
         Err(refusal) => Err(refusal),
     }
 }
@@ -78,6 +89,27 @@ fn babbles<N: Nand, R: Abort>(
         let got = ask(die, alloc, 1, TOO_MUCH);
         said.same(&numbered(got), &Err(AskRefusal::TooManyOps { most: 4 }));
         let _ = ask(die, alloc, 1, ALL);
+        slots(said, die, alloc, 1);
+    }
+}
+
+/// One operation more than the second task of bursts may ask for in a period.
+const MORE_THAN_ALL: &[Op] = &[Op::Read(0); 71];
+
+/// As much as it may.
+const ALL_AT_ONCE: &[Op] = &[Op::Read(0); 70];
+
+/// In each of so many slots the second task asks for a burst that is too much, and for all that it may in a period.
+fn bursts<N: Nand, R: Abort>(
+    said: &Reported<R>,
+    die: &mut PlannedDie<N>,
+    alloc: Global,
+    count: u32,
+) {
+    for _ in 0..count {
+        let got = ask_all(die, alloc, 1, MORE_THAN_ALL);
+        said.same(&jobs_of(got), &Err(AskRefusal::TooManyOps { most: 70 }));
+        let _ = ask_all(die, alloc, 1, ALL_AT_ONCE);
         slots(said, die, alloc, 1);
     }
 }
@@ -182,9 +214,14 @@ fn goes<N: Nand, R: Abort>(
         Step::Asks { task, ops, want } => {
             said.same(&numbered(ask(die, alloc, *task, *ops)), want)
         }
+        Step::AsksAll { task, ops, want } => said.same(
+            &jobs_of(ask_all(die, alloc, *task, *ops)),
+            want,
+        ),
         Step::Carries { jobs } => carries(said, die, alloc, *jobs),
         Step::Slots { count } => slots(said, die, alloc, *count),
         Step::Babbles { slots } => babbles(said, die, alloc, *slots),
+        Step::Bursts { slots } => bursts(said, die, alloc, *slots),
         Step::NoSlot { want } => {
             let got = carry(die, alloc);
             said.same(&got, &Err(*want))

@@ -14,7 +14,14 @@
 use planned_die::{AskRefusal, LifeRefusal};
 use slot_types::{Op, Refusal};
 
-/// A step of a table. A `want` is the answer: the number of the job, or why it is refused.
+/// The jobs of a burst: the number of the first one, and how many they are.
+#[derive(Clone, Copy, PartialEq, Eq, Debug, Drop)]
+pub(crate) struct Jobs {
+    pub(crate) first: u32,
+    pub(crate) jobs: u32,
+}
+
+/// A step of a table. A `want` is the answer: the number of the job, the jobs of a burst, or why it is refused.
 #[derive(Drop)]
 pub(crate) enum Step<'a> {
     /// A task asks for a job.
@@ -22,6 +29,12 @@ pub(crate) enum Step<'a> {
         task: u32,
         ops: &'a [Op],
         want: Result<u32, AskRefusal>,
+    },
+    /// A task asks for a burst.
+    AsksAll {
+        task: u32,
+        ops: &'a [Op],
+        want: Result<Jobs, AskRefusal>,
     },
     /// The next slots carry out these jobs or collections, one a slot, or are idle.
     Carries {
@@ -34,6 +47,11 @@ pub(crate) enum Step<'a> {
     /// In each of so many slots the second task asks for more than it ever may, and for as much as it may at once,
     /// whatever it is answered; then the slot is carried out.
     Babbles {
+        slots: u32,
+    },
+    /// In each of so many slots the second task asks for a burst of one operation more than it ever may, and for one of as
+    /// many as it may in a period, whatever it is answered; then the slot is carried out.
+    Bursts {
         slots: u32,
     },
     /// The present slot is refused.

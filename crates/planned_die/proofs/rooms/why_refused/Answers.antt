@@ -1,23 +1,50 @@
-use Rattle.std.proofs.Common.{◌≡◌, ◌+◌, map, nat_le, ap, sym, subst, ◌∙◌, arith, find}
+use Rattle.std.proofs.Common.{◌≡◌, ◌+◌, List, map, length, nat_le, Some, refl, ap, sym, subst, ◌∙◌, arith, find}
 use Rattle.std.specs.Prelude.{option_map}
-use Rattle.slot_types.specs.Operations.{page_of}
+use Rattle.slot_types.specs.Operations.{page_of, writes}
+use Rattle.demand_rules.specs.declared.terms.TaskTerms.{TaskTerms}
 use Rattle.demand_rules.specs.Demand.{terms_of}
-use Rattle.planned_log.specs.Asks.{most_operations}
-use Rattle.planned_die.specs.Remembered.{own_asks, jobs_of, AreKept}
-use Rattle.planned_die.proofs.Waits.{bad_page_first}
+use Rattle.planned_die.specs.Remembered.{most_of, next_room, own_asks, jobs_of, AreKept}
+use Rattle.planned_die.specs.declared.memory.AskedJob.{AskedJob}
+use Rattle.planned_die.proofs.Waits.{bad_page_first, too_soon_first}
 use Rattle.planned_die.proofs.rooms.why_refused.Goals as goal
 
 pub returns-in-Err-clause-refused : goal.returns-in-Err-clause-refused
 returns-in-Err-clause-refused c =
-    bad_page_first c.args.plan.now c.args.terms.now c.args.life c.args.first c.args.now (own_asks c.args.task (map jobs_of c.args.asked.now.items)) c.args.task c.args.ops.now
+    bad_page_first (most_of c.args.kind (terms_of c.args.terms.now c.args.task)) c.args.plan.now c.args.terms.now c.args.life c.args.first c.args.now
+    (own_asks c.args.task (map jobs_of c.args.asked.now.items)) c.args.task c.args.ops.now
     c.in-Err.page (omega (arith, c.if-task-len.false, c.len.ensures, c.task.view_is)) (omega (arith, c.if-ops-eq0.false))
     (omega (
       arith,
       c.if-ops-most.false,
-      c.most_ops-most.ensures,
-      ap most_operations (c.terms_at-own.ensures ∙ ap (terms_of c.args.terms.now) c.task.view_is),
+      c.most_ops-most.ensures.most,
+      ap (most_of c.args.kind) (c.terms_at-own.ensures ∙ ap (terms_of c.args.terms.now) c.task.view_is),
     ))
     (ap (λ l. option_map page_of (find (λ op. nat_le c.args.plan.now.logical (page_of op)) l)) (sym c.list.ensures) ∙ c.in-Err.ensures.missing)
+
+pub returns-in-Some-clause-refused : goal.returns-in-Some-clause-refused
+returns-in-Some-clause-refused c =
+    let asked : List (List AskedJob) = map jobs_of c.args.asked.now.items in
+    too_soon_first (most_of c.args.kind (terms_of c.args.terms.now c.args.task)) c.args.plan.now c.args.terms.now c.args.life c.args.first c.args.now
+    (own_asks c.args.task asked) c.args.task c.args.ops.now c.terms_at-own.result (c.args.first + c.from.result) (length c.args.ops.now)
+    c.writes-writes.result c.in-Some.next (c.terms_at-own.ensures ∙ ap (terms_of c.args.terms.now) c.task.view_is) (omega (arith, c.from.ensures)) refl
+    (c.writes-writes.ensures ∙ ap writes (c.in-Ok.ensures.ok ∙ c.list.ensures))
+    (omega (arith, c.if-task-len.false, c.len.ensures, c.task.view_is)) (omega (arith, c.if-ops-eq0.false))
+    (omega (
+      arith,
+      c.if-ops-most.false,
+      c.most_ops-most.ensures.most,
+      ap (most_of c.args.kind) (c.terms_at-own.ensures ∙ ap (terms_of c.args.terms.now) c.task.view_is),
+    ))
+    (ap (option_map page_of) (ap (λ l. find (λ op. nat_le c.args.plan.now.logical (page_of op)) l) (sym c.list.ensures) ∙ c.in-Ok.ensures.all_there))
+    (omega (
+      arith,
+      c.if-writes-own.false,
+      c.writes.ensures,
+      ap writes (c.in-Ok.ensures.ok ∙ c.list.ensures),
+      ap (λ (t : TaskTerms). t.writes) (c.terms_at-own.ensures ∙ ap (terms_of c.args.terms.now) c.task.view_is),
+    ))
+    (subst (λ n. Some c.in-Some.next ≡ next_room c.terms_at-own.result c.args.first (c.args.first + c.from.result) (own_asks n asked) (length c.args.ops.now)
+    c.writes-writes.result) c.task.view_is c.in-Some.ensures.next)
 
 pub returns-in-Some-clause-kept : goal.returns-in-Some-clause-kept
 returns-in-Some-clause-kept c =
