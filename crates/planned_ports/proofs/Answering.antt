@@ -1,0 +1,98 @@
+-- What a task was answered, in the log of a shared die.
+use Rattle.std.proofs.Common.{◌≡◌, ℕ, ◌==◌, true, false, Bool, List, [], ◌∷◌, ◌++◌, Result, Ok, Err, refl, ap, sym, ◌∙◌, arith}
+use Rattle.std.proofs.lemmas.Bool.Decides.{nat_tests}
+use Rattle.slot_types.specs.declared.events.Op.{Op}
+use Rattle.demand_rules.specs.declared.terms.Terms.{Terms}
+use Rattle.die_log.specs.Model.Start.{Start}
+use Rattle.planned_log.specs.Laws.{Seen, Asks, Slots, seen_by}
+use Rattle.planned_log.specs.Moves.{Move, Ask, Slot}
+use Rattle.planned_log.specs.Ongoing.{Ongoing, Answer, answer_to, answers_to, ongoing_after, ongoing_after_move}
+use Rattle.planned_ports.specs.declared.calls.Request.{Request}
+use Rattle.planned_ports.specs.declared.calls.Request.TheVariants as requests
+use Rattle.planned_ports.specs.declared.calls.Granted.{Granted}
+use Rattle.planned_ports.specs.declared.calls.Granted.TheVariants as granted
+use Rattle.planned_ports.specs.declared.calls.Refused.{Refused}
+use Rattle.planned_ports.specs.Calls.{PortCall, move_by, move_of, moves_of}
+use Rattle.planned_ports.specs.Replies.{WasGranted, WereGranted}
+use Rattle.planned_ports.specs.Laws.{answer_in, answers_in}
+
+same_task : (task : ℕ) → (task == task) ≡ true
+same_task task = grind (arith, nat_tests)
+
+equal : (m n : ℕ) → (m == n) ≡ true → m ≡ n
+equal m n e = grind (arith, nat_tests, e)
+
+module _ {A : Type 0} where
+  abbrev rest_of : List A → List A
+  rest_of [] = []
+  rest_of (x ∷ xs) = xs
+
+  abbrev first_of : A → List A → A
+  first_of d [] = d
+  first_of d (x ∷ xs) = x
+
+  -- of two lists that are one but for their last items, and yet are equal, these are equal
+  pub last_same : (xs : List A) (x y : A) → xs ++ x ∷ [] ≡ xs ++ y ∷ [] → x ≡ y
+  last_same [] x y e = ap (first_of x) e
+  last_same (z ∷ xs) x y e = last_same xs x y (ap rest_of e)
+
+module _ (first : Start) (terms : Terms) (life task : ℕ) where
+  -- the answers in the log are those of the rules
+  one_answer : (d : Ongoing) (caller : ℕ) (request : Request) (reply : Result Granted Refused) (rest : List Move)
+      → WasGranted first terms life d caller request reply
+      → answers_to first terms life task d (move_by caller request ∷ rest)
+      ≡ answer_in task request reply ++ answers_to first terms life task (ongoing_after_move first terms life d (move_by caller request)) rest
+  one_answer d caller (requests.Ask other ops) (Ok (granted.Job answer)) rest h = by (other == task) refl
+    where
+      then_rest : List Answer
+      then_rest = answers_to first terms life task (ongoing_after_move first terms life d (Ask caller other ops)) rest
+
+      by : (b : Bool) → (other == task) ≡ b
+          → answers_to first terms life task d (Ask caller other ops ∷ rest)
+          ≡ answer_in task (requests.Ask other ops) (Ok (granted.Job answer)) ++ then_rest
+      by true e = rw e (ap (λ (a : Answer). a ∷ then_rest) (ap (λ n. answer_to first terms life d n ops) (sym (equal other task e)) ∙ h))
+      by false e = rw e refl
+  one_answer d caller (requests.Ask other ops) (Ok (granted.Slot reply)) rest h = absurd h
+  one_answer d caller requests.Slot (Ok (granted.Slot reply)) rest h = refl
+  one_answer d caller requests.Slot (Ok (granted.Job answer)) rest h = absurd h
+  one_answer d caller request (Err refusal) rest h = absurd h
+
+  pub answers_are : (d : Ongoing) (calls : List PortCall) → WereGranted first terms life d calls
+      → answers_in task calls ≡ answers_to first terms life task d (moves_of calls)
+  answers_are d [] all = refl
+  answers_are d (call ∷ calls) all =
+      ap (λ (l : List Answer). answer_in task call.event call.reply ++ l)
+      (answers_are (ongoing_after_move first terms life d (move_of call)) calls all.1)
+      ∙ sym (one_answer d call.caller call.event call.reply (moves_of calls) all.0)
+
+  -- with one ask more of the task
+  pub answers_then : (d : Ongoing) (moves : List Move) (caller : ℕ) (ops : List Op)
+      → answers_to first terms life task d (moves ++ Ask caller task ops ∷ [])
+      ≡ answers_to first terms life task d moves ++ answer_to first terms life (ongoing_after first terms life d moves) task ops ∷ []
+  answers_then d [] caller ops = rw (same_task task) refl
+  answers_then d (Slot by ∷ moves) caller ops = answers_then (ongoing_after_move first terms life d (Slot by)) moves caller ops
+  answers_then d (Ask by other own ∷ moves) caller ops =
+      either (other == task) refl (answers_then (ongoing_after_move first terms life d (Ask by other own)) moves caller ops)
+    where
+      here : Ongoing
+      here = ongoing_after_move first terms life d (Ask by other own)
+
+      either : (b : Bool) → (other == task) ≡ b
+          → answers_to first terms life task here (moves ++ Ask caller task ops ∷ [])
+          ≡ answers_to first terms life task here moves ++ answer_to first terms life (ongoing_after first terms life here moves) task ops ∷ []
+          → answers_to first terms life task d (Ask by other own ∷ (moves ++ Ask caller task ops ∷ []))
+          ≡ answers_to first terms life task d (Ask by other own ∷ moves)
+          ++ answer_to first terms life (ongoing_after first terms life d (Ask by other own ∷ moves)) task ops ∷ []
+      either true e after = rw e (ap (λ (l : List Answer). answer_to first terms life d task own ∷ l) after)
+      either false e after = rw e after
+
+pub seen_then : (task : ℕ) (moves : List Move) (caller : ℕ) (ops : List Op)
+    → seen_by task (moves ++ Ask caller task ops ∷ []) ≡ seen_by task moves ++ Asks ops ∷ []
+seen_then task [] caller ops = rw (same_task task) refl
+seen_then task (Slot by ∷ moves) caller ops = ap (λ (l : List Seen). Slots ∷ l) (seen_then task moves caller ops)
+seen_then task (Ask by other own ∷ moves) caller ops = either (other == task) refl (seen_then task moves caller ops)
+  where
+    either : (b : Bool) → (other == task) ≡ b → seen_by task (moves ++ Ask caller task ops ∷ []) ≡ seen_by task moves ++ Asks ops ∷ []
+        → seen_by task (Ask by other own ∷ (moves ++ Ask caller task ops ∷ [])) ≡ seen_by task (Ask by other own ∷ moves) ++ Asks ops ∷ []
+    either true e after = rw e (ap (λ (l : List Seen). Asks own ∷ l) after)
+    either false e after = rw e after

@@ -1,0 +1,114 @@
+-- What the die answers to a request, and how it stands then.
+use Rattle.std.proofs.Common.{◌≡◌, ℕ, ◌≤◌, ◌==◌, Bool, false, List, length, map, Result, Ok, Err, refl, ap, sym, subst, ◌∙◌, arith}
+use Rattle.std.proofs.lemmas.Bool.Decides.{nat_tests}
+use Rattle.std.proofs.lemmas.List.{take_all}
+use Rattle.slot_types.specs.declared.events.Op.{Op}
+use Rattle.slot_types.specs.declared.events.Event.{Event}
+use Rattle.slot_types.specs.declared.events.Event.TheVariants as events
+use Rattle.slot_types.specs.declared.replies.SlotReply.{SlotReply}
+use Rattle.flash_die.specs.declared.nand.NandCall.{NandCall}
+use Rattle.demand_rules.specs.declared.terms.TaskTerms.{TaskTerms}
+use Rattle.demand_rules.specs.declared.terms.Terms.{Terms}
+use Rattle.die_log.specs.Model.Log.{Log, now}
+use Rattle.die_log.specs.Model.Start.{Start}
+use Rattle.die_log.specs.Model.Lives.{Lives}
+use Rattle.die_log.specs.Model.Answers.{answer, run}
+use Rattle.planned_log.specs.KeptLogs.{collections_at}
+use Rattle.planned_log.specs.Moves.{after_own}
+use Rattle.planned_log.specs.Ongoing.{Ongoing, start_of, going_on}
+use Rattle.planned_die.specs.Planned.{Planned}
+use Rattle.planned_die.specs.PlannedCalls.{own_calls, with_all_own}
+use Rattle.ongoing_die.specs.declared.answers.Taken.{Taken}
+use Rattle.ongoing_die.specs.declared.refusals.AskStop.{AskStop}
+use Rattle.ongoing_die.specs.declared.refusals.AskStop.TheVariants as asks
+use Rattle.ongoing_die.specs.declared.refusals.SlotStop.{SlotStop}
+use Rattle.ongoing_die.specs.declared.refusals.SlotStop.TheVariants as slots
+use Rattle.ongoing_die.specs.Standing.{OngoingParts, standing, StandsAs}
+use Rattle.ongoing_die.specs.OngoingCalls.{IsOngoingAsk, IsOngoingSlot, HasCarried}
+use Rattle.planned_ports.specs.declared.calls.Request.TheVariants as requests
+use Rattle.planned_ports.specs.declared.calls.Granted.{Granted}
+use Rattle.planned_ports.specs.declared.calls.Granted.TheVariants as granted
+use Rattle.planned_ports.specs.declared.calls.Refused.{Refused}
+use Rattle.planned_ports.specs.declared.calls.Refused.TheVariants as refused
+use Rattle.planned_ports.specs.Replies.{IsReply, IsSlotReply, after_reply}
+
+-- a call of the die, as an answer to a request
+abbrev pub of_ask : Result Taken AskStop → Result Granted Refused
+of_ask (Ok answer) = Ok (granted.Job answer)
+of_ask (Err stop) = Err (refused.Ask stop)
+
+abbrev pub of_slot : Result SlotReply SlotStop → Result Granted Refused
+of_slot (Ok reply) = Ok (granted.Slot reply)
+of_slot (Err stop) = Err (refused.Slot stop)
+
+module _ {N : Type 0} (caller : ℕ) (first : Start) (d : Ongoing) (before after : OngoingParts N) (s : StandsAs first d before) where
+  abbrev terms : Terms
+  terms = before.die.terms
+
+  abbrev life : ℕ
+  life = before.die.life
+
+  module _ (task : ℕ) (ops : List Op) where
+    pub ask_reply : (result : Result Taken AskStop) → IsOngoingAsk caller task ops first d result before after
+        → IsReply N first terms life d caller (requests.Ask task ops) (of_ask result)
+    ask_reply (Ok answer) h = h.answered
+    ask_reply (Err (asks.Ended stop)) h = (before, s, h.0)
+    ask_reply (Err (asks.Plan refusal)) h = h.0
+    ask_reply (Err asks.WaitsAlready) h = h.0
+
+    pub ask_stands : (result : Result Taken AskStop) → IsOngoingAsk caller task ops first d result before after
+        → StandsAs first (after_reply first terms life d caller (requests.Ask task ops) (of_ask result)) after
+    ask_stands (Ok answer) h = h.stands
+    ask_stands (Err (asks.Ended stop)) h = subst (StandsAs first d) (sym h.1) s
+    ask_stands (Err (asks.Plan refusal)) h = h.1.stands
+    ask_stands (Err asks.WaitsAlready) h = h.1.stands
+
+  module _ (ends : N → NandCall → Bool → N → Type 0) (failures : N → ℕ) (never : Bool) where
+    -- the reply of a slot is that of the log with all its collections
+    module _ (reply : SlotReply) (h : HasCarried ends failures never caller first d reply before after) where
+      abbrev die : Planned N
+      die = h.between.die
+
+      abbrev earlier : Lives
+      earlier = h.begun.stands.earlier
+
+      abbrev log : Log
+      log = die.core.log
+
+      here : d ≡ standing h.between earlier
+      here = (h.begun.stands.runs h.begun.runs).stands ∙ stays
+        where
+          away : (now log == die.life) ≡ false
+          away = let early = h.begun.early in grind (arith, nat_tests, early)
+
+          stays : going_on first die.terms die.life (standing h.between earlier) ≡ standing h.between earlier
+          stays = rw away refl
+
+      one_each : length die.terms.tasks ≤ length die.core.start.plan.caps
+      one_each = omega (arith, h.begun.stands.lived.kept.demand.has.one_each)
+
+      own_log : (with_all_own caller die).log ≡ after_own die.core.start die.terms log caller
+      own_log =
+          ap (λ n. run die.core.start log (own_calls caller die.terms n (length die.core.start.plan.caps) (now log)))
+          (h.begun.stands.runs h.begun.runs).whole
+          ∙ ap (λ (ts : List TaskTerms). run die.core.start log (map (λ (e : Event). (caller, e)) (collections_at ts 0 (now log))))
+          (take_all (length die.core.start.plan.caps) die.terms.tasks one_each)
+
+      pub slot_granted : IsSlotReply first terms d caller reply
+      slot_granted =
+          ap (λ (x : Ongoing). answer (start_of first x) (after_own (start_of first x) terms x.log caller) events.Slot) here
+          ∙ (ap (λ (t : Start). answer t (after_own t terms log caller) events.Slot) (sym h.begun.stands.starts)
+          ∙ (ap (λ (t : Terms). answer die.core.start (after_own die.core.start t log caller) events.Slot) (sym h.begun.plan.terms)
+          ∙ (ap (λ (l : Log). answer die.core.start l events.Slot) (sym own_log) ∙ h.carried.carried.ended.answered)))
+
+    pub slot_reply : (result : Result SlotReply SlotStop) → IsOngoingSlot ends failures never caller first d result before after
+        → IsReply N first terms life d caller requests.Slot (of_slot result)
+    slot_reply (Ok reply) h = slot_granted reply h
+    slot_reply (Err (slots.Ended stop)) h = (before, s, h.0)
+    slot_reply (Err slots.DeviceFault) h = tt
+
+    pub slot_stands : (result : Result SlotReply SlotStop) → IsOngoingSlot ends failures never caller first d result before after
+        → StandsAs first (after_reply first terms life d caller requests.Slot (of_slot result)) after
+    slot_stands (Ok reply) h = h.stands
+    slot_stands (Err (slots.Ended stop)) h = subst (StandsAs first d) (sym h.1) s
+    slot_stands (Err slots.DeviceFault) h = h.stands

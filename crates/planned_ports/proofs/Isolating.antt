@@ -1,0 +1,82 @@
+-- What a task is answered in two shared logs in which it sees the same.
+use Rattle.std.proofs.Common.{◌≡◌, ℕ, List, [], ◌∷◌, ◌++◌, ap, sym, subst, ◌∙◌}
+use Rattle.slot_types.specs.declared.events.Op.{Op}
+use Rattle.demand_rules.specs.declared.terms.Terms.{Terms}
+use Rattle.die_log.specs.Model.Log.{now}
+use Rattle.die_log.specs.Model.Start.{Start}
+use Rattle.die_log.specs.Model.Lives.{all_slots}
+use Rattle.planned_log.specs.Asks.{asked_by}
+use Rattle.planned_log.specs.Laws.{Seen, Asks, seen_by, AreDoneInTime, ForKeptLogs}
+use Rattle.planned_log.specs.Moves.{Move, Ask}
+use Rattle.planned_log.specs.Ongoing.{Ongoing, Answer, answer_to, answers_to, ongoing_after, waiting_of, ops_of, start_of, AreLongEnough, IsOngoing}
+use Rattle.ongoing_die.specs.Standing.{OngoingParts}
+use Rattle.planned_ports.specs.Calls.{PortCall, moves_of, after_calls}
+use Rattle.planned_ports.specs.Replies.{WereGranted}
+use Rattle.planned_ports.specs.Laws.{IsInTime, RanFrom, SeesTheSame, answers_in}
+use Rattle.planned_ports.proofs.Answering.{last_same, answers_are, answers_then, seen_then}
+
+-- In time
+
+abbrev pub GoesOn : Type 0
+GoesOn = (first : Start) (terms : Terms) (life : ℕ) → AreLongEnough terms life → (d : Ongoing) → IsOngoing first terms life d → (moves : List Move)
+    → IsOngoing first terms life (ongoing_after first terms life d moves)
+
+module _ {N : Type 0} (law : GoesOn) (opened : OngoingParts N) (first : Start) (d : Ongoing) (calls : List PortCall) (ran : RanFrom opened first d calls) where
+  pub shared_goes_on : IsOngoing first opened.die.terms opened.die.life (after_calls first opened.die.terms opened.die.life d calls)
+  shared_goes_on =
+      law first opened.die.terms opened.die.life ran.shared.is_die.long d (ran.stands.runs ran.runs).goes_on (moves_of calls)
+
+  pub shared_in_time : ForKeptLogs (λ start terms earlier life entered log. AreDoneInTime start.plan log)
+      → IsInTime first opened.die.life (after_calls first opened.die.terms opened.die.life d calls)
+  shared_in_time jobs =
+      let k = shared_goes_on in
+      let there : Ongoing = after_calls first opened.die.terms opened.die.life d calls in
+      (k.were, jobs (start_of first there) opened.die.terms there.earlier opened.die.life 0 there.log k.kept)
+
+-- Isolation
+
+abbrev pub Isolates : Type 0
+Isolates = (first other : Start) (terms : Terms) (life task : ℕ) → AreLongEnough terms life → first.plan ≡ other.plan → (one two : Ongoing)
+    → IsOngoing first terms life one → IsOngoing other terms life two → all_slots one.earlier ≡ all_slots two.earlier
+    → now one.log ≡ now two.log → asked_by task (one.log ∷ one.earlier) ≡ asked_by task (two.log ∷ two.earlier)
+    → ops_of (waiting_of one task) ≡ ops_of (waiting_of two task) → (moves others : List Move) → seen_by task moves ≡ seen_by task others
+    → answers_to first terms life task one moves ≡ answers_to other terms life task two others
+
+module _ {N : Type 0} (law : Isolates) (task : ℕ) (opened again : OngoingParts N) (first other : Start) (one two : Ongoing) (calls others : List PortCall)
+    (h : SeesTheSame task opened again first other one two calls others) where
+  abbrev terms : Terms
+  terms = opened.die.terms
+
+  abbrev life : ℕ
+  life = opened.die.life
+
+  goes_on_again : IsOngoing other terms life two
+  goes_on_again = subst (λ n. IsOngoing other terms n two) h.plan.life
+      (subst (λ (t : Terms). IsOngoing other t again.die.life two) h.plan.terms (h.ran_again.stands.runs h.ran_again.runs).goes_on)
+
+  granted_again : WereGranted other terms life two others
+  granted_again = subst (λ n. WereGranted other terms n two others) h.plan.life
+      (subst (λ (t : Terms). WereGranted other t again.die.life two others) h.plan.terms (h.ran_again.shared.granted other two h.ran_again.stands))
+
+  same : (moves more : List Move) → seen_by task moves ≡ seen_by task more
+      → answers_to first terms life task one moves ≡ answers_to other terms life task two more
+  same = law first other terms life task h.ran.shared.is_die.long h.alike.plan one two (h.ran.stands.runs h.ran.runs).goes_on goes_on_again
+      h.alike.clock h.alike.slot h.alike.asked h.alike.waits
+
+  pub same_granted : answers_in task calls ≡ answers_in task others
+  same_granted =
+      answers_are first terms life task one calls (h.ran.shared.granted first one h.ran.stands)
+      ∙ (same (moves_of calls) (moves_of others) h.seen ∙ sym (answers_are other terms life task two others granted_again))
+
+  pub same_next : (ops : List Op) → answer_to first terms life (after_calls first terms life one calls) task ops
+      ≡ answer_to other terms life (after_calls other terms life two others) task ops
+  same_next ops =
+      let x : Answer = answer_to first terms life (after_calls first terms life one calls) task ops in
+      let y : Answer = answer_to other terms life (after_calls other terms life two others) task ops in
+      let seen = seen_then task (moves_of calls) 0 ops
+      ∙ (ap (λ (l : List Seen). l ++ Asks ops ∷ []) h.seen ∙ sym (seen_then task (moves_of others) 0 ops)) in
+      last_same (answers_to first terms life task one (moves_of calls)) x y
+      (sym (answers_then first terms life task one (moves_of calls) 0 ops)
+      ∙ (same (moves_of calls ++ Ask 0 task ops ∷ []) (moves_of others ++ Ask 0 task ops ∷ []) seen
+      ∙ (answers_then other terms life task two (moves_of others) 0 ops
+      ∙ ap (λ (l : List Answer). l ++ y ∷ []) (sym (same (moves_of calls) (moves_of others) h.seen)))))

@@ -1,0 +1,9 @@
+mod Walks
+mod Carrying
+mod Growing
+mod Booking
+mod Answering
+mod Isolating
+mod Passing
+mod NewPorts
+mod Joining

@@ -1,0 +1,112 @@
+-- What a call in the turn tells its port.
+use Rattle.std.proofs.Common.{◌≡◌, ℕ, List, [], ◌∷◌, ◌++◌, Result, Ok, Err, IfOk, IfErr, None, if◌then◌else◌, refl, sym, ◌∙◌, subst}
+use Rattle.std.proofs.lemmas.List.{append-nil}
+use Rattle.std.specs.Prelude.{is_ok}
+use Rattle.std.specs.List.{AllByRecursion}
+use Rattle.slot_types.specs.declared.events.Op.{Op}
+use Rattle.turn_lock.specs.Log.{entry, calls_by}
+use Rattle.turn_lock.specs.Passes.{Replies}
+use Rattle.planned_ports.specs.declared.calls.Request.{Request}
+use Rattle.planned_ports.specs.declared.calls.Request.TheVariants as requests
+use Rattle.planned_ports.specs.declared.calls.Granted.{Granted}
+use Rattle.planned_ports.specs.declared.calls.Granted.TheVariants as granted
+use Rattle.planned_ports.specs.declared.calls.Refused.{Refused}
+use Rattle.planned_ports.specs.declared.calls.Refused.TheVariants as refused
+use Rattle.planned_ports.specs.Calls.{PortCall}
+use Rattle.planned_ports.specs.Replies.{IsSharedLog, MayReply}
+use Rattle.planned_ports.specs.declared.refusals.AskRefused.{AskRefused}
+use Rattle.planned_ports.specs.declared.refusals.SlotRefused.{SlotRefused}
+use Rattle.planned_ports.specs.Pages.{foreign_page}
+use Rattle.planned_ports.specs.Ports.{PortView, TaskParts, ClockParts, AddsEntry, AddsNone, IsOwnAsk, IsSlotRequest, HasOwnAsks, HasOwnSlots}
+use Rattle.planned_ports.specs.Ports.{RefusesTask, RefusesClock}
+use Rattle.planned_ports.specs.Unwrapping.{IsJob, IsSlot, RefusesAsks, RefusesSlots, IsAskRefusal, IsSlotRefusal}
+
+pub all_push : {X : Type 0} (P : X → Type 0) (xs : List X) (x : X) → AllByRecursion P xs → P x → AllByRecursion P (xs ++ x ∷ [])
+all_push P [] x all one = (one, tt)
+all_push P (y ∷ xs) x all one = (all.0, all_push P xs x all.1 one)
+
+module _ {N : Type 0} where
+  -- what the lock says of a call
+  abbrev pub Said : PortView N → Request → Result Granted Refused → PortView N → Type 0
+  Said v request answer w = Replies is_ok (IsSharedLog {N = N}) (MayReply {N = N}) v request answer w
+
+  -- and of the port's own calls
+  abbrev pub Owns : PortView N → Request → Result Granted Refused → PortView N → Type 0
+  Owns v request answer w = calls_by v.number w.seen ≡ calls_by v.number v.seen
+      ++ (if is_ok answer then entry v.number request answer ∷ [] else [])
+
+  pub added : (v : PortView N) (request : Request) (result : Result Granted Refused) (w : PortView N) → Said v request result w → Owns v request result w
+      → IfOk result (λ answer. AddsEntry v request answer w)
+  added v request (Ok answer) w said own = record {
+    before = said.0;
+    grown = said.1;
+    view_is = said.2;
+    granted = said.3.1;
+    shared = said.4;
+    own = own;
+  }
+  added v request (Err refusal) w said own = tt
+
+  pub left : (v : PortView N) (request : Request) (result : Result Granted Refused) (w : PortView N) → Said v request result w → Owns v request result w
+      → IfErr result (λ refusal. AddsNone v request refusal w)
+  left v request (Ok answer) w said own = tt
+  left v request (Err refusal) w said own = record {
+    grown = said.0;
+    reason = said.1;
+    own = own ∙ append-nil (calls_by v.number v.seen);
+  }
+
+  -- an ask is answered as an ask, and a slot as a slot
+  pub is_job : (v : PortView N) (task : ℕ) (ops : List Op) (answer : Granted) (w : PortView N) → AddsEntry v (requests.Ask task ops) answer w → IsJob answer
+  is_job v task ops (granted.Job answer) w a = tt
+  is_job v task ops (granted.Slot reply) w a = let die = a.shared.is_die in a.granted die.first die.ongoing die.stands
+
+  pub is_slot : (v : PortView N) (answer : Granted) (w : PortView N) → AddsEntry v requests.Slot answer w → IsSlot answer
+  is_slot v (granted.Slot reply) w a = tt
+  is_slot v (granted.Job answer) w a = let die = a.shared.is_die in a.granted die.first die.ongoing die.stands
+
+  pub refuses_asks : (v : PortView N) (task : ℕ) (ops : List Op) (refusal : Refused) (w : PortView N) → AddsNone v (requests.Ask task ops) refusal w
+      → RefusesAsks refusal
+  refuses_asks v task ops (refused.Ask stop) w a = tt
+  refuses_asks v task ops (refused.Slot stop) w a = let die = a.grown.fit.is_die in a.reason.1 die.first die.ongoing die.stands
+  refuses_asks v task ops refused.LockFull w a = tt
+
+  pub refuses_slots : (v : PortView N) (refusal : Refused) (w : PortView N) → AddsNone v requests.Slot refusal w → RefusesSlots refusal
+  refuses_slots v (refused.Ask stop) w a = let die = a.grown.fit.is_die in a.reason.1 die.first die.ongoing die.stands
+  refuses_slots v (refused.Slot stop) w a = tt
+  refuses_slots v refused.LockFull w a = tt
+
+  pub refuses_task : (p : TaskParts N) (ops : List Op) (refusal : Refused) (result : AskRefused) (q : TaskParts N) → foreign_page p.pages ops ≡ None
+      → AddsNone p.view (requests.Ask p.task ops) refusal q.view → IsAskRefusal refusal result → RefusesTask p ops result q
+  refuses_task p ops (refused.Ask stop) result q own a is = subst (λ (r : AskRefused). RefusesTask p ops r q) (sym is) (own, a)
+  refuses_task p ops (refused.Slot stop) result q own a is = absurd is
+  refuses_task p ops refused.LockFull result q own a is = subst (λ (r : AskRefused). RefusesTask p ops r q) (sym is) (own, a)
+
+  pub refuses_clock : (p : ClockParts N) (refusal : Refused) (result : SlotRefused) (q : ClockParts N) → AddsNone p.view requests.Slot refusal q.view
+      → IsSlotRefusal refusal result → RefusesClock p result q
+  refuses_clock p (refused.Ask stop) result q a is = absurd is
+  refuses_clock p (refused.Slot stop) result q a is = subst (λ (r : SlotRefused). RefusesClock p r q) (sym is) a
+  refuses_clock p refused.LockFull result q a is = subst (λ (r : SlotRefused). RefusesClock p r q) (sym is) a
+
+  -- the port's own requests, with one more
+  pub own_asks : (p q : TaskParts N) (ops : List Op) (answer : Granted) → HasOwnAsks p → foreign_page p.pages ops ≡ None → q.task ≡ p.task → q.pages ≡ p.pages
+      → q.view.number ≡ p.view.number → AddsEntry p.view (requests.Ask p.task ops) answer q.view → HasOwnAsks q
+  own_asks p q ops answer own page task pages number a =
+      rw (task, pages, number, a.own) (all_push (λ (c : PortCall). IsOwnAsk p.task p.pages c.event) (calls_by p.view.number p.view.seen)
+      (entry p.view.number (requests.Ask p.task ops) (Ok answer)) own (refl, page))
+
+  pub own_slots : (p q : ClockParts N) (answer : Granted) → HasOwnSlots p → q.view.number ≡ p.view.number → AddsEntry p.view requests.Slot answer q.view
+      → HasOwnSlots q
+  own_slots p q answer own number a =
+      rw (number, a.own) (all_push (λ (c : PortCall). IsSlotRequest c.event) (calls_by p.view.number p.view.seen)
+      (entry p.view.number requests.Slot (Ok answer)) own tt)
+
+  -- and where nothing is granted
+
+  pub same_asks : (p q : TaskParts N) (ops : List Op) (refusal : Refused) → HasOwnAsks p → q.task ≡ p.task → q.pages ≡ p.pages
+      → q.view.number ≡ p.view.number → AddsNone p.view (requests.Ask p.task ops) refusal q.view → HasOwnAsks q
+  same_asks p q ops refusal own task pages number a = rw (task, pages, number, a.own) own
+
+  pub same_slots : (p q : ClockParts N) (refusal : Refused) → HasOwnSlots p → q.view.number ≡ p.view.number → AddsNone p.view requests.Slot refusal q.view
+      → HasOwnSlots q
+  same_slots p q refusal own number a = rw (number, a.own) own

@@ -1,0 +1,60 @@
+-- What laws of shared logs say.
+use Rattle.std.specs.Prelude.{◌≡◌, ℕ, ◌==◌, if◌then◌else◌, false, List, [], ◌∷◌, ◌++◌, Result, Ok}
+use Rattle.die_log.specs.Model.Log.{now}
+use Rattle.die_log.specs.Model.Lives.{all_slots}
+use Rattle.die_log.specs.Model.Start.{Start}
+use Rattle.planned_log.specs.Asks.{asked_by}
+use Rattle.planned_log.specs.Laws.{AreDoneInTime, seen_by}
+use Rattle.planned_log.specs.Ongoing.{Ongoing, Answer, start_of, WereInTime, waiting_of, ops_of}
+use Rattle.ongoing_die.specs.Standing.{OngoingParts, StandsAs}
+use Rattle.ongoing_die.specs.OngoingCalls.{told, HaveOnePlan}
+use Rattle.planned_ports.specs.declared.calls.Request.{Request}
+use Rattle.planned_ports.specs.declared.calls.Request.TheVariants as requests
+use Rattle.planned_ports.specs.declared.calls.Granted.{Granted}
+use Rattle.planned_ports.specs.declared.calls.Granted.TheVariants as granted
+use Rattle.planned_ports.specs.declared.calls.Refused.{Refused}
+use Rattle.planned_ports.specs.Calls.{PortCall, moves_of}
+use Rattle.planned_ports.specs.Replies.{IsSharedLog}
+
+-- In time
+
+-- each job of all lives that is due by now is done, and was by its deadline
+abbrev pub IsInTime : Start → ℕ → Ongoing → Type 0
+IsInTime first life d = WereInTime first life d.earlier × AreDoneInTime (start_of first d).plan d.log
+
+-- Isolation
+
+-- what a task was answered by this call, if it was its ask
+abbrev pub answer_in : ℕ → Request → Result Granted Refused → List Answer
+answer_in task (requests.Ask other ops) (Ok (granted.Job answer)) = if other == task then told answer ∷ [] else []
+answer_in task _ _ = []
+
+-- and by these calls, in order
+abbrev pub answers_in : ℕ → List PortCall → List Answer
+answers_in task [] = []
+answers_in task (call ∷ calls) = answer_in task call.event call.reply ++ answers_in task calls
+
+-- For this task both stand alike: in the same slot of the clock and of a life, with the same asked for by the task before,
+-- and the same of it waiting
+pub record AreAlikeFor (task : ℕ) (first other : Start) (one two : Ongoing) : Type 0 where
+  pub plan : first.plan ≡ other.plan
+  pub clock : all_slots one.earlier ≡ all_slots two.earlier
+  pub slot : now one.log ≡ now two.log
+  pub asked : asked_by task (one.log ∷ one.earlier) ≡ asked_by task (two.log ∷ two.earlier)
+  pub waits : ops_of (waiting_of one task) ≡ ops_of (waiting_of two task)
+
+-- the log of a die that ran when it was opened, of which this stood then
+pub record RanFrom {N : Type 0} (opened : OngoingParts N) (first : Start) (d : Ongoing) (calls : List PortCall) : Type 0 where
+  pub shared : IsSharedLog opened calls
+  pub runs : opened.die.core.stopped ≡ false
+  pub stands : StandsAs first d opened
+
+-- Of two such logs a task sees the same: both dies have one plan, and stood alike for it when they were opened, and it made
+-- the same asks at the same slots. What others asked is whatever it is.
+pub record SeesTheSame {N : Type 0} (task : ℕ) (opened again : OngoingParts N) (first other : Start) (one two : Ongoing) (calls others : List PortCall)
+    : Type 0 where
+  pub ran : RanFrom opened first one calls
+  pub ran_again : RanFrom again other two others
+  pub plan : HaveOnePlan opened again
+  pub alike : AreAlikeFor task first other one two
+  pub seen : seen_by task (moves_of calls) ≡ seen_by task (moves_of others)

@@ -1,0 +1,9 @@
+pub mod Calls
+pub mod Replies
+pub mod Shared
+pub mod Pages
+pub mod Ports
+pub mod Opening
+pub mod Closing
+pub mod Laws
+pub mod Unwrapping

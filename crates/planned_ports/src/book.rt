@@ -1,0 +1,190 @@
+//! A die that goes on by itself as the book behind its lock.
+
+ghost use Rattle.std.specs.Prelude.{◌≡◌, []};
+ghost use Rattle.std.specs.Box.{box_value};
+ghost use Rattle.planned_ports.specs.Calls.{calls_after};
+ghost use Rattle.planned_ports.specs.Replies.{MayReply};
+ghost use Rattle.planned_ports.specs.Shared.{IsSharedDie};
+
+use crate::calls::{Granted, Refused, Request};
+use crate::history::History;
+use flash_die::Nand;
+use ongoing_die::OngoingDie;
+use slot_types::{Op, TaskNo};
+use std::alloc::Global;
+use std::marker::Model;
+use std::snapshot::Snapshot;
+use turn_lock::{Book, NotingBook};
+
+/// The most entries that a lock takes.
+const MOST: u64 = 4_294_967_295;
+
+/// What may be asked of a die in its turn, and changes nothing.
+#[derive(Drop)]
+pub enum Query {
+    /// The present slot of the clock of all lives.
+    Clock,
+}
+
+/// A die, what it takes its memory from, and how many requests were granted. Contracts see the die as it was and as it is,
+/// and what was granted between.
+// The book is moved out of its slot and back at each turn, so the die itself lies in a box.
+#[derive(Drop)]
+pub struct PlannedBook<N: Nand> {
+    die: Box<OngoingDie<N>>,
+    alloc: Global,
+    count: u64,
+    opened: Snapshot<OngoingDie<N>>,
+    history: History,
+}
+
+impl<N: Nand> Model for PlannedBook<N> {
+    ghost use Rattle.std.specs.Prelude.{◌≡◌, length};
+    ghost use Rattle.std.specs.Box.{box_value};
+    ghost use Rattle.planned_ports.specs.Shared.{SharedDie, IsSharedDie};
+
+    ghost Value = { SharedDie N };
+
+    ghost view = { λ b. record { opened = b.opened.value; calls = b.history.calls; die = box_value b.die } };
+
+    ghost invariant = { λ b. (b.count ≡ length b.history.calls) × IsSharedDie {N = N} (record {
+      opened = b.opened.value;
+      calls = b.history.calls;
+      die = box_value b.die;
+    }) };
+}
+
+impl<N: Nand> PlannedBook<N> {
+    /// The book of a die for which nothing was granted yet.
+    pub(crate) fn new(alloc: Global, die: Box<OngoingDie<N>>) -> PlannedBook<N>
+        ensures opened { result.opened ≡ box_value die }
+        ensures none { result.calls ≡ [] }
+        ensures die { result.die ≡ box_value die }
+    {
+        die.goes_on();
+        let opened = Snapshot::of(&*die);
+        PlannedBook {
+            die,
+            alloc,
+            count: 0,
+            opened,
+            history: History::new(),
+        }
+    }
+
+    /// The die, which stands as what was granted says.
+    pub(crate) fn into_die(self) -> OngoingDie<N>
+        ensures die { result ≡ self.die }
+        ensures shared { IsSharedDie self }
+    {
+        Box::into_inner(self.die)
+    }
+
+    /// Asks for a job of the task.
+    fn ask_for(&mut self, caller: u32, task: TaskNo, ops: &[Op]) -> Result<Granted, Refused>
+        ensures opened { self.new.opened ≡ self.old.opened }
+        ensures replied { MayReply self.old.opened self.old.calls caller (Request.Ask task ops.now) result }
+        ensures calls { self.new.calls
+            ≡ calls_after self.old.calls caller (Request.Ask task ops.now) result }
+    {
+        if self.count >= MOST {
+            return Err(Refused::LockFull);
+        }
+        match self.die.ask(self.alloc, caller, task, ops) {
+            Ok(taken) => {
+                let answer = Ok(Granted::Job(taken));
+                self.history = self.history.with_ask(caller, task, ops, &answer);
+                self.count += 1;
+                answer
+            }
+            Err(stop) => Err(Refused::Ask(stop)),
+        }
+    }
+
+    /// Carries the present slot out.
+    fn carry_slot(&mut self, caller: u32) -> Result<Granted, Refused>
+        ensures opened { self.new.opened ≡ self.old.opened }
+        ensures replied { MayReply self.old.opened self.old.calls caller Request.Slot result }
+        ensures calls { self.new.calls
+            ≡ calls_after self.old.calls caller Request.Slot result }
+    {
+        if self.count >= MOST {
+            return Err(Refused::LockFull);
+        }
+        match self.die.slot(self.alloc, caller) {
+            Ok(reply) => {
+                let answer = Ok(Granted::Slot(reply));
+                self.history = self.history.with_slot(caller, &answer);
+                self.count += 1;
+                answer
+            }
+            Err(stop) => Err(Refused::Slot(stop)),
+        }
+    }
+}
+
+impl<N: Nand> Book for PlannedBook<N> {
+    ghost use Rattle.std.specs.Prelude.{is_ok};
+    ghost use Rattle.planned_ports.specs.Replies.{MayReply, IsSharedLog, SaysClock};
+
+    type Event = Request;
+
+    type Reply = Result<Granted, Refused>;
+
+    type Query = Query;
+
+    type Answer = Option<u64>;
+
+    type About = OngoingDie<N>;
+
+    ghost log = { λ shared. shared.calls };
+
+    ghost about = { λ shared. shared.opened };
+
+    ghost accepts = { is_ok };
+
+    ghost gives = { MayReply };
+
+    ghost says = { λ opened calls query slot. SaysClock opened calls slot };
+
+    ghost fits = { IsSharedLog };
+
+    fn apply(&mut self, caller: u32, event: Request) -> Result<Granted, Refused> {
+        match event {
+            Request::Ask { task, ops } => self.ask_for(caller, task, ops.as_slice()),
+            Request::Slot => self.carry_slot(caller),
+        }
+    }
+
+    fn ask(&self, query: Query) -> Option<u64> {
+        match query {
+            Query::Clock => {
+                if self.die.die().core().is_stopped() {
+                    return None;
+                }
+                Some(self.die.clock())
+            }
+        }
+    }
+
+    fn len(&self) -> u64 {
+        self.count
+    }
+}
+
+/// An ask, whose operations are lent.
+impl<'a, N: Nand> NotingBook<&'a [Op]> for PlannedBook<N> {
+    ghost use Rattle.planned_ports.specs.declared.calls.Request.TheVariants as requests;
+
+    type Note = Result<Granted, Refused>;
+
+    type Head = TaskNo;
+
+    ghost noted = { λ answer. answer };
+
+    ghost whole = { λ task ops. requests.Ask task ops.now };
+
+    fn note(&mut self, caller: u32, head: TaskNo, parts: &&'a [Op]) -> Result<Granted, Refused> {
+        self.ask_for(caller, head, *parts)
+    }
+}

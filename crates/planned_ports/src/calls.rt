@@ -1,0 +1,34 @@
+//! What ports ask of a die, and what they are answered.
+
+use ongoing_die::{AskStop, SlotStop, Taken};
+use slot_types::{OpList, SlotReply, TaskNo};
+
+/// What a port asks of the die.
+#[derive(Drop)]
+pub enum Request {
+    /// A job of the task, with these operations.
+    Ask { task: TaskNo, ops: OpList },
+    /// The present slot.
+    Slot,
+}
+
+/// What is answered to a request that isn't refused.
+#[derive(Drop)]
+pub enum Granted {
+    /// The job enters, or waits for the next life.
+    Job(Taken),
+    /// The slot is carried out.
+    Slot(SlotReply),
+}
+
+/// Why a request is refused.
+#[derive(Clone, Copy, PartialEq, Eq, Debug, Drop)]
+pub enum Refused {
+    /// The die refuses the ask.
+    Ask(AskStop),
+    /// The die doesn't carry the slot out.
+    Slot(SlotStop),
+    /// 4,294,967,295 requests were granted since the ports were opened, and the lock takes no more. The die is as it was:
+    /// once it is closed, it can be opened again.
+    LockFull,
+}

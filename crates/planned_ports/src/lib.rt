@@ -1,0 +1,21 @@
+//! A die that keeps its plan itself and goes on by itself, for any number of threads: each task has a port, which asks for
+//! that task alone, and the clock has one, which carries the slots out. What they are granted is one list, and the laws of
+//! such a die are laws of it.
+#![tactic(auto)]
+
+pub mod book;
+pub mod calls;
+pub mod closing;
+mod history;
+pub mod laws;
+pub mod opening;
+pub mod pages;
+pub mod ports;
+pub mod refusals;
+
+pub use calls::{Granted, Refused, Request};
+pub use closing::{StillOpen, close};
+pub use opening::{NotOpened, Opened, open};
+pub use pages::PageRange;
+pub use ports::{ClockPort, SharedPlannedDie, TaskPort};
+pub use refusals::{AskRefused, SlotRefused};

@@ -1,0 +1,243 @@
+//! A die that its ports share. The condition of each call: the port is of this die.
+
+ghost use Rattle.std.specs.Prelude.{◌≡◌, [], Some, None, IfOk, IfErr};
+ghost use Rattle.planned_ports.specs.Pages.{foreign_page};
+ghost use Rattle.planned_ports.specs.Unwrapping.{IsJob, IsSlot, RefusesAsks, RefusesSlots, IsAskRefusal, IsSlotRefusal};
+ghost use Rattle.turn_lock.specs.Views.{IsSamePass};
+ghost use Rattle.planned_ports.specs.Ports.{AddsEntry, AddsNone, IsSamePort, IsSameClock, HasOwnAsks, HasOwnSlots, IsClock, RefusesTask, RefusesClock};
+
+use crate::book::{PlannedBook, Query};
+use crate::calls::{Granted, Refused, Request};
+use crate::pages::{PageRange, first_foreign};
+use crate::refusals::{AskRefused, SlotRefused};
+use flash_die::Nand;
+use ongoing_die::Taken;
+use slot_types::{Op, SlotReply, TaskNo};
+use std::marker::Model;
+use std::sync::Wait;
+use turn_lock::{Pass, Turned};
+
+/// A die that one port at a time uses. Contracts see which lock it has.
+#[derive(Drop)]
+pub struct SharedPlannedDie<N: Nand> {
+    pub(crate) turned: Turned<PlannedBook<N>>,
+}
+
+impl<N: Nand> Model for SharedPlannedDie<N> {
+    ghost use Rattle.atomic_table.specs.Seated.{TableId};
+
+    ghost Value = { TableId };
+
+    ghost view = { λ d. d.turned };
+}
+
+impl<N: Nand> SharedPlannedDie<N> {
+    /// Asks for a job of the task.
+    fn ask_for<R: Wait>(
+        &self,
+        rt: &R,
+        pass: &mut Pass<PlannedBook<N>>,
+        task: TaskNo,
+        ops: &[Op],
+    ) -> Result<Granted, Refused>
+        requires { pass.old.lock ≡ self.now }
+        ensures same { IsSamePass pass.old pass.new }
+        ensures added { IfOk result (λ answer.
+            AddsEntry pass.old.view (Request.Ask task ops.now) answer pass.new.view) }
+        ensures refused { IfErr result (λ refusal.
+            AddsNone pass.old.view (Request.Ask task ops.now) refusal pass.new.view) }
+    {
+        self.turned.note(rt, pass, task, &ops)
+    }
+
+    /// Carries the present slot out.
+    fn carry_slot<R: Wait>(
+        &self,
+        rt: &R,
+        pass: &mut Pass<PlannedBook<N>>,
+    ) -> Result<Granted, Refused>
+        requires { pass.old.lock ≡ self.now }
+        ensures same { IsSamePass pass.old pass.new }
+        ensures added { IfOk result (λ answer.
+            AddsEntry pass.old.view Request.Slot answer pass.new.view) }
+        ensures refused { IfErr result (λ refusal.
+            AddsNone pass.old.view Request.Slot refusal pass.new.view) }
+    {
+        self.turned.apply(rt, pass, Request::Slot)
+    }
+}
+
+/// A task's port: the only value that asks for jobs of this task, and it asks for no other task's. There is one for each
+/// task of the plan. It goes to any thread, and isn't copied.
+#[derive(Drop)]
+pub struct TaskPort<N: Nand> {
+    pub(crate) pass: Pass<PlannedBook<N>>,
+    pub(crate) task: TaskNo,
+    pub(crate) pages: Option<PageRange>,
+}
+
+impl<N: Nand> Model for TaskPort<N> {
+    ghost use Rattle.planned_ports.specs.Ports.{TaskParts, HasOwnAsks};
+
+    ghost Value = { TaskParts N };
+
+    ghost view = { λ p. record { lock = p.pass.lock; view = p.pass.view; task = p.task; pages = p.pages } };
+
+    ghost invariant = { λ p. HasOwnAsks {N = N} (record {
+      lock = p.pass.lock;
+      view = p.pass.view;
+      task = p.task;
+      pages = p.pages;
+    }) };
+}
+
+/// The clock's port: the only value that carries slots out. It goes to any thread, and isn't copied.
+#[derive(Drop)]
+pub struct ClockPort<N: Nand> {
+    pub(crate) pass: Pass<PlannedBook<N>>,
+}
+
+impl<N: Nand> Model for ClockPort<N> {
+    ghost use Rattle.planned_ports.specs.Ports.{ClockParts, HasOwnSlots};
+
+    ghost Value = { ClockParts N };
+
+    ghost view = { λ p. record { lock = p.pass.lock; view = p.pass.view } };
+
+    ghost invariant = { λ p. HasOwnSlots {N = N} (record { lock = p.pass.lock; view = p.pass.view }) };
+}
+
+/// What an ask is answered.
+fn job_of(granted: Granted) -> Taken
+    requires { IsJob granted }
+    ensures { granted ≡ Granted.Job result }
+{
+    match granted {
+        Granted::Job(answer) => answer,
+        Granted::Slot(_) => unreachable!(),
+    }
+}
+
+/// What was done in a slot.
+fn slot_of(granted: Granted) -> SlotReply
+    requires { IsSlot granted }
+    ensures { granted ≡ Granted.Slot result }
+{
+    match granted {
+        Granted::Slot(reply) => reply,
+        Granted::Job(_) => unreachable!(),
+    }
+}
+
+/// Why an ask is refused behind the lock.
+fn ask_refusal(refused: Refused) -> AskRefused
+    requires { RefusesAsks refused }
+    ensures { IsAskRefusal refused result }
+{
+    match refused {
+        Refused::Ask(stop) => AskRefused::Die(stop),
+        Refused::LockFull => AskRefused::LockFull,
+        Refused::Slot(_) => unreachable!(),
+    }
+}
+
+/// Why a slot is.
+fn slot_refusal(refused: Refused) -> SlotRefused
+    requires { RefusesSlots refused }
+    ensures { IsSlotRefusal refused result }
+{
+    match refused {
+        Refused::Slot(stop) => SlotRefused::Die(stop),
+        Refused::LockFull => SlotRefused::LockFull,
+        Refused::Ask(_) => unreachable!(),
+    }
+}
+
+impl<N: Nand> TaskPort<N> {
+    /// Asks for a job of the port's task, as [`OngoingDie::ask`](ongoing_die::OngoingDie::ask) does: it is released in the
+    /// slot that stands when the port has its turn. May wait for the turn, and for nothing else.
+    ///
+    /// The refusals, of which the first that stands is answered, and nothing changes: `ForeignPage`, where an operation is on
+    /// a page that isn't the port's, with the first such page, before the turn is taken; `LockFull`, where 4,294,967,295
+    /// requests were granted since the die was opened; `Die`, as the die lists the causes. It takes no memory.
+    pub fn ask<R: Wait>(
+        &mut self,
+        rt: &R,
+        die: &SharedPlannedDie<N>,
+        ops: &[Op],
+    ) -> Result<Taken, AskRefused>
+        requires { self.old.lock ≡ die.now }
+        ensures same { IsSamePort self.old self.new }
+        ensures own { HasOwnAsks self.new }
+        ensures granted { IfOk result (λ answer.
+            AddsEntry self.old.view (Request.Ask self.old.task ops.now) (Granted.Job answer) self.new.view) }
+        ensures pages { IfOk result (λ _. foreign_page self.old.pages ops.now ≡ None) }
+        ensures refused { IfErr result (λ refusal. RefusesTask self.old ops.now refusal self.new) }
+    {
+        match first_foreign(self.pages, ops) {
+            Some(page) => return Err(AskRefused::ForeignPage { page }),
+            None => {}
+        }
+        match die.ask_for(rt, &mut self.pass, self.task, ops) {
+            Ok(granted) => Ok(job_of(granted)),
+            Err(refused) => Err(ask_refusal(refused)),
+        }
+    }
+
+    /// The present slot of the clock of all lives; none once a fault of the device has stopped the die. May wait for the
+    /// turn.
+    pub fn clock<R: Wait>(&mut self, rt: &R, die: &SharedPlannedDie<N>) -> Option<u64>
+        requires { self.old.lock ≡ die.now }
+        ensures same { IsSamePort self.old self.new }
+        ensures clock { IsClock self.old.view self.new.view result }
+    {
+        // It says that no other pass has taken this one in.
+        let _ = self.pass.number();
+        die.turned.ask(rt, &mut self.pass, Query::Clock)
+    }
+
+    /// The task that the port asks for.
+    pub fn task(&self) -> TaskNo
+        ensures task { result ≡ self.now.task }
+        ensures own { HasOwnAsks self.now }
+    {
+        self.task
+    }
+}
+
+impl<N: Nand> ClockPort<N> {
+    /// Carries out the present slot, as [`OngoingDie::slot`](ongoing_die::OngoingDie::slot) does. May wait for the turn, and
+    /// for no task.
+    ///
+    /// The refusals, and nothing changes but where the device fails: `LockFull`, where 4,294,967,295 requests were granted
+    /// since the die was opened; `Die`, as the die lists the causes.
+    pub fn slot<R: Wait>(
+        &mut self,
+        rt: &R,
+        die: &SharedPlannedDie<N>,
+    ) -> Result<SlotReply, SlotRefused>
+        requires { self.old.lock ≡ die.now }
+        ensures same { IsSameClock self.old self.new }
+        ensures own { HasOwnSlots self.new }
+        ensures granted { IfOk result (λ reply.
+            AddsEntry self.old.view Request.Slot (Granted.Slot reply) self.new.view) }
+        ensures refused { IfErr result (λ refusal. RefusesClock self.old refusal self.new) }
+    {
+        match die.carry_slot(rt, &mut self.pass) {
+            Ok(granted) => Ok(slot_of(granted)),
+            Err(refused) => Err(slot_refusal(refused)),
+        }
+    }
+
+    /// The present slot of the clock of all lives; none once a fault of the device has stopped the die. May wait for the
+    /// turn.
+    pub fn clock<R: Wait>(&mut self, rt: &R, die: &SharedPlannedDie<N>) -> Option<u64>
+        requires { self.old.lock ≡ die.now }
+        ensures same { IsSameClock self.old self.new }
+        ensures clock { IsClock self.old.view self.new.view result }
+    {
+        // It says that no other pass has taken this one in.
+        let _ = self.pass.number();
+        die.turned.ask(rt, &mut self.pass, Query::Clock)
+    }
+}
