@@ -1,6 +1,30 @@
 //! Datasheets: the texts of crates/tool_plan_fit/datasheets. A search by script, which judges by the rules alone, found
 //! a plan for each.
 
+pub const CRASH: &str = "# the recorder of docs/DESIGNING.md, whose crash is due in 2 s
+read_us = 25
+program_us = 250
+erase_us = 2000
+suspend_us = 30
+resume_us = 30
+blocks = 1024
+pages = 64
+logical = 63000
+
+[[task]]                # the sensors
+pages_per_s = 25
+
+[[task]]                # read-out
+period_ms = 100
+reads = 32
+writes = 0
+
+[[task]]                # a crash
+burst_pages = 1024
+at_most_once_in_s = 60
+deadline_ms = 2000
+";
+
 pub const FLIGHT: &str = "# a flight recorder: sixteen channels would fit, six are used
 read_us = 25
 program_us = 250

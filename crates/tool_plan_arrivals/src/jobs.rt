@@ -1,13 +1,11 @@
 //! The jobs of a task, as the most that its plan lets it ask for.
 
 use crate::chances::Chance;
+use crate::ops::{put_other, put_write};
 use crate::pages::Share;
 use slot_types::TaskTimes;
 use std::io;
 use std::io::Write;
-
-/// Of a task that writes, one in so many of the other operations is a trim.
-const TRIM_IN: u32 = 8;
 
 /// A task, the times that it has, and its pages.
 #[derive(Clone, Copy, Drop)]
@@ -35,21 +33,6 @@ impl Asker {
         self.share.page_at(place)
     }
 
-    /// Adds a write. Its bytes tell where they come from: slot, task, page, and the place among the job's operations.
-    fn put_write(&self, text: &mut Vec<u8>, page: u32, slot: u32, place: u32) -> io::Result<()> {
-        let task = self.task;
-        write!(text, "W{page}={slot:08x}{task:08x}{page:08x}{place:08x}")
-    }
-
-    /// Adds a read, or a trim.
-    fn put_other(&self, text: &mut Vec<u8>, chance: &mut Chance, page: u32) -> io::Result<()> {
-        if self.trims && chance.below(TRIM_IN) == 0 {
-            write!(text, "T{page}")
-        } else {
-            write!(text, "R{page}")
-        }
-    }
-
     /// Adds the operations of a job that is released in a slot: as many as the plan has, and of these as many writes, at
     /// places that are drawn.
     fn put_ops(&mut self, text: &mut Vec<u8>, chance: &mut Chance, slot: u32) -> io::Result<()> {
@@ -62,10 +45,10 @@ impl Asker {
             let drawn = self.share.draw(chance);
             if chance.below(left) < writes {
                 let page = self.written_page(drawn);
-                self.put_write(text, page, slot, place)?;
+                put_write(text, self.task, page, slot, place)?;
                 writes = writes.saturating_sub(1);
             } else {
-                self.put_other(text, chance, drawn)?;
+                put_other(text, chance, drawn, self.trims)?;
             }
         }
         Ok(())

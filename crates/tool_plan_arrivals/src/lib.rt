@@ -11,13 +11,17 @@ mod keeping;
 mod laws;
 mod makers;
 mod manners;
+mod ops;
 mod pages;
 mod scripts;
 
+pub use chances::Chance;
 pub use die_events::{Events, events_on};
 pub use faults::Fault;
 pub use fillings::{Filling, fillings_of};
 pub use keeping::keeps_plans;
 pub use laws::planned_scripts_go_as_planned;
 pub use manners::Manner;
+pub use ops::{put_other, put_write};
+pub use pages::Share;
 pub use scripts::{arrivals, test_all};

@@ -1,2 +1,3 @@
 mod Zips
 mod Tables
+mod Paces

@@ -1,5 +1,6 @@
 //! Why a datasheet has no plan.
 
+use crate::decimals::Decimal;
 use crate::sheet_faults::SheetFault;
 use slot_types::Refusal;
 use std::fmt;
@@ -12,7 +13,7 @@ pub enum Reason {
     Erase {
         slots: u32,
     },
-    /// A period is shorter than the shortest slot.
+    /// A period or a deadline is shorter than the shortest slot.
     Period {
         slot_us: u32,
     },
@@ -24,14 +25,39 @@ pub enum Reason {
         common: u32,
         slot_us: u32,
     },
+    /// In the long run so many of a million slots are asked for.
+    Load {
+        load: u64,
+        slot_us: u32,
+    },
+    /// An interval of so many slots may be asked for so many more.
+    Overfull {
+        slots: u32,
+        excess: u64,
+        slot_us: u32,
+    },
+    /// A collection in each slot doesn't give back what a task writes.
+    Writes {
+        slot_us: u32,
+    },
 }
 
-/// A period of a task with which a plan is found.
+/// Why a slot has to hold a whole erase.
 #[derive(Clone, Copy, Drop)]
-pub struct LongerPeriod {
+pub enum WholeErase {
+    /// The part suspends no erase.
+    No,
+    /// It suspends one at a time, and so many tasks collect.
+    One { tasks: usize },
+}
+
+/// A longer time of a task with which a plan is found.
+#[derive(Clone, Copy, Drop)]
+pub struct LongerTime {
     /// The task's place in the text, the first being 1.
     pub nth: u32,
-    pub period_ms: u32,
+    pub key: &'static str,
+    pub time: Decimal,
 }
 
 /// With which numbers, one at a time, a plan is found. Each was tried.
@@ -41,13 +67,14 @@ pub struct Advice {
     pub logical: Option<u32>,
     /// The least such.
     pub blocks: Option<u32>,
-    pub periods: Vec<LongerPeriod>,
+    pub times: Vec<LongerTime>,
 }
 
 /// Why no plan was found, and what would do.
 #[derive(Drop)]
 pub struct Unfound {
     pub reason: Reason,
+    pub whole_erase: Option<WholeErase>,
     pub advice: Advice,
 }
 
@@ -74,7 +101,7 @@ impl Display for Reason {
             Reason::Period { slot_us } => {
                 write!(
                     f,
-                    "a period is shorter than the shortest slot, {slot_us} us"
+                    "a period or a deadline is shorter than the shortest slot, {slot_us} us"
                 )
             }
             Reason::Bound => f.write_str("no alpha meets the bound"),
@@ -86,15 +113,56 @@ impl Display for Reason {
                 f,
                 "the tasks need too much: with slots of {slot_us} us {demand} of each {common} slots"
             ),
+            Reason::Load { load, slot_us } => write!(
+                f,
+                "the tasks need too much: with slots of {slot_us} us {load} of each 1000000 slots"
+            ),
+            Reason::Overfull {
+                slots,
+                excess,
+                slot_us,
+            } => write!(
+                f,
+                "the tasks need too much at once: with slots of {slot_us} us an interval of {slots} slots lacks {excess}"
+            ),
+            Reason::Writes { slot_us } => write!(
+                f,
+                "a task writes too much: with slots of {slot_us} us a collection in each slot gives back less"
+            ),
         }
+    }
+}
+
+impl Display for WholeErase {
+    fn fmt<W: Write>(&self, f: &mut Formatter<W>) -> fmt::Result {
+        match *self {
+            WholeErase::No => {
+                f.write_str("\na slot has to hold a whole erase: the part suspends none")
+            }
+            WholeErase::One { tasks } => write!(
+                f,
+                "\na slot has to hold a whole erase: the part suspends one at a time, and each of {tasks} tasks collects"
+            ),
+        }
+    }
+}
+
+impl Display for LongerTime {
+    fn fmt<W: Write>(&self, f: &mut Formatter<W>) -> fmt::Result {
+        let LongerTime { nth, key, time } = *self;
+        let article = if key.starts_with("a") { "an" } else { "a" };
+        write!(
+            f,
+            "\nwith {article} {key} of {time} in [[task]] {nth} a plan is found"
+        )
     }
 }
 
 impl Display for Advice {
     fn fmt<W: Write>(&self, f: &mut Formatter<W>) -> fmt::Result {
-        if self.logical.is_none() && self.blocks.is_none() && self.periods.is_empty() {
+        if self.logical.is_none() && self.blocks.is_none() && self.times.is_empty() {
             return f.write_str(
-                "\nwith no other logical or blocks, and no longer period of one task, a plan is found",
+                "\nwith no other logical or blocks, and no longer time of one task, a plan is found",
             );
         }
         if let Some(logical) = self.logical {
@@ -103,12 +171,8 @@ impl Display for Advice {
         if let Some(blocks) = self.blocks {
             write!(f, "\nwith blocks of at least {blocks} a plan is found")?;
         }
-        for longer in self.periods.as_slice() {
-            let (nth, period_ms) = (longer.nth, longer.period_ms);
-            write!(
-                f,
-                "\nwith a period_ms of {period_ms} in [[task]] {nth} a plan is found"
-            )?;
+        for longer in self.times.as_slice() {
+            write!(f, "{longer}")?;
         }
         Ok(())
     }
@@ -117,6 +181,10 @@ impl Display for Advice {
 impl Display for Unfound {
     fn fmt<W: Write>(&self, f: &mut Formatter<W>) -> fmt::Result {
         let (reason, advice) = (&self.reason, &self.advice);
-        write!(f, "{reason}{advice}")
+        write!(f, "{reason}")?;
+        if let Some(whole) = self.whole_erase {
+            write!(f, "{whole}")?;
+        }
+        write!(f, "{advice}")
     }
 }

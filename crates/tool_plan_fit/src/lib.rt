@@ -3,6 +3,7 @@
 
 mod advices;
 mod datasheets;
+mod decimals;
 mod faults;
 mod fits;
 mod found_texts;
@@ -14,8 +15,11 @@ mod searches;
 mod sheet_faults;
 mod sheet_texts;
 mod slots;
+mod terms_plans;
+mod terms_searches;
 
-pub use datasheets::{Need, Needs, Part, Sheet};
-pub use faults::{Advice, FitFault, LongerPeriod, Reason, Unfound};
+pub use datasheets::{Asked, InSlots, Need, Needs, Part, Sheet, Suspends};
+pub use decimals::Decimal;
+pub use faults::{Advice, FitFault, LongerTime, Reason, Unfound, WholeErase};
 pub use fits::fit;
 pub use sheet_faults::{Level, Position, SheetFault, Wrong};

@@ -53,7 +53,11 @@ fn key_place(text: &str, level: Level, key: &str) -> Option<Position> {
 pub fn place_of(text: &str, wrong: &Wrong) -> Option<Position> {
     match wrong {
         Wrong::NotToml(_) | Wrong::NotUtf8 | Wrong::Tasks => None,
-        Wrong::Number { level, key, .. } => key_place(text, *level, key),
+        Wrong::Number { level, key, .. } | Wrong::Time { level, key, .. } => {
+            key_place(text, *level, key)
+        }
+        Wrong::Suspends => key_place(text, Level::Top, "suspends"),
+        Wrong::Kinds { nth, key } => key_place(text, Level::Task(*nth), key.as_str()),
         Wrong::UnknownKey { level, key } => key_place(text, *level, key.as_str()),
         Wrong::Work { nth } => key_place(text, Level::Task(*nth), "reads"),
     }

@@ -2,7 +2,7 @@
 
 ghost use Rattle.std.specs.Prelude.{IfOk, IfSome};
 ghost use Rattle.std.specs.List.{AllZip};
-ghost use Rattle.tool_plan_fit.specs.Fits.{IsPlanOf, IsTaskOf};
+ghost use Rattle.tool_plan_fit.specs.Fits.{IsPlanOf, IsTimedTask};
 
 use crate::datasheets::{Need, Part, Sheet};
 use crate::slots::greatest_upto;
@@ -40,15 +40,16 @@ pub fn collection_work(part: &Part, erase_slots: u32, alpha: u32) -> u32 {
 
 /// The times of a task, whose period is this at most; none where its collections can't give back what it writes.
 fn task_of(need: &Need, period: u32, choice: &Choice<'_>) -> Option<TaskTimes>
-    ensures { IfSome result (IsTaskOf choice.now.slot_us need.now) }
+    ensures { IfSome result (IsTimedTask choice.now.slot_us need.now) }
 {
-    let period = period.min(need.period(choice.slot_us));
-    let collect_period = collect_period(choice, period, u32::from(need.writes))?;
+    let wanted = need.in_slots(choice.slot_us);
+    let period = period.min(wanted.period).min(wanted.deadline);
+    let collect_period = collect_period(choice, period, wanted.writes)?;
     Some(TaskTimes {
         period,
         collect_period,
-        work: need.work(),
-        writes: u32::from(need.writes),
+        work: wanted.work,
+        writes: wanted.writes,
     })
 }
 
@@ -58,7 +59,7 @@ fn tasks_of(
     needs: &[Need],
     choice: &Choice<'_>,
 ) -> Result<Option<TimesList>, Refusal>
-    ensures { IfOk result (λ made. IfSome made (AllZip (IsTaskOf choice.now.slot_us) needs.now)) }
+    ensures { IfOk result (λ made. IfSome made (AllZip (IsTimedTask choice.now.slot_us) needs.now)) }
 {
     let mut tasks = TimesList::new(alloc);
     for i in 0..needs.len() {
@@ -72,17 +73,17 @@ fn tasks_of(
 }
 
 /// The least caps that do for so much given by a collection: each covers two jobs and two collections.
-pub fn caps_of(alloc: Global, needs: &[Need], alpha: u32) -> Result<Caps, Refusal> {
+pub fn caps_of(alloc: Global, needs: &[Need], slot_us: u32, alpha: u32) -> Result<Caps, Refusal> {
     let mut caps = Caps::new(alloc);
     for need in needs {
-        let given = u32::from(need.writes).saturating_add(alpha);
+        let given = need.in_slots(slot_us).writes.saturating_add(alpha);
         caps.push(given.saturating_mul(2))?;
     }
     Ok(caps)
 }
 
-/// The plan of a choice; none where a slot doesn't hold each command, or a task's collections can't give back what it
-/// writes. It isn't judged. The only refusal is NoMemory.
+/// The plan of a choice; none where a slot doesn't hold each command, or has to hold a whole erase and doesn't, or a task's
+/// collections can't give back what it writes. It isn't judged. The only refusal is NoMemory.
 pub fn plan_of(
     alloc: Global,
     sheet: &Sheet,
@@ -95,7 +96,10 @@ pub fn plan_of(
         return Ok(None);
     };
     let needs = sheet.needs.as_slice();
-    let caps = caps_of(alloc, needs, choice.alpha)?;
+    if !part.allows_erases(erase_slots, sheet.needs.len()) {
+        return Ok(None);
+    }
+    let caps = caps_of(alloc, needs, choice.slot_us, choice.alpha)?;
     let Some(tasks) = tasks_of(alloc, needs, choice)? else {
         return Ok(None);
     };

@@ -5,7 +5,7 @@
 ghost use Rattle.std.specs.Prelude.{IfOk, IfSome};
 ghost use Rattle.tool_plan_fit.specs.Fits.{IsPlanOf};
 
-use crate::datasheets::{Need, Sheet};
+use crate::datasheets::{InSlots, Need, Sheet};
 use crate::faults::Reason;
 use crate::lives::{Life, life_by};
 use crate::plans::{Choice, caps_of, collect_period, collection_work, plan_of, untimed_plan};
@@ -16,6 +16,8 @@ use std::alloc::Global;
 
 /// So many times the least hyperperiod is tried.
 const MOST_TIMES: u32 = 16;
+
+const MILLION: u64 = 1_000_000;
 
 /// How many of so many slots all tasks take at most.
 #[derive(Clone, Copy, Drop)]
@@ -83,12 +85,28 @@ impl Pick {
 /// How much a task takes of `common` slots. Where its collections can't give back what it writes, they come in each slot
 /// at least.
 fn taken(need: &Need, period: u32, collection: u32, choice: &Choice<'_>) -> u64 {
-    let collect_period = collect_period(choice, period, u32::from(need.writes)).unwrap_or(1);
-    let jobs = u64::from(need.work()).saturating_mul(u64::from(choice.common / period.max(1)));
+    let InSlots { work, writes, .. } = need.in_slots(choice.slot_us);
+    let collect_period = collect_period(choice, period, writes).unwrap_or(1);
+    let jobs = u64::from(work).saturating_mul(u64::from(choice.common / period.max(1)));
     let collections = u64::from(collection).saturating_mul(u64::from(
         choice.common / collect_period.max(1),
     ));
     jobs.saturating_add(collections)
+}
+
+/// Of a million slots, how many a task takes at least, rounded down: the longest collect period that gives back what it
+/// writes need not divide any number here.
+fn least_taken(wanted: &InSlots, period: u32, collection: u32, alpha: u32) -> u64 {
+    let jobs = (u64::from(wanted.work) * MILLION).checked_div(u64::from(period));
+    let given = u64::from(alpha).saturating_mul(u64::from(period));
+    let collections = match given.checked_div(u64::from(wanted.writes)) {
+        None => Some(0),
+        Some(most) => (u64::from(collection) * MILLION).checked_div(most),
+    };
+    match (jobs, collections) {
+        (Some(jobs), Some(collections)) => jobs.saturating_add(collections),
+        _ => u64::MAX,
+    }
 }
 
 /// How much all tasks take by a choice.
@@ -165,20 +183,35 @@ impl Tries<'_> {
         Ok(())
     }
 
-    /// Tries each alpha, with these periods.
+    /// Tries each alpha, with these periods. The greater alpha is, the less is taken: where the greatest takes more slots
+    /// than there are, or any plan is looked for, no other is tried.
     fn try_alphas(
         &mut self,
         erase_slots: u32,
         choice: Choice<'_>,
         powers: bool,
     ) -> Result<(), Refusal> {
+        let Some(greatest) = self.alphas.last() else {
+            return Ok(());
+        };
+        let most = Choice {
+            alpha: *greatest,
+            ..choice
+        };
+        let share = share_of(self.sheet, erase_slots, &most);
+        self.note(share, choice.slot_us);
+        if share.demand > u64::from(share.common) {
+            return Ok(());
+        }
+        if self.aim == Aim::Any {
+            return self.keep(&most, share, powers);
+        }
         for alpha in self.alphas {
             let choice = Choice {
                 alpha: *alpha,
                 ..choice
             };
             let share = share_of(self.sheet, erase_slots, &choice);
-            self.note(share, choice.slot_us);
             if share.demand <= u64::from(share.common) {
                 self.keep(&choice, share, powers)?;
             }
@@ -186,9 +219,26 @@ impl Tries<'_> {
         Ok(())
     }
 
+    /// Whether more slots are asked for than there are, whatever collect periods are chosen.
+    fn is_too_much(&self, erase_slots: u32, slot_us: u32, periods: &[u32]) -> bool {
+        let Some(alpha) = self.alphas.last() else {
+            return true;
+        };
+        let collection = collection_work(&self.sheet.part, erase_slots, *alpha);
+        let mut asked: u64 = 0;
+        for (need, period) in self.sheet.needs.as_slice().iter().zip(periods) {
+            let least = least_taken(&need.in_slots(slot_us), *period, collection, *alpha);
+            asked = asked.saturating_add(least);
+        }
+        asked > MILLION
+    }
+
     /// Tries a length of a slot, with the periods as they are or as powers of two.
     fn try_length(&mut self, erase_slots: u32, slot_us: u32, powers: bool) -> Result<(), Refusal> {
         let periods = periods(self.alloc, self.sheet.needs.as_slice(), slot_us, powers)?;
+        if self.aim == Aim::Any && self.is_too_much(erase_slots, slot_us, periods.as_slice()) {
+            return Ok(());
+        }
         let Some(least) = common_of(periods.as_slice()) else {
             return Ok(());
         };
@@ -218,13 +268,19 @@ impl Tries<'_> {
         }
     }
 
+    /// Whether the part allows erases of so many slots.
+    fn allows(&self, erase_slots: u32) -> bool {
+        let tasks = self.sheet.needs.len();
+        self.sheet.part.allows_erases(erase_slots, tasks)
+    }
+
     /// Tries the lengths of a slot from the shortest on, until there is a plan whose periods end in a life. Answers the
     /// fewest slots of an erase that were too many, if no length had fewer.
     fn try_lengths(&mut self, lengths: &[u32]) -> Result<Option<u32>, Refusal> {
         let mut fewest: Option<u32> = None;
         for slot_us in lengths {
             match self.sheet.part.erase_slots(*slot_us) {
-                Some(slots) if slots <= MAX_ERASE_SLOTS => {
+                Some(slots) if slots <= MAX_ERASE_SLOTS && self.allows(slots) => {
                     self.try_length(slots, *slot_us, false)?;
                     if !self.is_content() {
                         self.try_length(slots, *slot_us, true)?;
@@ -241,13 +297,27 @@ impl Tries<'_> {
     }
 }
 
-/// The alphas with which a part and its tasks meet the bound, rising.
-fn alphas_of(alloc: Global, sheet: &Sheet) -> Result<Vec<u32>, Refusal> {
+/// Whether a part and its tasks meet the bound with an alpha.
+fn meets_bound(alloc: Global, sheet: &Sheet, alpha: u32) -> Result<bool, Refusal> {
+    let slot_us = sheet.shortest_slot();
+    let caps = caps_of(alloc, sheet.needs.as_slice(), slot_us, alpha)?;
+    Ok(bound(&untimed_plan(&sheet.part, alpha, caps)).is_ok())
+}
+
+/// The alphas with which a part and its tasks meet the bound, rising; where any plan is looked for, the greatest alone.
+fn alphas_of(alloc: Global, sheet: &Sheet, aim: Aim) -> Result<Vec<u32>, Refusal> {
     let mut alphas = Vec::new(alloc);
-    for alpha in 1..=sheet.part.pages {
-        let caps = caps_of(alloc, sheet.needs.as_slice(), alpha)?;
-        if bound(&untimed_plan(&sheet.part, alpha, caps)).is_ok() {
+    let pages = sheet.part.pages;
+    for back in 0..pages {
+        let alpha = match aim {
+            Aim::Best => back + 1,
+            Aim::Any => pages - back,
+        };
+        if meets_bound(alloc, sheet, alpha)? {
             alphas.push(alpha)?;
+            if aim == Aim::Any {
+                break;
+            }
         }
     }
     Ok(alphas)
@@ -278,14 +348,16 @@ fn found_of(alloc: Global, sheet: &Sheet, pick: &Pick) -> Result<Option<Found>, 
     }
 }
 
-/// Whether a task's period is shorter than the shortest slot.
-fn has_short_period(sheet: &Sheet) -> bool {
-    let shortest = sheet.part.shortest_slot();
-    sheet
-        .needs
-        .as_slice()
-        .iter()
-        .any(|need| need.period(shortest) == 0)
+/// Whether a task's period or deadline is shorter than the shortest slot.
+pub fn has_short_period(sheet: &Sheet) -> bool {
+    let shortest = sheet.shortest_slot();
+    for need in sheet.needs.as_slice() {
+        let wanted = need.in_slots(shortest);
+        if wanted.period == 0 || wanted.deadline == 0 {
+            return true;
+        }
+    }
+    false
 }
 
 /// What stood against the closest that was tried.
@@ -297,7 +369,7 @@ fn reason_of(
 ) -> Reason {
     if has_short_period(sheet) {
         return Reason::Period {
-            slot_us: sheet.part.shortest_slot(),
+            slot_us: sheet.shortest_slot(),
         };
     }
     match (closest, erase) {
@@ -316,8 +388,8 @@ pub fn search(alloc: Global, sheet: &Sheet, aim: Aim) -> Result<Searched, Refusa
     ensures { IfOk result (λ searched. IfSome searched.found (λ found.
         IsPlanOf sheet.now found.slot_us found.plan)) }
 {
-    let alphas = alphas_of(alloc, sheet)?;
-    let lengths = lengths(alloc, &sheet.part, sheet.needs.as_slice())?;
+    let alphas = alphas_of(alloc, sheet, aim)?;
+    let lengths = lengths(alloc, sheet)?;
     let mut tries = Tries {
         alloc,
         sheet,

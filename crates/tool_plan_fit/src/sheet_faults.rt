@@ -1,5 +1,6 @@
 //! What is wrong with the text of a datasheet.
 
+use crate::decimals::Decimal;
 use std::fmt;
 use std::fmt::{Display, Formatter, Write};
 
@@ -47,6 +48,20 @@ pub enum Wrong {
         least: u32,
         most: u32,
     },
+    /// A key isn't there, or its number is out of its range, or finer than parts of its unit.
+    Time {
+        level: Level,
+        key: &'static str,
+        least: Decimal,
+        most: Decimal,
+    },
+    /// It isn't said how many erases are suspended at a time.
+    Suspends,
+    /// A task has a key that doesn't go with its others.
+    Kinds {
+        nth: u32,
+        key: String,
+    },
     /// There is a key beside those of a datasheet.
     UnknownKey {
         level: Level,
@@ -58,6 +73,28 @@ pub enum Wrong {
     Work {
         nth: u32,
     },
+}
+
+/// Writes which range a number has, and how many decimals.
+fn put_time<W: Write>(
+    f: &mut Formatter<W>,
+    level: Level,
+    key: &str,
+    least: Decimal,
+    most: Decimal,
+) -> fmt::Result {
+    let decimals = match most.unit {
+        1 => return write!(
+            f,
+            "{level} needs `{key}`, a whole number from {least} to {most}"
+        ),
+        1_000 => 3,
+        _ => 6,
+    };
+    write!(
+        f,
+        "{level} needs `{key}`, a number from {least} to {most} with at most {decimals} decimals"
+    )
 }
 
 impl Display for Wrong {
@@ -74,6 +111,23 @@ impl Display for Wrong {
                 write!(
                     f,
                     "{level} needs `{key}`, a whole number from {least} to {most}"
+                )
+            }
+            Wrong::Time {
+                level,
+                key,
+                least,
+                most,
+            } => put_time(f, *level, key, *least, *most),
+            Wrong::Suspends => {
+                f.write_str("the datasheet needs `suspends` as \"any\", \"one\" or \"none\"")
+            }
+            Wrong::Kinds { nth, key } => {
+                let key = key.as_str().escape_debug();
+                write!(
+                    f,
+                    "[[task]] {nth} has the key `{key}`, and a task has `period_ms`, `reads` and `writes`, or \
+                     `burst_pages` and `at_most_once_in_s`, or `pages_per_s`"
                 )
             }
             // A quoted key may hold a line's end, and a sentence is a line.

@@ -1,6 +1,6 @@
 //! How long a slot may be, and what periods come to in slots.
 
-use crate::datasheets::{Need, Part};
+use crate::datasheets::{Asked, Need, Sheet};
 use slot_types::MAX_SLOT;
 use std::alloc::{AllocError, Global};
 
@@ -31,15 +31,40 @@ pub fn least_multiple(a: u32, b: u32) -> Option<u32> {
     }
 }
 
-/// The lengths of a slot that are tried, in microseconds: from the shortest on those that divide each period, rising, and then
-/// the shortest itself.
-pub fn lengths(alloc: Global, part: &Part, needs: &[Need]) -> Result<Vec<u32>, AllocError> {
-    let shortest = part.shortest_slot().max(1);
+/// The time between two pages of a rate, in microseconds, where it is a whole number of them; else 0, which each divides.
+fn time_between_pages(micropages_per_s: u32) -> u32 {
+    let of_a_page: u64 = 1_000_000_000_000;
+    let each = u64::from(micropages_per_s).max(1);
+    if of_a_page % each != 0 {
+        return 0;
+    }
+    u32::try_from(of_a_page / each).unwrap_or(0)
+}
+
+/// How often a task asks, in microseconds.
+fn period_us(need: &Need) -> u32 {
+    match need.asked {
+        Asked::Periodic { period_us, .. } => period_us,
+        Asked::Burst { every_us, .. } => every_us,
+        Asked::Rate { micropages_per_s } => time_between_pages(micropages_per_s),
+    }
+}
+
+/// The greatest time, in microseconds, that divides each period and each deadline.
+fn shared_time(needs: &[Need]) -> u32 {
     let mut shared: u32 = 0;
     for need in needs {
-        shared = greatest_divisor(shared, need.period_ms);
+        shared = greatest_divisor(shared, period_us(need));
+        shared = greatest_divisor(shared, need.deadline_us.unwrap_or(0));
     }
-    let shared = shared.saturating_mul(1000);
+    shared
+}
+
+/// The lengths of a slot that are tried, in microseconds: from the shortest on those that divide each period and each
+/// deadline, rising, and then the shortest itself.
+pub fn lengths(alloc: Global, sheet: &Sheet) -> Result<Vec<u32>, AllocError> {
+    let shortest = sheet.shortest_slot().max(1);
+    let shared = shared_time(sheet.needs.as_slice());
     let mut lengths = Vec::with_capacity(alloc, MOST)?;
     let most = shared / shortest;
     for back in 0..most {
@@ -65,11 +90,11 @@ pub fn periods(
 ) -> Result<Vec<u32>, AllocError> {
     let mut shortest = MAX_SLOT;
     for need in needs {
-        shortest = shortest.min(need.period(slot_us));
+        shortest = shortest.min(need.in_slots(slot_us).period);
     }
     let mut periods = Vec::with_capacity(alloc, needs.len())?;
     for need in needs {
-        let own = need.period(slot_us).min(MAX_SLOT);
+        let own = need.in_slots(slot_us).period.min(MAX_SLOT);
         periods.push(if powers { power_of(shortest, own) } else { own })?;
     }
     Ok(periods)
@@ -103,6 +128,9 @@ pub fn common_of(periods: &[u32]) -> Option<u32> {
 pub fn divisors(alloc: Global, number: u32) -> Result<Vec<u32>, AllocError> {
     let mut divisors = Vec::new(alloc);
     for small in 1..=ROOT {
+        if small > number / small {
+            break;
+        }
         if number % small == 0 {
             divisors.push(small)?;
             divisors.push(number / small)?;

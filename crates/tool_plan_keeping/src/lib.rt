@@ -3,10 +3,12 @@
 
 mod die_rows;
 mod keeping;
+pub mod phrases;
 mod sentences;
 mod verdicts;
 mod whole_texts;
 
+pub use die_rows::{Line, die_lines};
 pub use keeping::keep;
 pub use sentences::sentence;
 pub use verdicts::{Broken, Verdict};

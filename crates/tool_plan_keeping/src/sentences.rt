@@ -1,6 +1,10 @@
 //! What breaks a plan, in a sentence.
 
 use crate::die_rows::{Line, die_lines};
+use crate::phrases::{
+    put_count, put_end, put_last_due, put_missing, put_multiple, put_number, put_release, put_row,
+    put_task, second_of,
+};
 use crate::verdicts::Broken;
 use slot_types::{DiePlan, MAX_JOBS, MAX_SLOT, Refusal, StorePlan, TaskTimes};
 use std::alloc::Global;
@@ -8,51 +12,10 @@ use std::io;
 use std::io::Write;
 use tool_plan_breaches::{Breach, CollectionRule, JobRule, task_times};
 
-/// Tells which row it is.
-fn put_row(text: &mut Vec<u8>, die: u32, line: &Line) -> io::Result<()> {
-    let (record, at, task) = (line.record, line.at, line.task);
-    write!(
-        text,
-        "die {die} record {record} slot {at} task {task} breaks its plan: "
-    )
-}
-
-/// Tells which number isn't what it has to be.
-fn put_number(text: &mut Vec<u8>, name: &str, is: u64, has: u64, why: &str) -> io::Result<()> {
-    writeln!(text, "{name} is {is}, and has to be {has}, {why}")
-}
-
-/// Tells how many of something there are, and how many there may be.
-fn put_count(text: &mut Vec<u8>, is: u64, what: &str, from: u32, to: u32) -> io::Result<()> {
-    writeln!(text, "it has {is} {what}, and may have {from} to {to}")
-}
-
-/// Tells that the task isn't there.
-fn put_task(text: &mut Vec<u8>, plan: &DiePlan) -> io::Result<()> {
-    let last = plan.caps.len().saturating_sub(1);
-    writeln!(text, "its tasks are numbered from 0 to {last}")
-}
-
-/// Tells the release of a row that comes in another slot.
-fn put_release(text: &mut Vec<u8>, line: &Line) -> io::Result<()> {
-    put_number(
-        text,
-        "release",
-        u64::from(line.release),
-        u64::from(line.at),
-        "the slot before which it comes",
-    )
-}
-
 /// Tells the deadline of a row that has another time left.
 fn put_due(text: &mut Vec<u8>, line: &Line, period: u32, why: &str) -> io::Result<()> {
     let due = u64::from(line.release).saturating_add(u64::from(period));
     put_number(text, "due", u64::from(line.due), due, why)
-}
-
-/// Tells a deadline that is beyond the last one.
-fn put_last_due(text: &mut Vec<u8>, due: u64) -> io::Result<()> {
-    writeln!(text, "due is {due}, and may be at most {MAX_SLOT}")
 }
 
 /// Tells which condition on a job doesn't hold.
@@ -80,24 +43,6 @@ fn put_job(
         }
         JobRule::FewWrites => put_count(text, line.writes as u64, "writes", 0, own.writes),
     }
-}
-
-/// Tells a release that is no multiple of the collect period.
-fn put_multiple(text: &mut Vec<u8>, line: &Line, period: u32) -> io::Result<()> {
-    let release = line.release;
-    writeln!(
-        text,
-        "release is {release}, and has to be a multiple of {period}, the collect period"
-    )
-}
-
-/// Tells a release that is after the last slot.
-fn put_end(text: &mut Vec<u8>, line: &Line, slots: u32) -> io::Result<()> {
-    let release = line.release;
-    writeln!(
-        text,
-        "release is {release}, and has to be below {slots}, the number of slots"
-    )
 }
 
 /// Tells which condition on a collection doesn't hold.
@@ -131,28 +76,6 @@ fn put_period(text: &mut Vec<u8>, own: TaskTimes, first: &Line, second: &Line) -
         text,
         "release is {release}, and has to be at least {from}, a period after that of record {record}"
     )
-}
-
-/// Tells a collection that doesn't come.
-fn put_missing(text: &mut Vec<u8>, die: u32, task: u32, slot: u32, period: u32) -> io::Result<()> {
-    writeln!(
-        text,
-        "die {die} slot {slot} task {task} breaks its plan: no collection comes, and one has to at each multiple of {period}"
-    )
-}
-
-/// The second collection of a task in a slot.
-fn second_of(lines: &[Line], task: u32, slot: u32) -> Option<Line> {
-    let mut seen = false;
-    for line in lines {
-        if line.collects && line.task == task && line.at == slot {
-            if seen {
-                return Some(*line);
-            }
-            seen = true;
-        }
-    }
-    None
 }
 
 /// What the sentence of a breach needs.

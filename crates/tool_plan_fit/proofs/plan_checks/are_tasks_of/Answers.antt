@@ -8,7 +8,7 @@ loop-i-preserved c k need task =
     at_next (λ i. IsTaskOf c.args.slot_us (get_or c.args.needs.now i need) (get_or c.args.tasks.now i task)) c.loop-i.i
     (λ i lt. c.loop-i.invariant i need task lt)
     (at_any (IsTaskOf c.args.slot_us) c.args.needs.now c.args.tasks.now c.loop-i.i _ need _ task c.loop-i-test.true
-    (omega (arith, c.loop-i-test.true, c.if-needs-tasks.false)) (c.if-not-is_task_of.ensures.0 refl)) k
+    (omega (arith, c.loop-i-test.true, c.if-needs-tasks.false)) (c.if-not-is_task_of.ensures refl)) k
 
 pub returns : goal.returns
 returns c h = zip_by (IsTaskOf c.args.slot_us) c.args.needs.now c.args.tasks.now (omega (arith, c.if-needs-tasks.false))

@@ -1,0 +1,93 @@
+//! What the sentences of several breaches have in common: each says which row it is, what the row has, and what it may have.
+
+use crate::die_rows::Line;
+use slot_types::{DiePlan, MAX_SLOT};
+use std::io;
+use std::io::Write;
+
+/// Tells which row it is.
+pub fn put_row(text: &mut Vec<u8>, die: u32, line: &Line) -> io::Result<()> {
+    let (record, at, task) = (line.record, line.at, line.task);
+    write!(
+        text,
+        "die {die} record {record} slot {at} task {task} breaks its plan: "
+    )
+}
+
+/// Tells which number isn't what it has to be.
+pub fn put_number(text: &mut Vec<u8>, name: &str, is: u64, has: u64, why: &str) -> io::Result<()> {
+    writeln!(text, "{name} is {is}, and has to be {has}, {why}")
+}
+
+/// Tells how many of something there are, and how many there may be.
+pub fn put_count(text: &mut Vec<u8>, is: u64, what: &str, from: u32, to: u32) -> io::Result<()> {
+    writeln!(text, "it has {is} {what}, and may have {from} to {to}")
+}
+
+/// Tells that the task isn't there.
+pub fn put_task(text: &mut Vec<u8>, plan: &DiePlan) -> io::Result<()> {
+    let last = plan.caps.len().saturating_sub(1);
+    writeln!(text, "its tasks are numbered from 0 to {last}")
+}
+
+/// Tells the release of a row that comes in another slot.
+pub fn put_release(text: &mut Vec<u8>, line: &Line) -> io::Result<()> {
+    put_number(
+        text,
+        "release",
+        u64::from(line.release),
+        u64::from(line.at),
+        "the slot before which it comes",
+    )
+}
+
+/// Tells a deadline that is beyond the last one.
+pub fn put_last_due(text: &mut Vec<u8>, due: u64) -> io::Result<()> {
+    writeln!(text, "due is {due}, and may be at most {MAX_SLOT}")
+}
+
+/// Tells a release that is no multiple of the collect period.
+pub fn put_multiple(text: &mut Vec<u8>, line: &Line, period: u32) -> io::Result<()> {
+    let release = line.release;
+    writeln!(
+        text,
+        "release is {release}, and has to be a multiple of {period}, the collect period"
+    )
+}
+
+/// Tells a release that is after the last slot.
+pub fn put_end(text: &mut Vec<u8>, line: &Line, slots: u32) -> io::Result<()> {
+    let release = line.release;
+    writeln!(
+        text,
+        "release is {release}, and has to be below {slots}, the number of slots"
+    )
+}
+
+/// Tells a collection that doesn't come.
+pub fn put_missing(
+    text: &mut Vec<u8>,
+    die: u32,
+    task: u32,
+    slot: u32,
+    period: u32,
+) -> io::Result<()> {
+    writeln!(
+        text,
+        "die {die} slot {slot} task {task} breaks its plan: no collection comes, and one has to at each multiple of {period}"
+    )
+}
+
+/// The second collection of a task in a slot.
+pub fn second_of(lines: &[Line], task: u32, slot: u32) -> Option<Line> {
+    let mut seen = false;
+    for line in lines {
+        if line.collects && line.task == task && line.at == slot {
+            if seen {
+                return Some(*line);
+            }
+            seen = true;
+        }
+    }
+    None
+}
