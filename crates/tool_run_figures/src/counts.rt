@@ -1,5 +1,7 @@
 //! What is counted while a die runs.
 
+ghost use Rattle.tool_run_figures.specs.Counts.{IsLowWith};
+
 use slot_types::{Act, DiePlan};
 use std::alloc::{AllocError, Global};
 
@@ -12,7 +14,9 @@ pub struct Low {
 
 impl Low {
     // Notes what it is in a slot.
-    fn note(&mut self, value: u32, slot: u32) {
+    fn note(&mut self, value: u32, slot: u32)
+        ensures { IsLowWith value slot self.old self.new }
+    {
         if value < self.value {
             *self = Low { value, slot };
         }

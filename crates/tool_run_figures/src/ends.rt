@@ -1,5 +1,8 @@
 //! What became of the jobs and collections of a die.
 
+ghost use Rattle.std.specs.Prelude.{◌≡◌};
+ghost use Rattle.tool_run_figures.specs.Ends.{how_many, is_of};
+
 use std::alloc::{AllocError, Global};
 
 /// What became of a job or a collection.
@@ -34,48 +37,74 @@ pub(crate) struct EndCounts {
     pub(crate) collecting: u32,
 }
 
-/// Whether a job is late: done after its deadline, or waiting past it.
-fn is_late(end: &JobEnd) -> bool {
-    match end.ended {
-        _ if end.collects => false,
-        Ended::Waiting { late } => late,
-        Ended::Done { lateness } => lateness > 0,
-        Ended::Waived => false,
+/// What is counted of jobs and collections.
+#[derive(Clone, Copy, Drop)]
+enum Kind {
+    WaitingJob,
+    /// Done after its deadline, or waiting past it.
+    LateJob,
+    DoneCollection,
+    WaivedCollection,
+    WaitingCollection,
+}
+
+impl Kind {
+    ghost use Rattle.tool_run_figures.specs.Ends.{is_kind};
+
+    /// Whether an end is of this kind.
+    fn has(self, end: &JobEnd) -> bool
+        ensures { result ≡ is_kind self end.now }
+    {
+        match (self, end.ended) {
+            (Kind::WaitingJob, Ended::Waiting { .. }) => !end.collects,
+            (Kind::LateJob, Ended::Waiting { late }) => !end.collects && late,
+            (Kind::LateJob, Ended::Done { lateness }) => !end.collects && lateness > 0,
+            (Kind::DoneCollection, Ended::Done { .. }) => end.collects,
+            (Kind::WaivedCollection, Ended::Waived) => end.collects,
+            (Kind::WaitingCollection, Ended::Waiting { .. }) => end.collects,
+            _ => false,
+        }
     }
 }
 
 /// Whether an end is one of a task, or of any.
-fn is_of(end: &JobEnd, task: Option<u32>) -> bool {
+fn is_of(end: &JobEnd, task: Option<u32>) -> bool
+    ensures { result ≡ is_of task end.now }
+{
     match task {
         None => true,
         Some(task) => end.task == task,
     }
 }
 
-/// How many jobs and collections of a task there were, or of all tasks.
-pub(crate) fn counts_of(ends: &[JobEnd], task: Option<u32>) -> EndCounts {
-    let mut counts = EndCounts {
-        waiting: 0,
-        late: 0,
-        collected: 0,
-        waived: 0,
-        collecting: 0,
-    };
+/// How many ends of a task, or of all tasks, are of a kind.
+fn how_many(ends: &[JobEnd], task: Option<u32>, kind: Kind) -> u32
+    ensures { result ≡ how_many task kind ends.now }
+{
+    let mut count: u32 = 0;
     for end in ends {
-        if !is_of(end, task) {
-            continue;
+        if is_of(end, task) && kind.has(end) {
+            count = count.saturating_add(1);
         }
-        counts.late = counts.late.saturating_add(u32::from(is_late(end)));
-        let count = match (end.collects, end.ended) {
-            (false, Ended::Waiting { .. }) => &mut counts.waiting,
-            (true, Ended::Waiting { .. }) => &mut counts.collecting,
-            (true, Ended::Done { .. }) => &mut counts.collected,
-            (true, Ended::Waived) => &mut counts.waived,
-            (false, _) => continue,
-        };
-        *count = count.saturating_add(1);
     }
-    counts
+    count
+}
+
+/// How many jobs and collections of a task there were, or of all tasks.
+pub(crate) fn counts_of(ends: &[JobEnd], task: Option<u32>) -> EndCounts
+    ensures waiting { result.waiting ≡ how_many task Kind.WaitingJob ends.now }
+    ensures late { result.late ≡ how_many task Kind.LateJob ends.now }
+    ensures collected { result.collected ≡ how_many task Kind.DoneCollection ends.now }
+    ensures waived { result.waived ≡ how_many task Kind.WaivedCollection ends.now }
+    ensures collecting { result.collecting ≡ how_many task Kind.WaitingCollection ends.now }
+{
+    EndCounts {
+        waiting: how_many(ends, task, Kind::WaitingJob),
+        late: how_many(ends, task, Kind::LateJob),
+        collected: how_many(ends, task, Kind::DoneCollection),
+        waived: how_many(ends, task, Kind::WaivedCollection),
+        collecting: how_many(ends, task, Kind::WaitingCollection),
+    }
 }
 
 /// How late the done jobs of a task were, or of all tasks: rising.

@@ -1,6 +1,6 @@
 //! What a run of a die came to, by task and in all: its jobs and collections, how late the jobs were, what its slots carried, and
-//! how low its tokens and its spare pages fell; as a table for eyes, or as CSV. It is counted for show: of what is counted
-//! nothing is proved.
+//! how low its tokens and its spare pages fell; as a table for eyes, or as CSV. It is counted for show. Proved is how many ends of jobs
+//! and collections are of each kind, and which value is the least; of the other counts nothing is.
 #![tactic(auto)]
 
 mod counts;

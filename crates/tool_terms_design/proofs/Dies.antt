@@ -1,5 +1,5 @@
 -- What is said of dies, one after the other.
-use Rattle.std.proofs.Common.{◌≡◌, ℕ, List, ◌++◌, ◌+◌, ◌<◌, drop, length, get_or, refl, drop-cons, add-one}
+use Rattle.std.proofs.Common.{ℕ, List, ◌++◌, ◌+◌, ◌<◌, drop, length, get_or, refl, drop-cons, add-one}
 use Rattle.terms_texts.specs.declared.stores.DieTerms.{DieTerms}
 use Rattle.tool_terms_design.specs.Explaining.{ExplainsDie, ExplainsDies}
 

@@ -1,2 +1,3 @@
 pub mod Dies
 pub mod Unusable
+mod Margins

@@ -1,5 +1,5 @@
 -- What is said of a die that may not be used.
-use Rattle.std.proofs.Common.{◌≡◌, ◌∙◌, ℕ, List, ◌++◌, Option, Result, Ok, Err, IfOk, refl, append_assoc}
+use Rattle.std.proofs.Common.{◌≡◌, ◌∙◌, ℕ, List, ◌++◌, Result, Ok, Err, IfOk, refl, append_assoc}
 use Rattle.terms_texts.specs.Stores.{die_of}
 use Rattle.terms_texts.specs.declared.faults.DieFault.{DieFault}
 use Rattle.terms_texts.specs.declared.faults.TermsRefusal.{TermsRefusal}

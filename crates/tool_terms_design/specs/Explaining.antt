@@ -1,5 +1,5 @@
 -- What is said of the text of a plan with terms.
-use Rattle.std.specs.Prelude.{◌≡◌, ℕ, ◌+◌, List, [], ◌∷◌, ◌++◌, codes, Bool, true, false, Option, Result, Ok, IfOk}
+use Rattle.std.specs.Prelude.{◌≡◌, ℕ, zero, suc, ◌+◌, List, [], ◌∷◌, ◌++◌, codes, Bool, true, false, Option, Result, Ok, IfOk}
 use Rattle.slot_types.specs.Texts.{refusal_text}
 use Rattle.demand_rules.specs.Faults.{IsDemandLoad}
 use Rattle.demand_rules.specs.declared.demands.DemandLoad.{DemandLoad}
@@ -13,6 +13,7 @@ use Rattle.terms_texts.specs.declared.faults.TermsRefusal.TheVariants.{Outside, 
 use Rattle.terms_texts.specs.declared.numbers.TermsNumbers.{TermsNumbers}
 use Rattle.terms_texts.specs.declared.stores.DieTerms.{DieTerms}
 use Rattle.tool_plan_design.specs.Trials.{FindsBlocks, FindsLogical}
+use Rattle.tool_terms_margins.specs.MarginTexts.{SaysMargins}
 use Rattle.tool_terms_design.specs.DieTexts.{full_stop, numbers_text, passing_text}
 use Rattle.tool_terms_design.specs.FaultTexts.{bound_text, shape_text, stray_text, terms_text, text_fault}
 
@@ -28,19 +29,32 @@ ExplainsDies die [] said = said ≡ []
 ExplainsDies die (made ∷ more) said =
     (first rest : List ℕ) × (said ≡ first ++ rest) × ExplainsDie die made first × ExplainsDies (die + 1) more rest
 
+-- how far the numbers of a die's tasks may change; and of the first so many dies
+abbrev pub SaysDieMargins : TermsNumbers → ℕ → List ℕ → Type 0
+SaysDieMargins plan die said = let made = die_of plan die in SaysMargins made die 0 made.terms.tasks said
+
+abbrev pub SaysAllMargins : TermsNumbers → ℕ → List ℕ → Type 0
+SaysAllMargins plan zero said = said ≡ []
+SaysAllMargins plan (suc die) said =
+    (first last : List ℕ) × SaysAllMargins plan die first × SaysDieMargins plan die last × (said ≡ first ++ last)
+
 -- the plan makes a store, of whose dies this is said
 pub record ExplainsStore (plan : TermsNumbers) (text : List ℕ) : Type 0 where
   pub store : List DieTerms
   pub made : IsStore plan store
   pub said : List ℕ
   pub dies : ExplainsDies 0 store said
-  pub is : text ≡ (codes "The plan is accepted" ++ full_stop) ++ said
+  pub more : List ℕ
+  pub margins : SaysAllMargins plan plan.top.dies more
+  pub is : text ≡ (codes "The plan is accepted" ++ full_stop) ++ said ++ more
 
--- a die that doesn't meet its bound, with the other logical and blocks with which it would; or its tests' fault
+-- a die that doesn't meet its bound, with the other logical and blocks with which it would; or its tests' fault, with the other
+-- numbers of its tasks with which it would pass them
 abbrev pub ExplainsDieFault : ℕ → DieTerms → DieFault → List ℕ → Type 0
 ExplainsDieFault die made die_fault.Bound said = (logical blocks : Option ℕ) × FindsLogical made.plan logical
     × FindsBlocks made.plan blocks × (said ≡ bound_text die logical blocks)
-ExplainsDieFault die made (die_fault.Terms fault) said = said ≡ terms_text die fault
+ExplainsDieFault die made (die_fault.Terms fault) said = (margins : List ℕ) × SaysMargins made die 0 made.terms.tasks margins
+    × (said ≡ terms_text die fault ++ margins)
 
 -- the numbers of a die that may not be used, and why
 pub record ExplainsUnusable (die : ℕ) (made : DieTerms) (fault : DieFault) (said : List ℕ) : Type 0 where

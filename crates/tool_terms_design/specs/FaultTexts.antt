@@ -1,5 +1,5 @@
 -- Why a plan with terms is refused, in sentences.
-use Rattle.std.specs.Prelude.{ℕ, ◌+◌, ◌-◌, ◌==◌, List, [], ◌∷◌, ◌++◌, codes, decimal, Option, Some, None, if◌then◌else◌}
+use Rattle.std.specs.Prelude.{ℕ, ◌+◌, ◌-◌, List, ◌++◌, codes, decimal, Option, Some, None}
 use Rattle.slot_types.specs.declared.refusals.Cause.{Cause}
 use Rattle.slot_types.specs.declared.refusals.Cause.TheVariants as cause
 use Rattle.demand_rules.specs.declared.demands.DemandFault.{DemandFault}

@@ -1,6 +1,6 @@
 //! What is said of the text of a plan with terms.
 
-ghost use Rattle.std.specs.Prelude.{◌≡◌, ◌++◌, ℕ, All, List, IfOk, IsOk, OnOk, codes};
+ghost use Rattle.std.specs.Prelude.{◌≡◌, ◌++◌, ℕ, All, List, IfOk, IsOk, Ok, OnOk, codes};
 ghost use Rattle.slot_types.specs.Refusal.{FailsForMemory};
 ghost use Rattle.slot_types.specs.Texts.{refusal_text};
 ghost use Rattle.demand_rules.specs.Faults.{IsDemandLoad};
@@ -9,12 +9,13 @@ ghost use Rattle.terms_texts.specs.Stores.{IsUsable, die_of};
 ghost use Rattle.terms_texts.specs.TermsText.{read_numbers};
 ghost use Rattle.tool_terms_design.specs.DieTexts.{full_stop};
 ghost use Rattle.tool_terms_design.specs.Explaining.{ExplainsDie, ExplainsDieFault, ExplainsDies, ExplainsRefusal};
-ghost use Rattle.tool_terms_design.specs.Explaining.{ExplainsTerms, ExplainsUnusable};
+ghost use Rattle.terms_texts.specs.declared.numbers.TermsNumbers.{TermsNumbers};
+ghost use Rattle.tool_terms_design.specs.Explaining.{ExplainsTerms, ExplainsUnusable, SaysAllMargins, SaysDieMargins};
 
 use crate::fault_texts::{put_bound, put_shape, put_stray, put_terms, put_text_fault};
 use crate::loads::put_passing;
 use crate::numbers::put_numbers;
-use demand_rules::terms_test;
+use demand_rules::{TermsFault, terms_test};
 use slot_types::Refusal;
 use std::alloc::Global;
 use std::io;
@@ -23,6 +24,7 @@ use terms_texts::{
     DieFault, DieTerms, TermsNumbers, TermsRefusal, die_terms, read_terms, terms_numbers,
 };
 use tool_plan_design::{Explained, greatest_logical, least_blocks};
+use tool_terms_margins::put_margins;
 
 /// A text that couldn't be written has run out of memory.
 fn written(put: io::Result<()>) -> Result<(), Refusal>
@@ -61,50 +63,89 @@ fn put_dies(text: &mut Vec<u8>, dies: &[DieTerms]) -> Result<(), Refusal>
     Ok(())
 }
 
-/// What is said of a store whose dies pass their tests. The only refusal is NoMemory.
-fn accepted(alloc: Global, dies: &[DieTerms]) -> Result<Vec<u8>, Refusal>
-    requires { All IsUsable dies.now }
-    ensures said { IfOk result (λ text. (said : List ℕ) × ExplainsDies 0 dies.now said
-        × (text.items ≡ (codes "The plan is accepted" ++ full_stop) ++ said)) }
+/// Adds how far the numbers of a die's tasks may change. The only refusal is NoMemory.
+fn put_changes(
+    alloc: Global,
+    text: &mut Vec<u8>,
+    numbers: &TermsNumbers,
+    die: u32,
+) -> Result<(), Refusal>
+    ensures said { IfOk result (λ _. (said : List ℕ) × SaysDieMargins numbers.now die said
+        × (text.new.items ≡ text.old.items ++ said)) }
     ensures refused { FailsForMemory result }
 {
+    let made = die_terms(alloc, numbers, die)?;
+    written(put_margins(text, die as usize, made))
+}
+
+/// Adds those of all dies. The only refusal is NoMemory.
+fn put_all_changes(alloc: Global, text: &mut Vec<u8>, numbers: &TermsNumbers) -> Result<(), Refusal>
+    ensures said { IfOk result (λ _. (said : List ℕ) × SaysAllMargins numbers.now numbers.now.top.dies said
+        × (text.new.items ≡ text.old.items ++ said)) }
+    ensures refused { FailsForMemory result }
+{
+    for die in 0..numbers.top.dies {
+        put_changes(alloc, text, numbers, die)?;
+    }
+    Ok(())
+}
+
+/// What is said of a store whose dies pass their tests. The only refusal is NoMemory.
+fn accepted(alloc: Global, plan: &[u8], dies: &[DieTerms]) -> Result<Vec<u8>, Refusal>
+    requires { All IsUsable dies.now }
+    ensures said { IfOk result (λ text. (said : List ℕ) × ExplainsDies 0 dies.now said
+        × (numbers : TermsNumbers) × (read_numbers plan.now ≡ Ok numbers)
+        × (more : List ℕ) × SaysAllMargins numbers numbers.top.dies more
+        × (text.items ≡ (codes "The plan is accepted" ++ full_stop) ++ said ++ more)) }
+    ensures refused { FailsForMemory result }
+{
+    let Ok(numbers) = terms_numbers(alloc, plan) else {
+        return Err(Refusal::NoMemory);
+    };
     let mut text = Vec::new(alloc);
     written(writeln!(text, "The plan is accepted."))?;
     put_dies(&mut text, dies)?;
+    put_all_changes(alloc, &mut text, &numbers)?;
     Ok(text)
 }
 
+/// Adds that a die doesn't meet its bound, and with which numbers it would.
+fn put_bound_of(text: &mut Vec<u8>, die: usize, made: DieTerms) -> io::Result<()>
+    ensures { OnOk result ((said : List ℕ) × ExplainsDieFault die made DieFault.Bound said
+        × (text.new.items ≡ text.old.items ++ said)) }
+{
+    let mut made = made;
+    let logical = greatest_logical(&mut made.plan);
+    let blocks = least_blocks(&mut made.plan);
+    put_bound(text, die, logical, blocks)
+}
+
+/// Adds why a die doesn't pass its tests, and which numbers of its tasks would do, one at a time.
+fn put_terms_of(text: &mut Vec<u8>, die: usize, made: DieTerms, fault: TermsFault) -> io::Result<()>
+    ensures { OnOk result ((said : List ℕ) × ExplainsDieFault die made (DieFault.Terms fault) said
+        × (text.new.items ≡ text.old.items ++ said)) }
+{
+    put_terms(text, die, fault)?;
+    put_margins(text, die, made)
+}
+
 /// Adds why a die may not be used.
-fn put_die_fault(
-    text: &mut Vec<u8>,
-    die: usize,
-    made: &mut DieTerms,
-    fault: DieFault,
-) -> io::Result<()>
-    ensures { OnOk result ((said : List ℕ) × ExplainsDieFault die made.old fault said
+fn put_die_fault(text: &mut Vec<u8>, die: usize, made: DieTerms, fault: DieFault) -> io::Result<()>
+    ensures { OnOk result ((said : List ℕ) × ExplainsDieFault die made fault said
         × (text.new.items ≡ text.old.items ++ said)) }
 {
     match fault {
-        DieFault::Bound => {
-            let logical = greatest_logical(&mut made.plan);
-            let blocks = least_blocks(&mut made.plan);
-            put_bound(text, die, logical, blocks)
-        }
-        DieFault::Terms(fault) => put_terms(text, die, fault),
+        DieFault::Bound => put_bound_of(text, die, made),
+        DieFault::Terms(fault) => put_terms_of(text, die, made, fault),
     }
 }
 
 /// Adds the numbers of a die that may not be used, and why.
-fn put_unusable(
-    text: &mut Vec<u8>,
-    die: usize,
-    made: &mut DieTerms,
-    fault: DieFault,
-) -> io::Result<()>
-    ensures { OnOk result ((said : List ℕ) × ExplainsUnusable die made.old fault said
+fn put_unusable(text: &mut Vec<u8>, die: usize, made: DieTerms, fault: DieFault) -> io::Result<()>
+    ensures { OnOk result ((said : List ℕ) × ExplainsUnusable die made fault said
         × (text.new.items ≡ text.old.items ++ said)) }
 {
-    put_numbers(text, die, made)?;
+    put_numbers(text, die, &made)?;
     put_die_fault(text, die, made, fault)
 }
 
@@ -121,8 +162,8 @@ fn put_planned(
         × (text.new.items ≡ text.old.items ++ said)) }
     ensures refused { FailsForMemory result }
 {
-    let mut made = die_terms(alloc, numbers, die)?;
-    written(put_unusable(text, die as usize, &mut made, fault))
+    let made = die_terms(alloc, numbers, die)?;
+    written(put_unusable(text, die as usize, made, fault))
 }
 
 /// Adds those of a die of a text that is read. The only refusal is NoMemory.
@@ -181,9 +222,10 @@ fn refused(alloc: Global, plan: &[u8], refusal: TermsRefusal) -> Result<Vec<u8>,
 /// Explains the text of a plan with terms, in sentences of a line each: whether the plan is accepted, as
 /// [`read_terms`](terms_texts::read_terms) judges it. If it is, these follow by die: its numbers and those of its tasks,
 /// the most slots of a collection, the long-run load, the tightest interval with what may be asked of it and what is to
-/// spare, and by task what its collections give and what its cap has to cover. If it isn't, what is wrong first: the
-/// fault of the text and where it lies, or a number that is out of its limits; or the numbers of the first die that
-/// doesn't meet its bound or doesn't pass its tests, why, and what would do. The only refusal is NoMemory.
+/// spare, and by task what its collections give and what its cap has to cover; and then by die and task how far each
+/// number may change, one at a time. If it isn't, what is wrong first: the fault of the text and where it lies; or the
+/// numbers of the first die that doesn't meet its bound, has a number out of its limits or doesn't pass its tests, why, and
+/// what would do. The only refusal is NoMemory.
 pub fn explain_terms(alloc: Global, plan: &[u8]) -> Result<Explained, Refusal>
     ensures said { IfOk result (λ explained.
         ExplainsTerms plan.now explained.is_accepted explained.text.items) }
@@ -191,7 +233,7 @@ pub fn explain_terms(alloc: Global, plan: &[u8]) -> Result<Explained, Refusal>
 {
     match read_terms(alloc, plan) {
         Ok(store) => Ok(Explained {
-            text: accepted(alloc, store.as_slice())?,
+            text: accepted(alloc, plan, store.as_slice())?,
             is_accepted: true,
         }),
         Err(refusal) => Ok(Explained {

@@ -1,4 +1,4 @@
-use Rattle.std.proofs.Common.{◌≡◌, ◌∙◌, ℕ, List, [], ◌++◌, drop, get_or, refl, append_assoc}
+use Rattle.std.proofs.Common.{◌∙◌, [], ◌++◌, get_or, refl, append_assoc}
 use Rattle.std.proofs.lemmas.List.{append-nil, drop_all}
 use Rattle.tool_terms_design.specs.Explaining.{ExplainsDie}
 use Rattle.tool_terms_design.proofs.Dies.{dies-from}

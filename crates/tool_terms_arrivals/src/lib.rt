@@ -1,0 +1,11 @@
+//! The arrivals of a plan with deadlines and bursts: a script of all that its tasks may ask for, which is proved to keep
+//! the plan.
+#![tactic(auto)]
+
+mod askers;
+mod bursts;
+mod counts;
+mod makers;
+mod scripts;
+
+pub use scripts::arrivals;

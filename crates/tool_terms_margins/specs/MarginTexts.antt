@@ -1,0 +1,29 @@
+-- How far the numbers of a die's tasks may change, in lines.
+use Rattle.std.specs.Prelude.{◌≡◌, ℕ, ◌+◌, List, [], ◌∷◌, ◌++◌, codes, decimal, Option, Some, None}
+use Rattle.demand_rules.specs.declared.terms.TaskTerms.{TaskTerms}
+use Rattle.terms_texts.specs.declared.stores.DieTerms.{DieTerms}
+use Rattle.tool_terms_margins.specs.Changes.{AreMargins}
+use Rattle.tool_terms_margins.specs.declared.margins.TaskMargins.{TaskMargins}
+
+-- a number that would do, and what it is; or that none would
+abbrev pub number_text : (what name : List ℕ) → Option ℕ → List ℕ
+number_text what name (Some n) = what ++ name ++ codes " " ++ decimal n
+number_text what name None = codes "no " ++ name
+
+-- what a task asks for, and its times
+abbrev pub asked_text : TaskMargins → List ℕ
+asked_text m = number_text (codes "greatest ") (codes "work") m.work ++ codes ", " ++ number_text (codes "greatest ") (codes "writes") m.writes
+
+abbrev pub times_text : TaskMargins → List ℕ
+times_text m = number_text (codes "least ") (codes "period") m.period ++ codes ", " ++ number_text (codes "least ") (codes "deadline") m.deadline
+    ++ codes ", " ++ number_text (codes "least ") (codes "collect_deadline") m.collect_deadline
+
+abbrev pub margins_line : (die task : ℕ) → TaskMargins → List ℕ
+margins_line die task m = codes "die " ++ decimal die ++ codes " task " ++ decimal task ++ codes ": one at a time, these would do: "
+    ++ asked_text m ++ codes ", " ++ times_text m ++ codes "." ++ 10 ∷ []
+
+-- a line for each of these tasks of a die, the first of which has this number: how far its numbers may change
+abbrev pub SaysMargins : DieTerms → (die task : ℕ) → List TaskTerms → List ℕ → Type 0
+SaysMargins made die task [] said = said ≡ []
+SaysMargins made die task (own ∷ more) said = (m : TaskMargins) × (rest : List ℕ) × AreMargins made task own m
+    × (said ≡ margins_line die task m ++ rest) × SaysMargins made die (task + 1) more rest
