@@ -133,6 +133,30 @@ static void show_pointers(void) {
     mg_free(&die);
 }
 
+/* A job that is due after its first slot, and has two. */
+static void show_overdue(void) {
+    mg_die die = {0};
+    struct mg_call call;
+    struct mg_reply reply;
+    struct mg_name name = {{7}};
+    struct mg_overdue_job overdue = {5, 6, 7};
+    struct mg_op ops[2] = {{MG_WRITE, 3, {{7}}}, {MG_READ, 3, {{0}}}};
+    check(mg_overdue(&die, &overdue) == MG_EMPTY_HANDLE && mg_new(&die, &plan, &task, 1) == MG_OK, "new");
+    check(mg_submit(&die, 1, 0, 0, 1, ops, 2, NULL, NULL) == MG_OK && mg_submit(&die, 1, 0, 2, 3, ops, 2, NULL, NULL) == MG_OK, "two");
+    check(mg_overdue(&die, NULL) == MG_NULL_POINTER && mg_overdue(&die, &overdue) == MG_NONE_OVERDUE, "nothing is due yet");
+    check(overdue.late_by == 5 && overdue.job == 6 && overdue.due == 7, "and nothing is written");
+    check(mg_begin(&die, 9, &call) == MG_OK && mg_overdue(&die, &overdue) == MG_NONE_OVERDUE, "a slot that has begun isn't in the log");
+    check(mg_end(&die, 1, &name, &reply, NULL, 0) == MG_OK && mg_overdue(&die, &overdue) == MG_OK, "it is due, and half done");
+    check(overdue.job == 0 && overdue.due == 1 && overdue.late_by == 1, "by a slot at least");
+    check(mg_begin(&die, 9, &call) == MG_OK && mg_end(&die, 1, &call.name, &reply, NULL, 0) == MG_OK && reply.finished, "it is done");
+    check(mg_overdue(&die, &overdue) == MG_NONE_OVERDUE, "the next one is due in a slot");
+    check(mg_begin(&die, 9, &call) == MG_OK && mg_end(&die, 1, &name, &reply, NULL, 0) == MG_OK, "its write");
+    check(mg_overdue(&die, &overdue) == MG_OK && overdue.job == 1 && overdue.due == 3 && overdue.late_by == 1, "it will be late, too");
+    check(mg_begin(&die, 9, &call) == MG_OK && mg_end(&die, 0, &call.name, &reply, NULL, 0) == MG_DEVICE_FAULT, "the device fails");
+    check(mg_overdue(&die, &overdue) == MG_NONE_OVERDUE, "a stopped die has no next work");
+    mg_free(&die);
+}
+
 /* Memory that is refused at each call of the heap in turn. */
 static void show_memory(void) {
     struct mg_task tasks[16];
@@ -306,6 +330,7 @@ static void show_report(const char *path) {
 int main(int argc, char **argv) {
     show_handles();
     show_pointers();
+    show_overdue();
     show_memory();
     show_reserves();
     show_trims();

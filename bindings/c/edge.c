@@ -223,6 +223,12 @@ uint32_t mg_worst(const mg_die *die, struct mg_worst_job *worst) {
     return flash_worst(&own, worst);
 }
 
+uint32_t mg_overdue(mg_die *die, struct mg_overdue_job *overdue) {
+    if (!is_full(die)) return MG_EMPTY_HANDLE;
+    if (!overdue) return MG_NULL_POINTER;
+    return flash_overdue(die, overdue);
+}
+
 uint32_t mg_certificate(const mg_die *die, struct mg_cert *certificate, uint32_t *jobs, size_t count) {
     if (!is_full(die)) return MG_EMPTY_HANDLE;
     if (!certificate || !is_array(jobs, count)) return MG_NULL_POINTER;

@@ -8,6 +8,7 @@ from pathlib import Path
 HERE = Path(__file__).resolve().parent
 # The structs that have another name in C than FlashPlan has in mg_plan.
 OTHERS = {"FlashJob": "mg_job_head", "FlashOutcome": "mg_job_outcome", "FlashWorst": "mg_worst_job",
+          "FlashOverdue": "mg_overdue_job",
           "FlashCertificate": "mg_cert", "FlashPlace": "mg_cell"}
 sizes = {"u8": (1, 1), "u32": (4, 4), "u64": (8, 8), "i64": (8, 8)}
 

@@ -76,6 +76,7 @@ enum {
     MG_FULL_HANDLE = 108,     /* the handle has a die, which would be lost */
     MG_NULL_POINTER = 109,    /* a pointer is null that may not be */
     MG_NOT_TAKEN = 110,       /* the program didn't take a piece of a report */
+    MG_NONE_OVERDUE = 111, /* no released work that waits is due by now; or a fault has stopped the die */
     /* what is wrong with a certificate first */
     MG_CERT_EMPTY = 201,         /* it lists no job */
     MG_CERT_NOT_RISING = 202,    /* a listed number isn't above the one before */
@@ -396,6 +397,12 @@ uint32_t mg_outcome(const mg_die *die, uint32_t job, struct mg_job_outcome *outc
 struct mg_worst_job { int64_t lateness; uint32_t job; };
 /* The done job or collection with the greatest lateness, of equal ones the one completed first. NOTHING_DONE. */
 uint32_t mg_worst(const mg_die *die, struct mg_worst_job *worst);
+
+struct mg_overdue_job { uint64_t late_by; uint32_t job, due; };
+/* Of the released jobs and collections that are neither done nor waived, and due at the present slot at the latest, the one with
+ * the earliest deadline, of equal ones the smallest number; it will be late by `late_by` slots at least. NONE_OVERDUE. No
+ * question beside others: it sorts what is released, so nobody else uses the die meanwhile. */
+uint32_t mg_overdue(mg_die *die, struct mg_overdue_job *overdue);
 
 /* `jobs` jobs fill the slots from `start` to `completion`; none was released before `start`, none is due after `due`. So in
  * every schedule of them one is at least `completion - due` late. */

@@ -38,6 +38,7 @@ uint32_t flash_job(mg_die *die, uint32_t number, struct mg_job_head *job);
 uint32_t flash_caller(mg_die *die, uint32_t number, uint32_t *caller);
 uint32_t flash_outcome(mg_die *die, uint32_t job, struct mg_job_outcome *outcome, struct mg_name *reads, size_t count);
 uint32_t flash_worst(mg_die *die, struct mg_worst_job *worst);
+uint32_t flash_overdue(mg_die *die, struct mg_overdue_job *overdue);
 uint32_t flash_certificate(mg_die *die, struct mg_cert *certificate, uint32_t *jobs, size_t count);
 uint32_t flash_rows(mg_die *die, struct mg_row *rows, size_t count, uint32_t *total);
 uint32_t flash_check(const struct mg_row *rows, size_t row_count, const struct mg_cert *certificate, const uint32_t *jobs,

@@ -39,6 +39,7 @@ const char *mg_refusal_text(uint32_t refusal) {
     case MG_FULL_HANDLE: return "the handle has a die, which would be lost";
     case MG_NULL_POINTER: return "a pointer is null that may not be";
     case MG_NOT_TAKEN: return "the program didn't take a piece of a report";
+    case MG_NONE_OVERDUE: return "no released job or collection that waits is due by now, or a fault has stopped the die";
     case MG_CERT_EMPTY: return "the certificate lists no job";
     case MG_CERT_NOT_RISING: return "a listed number isn't above the one before";
     case MG_CERT_UNKNOWN_JOB: return "a listed number has no row";

@@ -73,6 +73,7 @@ int main() {
     for (uint32_t page = 0; page < 16; page++)
         check(!die.place(page) || cells.count({die.place(page)->block, die.place(page)->page}), "a page lies in a programmed cell");
     check(!die.place(16), "one that isn't there lies nowhere");
+    check(!die.overdue(), "nothing waits");
     check(maulgreen::check(die.rows(), die.certificate()) == MG_OK, "the certificate holds");
     check(refused([&] { die.submit(1, 0, die.now(), die.now() + 1, {maulgreen::trim(0), maulgreen::read(16)}); }) == MG_BAD_PAGE, "page 16");
     die.renew();

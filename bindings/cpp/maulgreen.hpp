@@ -29,6 +29,7 @@ using call = ::mg_call;
 using row = ::mg_row;
 using job_head = struct ::mg_job_head;
 using worst_job = struct ::mg_worst_job;
+using overdue_job = struct ::mg_overdue_job;
 using cell = ::mg_cell;
 
 // Why a call is refused: its number of maulgreen.h, and the numbers that it has.
@@ -295,6 +296,15 @@ public:
     worst_job worst() const {
         worst_job said{};
         must(::mg_worst(handle_, &said));
+        return said;
+    }
+
+    // The released job or collection that waits, and is due by now, with the earliest deadline, if there is one.
+    std::optional<overdue_job> overdue() {
+        overdue_job said{};
+        const std::uint32_t refusal = ::mg_overdue(handle_, &said);
+        if (refusal == MG_NONE_OVERDUE) return std::nullopt;
+        must(refusal);
         return said;
     }
 

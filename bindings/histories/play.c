@@ -316,6 +316,7 @@ static void ask(mg_die *die) {
     static struct mg_row rows[LISTED];
     static uint32_t listed[LISTED];
     struct mg_worst_job worst;
+    struct mg_overdue_job overdue;
     struct mg_cert cert;
     struct mg_job_outcome outcome;
     struct mg_job_head head;
@@ -327,6 +328,8 @@ static void ask(mg_die *die) {
     look(die, plan.logical);
     fprintf(answers, "at %" PRIu32 " %" PRIu64 " %" PRIu64, mg_now(die), mg_len(die), mg_records(die));
     if (mg_worst(die, &worst) == MG_OK) fprintf(answers, " worst %" PRIu32 " %" PRId64, worst.job, worst.lateness);
+    if (mg_overdue(die, &overdue) == MG_OK)
+        fprintf(answers, " overdue %" PRIu32 " %" PRIu32 " %" PRIu64, overdue.job, overdue.due, overdue.late_by);
     check(mg_rows(die, rows, LISTED, &total) == MG_OK && total <= LISTED, "rows");
     fprintf(answers, " rows %" PRIu32, total);
     for (uint32_t i = 0; i < total; i++)

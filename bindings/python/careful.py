@@ -44,6 +44,16 @@ assert call.logical == 4 and call.job == job
 is_wrong(lambda: die.end(True, b"short"))
 assert die.end(True).finished
 
+# Two operations, due after the first.
+other = Die(PLAN, [TASK])
+late = other.submit(0, 0, 1, [(READ, 4), (READ, 4)])
+assert other.overdue() is None, "it is due in a slot"
+other.slot(lambda call: (True, BLANK))
+assert other.overdue() == maulgreen.Overdue(job=late, due=1, late_by=1)
+other.slot(lambda call: (True, BLANK))
+assert other.overdue() is None, "it is done"
+other.close()
+
 # Questions of three threads beside slots: ctypes lets go of the interpreter's lock meanwhile.
 done = threading.Event()
 

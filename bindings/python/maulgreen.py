@@ -45,12 +45,14 @@ _Entry = _struct("_Entry", "what caller job at waived")
 _Job = _struct("_Job", "collects task release due")
 _Outcome = _struct("_Outcome", "state completion given reads", [("lateness", I64)])
 _Worst = _struct("_Worst", "job", [("lateness", I64)])
+_Overdue = _struct("_Overdue", "job due", [("late_by", U64)])
 _Certificate = _struct("_Certificate", "job start due completion jobs")
 _Row = _struct("_Row", "number release due work done completion")
 _Place = _struct("_Place", "block page")
 _Block = _struct("_Block", "filled erases")
 _Bytes = type("_Bytes", (c.Structure,), {"_fields_": [(word, U64) for word in "birth reserved life question resume".split()]})
 _NOWHERE = _NO_PAGE = 0xFFFFFFFF
+_NONE_OVERDUE = 111
 
 
 class Plan(NamedTuple):
@@ -146,6 +148,13 @@ class Worst(NamedTuple):
     lateness: int
 
 
+class Overdue(NamedTuple):
+    """Work that is overdue, and by how many slots it will be late at least."""
+    job: int
+    due: int
+    late_by: int
+
+
 class Certificate(NamedTuple):
     job: int
     start: int
@@ -190,7 +199,7 @@ def _library() -> str:
 
 _lib = c.CDLL(_library())
 for _word in ("version refusal_name plan_bound plan_test memory new submit collect begin end reserve reserve_jobs renew "
-              "renew_giving_back now place entries entry_waived job outcome worst certificate rows check checkpoint resume").split():
+              "renew_giving_back now place entries entry_waived job outcome worst overdue certificate rows check checkpoint resume").split():
     getattr(_lib, "mg_" + _word).restype = U32
 _lib.mg_len.restype = _lib.mg_records.restype = U64
 _lib.mg_free.restype = None
@@ -443,6 +452,15 @@ class Die:
         worst = _Worst()
         _must(self._call("worst", c.byref(worst)))
         return Worst(worst.job, worst.lateness)
+
+    def overdue(self) -> Optional[Overdue]:
+        """The released job or collection that waits, and is due by now, with the earliest deadline, if there is one."""
+        said = _Overdue()
+        refusal = self._call("overdue", c.byref(said))
+        if refusal == _NONE_OVERDUE:
+            return None
+        _must(refusal)
+        return Overdue(said.job, said.due, said.late_by)
 
     def certificate(self) -> Certificate:
         said, jobs = _Certificate(), (U32 * 65536)()

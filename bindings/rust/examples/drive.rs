@@ -107,6 +107,7 @@ fn main() -> Result<(), Refusal> {
     assert_eq!(die.submit(1, 0, 0, 1, &[Op::Trim(0), Op::Read(LOGICAL)]), Err(Refusal::BadPage { page: LOGICAL }));
     assert_eq!(die.submit(1, 0, 0, 1, &[Op::Write(0, Name::BLANK); 5]), Err(Refusal::NoTokens { have: 4, need: 5 }));
     println!("refusals have their numbers");
+    assert_eq!(die.overdue(), Ok(None));
 
     // Careful programs reserve: then nothing is refused for memory, nor waits for it.
     die.reserve_jobs(400, 400)?;

@@ -288,6 +288,15 @@ pub struct Worst {
     pub lateness: i64,
 }
 
+/// Work that is overdue.
+#[derive(Clone, Copy, PartialEq, Eq, Debug)]
+pub struct Overdue {
+    pub job: u32,
+    pub due: u32,
+    /// By how many slots it will be late at least.
+    pub late_by: u64,
+}
+
 /// Jobs that fill the slots from `start` to `completion`, none released before `start` and none due after `due`. So in
 /// every schedule of them one is at least `completion - due` late.
 #[derive(Clone, PartialEq, Eq, Debug)]

@@ -1,7 +1,7 @@
 //! A die, and a slot that has begun.
 
 use crate::data::{
-    Begun, BlockCounts, Call, Certificate, Checkpoint, Entered, Entry, Job, Load, Memory, Name, Op, Outcome, Place, Plan, Reply, Row, Waived,
+    Begun, BlockCounts, Call, Certificate, Checkpoint, Entered, Entry, Job, Load, Memory, Name, Op, Outcome, Overdue, Place, Plan, Reply, Row, Waived,
     Worst,
 };
 use crate::raw;
@@ -305,6 +305,18 @@ impl Die {
         let mut said = raw::Worst::default();
         plain(unsafe { raw::mg_worst(&self.handle, &mut said) })?;
         Ok(Worst { job: said.job, lateness: said.lateness })
+    }
+
+    /// The released job or collection that waits, and is due at the present slot at the latest, with the earliest
+    /// deadline; none where nothing is overdue, or a fault has stopped the die. It sorts what is released: so it takes the
+    /// die for itself.
+    pub fn overdue(&mut self) -> Result<Option<Overdue>, Refusal> {
+        let mut said = raw::Overdue::default();
+        match plain(unsafe { raw::mg_overdue(&mut self.handle, &mut said) }) {
+            Ok(()) => Ok(Some(Overdue { job: said.job, due: said.due, late_by: said.late_by })),
+            Err(Refusal::NoneOverdue) => Ok(None),
+            Err(refusal) => Err(refusal),
+        }
     }
 
     /// The certificate of the worst. `NothingDone`, `NoMemory`.

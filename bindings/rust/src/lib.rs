@@ -115,7 +115,7 @@ mod raw;
 mod refusals;
 
 pub use data::{
-    Act, Begun, BlockCounts, Call, Certificate, Checkpoint, Entered, Entry, Job, Load, Memory, Name, Op, Outcome, Place, Plan, Reply, Row,
+    Act, Begun, BlockCounts, Call, Certificate, Checkpoint, Entered, Entry, Job, Load, Memory, Name, Op, Outcome, Overdue, Place, Plan, Reply, Row,
     TaskTimes, Times, Waived, Worst,
 };
 pub use die::{check, Die, Slot};

@@ -35,6 +35,7 @@ structs! {
     Bytes { birth: u64, reserved: u64, life: u64, question: u64, resume: u64 }
     Outcome { lateness: i64, state: u32, completion: u32, given: u32, reads: u32 }
     Worst { lateness: i64, job: u32 }
+    Overdue { late_by: u64, job: u32, due: u32 }
     Certificate { job: u32, start: u32, due: u32, completion: u32, jobs: u32 }
     Row { number: u32, release: u32, due: u32, work: u32, done: u32, completion: u32 }
     Place { block: u32, page: u32 }
@@ -85,6 +86,7 @@ extern "C" {
     pub fn mg_caller(die: *const Handle, number: u32, caller: *mut u32) -> u32;
     pub fn mg_outcome(die: *const Handle, job: u32, outcome: *mut Outcome, reads: *mut Name, count: usize) -> u32;
     pub fn mg_worst(die: *const Handle, worst: *mut Worst) -> u32;
+    pub fn mg_overdue(die: *mut Handle, overdue: *mut Overdue) -> u32;
     pub fn mg_certificate(die: *const Handle, certificate: *mut Certificate, jobs: *mut u32, count: usize) -> u32;
     pub fn mg_rows(die: *const Handle, rows: *mut Row, count: usize, total: *mut u32) -> u32;
     pub fn mg_check(

@@ -50,6 +50,8 @@ pub enum Refusal {
     NotQuiet { job: u32 },
     /// A block was erased too often for a life more: the first such.
     WornOut { block: u32 },
+    /// No released work that waits is due by now.
+    NoneOverdue,
     /// What is wrong with a certificate first.
     Certificate(Flaw),
     /// A checkpoint doesn't fit the plan.
@@ -128,6 +130,7 @@ impl Refusal {
             Begun => 100,
             NotBegun => 101,
             NothingDone => 103,
+            NoneOverdue => 111,
             RowsNotRising => 104,
             NotQuiet { .. } => 105,
             WornOut { .. } => 106,
@@ -170,6 +173,7 @@ pub(crate) fn answer(code: u32, why: &raw::Why) -> Result<(), Refusal> {
         100 => Begun,
         101 => NotBegun,
         103 => NothingDone,
+        111 => NoneOverdue,
         104 => RowsNotRising,
         105 => NotQuiet { job: why.first },
         106 => WornOut { block: why.first },

@@ -8,10 +8,12 @@ use Rattle.late_cert.specs.declared.certificates.Certificate.{Certificate}
 use Rattle.slot_core.specs.declared.outcomes.Outcome.{Outcome}
 use Rattle.slot_core.specs.declared.outcomes.Outcome.TheVariants as outcomes
 use Rattle.slot_core.specs.declared.outcomes.Worst.{Worst}
+use Rattle.slot_core.specs.declared.overdues.Overdue.{Overdue}
 use Rattle.flash_c.specs.declared.shapes.FlashLoad.{FlashLoad}
 use Rattle.flash_c.specs.declared.shapes.FlashJob.{FlashJob}
 use Rattle.flash_c.specs.declared.shapes.FlashOutcome.{FlashOutcome}
 use Rattle.flash_c.specs.declared.shapes.FlashWorst.{FlashWorst}
+use Rattle.flash_c.specs.declared.shapes.FlashOverdue.{FlashOverdue}
 use Rattle.flash_c.specs.declared.shapes.FlashCertificate.{FlashCertificate}
 use Rattle.flash_c.specs.declared.shapes.FlashRow.{FlashRow}
 use Rattle.flash_c.specs.Counts.{count_of, flag}
@@ -41,6 +43,9 @@ reads_in _ = []
 
 abbrev pub worst_of : Worst → FlashWorst
 worst_of worst = record { lateness = worst.lateness; job = worst.job }
+
+abbrev pub overdue_as : Overdue → FlashOverdue
+overdue_as overdue = record { late_by = overdue.late_by; job = overdue.job; due = overdue.due }
 
 abbrev pub certificate_of : Certificate → FlashCertificate
 certificate_of built = record {

@@ -47,6 +47,7 @@ names =
     ∷ code_name 108 (codes "FullHandle")
     ∷ code_name 109 (codes "NullPointer")
     ∷ code_name 110 (codes "NotTaken")
+    ∷ code_name 111 (codes "NoneOverdue")
     ∷ code_name 201 (codes "Empty")
     ∷ code_name 202 (codes "NotRising")
     ∷ code_name 203 (codes "UnknownJob")

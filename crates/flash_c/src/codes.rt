@@ -43,6 +43,9 @@ pub const WORN_OUT: u32 = 106;
 
 // 107 to 110 are refusals of the C above: an empty handle, a full one, a null pointer, and a report that isn't taken.
 
+/// No work is overdue.
+pub const NONE_OVERDUE: u32 = 111;
+
 /// The faults of a certificate are 201 to 207.
 pub const VERDICTS: u32 = 200;
 

@@ -1,10 +1,11 @@
 //! What a die is asked. A question leaves the die as it is.
 
-ghost use Rattle.std.specs.Prelude.{◌≡◌, ◌≢◌, ◌⊎◌, ◌↔◌, None, Some, length, IsSomeAnd};
+ghost use Rattle.std.specs.Prelude.{◌≡◌, ◌≢◌, ◌⊎◌, ◌↔◌, None, Some, length, true, IsSomeAnd};
 ghost use Rattle.event_log.specs.RecordCounts.{record_count};
 ghost use Rattle.die_log.specs.Model.Log.{now, job_at};
 ghost use Rattle.die_log.specs.Model.Rows.{rows, certificate};
 ghost use Rattle.slot_core.specs.Outcomes.{outcome_at, head_at, worst_of};
+ghost use Rattle.slot_core.specs.Overdues.{overdue_of};
 ghost use Rattle.stepped_die.specs.Stepped.{Stepped};
 ghost use Rattle.flash_c.specs.Counts.{count_of};
 ghost use Rattle.flash_c.specs.Lists.{array_with};
@@ -16,14 +17,15 @@ ghost use Rattle.flash_c.specs.Conversions as says;
 ghost use Rattle.flash_c.specs.Entries.{SaysCaller};
 
 use crate::checkpoints::place_of;
-use crate::codes::{NOTHING_DONE, OK, of_refusal};
+use crate::codes::{NONE_OVERDUE, NOTHING_DONE, OK, of_refusal};
 use crate::counts::count_of;
 use crate::entries::caller_of_job;
 use crate::handles::{Handle, put, take};
 use crate::lists::{put_jobs, put_names, put_rows};
-use crate::said::{certificate_of, job_of, outcome_of, worst_of};
+use crate::said::{certificate_of, job_of, outcome_of, overdue_as, worst_of};
 use crate::shapes::{
-    FlashCertificate, FlashJob, FlashName, FlashOutcome, FlashPlace, FlashRow, FlashWorst,
+    FlashCertificate, FlashJob, FlashName, FlashOutcome, FlashOverdue, FlashPlace, FlashRow,
+    FlashWorst,
 };
 use slot_core::Outcome;
 use slot_types::JobNo;
@@ -206,6 +208,31 @@ pub extern "C" fn flash_worst(alloc: Global, die: &mut Handle, worst: &mut Flash
         None => NOTHING_DONE,
         Some(found) => {
             *worst = worst_of(found);
+            OK
+        }
+    }
+}
+
+/// The released job or collection that waits and is due at the present slot at the latest, with the earliest deadline;
+/// none of a die that a fault has stopped.
+#[unsafe(no_mangle)]
+pub extern "C" fn flash_overdue(alloc: Global, die: &mut Handle, overdue: &mut FlashOverdue) -> u32
+    ghost held: { Stepped }
+    requires full { die.old.value ≡ Some held }
+    ensures same { die.new.value ≡ Some held }
+    ensures said { result ≡ 0 → IsSomeAnd (overdue_of held.core.start.plan held.core.log) (λ found.
+        overdue.new ≡ says.overdue_as found) }
+    ensures nothing { result ≢ 0 → (result ≡ 111) × (overdue.new ≡ overdue.old) }
+    ensures cause { (result ≡ 111)
+        ↔ ((held.core.stopped ≡ true) ⊎ (overdue_of held.core.start.plan held.core.log ≡ None)) }
+{
+    let mut boxed = take(alloc, die);
+    let said = boxed.overdue();
+    put(die, boxed);
+    match said {
+        None => NONE_OVERDUE,
+        Some(found) => {
+            *overdue = overdue_as(found);
             OK
         }
     }

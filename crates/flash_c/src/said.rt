@@ -1,13 +1,15 @@
 //! What a die is asked, as C has it.
 
 ghost use Rattle.std.specs.Prelude.{◌≡◌};
-ghost use Rattle.flash_c.specs.Conversions.{load_of, job_of, outcome_of, worst_of, certificate_of, done_of, row_of, row_in};
+ghost use Rattle.flash_c.specs.Conversions.{load_of, job_of, outcome_of, worst_of, overdue_as, certificate_of, done_of, row_of, row_in};
 
 use crate::counts::{count_of, flag};
-use crate::shapes::{FlashCertificate, FlashJob, FlashLoad, FlashOutcome, FlashRow, FlashWorst};
+use crate::shapes::{
+    FlashCertificate, FlashJob, FlashLoad, FlashOutcome, FlashOverdue, FlashRow, FlashWorst,
+};
 use late_cert::{Certificate, JobRow};
 use plan_rules::Load;
-use slot_core::{Outcome, Worst};
+use slot_core::{Outcome, Overdue, Worst};
 use slot_types::{JobHead, JobNo};
 
 pub(crate) fn load_of(load: Load) -> FlashLoad
@@ -68,6 +70,16 @@ pub(crate) fn worst_of(worst: Worst) -> FlashWorst
     FlashWorst {
         lateness: worst.lateness,
         job: worst.job.0,
+    }
+}
+
+pub(crate) fn overdue_as(overdue: Overdue) -> FlashOverdue
+    ensures { result ≡ overdue_as overdue }
+{
+    FlashOverdue {
+        late_by: overdue.late_by,
+        job: overdue.job.0,
+        due: overdue.due,
     }
 }
 

@@ -150,6 +150,15 @@ pub struct FlashWorst {
     pub job: u32,
 }
 
+/// Work that is overdue, and by how much it will be late at least.
+#[repr(C)]
+#[derive(Clone, Copy, Drop)]
+pub struct FlashOverdue {
+    pub late_by: u64,
+    pub job: u32,
+    pub due: u32,
+}
+
 /// A certificate: `jobs` jobs filled the slots from `start` to `completion`.
 #[repr(C)]
 #[derive(Clone, Copy, Drop)]

@@ -47,6 +47,7 @@ pub(crate) fn name_of(refusal: u32) -> &'static str
         108 => "FullHandle",
         109 => "NullPointer",
         110 => "NotTaken",
+        111 => "NoneOverdue",
         201 => "Empty",
         202 => "NotRising",
         203 => "UnknownJob",
