@@ -130,6 +130,73 @@ def bound_text(die):
     return BOUND + "; ".join(said)
 
 
+def last_deadline(die, below):
+    """The greatest deadline below so many slots of what comes back to back from slot 0 on; 0 where there is none."""
+    last = 0
+    for task in die["tasks"]:
+        for period, deadline in ((task["period"], task["deadline"]), (task["collect_period"], task["collect_deadline"])):
+            if deadline < below:
+                last = max(last, below - 1 - (below - 1 - deadline) % period)
+    return last
+
+
+def demand_of(die, slots):
+    return sum(amount * ((slots - deadline) // period + 1)
+               for task in die["tasks"]
+               for amount, period, deadline in ((task["work"], task["period"], task["deadline"]),
+                                                (collection_of(die), task["collect_period"], task["collect_deadline"]))
+               if deadline <= slots)
+
+
+def does(die):
+    """Whether a die meets its bound and passes its tests. Intervals are looked at from above, at deadlines alone: where less is
+    asked of one than it has, each shorter one down to that has room."""
+    if not meets_bound(die) or any(out_of_limits(task) for task in die["tasks"]) or load_of(die) > 10**6:
+        return False
+    below = LAST_SLOT + 1
+    while below > 0 and (demand := demand_of(die, slots := last_deadline(die, below))) > 0:
+        if demand > slots:
+            return False
+        below = demand
+    return not any(lack_of(die, task) for task in die["tasks"])
+
+
+def furthest(die, task, key, loosest, tightest):
+    """The number nearest to the tightest with which the die does, all else being as it is, from the loosest on."""
+    def does_with(n):
+        return does(dict(die, tasks=[dict(own, **{key: n}) if own is task else own for own in die["tasks"]]))
+
+    step = 1 if loosest <= tightest else -1
+    if not does_with(loosest):
+        return None
+    near, far = 0, abs(tightest - loosest) + 1
+    while far - near > 1:
+        half = (near + far) // 2
+        near, far = (half, far) if does_with(loosest + step * half) else (near, half)
+    return loosest + step * near
+
+
+def margins_text(at, die):
+    """How far each number of a die's tasks may change, one at a time."""
+    text = ""
+    for i, task in enumerate(die["tasks"]):
+        most_writes = min(task["work"], LAST_SLOT)
+        sought = [
+            ("greatest work", max(task["writes"], 1), LAST_SLOT, max(task["writes"], 1) <= LAST_SLOT),
+            ("greatest writes", 0, most_writes, True),
+            ("least period", 2**32 - 1, 1, True),
+            ("least deadline", task["held"], 1, task["held"] >= 1),
+            ("least collect_deadline", task["collect_period"], 1, task["collect_period"] >= 1),
+        ]
+        said = []
+        for what, loosest, tightest, is_any in sought:
+            key = what.split()[1]
+            found = furthest(die, task, key, loosest, tightest) if is_any else None
+            said.append(f"no {key}" if found is None else f"{what} {found}")
+        text += f"die {at} task {i}: one at a time, these would do: {', '.join(said)}.\n"
+    return text
+
+
 def fault_of(at, die):
     """Why a die may not be used, or nothing."""
     if not meets_bound(die):
@@ -183,8 +250,10 @@ def explained(text):
         dies = read_dies(read_toml(text))
         for at, die in enumerate(dies):
             if said := fault_of(at, die):
-                raise Fault("BadPlan", numbers_text(at, die) + said)
+                changes = margins_text(at, die) if meets_bound(die) else ""
+                raise Fault("BadPlan", numbers_text(at, die) + said + changes)
     except Fault as refused:
         refusal, said = refused.args
         return 1, f"The plan is refused: {refusal}.\n{said}"
-    return 0, "The plan is accepted.\n" + "".join(passing_text(at, die) for at, die in enumerate(dies))
+    said = [passing_text(at, die) for at, die in enumerate(dies)] + [margins_text(at, die) for at, die in enumerate(dies)]
+    return 0, "The plan is accepted.\n" + "".join(said)
