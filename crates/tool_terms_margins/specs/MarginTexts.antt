@@ -11,16 +11,23 @@ abbrev pub number_text : (what name : List ℕ) → Option ℕ → List ℕ
 number_text what name (Some n) = what ++ name ++ codes " " ++ decimal n
 number_text what name None = codes "no " ++ name
 
--- the greatest number of logical pages of a die, and the least of its blocks
-abbrev pub room_line : ℕ → (logical blocks : Option ℕ) → List ℕ
-room_line die logical blocks = codes "die " ++ decimal die ++ codes ": one at a time, these would do: "
-    ++ number_text (codes "greatest ") (codes "logical") logical ++ codes ", " ++ number_text (codes "least ") (codes "blocks") blocks
-    ++ codes "." ++ 10 ∷ []
+-- what a line on what a die's bound allows begins with
+abbrev pub of_bound : ℕ → List ℕ
+of_bound die = codes "die " ++ decimal die ++ codes ": by its bound alone, one at a time: "
 
--- the greatest cap of a task that would do
+-- the greatest number of logical pages, and the least of blocks
+abbrev pub room_text : (logical blocks : Option ℕ) → List ℕ
+room_text logical blocks = number_text (codes "greatest ") (codes "logical") logical
+    ++ codes ", " ++ number_text (codes "least ") (codes "blocks") blocks ++ codes "." ++ 10 ∷ []
+
+-- those of a die that its bound allows
+abbrev pub room_line : ℕ → (logical blocks : Option ℕ) → List ℕ
+room_line die logical blocks = of_bound die ++ room_text logical blocks
+
+-- the greatest cap of a task that its die's bound allows
 abbrev pub greatest_text : Option ℕ → List ℕ
-greatest_text (Some cap) = codes "the greatest cap that would do is " ++ decimal cap
-greatest_text None = codes "no cap would do"
+greatest_text (Some cap) = codes "by the bound alone, the greatest cap is " ++ decimal cap
+greatest_text None = codes "by the bound alone, no cap would do"
 
 abbrev pub cap_line : (die task : ℕ) → Option ℕ → List ℕ
 cap_line die task found = codes "die " ++ decimal die ++ codes " task " ++ decimal task ++ codes ": " ++ greatest_text found ++ codes "." ++ 10 ∷ []

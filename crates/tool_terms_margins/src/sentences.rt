@@ -2,7 +2,7 @@
 
 ghost use Rattle.std.specs.Prelude.{◌≡◌, ◌++◌, ℕ, List, IfOk, OnOk, codes};
 ghost use Rattle.tool_terms_margins.specs.MarginTexts.{SaysCaps, SaysMargins, asked_text, cap_line, margins_line, number_text, room_line};
-ghost use Rattle.tool_terms_margins.specs.MarginTexts.{times_text};
+ghost use Rattle.tool_terms_margins.specs.MarginTexts.{of_bound, room_text, times_text};
 
 use crate::caps::{CapMargin, cap_margin};
 use crate::margins::{Margins, TaskMargins, task_margins};
@@ -32,7 +32,28 @@ fn put_least(text: &mut Vec<u8>, name: &str, found: Option<u32>) -> io::Result<(
     }
 }
 
-/// Adds the greatest number of logical pages of a die, and the least of its blocks, that would do.
+/// Adds what a line on what a die's bound allows begins with.
+fn put_of_bound(text: &mut Vec<u8>, die: usize) -> io::Result<()>
+    ensures { OnOk result (text.new.items ≡ text.old.items ++ of_bound die) }
+{
+    write!(text, "die {die}: by its bound alone, one at a time: ")
+}
+
+/// Adds the greatest number of logical pages, and the least of blocks.
+fn put_least_and_greatest(
+    text: &mut Vec<u8>,
+    logical: Option<u32>,
+    blocks: Option<u32>,
+) -> io::Result<()>
+    ensures { OnOk result (text.new.items ≡ text.old.items ++ room_text logical blocks) }
+{
+    put_greatest(text, "logical", logical)?;
+    write!(text, ", ")?;
+    put_least(text, "blocks", blocks)?;
+    writeln!(text, ".")
+}
+
+/// Adds the greatest number of logical pages of a die, and the least of its blocks, that its bound allows.
 pub fn put_room(
     text: &mut Vec<u8>,
     die: usize,
@@ -41,21 +62,18 @@ pub fn put_room(
 ) -> io::Result<()>
     ensures { OnOk result (text.new.items ≡ text.old.items ++ room_line die logical blocks) }
 {
-    write!(text, "die {die}: one at a time, these would do: ")?;
-    put_greatest(text, "logical", logical)?;
-    write!(text, ", ")?;
-    put_least(text, "blocks", blocks)?;
-    writeln!(text, ".")
+    put_of_bound(text, die)?;
+    put_least_and_greatest(text, logical, blocks)
 }
 
-/// Adds the greatest cap of a task that would do.
+/// Adds the greatest cap of a task that its die's bound allows.
 fn put_cap(text: &mut Vec<u8>, die: usize, task: usize, found: Option<u32>) -> io::Result<()>
     ensures { OnOk result (text.new.items ≡ text.old.items ++ cap_line die task found) }
 {
     write!(text, "die {die} task {task}: ")?;
     match found {
-        Some(cap) => writeln!(text, "the greatest cap that would do is {cap}."),
-        None => writeln!(text, "no cap would do."),
+        Some(cap) => writeln!(text, "by the bound alone, the greatest cap is {cap}."),
+        None => writeln!(text, "by the bound alone, no cap would do."),
     }
 }
 
