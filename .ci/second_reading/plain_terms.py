@@ -176,6 +176,19 @@ def furthest(die, task, key, loosest, tightest):
     return loosest + step * near
 
 
+def room_text(at, die):
+    """The greatest number of logical pages, the least of blocks, and the greatest cap of each task that the bound leaves."""
+    logical = live_of(dict(die, logical=1)) - 1
+    blocks = next(blocks for blocks in range(2, 1_025) if meets_bound(dict(die, blocks=blocks)))
+    text = f"die {at}: by its bound alone, one at a time: greatest logical {logical}, least blocks {blocks}.\n"
+    for i, task in enumerate(die["tasks"]):
+        cap = task["cap"]
+        while meets_bound(dict(die, tasks=[dict(own, cap=cap + 1) if own is task else own for own in die["tasks"]])):
+            cap += 1
+        text += f"die {at} task {i}: by the bound alone, the greatest cap is {cap}.\n"
+    return text
+
+
 def margins_text(at, die):
     """How far each number of a die's tasks may change, one at a time."""
     text = ""
@@ -255,5 +268,6 @@ def explained(text):
     except Fault as refused:
         refusal, said = refused.args
         return 1, f"The plan is refused: {refusal}.\n{said}"
-    said = [passing_text(at, die) for at, die in enumerate(dies)] + [margins_text(at, die) for at, die in enumerate(dies)]
+    said = [passing_text(at, die) for at, die in enumerate(dies)]
+    said += [room_text(at, die) + margins_text(at, die) for at, die in enumerate(dies)]
     return 0, "The plan is accepted.\n" + "".join(said)

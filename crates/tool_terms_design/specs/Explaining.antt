@@ -13,7 +13,7 @@ use Rattle.terms_texts.specs.declared.faults.TermsRefusal.TheVariants.{Outside, 
 use Rattle.terms_texts.specs.declared.numbers.TermsNumbers.{TermsNumbers}
 use Rattle.terms_texts.specs.declared.stores.DieTerms.{DieTerms}
 use Rattle.tool_plan_design.specs.Trials.{FindsBlocks, FindsLogical}
-use Rattle.tool_terms_margins.specs.MarginTexts.{SaysMargins}
+use Rattle.tool_terms_margins.specs.MarginTexts.{SaysCaps, SaysMargins, room_line}
 use Rattle.tool_terms_design.specs.DieTexts.{full_stop, numbers_text, passing_text}
 use Rattle.tool_terms_design.specs.FaultTexts.{bound_text, shape_text, stray_text, terms_text, text_fault}
 
@@ -29,9 +29,21 @@ ExplainsDies die [] said = said ≡ []
 ExplainsDies die (made ∷ more) said =
     (first rest : List ℕ) × (said ≡ first ++ rest) × ExplainsDie die made first × ExplainsDies (die + 1) more rest
 
--- how far the numbers of a die's tasks may change; and of the first so many dies
+-- how far the logical pages, the blocks and the caps of a die may change by its bound, and the terms of its tasks
+pub record SaysChanges (made : DieTerms) (die : ℕ) (said : List ℕ) : Type 0 where
+  pub logical : Option ℕ
+  pub greatest : FindsLogical made.plan logical
+  pub blocks : Option ℕ
+  pub least : FindsBlocks made.plan blocks
+  pub caps : List ℕ
+  pub largest : SaysCaps made.plan die 0 made.plan.caps caps
+  pub tasks : List ℕ
+  pub margins : SaysMargins made die 0 made.terms.tasks tasks
+  pub is : said ≡ room_line die logical blocks ++ caps ++ tasks
+
+-- so it is of a die of a plan; and of the first so many
 abbrev pub SaysDieMargins : TermsNumbers → ℕ → List ℕ → Type 0
-SaysDieMargins plan die said = let made = die_of plan die in SaysMargins made die 0 made.terms.tasks said
+SaysDieMargins plan die said = SaysChanges (die_of plan die) die said
 
 abbrev pub SaysAllMargins : TermsNumbers → ℕ → List ℕ → Type 0
 SaysAllMargins plan zero said = said ≡ []

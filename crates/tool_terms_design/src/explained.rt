@@ -10,7 +10,7 @@ ghost use Rattle.terms_texts.specs.TermsText.{read_numbers};
 ghost use Rattle.tool_terms_design.specs.DieTexts.{full_stop};
 ghost use Rattle.tool_terms_design.specs.Explaining.{ExplainsDie, ExplainsDieFault, ExplainsDies, ExplainsRefusal};
 ghost use Rattle.terms_texts.specs.declared.numbers.TermsNumbers.{TermsNumbers};
-ghost use Rattle.tool_terms_design.specs.Explaining.{ExplainsTerms, ExplainsUnusable, SaysAllMargins, SaysDieMargins};
+ghost use Rattle.tool_terms_design.specs.Explaining.{ExplainsTerms, ExplainsUnusable, SaysAllMargins, SaysChanges, SaysDieMargins};
 
 use crate::fault_texts::{put_bound, put_shape, put_stray, put_terms, put_text_fault};
 use crate::loads::put_passing;
@@ -24,7 +24,7 @@ use terms_texts::{
     DieFault, DieTerms, TermsNumbers, TermsRefusal, die_terms, read_terms, terms_numbers,
 };
 use tool_plan_design::{Explained, greatest_logical, least_blocks};
-use tool_terms_margins::put_margins;
+use tool_terms_margins::{put_caps, put_margins, put_room};
 
 /// A text that couldn't be written has run out of memory.
 fn written(put: io::Result<()>) -> Result<(), Refusal>
@@ -63,7 +63,20 @@ fn put_dies(text: &mut Vec<u8>, dies: &[DieTerms]) -> Result<(), Refusal>
     Ok(())
 }
 
-/// Adds how far the numbers of a die's tasks may change. The only refusal is NoMemory.
+/// Adds how far the logical pages, the blocks and the caps of a die may change by its bound, and the terms of its tasks.
+fn put_changes_of(text: &mut Vec<u8>, die: usize, made: DieTerms) -> io::Result<()>
+    ensures { OnOk result ((said : List ℕ) × SaysChanges made die said
+        × (text.new.items ≡ text.old.items ++ said)) }
+{
+    let mut made = made;
+    let logical = greatest_logical(&mut made.plan);
+    let blocks = least_blocks(&mut made.plan);
+    put_room(text, die, logical, blocks)?;
+    let made = put_caps(text, die, made)?;
+    put_margins(text, die, made)
+}
+
+/// Adds those of a die of a plan. The only refusal is NoMemory.
 fn put_changes(
     alloc: Global,
     text: &mut Vec<u8>,
@@ -75,7 +88,7 @@ fn put_changes(
     ensures refused { FailsForMemory result }
 {
     let made = die_terms(alloc, numbers, die)?;
-    written(put_margins(text, die as usize, made))
+    written(put_changes_of(text, die as usize, made))
 }
 
 /// Adds those of all dies. The only refusal is NoMemory.
@@ -222,8 +235,8 @@ fn refused(alloc: Global, plan: &[u8], refusal: TermsRefusal) -> Result<Vec<u8>,
 /// Explains the text of a plan with terms, in sentences of a line each: whether the plan is accepted, as
 /// [`read_terms`](terms_texts::read_terms) judges it. If it is, these follow by die: its numbers and those of its tasks,
 /// the most slots of a collection, the long-run load, the tightest interval with what may be asked of it and what is to
-/// spare, and by task what its collections give and what its cap has to cover; and then by die and task how far each
-/// number may change, one at a time. If it isn't, what is wrong first: the fault of the text and where it lies; or the
+/// spare, and by task what its collections give and what its cap has to cover; and then by die how far its logical pages,
+/// its blocks and its caps may change by its bound, and by task how far its terms may, one at a time. If it isn't, what is wrong first: the fault of the text and where it lies; or the
 /// numbers of the first die that doesn't meet its bound, has a number out of its limits or doesn't pass its tests, why, and
 /// what would do. The only refusal is NoMemory.
 pub fn explain_terms(alloc: Global, plan: &[u8]) -> Result<Explained, Refusal>

@@ -1,2 +1,3 @@
 mod Alike
+mod Capped
 mod Lines

@@ -1,6 +1,8 @@
 -- The plan of a die with one number of a task's terms changed, and how far such a number may change.
 use Rattle.std.specs.Prelude.{◌≡◌, ℕ, ◌+◌, ◌<◌, ◌≤◌, max, min, Option, Some, None, slice_set}
+use Rattle.plan_rules.specs.Bound.{MeetsBound}
 use Rattle.slot_types.specs.declared.limits.TheConstants.{MAX_SLOT}
+use Rattle.slot_types.specs.declared.plans.DiePlan.{DiePlan}
 use Rattle.demand_rules.specs.declared.terms.TaskTerms.{TaskTerms}
 use Rattle.terms_texts.specs.Stores.{IsUsable}
 use Rattle.terms_texts.specs.declared.stores.DieTerms.{DieTerms}
@@ -23,6 +25,18 @@ with_own made task own = record made { terms = record made.terms { tasks = slice
 -- two dies that differ in the terms of that task alone
 abbrev pub IsAlike : ℕ → DieTerms → DieTerms → Type 0
 IsAlike task one other = (own : TaskTerms) → with_own one task own ≡ with_own other task own
+
+-- a plan with the cap of a task changed
+abbrev pub with_cap : DiePlan → ℕ → ℕ → DiePlan
+with_cap plan task cap = record plan { caps = slice_set plan.caps task cap }
+
+-- two plans that differ in the cap of that task alone
+abbrev pub IsAlikeButCap : ℕ → DiePlan → DiePlan → Type 0
+IsAlikeButCap task one other = (cap : ℕ) → with_cap one task cap ≡ with_cap other task cap
+
+-- with this cap of a task the plan meets its bound
+abbrev pub MeetsWithCap : DiePlan → ℕ → ℕ → Type 0
+MeetsWithCap plan task cap = MeetsBound (with_cap plan task cap)
 
 -- with this number in a task's terms the die meets its bound, and passes its tests
 abbrev pub Does : DieTerms → ℕ → TaskTerms → Number → ℕ → Type 0
@@ -50,6 +64,10 @@ FindsMost P from to None = from ≤ to → ¬ P from
 abbrev pub FindsLeast : (ℕ → Type 0) → (from to : ℕ) → Option ℕ → Type 0
 FindsLeast P from to (Some n) = IsLeast P from to n
 FindsLeast P from to None = from ≤ to → ¬ P to
+
+-- the greatest cap of a task with which the plan meets its bound; there is none where not even a cap of 1 would do
+abbrev pub FindsCap : DiePlan → ℕ → Option ℕ → Type 0
+FindsCap plan task found = FindsMost (MeetsWithCap plan task) 1 4294967294 found
 
 -- how far each number of a task's terms may change, one at a time
 pub record AreMargins (made : DieTerms) (task : ℕ) (own : TaskTerms) (m : TaskMargins) : Type 0 where

@@ -2,6 +2,7 @@
 #![tactic(auto)]
 
 mod attempts;
+mod caps;
 mod margins;
 mod numbers;
 mod sentences;
@@ -9,4 +10,4 @@ mod sought;
 
 pub use margins::{Margins, TaskMargins, task_margins};
 pub use numbers::{Number, with_number};
-pub use sentences::put_margins;
+pub use sentences::{put_caps, put_margins, put_room};
