@@ -8,6 +8,7 @@ mod rows;
 mod script_dies;
 mod script_runs;
 
+pub use die_cores::arrive;
 pub use refused::RefusedRows;
 pub use script_dies::ScriptDie;
 pub use script_runs::{run_die, run_dies};
