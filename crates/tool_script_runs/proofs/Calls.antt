@@ -1,6 +1,6 @@
 -- What the calls of a die are to it as one that runs, and slots one after the other.
-use Rattle.std.proofs.Common.{◌≡◌, ℕ, zero, suc, ◌+◌, ◌<◌, ◌≤◌, Bool, true, false, [], ap, ◌∙◌, sym, subst, inl, inr, refl, arith, Option, Some, None, Ok, Err}
-use Rattle.std.specs.Prelude.{◌-◌, ◌⊎◌, max}
+use Rattle.std.proofs.Common.{◌≡◌, ℕ, zero, suc, ◌+◌, ◌<◌, ◌≤◌, Bool, true, false, ap, ◌∙◌, sym, subst, inl, inr, refl, arith, Some, None, Ok, Err}
+use Rattle.std.specs.Prelude.{◌-◌, max}
 use Rattle.std.proofs.lemmas.Bool.{lt-leb}
 use Rattle.std.proofs.lemmas.List.{length_push}
 use Rattle.slot_types.specs.Arrivals.{IsArrival}
@@ -8,7 +8,6 @@ use Rattle.slot_types.specs.declared.limits.TheConstants.{MAX_SLOT}
 use Rattle.slot_types.specs.declared.events.Event.{Event}
 use Rattle.slot_types.specs.declared.events.Event.TheVariants as events
 use Rattle.slot_types.specs.declared.refusals.Refusal.{Refusal}
-use Rattle.slot_types.specs.declared.refusals.Refusal.TheVariants as because
 use Rattle.slot_types.specs.declared.replies.Reply.{Reply}
 use Rattle.slot_types.specs.declared.replies.Reply.TheVariants as replies
 use Rattle.slot_types.specs.declared.replies.SlotReply.{SlotReply}
@@ -17,8 +16,8 @@ use Rattle.die_log.specs.Model.Log.{Log, now, carried_slots}
 use Rattle.die_log.specs.Model.Start.{Start}
 use Rattle.die_log.specs.Model.Answers.{answer, refusal_of, IsAccepted}
 use Rattle.slot_core.specs.Core.{Core, with_entry}
-use Rattle.slot_core.specs.Calls.{IsCall, RefusedBy, RefusesCall}
-use Rattle.tool_script_runs.specs.RunningDies.{Accepts, CarriesOut, CarriesSlot, EndsRow, IsAsked, IsCarriedTo, RefusesSlot, RunningDie, running_of}
+use Rattle.slot_core.specs.Calls.{IsCall, RefusesCall}
+use Rattle.tool_script_runs.specs.RunningDies.{Accepts, CarriesOut, CarriesSlot, IsAsked, IsCarriedTo, RefusesSlot, RunningDie, running_of}
 use Rattle.tool_script_runs.specs.ScriptRuns.{GoesOn}
 
 -- One call

@@ -1,9 +1,8 @@
 -- The rows of one die: one more, and then slots.
-use Rattle.std.proofs.Common.{◌≡◌, ℕ, zero, suc, Bool, true, false, List, [], ◌∷◌, ◌++◌, append_assoc, ap, ◌∙◌, sym, subst, refl, arith}
-use Rattle.std.specs.Prelude.{◌-◌, Option, ◌==◌}
+use Rattle.std.proofs.Common.{◌≡◌, ℕ, Bool, true, false, List, [], ◌∷◌, ◌++◌, append_assoc, ap, ◌∙◌, sym, subst, refl, arith}
+use Rattle.std.specs.Prelude.{◌-◌, ◌==◌}
 use Rattle.std.proofs.lemmas.List.{append-nil}
 use Rattle.std.proofs.lemmas.List.Elements.{filter-append}
-use Rattle.slot_types.specs.declared.refusals.Refusal.{Refusal}
 use Rattle.die_log.specs.Model.Log.{Log, now}
 use Rattle.die_log.specs.Model.Start.{Start}
 use Rattle.script_texts.specs.declared.script_rows.ScriptItem.{ScriptItem}

@@ -1,5 +1,5 @@
 -- What a slot leaves.
-use Rattle.std.proofs.Common.{◌≡◌, ℕ, [], ◌∷◌, Result, Ok, Err}
+use Rattle.std.proofs.Common.{◌≡◌, ℕ, ◌∷◌, Result, Ok, Err}
 use Rattle.slot_types.specs.Refusal.{FailsForMemory}
 use Rattle.slot_types.specs.declared.refusals.Refusal.{Refusal}
 use Rattle.tool_script_runs.specs.RunningDies.{CarriesSlot, RunningDie, TakesSlot}
@@ -17,7 +17,7 @@ pub worn_after : (before after : DiePlan) (past log : Log) (reply : SlotReply) (
     → IsWearOf before.shape.blocks past old → IsWearOf after.shape.blocks log new
 worn_after before after past log reply old new logged same noted worn = rw (logged, same) (noted before.shape.blocks past worn)
 
--- a slot that was carried out is so also where it isn't noted for want of memory
+-- a slot that was carried out is so also where it isn't noted, out of memory
 pub slot_noted : {A : Type 0} (noted : Result A Refusal) (before after : RunningDie) → CarriesSlot before after → FailsForMemory noted
     → TakesSlot noted before after
 slot_noted (Ok x) before after carried fails = carried

@@ -1,4 +1,4 @@
-use Rattle.std.proofs.Common.{sym, refl}
+use Rattle.std.proofs.Common.{refl}
 use Rattle.std.proofs.lemmas.Result.{on_ok_weaker}
 use Rattle.tool_script_runs.specs.ScriptRuns.{TakesRow}
 use Rattle.tool_script_runs.proofs.EachDie.{one_took_row, starts_stay}

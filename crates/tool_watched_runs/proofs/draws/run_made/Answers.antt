@@ -1,4 +1,4 @@
-use Rattle.std.proofs.Common.{◌≡◌, ap, sym, ◌∙◌, Option, Some}
+use Rattle.std.proofs.Common.{◌≡◌, ap, sym, ◌∙◌, Some}
 use Rattle.std.specs.Global.{Box}
 use Rattle.std.proofs.lemmas.Result.{IfOk-at_ok}
 use Rattle.tool_watched_runs.specs.Runs.{core_of}
