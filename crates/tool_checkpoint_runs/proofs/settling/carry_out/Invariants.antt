@@ -1,4 +1,3 @@
-use Rattle.std.proofs.Common.{◌≡◌}
 use Rattle.tool_script_runs.specs.RunningDies.{running_of}
 use Rattle.tool_script_runs.specs.ScriptRuns.{GoesOn}
 use Rattle.tool_checkpoint_runs.proofs.settling.carry_out.Given as goal
