@@ -1,4 +1,4 @@
-use Rattle.std.proofs.Common.{◌≡◌, List, length, map}
+use Rattle.std.proofs.Common.{◌≡◌, length, map}
 use Rattle.std.specs.Global.{Box, Vec}
 use Rattle.std.proofs.lemmas.List.{length-map}
 use Rattle.die_log.specs.Model.Start.{fresh}
