@@ -1,4 +1,5 @@
 pub mod LeftDevices
 pub mod GoingOn
-pub mod StartsMore
+pub mod DiesLeft
 pub mod CallsMore
+mod ManyStarts

@@ -1,17 +1,25 @@
 -- What comes of a run on the dies of a store.
-use Rattle.std.specs.Prelude.{◌≡◌, ℕ, List, map, Option, Some, None, IfSome, slice_get}
+use Rattle.std.specs.Prelude.{◌≡◌, ℕ, Bool, false, List, map, Option, Some, None, IfSome, slice_get}
+use Rattle.std.specs.List.{AllZip}
 use Rattle.slot_types.specs.declared.plans.DiePlan.{DiePlan}
 use Rattle.checkpoint_texts.specs.declared.saved.SavedDie.{SavedDie}
 use Rattle.die_log.specs.Model.Start.{Start, fresh}
 use Rattle.flash_die.specs.Fuse.{Fuse}
 use Rattle.slot_core.specs.Core.{Core}
+use Rattle.tool_script_runs.specs.RunningDies as runs
+use Rattle.tool_script_runs.specs.RunningDies.{RunningDie, running_of}
+use Rattle.tool_script_runs.specs.ScriptRuns.{GoesOn, IsRunOf}
 use Rattle.tool_watched_runs.specs.Failing.{calls_of}
 use Rattle.tool_watched_runs.specs.declared.failing.FailAt.{FailAt}
 use Rattle.tool_checkpoint_runs.specs.SavedDies.{saved_starts}
 
--- where the logs of dies start
+-- dies, as those that run the rows of a script
+abbrev pub running : {N : Type 0} → List (Core N) → List RunningDie
+running dies = map running_of dies
+
+-- where their logs start
 abbrev pub starts_of : {N : Type 0} → List (Core N) → List Start
-starts_of {N} dies = map (λ (die : Core N). die.start) dies
+starts_of dies = runs.starts_of (running dies)
 
 -- where the dies of a plan start: fresh, or as they were saved
 abbrev pub starts_by : List DiePlan → Option (List SavedDie) → List Start
@@ -21,3 +29,10 @@ starts_by plan (Some saved) = saved_starts plan saved
 -- the device of each die, by its number, has as many calls left as it makes well
 abbrev pub HaveCalls : {N : Type 0} → Option FailAt → List (Core (Fuse N)) → Type 0
 HaveCalls {N} fail dies = (number : ℕ) → IfSome (slice_get dies number) (λ (die : Core (Fuse N)). die.device.left ≡ calls_of fail number)
+
+-- dies that start so ran a script of this text, and so many slots; and then each went on for some more, if they were to
+pub record RanAndWentOn (starts : List Start) (text : Option (List ℕ)) (slots : ℕ) (more : Bool) (dies : List RunningDie) : Type 0 where
+  pub came : List RunningDie
+  pub ran : IsRunOf starts text slots came
+  pub went_on : AllZip GoesOn came dies
+  pub no_more : more ≡ false → dies ≡ came

@@ -1,16 +1,18 @@
 //! A script that is run on the fresh dies of a plan, the device of one of which is to fail.
 
-ghost use Rattle.std.specs.Prelude.{◌≡◌, ◌<◌, ◌≤◌, All, IfOk, IfSome, Some, length, map, slice_get};
+ghost use Rattle.std.specs.Prelude.{◌≡◌, ◌<◌, ◌≤◌, [], All, IfOk, IfSome, Some, length, map, slice_get};
 ghost use Rattle.slot_types.specs.Refusal.{FailsForMemory};
 ghost use Rattle.plan_rules.specs.Bound.{MeetsBound};
 ghost use Rattle.die_log.specs.Model.Start.{fresh};
 ghost use Rattle.report_texts.specs.TextSoFar.{text_so_far};
 ghost use Rattle.task_script.specs.StoreRuns.{reports_of};
-ghost use Rattle.tool_checkpoint_runs.specs.Runs.{HaveCalls, starts_of};
+ghost use Rattle.script_texts.specs.ScriptLeft.{dies_of, script_left, slots_of};
+ghost use Rattle.tool_script_runs.specs.RunningDies.{HasEmptyLog};
+ghost use Rattle.tool_script_runs.specs.ScriptRuns.{IsRunOf, RanScript};
+ghost use Rattle.tool_checkpoint_runs.specs.Runs.{HaveCalls, running, starts_of};
 ghost use Rattle.tool_watched_runs.specs.Failing.{IsBeyond, failure_in};
 
 use crate::dies::{DiesOn, push_die};
-use crate::rows::run_rows;
 use crate::store_runs::report_of;
 use flash_die::{FuseNand, MemoryNand};
 use report_texts::ReportText;
@@ -19,9 +21,8 @@ use slot_core::DieCore;
 use slot_types::{DiePlan, MAX_SLOT, Refusal, StorePlan};
 use std::alloc::Global;
 use std::io::Read;
-use tool_watched_runs::{
-    FailAt, Failure, RefusedRows, RunNand, calls_of, check_failing, failure_in,
-};
+use tool_script_runs::{RefusedRows, run_dies};
+use tool_watched_runs::{FailAt, Failure, RunNand, calls_of, check_failing, failure_in};
 
 /// What came of a run in which a device was to fail.
 #[derive(Drop)]
@@ -38,6 +39,7 @@ pub struct FailingRun {
 fn fresh_die(alloc: Global, plan: DiePlan, calls: u64) -> Result<DieCore<RunNand>, Refusal>
     requires { MeetsBound plan }
     ensures ok { IfOk result (λ die. die.start ≡ fresh plan) }
+    ensures log { IfOk result (λ die. die.log ≡ []) }
     ensures calls { IfOk result (λ die. die.device.left ≡ calls) }
     ensures refused { FailsForMemory result }
 {
@@ -56,6 +58,7 @@ fn fresh_store(alloc: Global, plan: StorePlan, fail: FailAt) -> Result<DiesOn<Ru
     requires few { length plan ≤ 8 }
     requires bound { All MeetsBound plan }
     ensures starts { IfOk result (λ dies. starts_of dies.items ≡ map fresh plan) }
+    ensures empty { IfOk result (λ dies. All HasEmptyLog (running dies.items)) }
     ensures count { IfOk result (λ dies. length dies.items ≡ length plan) }
     ensures calls { IfOk result (λ dies. HaveCalls (Some fail) dies.items) }
     ensures refused { FailsForMemory result }
@@ -81,6 +84,11 @@ fn run_lent<R: Read + Drop>(
     requires few_dies { length plan ≤ 8 }
     requires bound { All MeetsBound plan }
     requires there { fail.die < length plan }
+    requires few_slots { slots ≤ MAX_SLOT }
+    requires slots { slots_of script.old ≡ slots }
+    requires dies { dies_of script.old ≡ length plan }
+    ensures ran { IfOk result (λ run.
+        RanScript (script_left R.remaining script.old) slots (running run.dies.items)) }
     ensures starts { IfOk result (λ run. starts_of run.dies.items ≡ map fresh plan) }
     ensures report { IfOk result (λ run. run.report ≡ text_so_far (reports_of 0 run.dies.items)) }
     ensures count { IfOk result (λ run. length run.dies.items ≡ length plan) }
@@ -88,7 +96,7 @@ fn run_lent<R: Read + Drop>(
         run.failure ≡ failure_in fail die)) }
 {
     let mut dies = fresh_store(alloc, plan, fail)?;
-    let refused = run_rows(alloc, script, &mut dies, slots)?;
+    let refused = run_dies(alloc, script, &mut dies, slots)?;
     let report = report_of(alloc, &dies)?;
     let failure = failure_in(fail, &dies[fail.die as usize]);
     Ok(FailingRun {
@@ -116,6 +124,8 @@ pub fn run_failing<R: Read + Drop>(
     requires bound { All MeetsBound plan }
     requires few_slots { slots ≤ MAX_SLOT }
     ensures unknown { IsBeyond (Some fail) (length plan) → result ≡ Err Refusal.UnknownDie }
+    ensures ran { IfOk result (λ run.
+        IsRunOf (map fresh plan) (R.remaining script) slots (running run.dies.items)) }
     ensures starts { IfOk result (λ run. starts_of run.dies.items ≡ map fresh plan) }
     ensures report { IfOk result (λ run. run.report ≡ text_so_far (reports_of 0 run.dies.items)) }
     ensures count { IfOk result (λ run. length run.dies.items ≡ length plan) }

@@ -7,7 +7,6 @@ mod explained;
 mod failing_runs;
 mod faults;
 mod lines;
-mod rows;
 mod saving;
 mod settling;
 mod starts;

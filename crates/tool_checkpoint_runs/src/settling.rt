@@ -1,14 +1,17 @@
 //! Slots after the last one of a run, until all is done.
 
-ghost use Rattle.std.specs.Prelude.{◌≡◌, ◌<◌, length};
-ghost use Rattle.tool_checkpoint_runs.specs.Runs.{starts_of};
+ghost use Rattle.std.specs.Prelude.{◌≡◌, ◌<◌, ◌≤◌, List, OnOk, length};
+ghost use Rattle.std.specs.List.{AllZip};
+ghost use Rattle.tool_script_runs.specs.RunningDies.{RunningDie, running_of};
+ghost use Rattle.tool_script_runs.specs.ScriptRuns.{GoesOn};
+ghost use Rattle.tool_checkpoint_runs.specs.Runs.{running, starts_of};
 
 use crate::dies::StoreDies;
-use crate::rows::carry_to;
 use flash_die::MemoryNand;
 use slot_core::DieCore;
 use slot_types::{JobNo, MAX_JOBS, MAX_SLOT, Refusal};
 use std::alloc::Global;
+use tool_script_runs::ScriptDie;
 
 /// The most slots that the work takes which is left on a die: those to the last release, one for each operation that is left, and for each
 /// collection two for each page of a block, and those of an erase.
@@ -54,13 +57,15 @@ fn carry_out(
     number: u32,
     end: u32,
 ) -> Result<(), Refusal>
+    requires { end ≤ MAX_SLOT }
+    ensures went_on { OnOk result (GoesOn (running_of die.old) (running_of die.new)) }
     ensures start { die.new.start ≡ die.old.start }
 {
     for slot in die.now()..end {
         if !is_pending(die, number) {
             return Ok(());
         }
-        carry_to(alloc, die, slot.saturating_add(1))?;
+        die.carry_to(alloc, slot.saturating_add(1))?;
     }
     Ok(())
 }
@@ -68,6 +73,7 @@ fn carry_out(
 /// Carries out slots until all that a die accepted is done or was waived, at most as many as that work can take, and none beyond
 /// slot 1,048,576. Answers how many these were. The only refusal is NoMemory.
 fn settle_die(alloc: Global, die: &mut DieCore<MemoryNand>) -> Result<u32, Refusal>
+    ensures went_on { OnOk result (GoesOn (running_of die.old) (running_of die.new)) }
     ensures start { die.new.start ≡ die.old.start }
 {
     let now = die.now();
@@ -84,6 +90,8 @@ fn settle_die(alloc: Global, die: &mut DieCore<MemoryNand>) -> Result<u32, Refus
 /// The same for one of these.
 fn settle_at(alloc: Global, dies: &mut StoreDies, place: usize) -> Result<u32, Refusal>
     requires there { place < length dies.old.items }
+    ensures went_on { OnOk result ((came : List RunningDie) →
+        AllZip GoesOn came (running dies.old.items) → AllZip GoesOn came (running dies.new.items)) }
     ensures starts { starts_of dies.new.items ≡ starts_of dies.old.items }
     ensures count { length dies.new.items ≡ length dies.old.items }
 {
@@ -92,6 +100,7 @@ fn settle_at(alloc: Global, dies: &mut StoreDies, place: usize) -> Result<u32, R
 
 /// The same for each die; answers by die how many slots it took.
 pub fn settle(alloc: Global, dies: &mut StoreDies) -> Result<Vec<u32>, Refusal>
+    ensures went_on { OnOk result (AllZip GoesOn (running dies.old.items) (running dies.new.items)) }
     ensures starts { starts_of dies.new.items ≡ starts_of dies.old.items }
     ensures count { length dies.new.items ≡ length dies.old.items }
 {

@@ -1,12 +1,13 @@
 //! Dies as they start.
 
-ghost use Rattle.std.specs.Prelude.{◌≡◌, ◌≤◌, All, IfOk, IfNone, OnOk, length, map, position};
+ghost use Rattle.std.specs.Prelude.{◌≡◌, ◌≤◌, [], All, IfOk, IfNone, OnOk, length, map, position};
 ghost use Rattle.slot_types.specs.Refusal.{FailsForMemory};
 ghost use Rattle.plan_rules.specs.Bound.{MeetsBound};
 ghost use Rattle.checkpoint_texts.specs.SavedDies.{checkpoint_of};
 ghost use Rattle.die_checkpoint.specs.Fits.{Fits};
 ghost use Rattle.die_log.specs.Model.Start.{fresh};
-ghost use Rattle.tool_checkpoint_runs.specs.Runs.{starts_of};
+ghost use Rattle.tool_script_runs.specs.RunningDies.{HasEmptyLog};
+ghost use Rattle.tool_checkpoint_runs.specs.Runs.{running, starts_of};
 ghost use Rattle.tool_checkpoint_runs.specs.SavedDies.{HaveBytes, is_bare, saved_start, saved_starts};
 
 use crate::devices::device_of;
@@ -24,6 +25,7 @@ use std::alloc::Global;
 fn fresh_die(alloc: Global, plan: DiePlan) -> Result<DieCore<MemoryNand>, Refusal>
     requires { MeetsBound plan }
     ensures ok { IfOk result (λ die. die.start ≡ fresh plan) }
+    ensures log { IfOk result (λ die. die.log ≡ []) }
     ensures refused { FailsForMemory result }
 {
     let nand = match MemoryNand::new(alloc, plan.shape) {
@@ -40,6 +42,7 @@ fn fresh_die(alloc: Global, plan: DiePlan) -> Result<DieCore<MemoryNand>, Refusa
 pub fn fresh_store(alloc: Global, plan: StorePlan) -> Result<StoreDies, Refusal>
     requires { All MeetsBound plan }
     ensures ok { IfOk result (λ dies. starts_of dies.items ≡ map fresh plan) }
+    ensures empty { IfOk result (λ dies. All HasEmptyLog (running dies.items)) }
     ensures count { IfOk result (λ dies. length dies.items ≡ length plan) }
     ensures refused { FailsForMemory result }
 {
@@ -121,6 +124,7 @@ fn saved_die(
     first: u32,
 ) -> Result<DieCore<MemoryNand>, RunFault>
     ensures ok { IfOk result (λ core. core.start ≡ saved_start plan saved.now) }
+    ensures log { IfOk result (λ core. core.log ≡ []) }
 {
     let checkpoint = check_die(alloc, &plan, saved, die, first)?;
     check_bytes(saved, die, first)?;
@@ -154,6 +158,7 @@ pub fn saved_store(
     saved: &SavedStore,
 ) -> Result<StoreDies, RunFault>
     ensures ok { IfOk result (λ dies. starts_of dies.items ≡ saved_starts plan saved.now) }
+    ensures empty { IfOk result (λ dies. All HasEmptyLog (running dies.items)) }
     ensures count { IfOk result (λ dies. length dies.items ≡ length plan) }
 {
     same_store(plan.len(), saved)?;

@@ -1,15 +1,18 @@
 //! A script that is run on the dies of a store.
 
-ghost use Rattle.std.specs.Prelude.{◌≡◌, ◌≤◌, All, IfOk, length};
+ghost use Rattle.std.specs.Prelude.{◌≡◌, ℕ, ◌≤◌, false, All, List, Option, IfOk, OnOk, length};
+ghost use Rattle.std.specs.List.{AllZip};
 ghost use Rattle.slot_types.specs.Refusal.{FailsForMemory};
 ghost use Rattle.plan_rules.specs.Bound.{MeetsBound};
 ghost use Rattle.report_texts.specs.TextSoFar.{text_so_far};
 ghost use Rattle.task_script.specs.StoreRuns.{reports_of};
-ghost use Rattle.tool_checkpoint_runs.specs.Runs.{starts_by, starts_of};
+ghost use Rattle.script_texts.specs.ScriptLeft.{dies_of, script_left, slots_of};
+ghost use Rattle.tool_script_runs.specs.RunningDies.{HasEmptyLog};
+ghost use Rattle.tool_script_runs.specs.ScriptRuns.{GoesOn, script_in};
+ghost use Rattle.tool_checkpoint_runs.specs.Runs.{RanAndWentOn, running, starts_by, starts_of};
 
 use crate::dies::{DiesOn, StoreDies};
 use crate::faults::RunFault;
-use crate::rows::run_rows;
 use crate::settling::settle;
 use crate::starts::{fresh_store, saved_store};
 use checkpoint_texts::SavedStore;
@@ -20,7 +23,7 @@ use slot_types::{MAX_SLOT, Refusal, StorePlan};
 use std::alloc::Global;
 use std::io::Read;
 use task_script::add_die;
-use tool_watched_runs::RefusedRows;
+use tool_script_runs::{RefusedRows, run_dies};
 
 /// What came of a run.
 #[derive(Drop)]
@@ -37,6 +40,7 @@ pub struct StoreRun {
 fn dies_of(alloc: Global, plan: StorePlan, from: Option<SavedStore>) -> Result<StoreDies, RunFault>
     requires bound { All MeetsBound plan }
     ensures starts { IfOk result (λ dies. starts_of dies.items ≡ starts_by plan from) }
+    ensures empty { IfOk result (λ dies. All HasEmptyLog (running dies.items)) }
     ensures count { IfOk result (λ dies. length dies.items ≡ length plan) }
 {
     match from {
@@ -61,14 +65,15 @@ pub(crate) fn report_of<N: Nand>(alloc: Global, dies: &DiesOn<N>) -> Result<Repo
 /// Lets each die go on until all that it accepted is done or was waived, where the run is to be saved; answers by die how
 /// many slots it took.
 fn settled(alloc: Global, dies: &mut StoreDies, saves: bool) -> Result<Vec<u32>, Refusal>
+    ensures went_on { OnOk result (AllZip GoesOn (running dies.old.items) (running dies.new.items)) }
+    ensures no_more { saves ≡ false → running dies.new.items ≡ running dies.old.items }
     ensures starts { starts_of dies.new.items ≡ starts_of dies.old.items }
     ensures count { length dies.new.items ≡ length dies.old.items }
 {
-    if saves {
-        settle(alloc, dies)
-    } else {
-        Ok(Vec::new(alloc))
+    if !saves {
+        return Ok(Vec::new(alloc));
     }
+    settle(alloc, dies)
 }
 
 /// Runs a script on the dies of a plan, as [`run_script`] does. It is lent, since a reader is large to free where the
@@ -83,12 +88,19 @@ fn run_lent<R: Read + Drop>(
 ) -> Result<StoreRun, RunFault>
     requires few_dies { length plan ≤ 8 }
     requires bound { All MeetsBound plan }
+    requires few_slots { slots ≤ MAX_SLOT }
+    requires slots { slots_of script.old ≡ slots }
+    requires dies { dies_of script.old ≡ length plan }
+    ensures ran { (text : Option (List ℕ)) →
+        script_left R.remaining script.old ≡ script_in (length plan) slots text →
+        IfOk result (λ run.
+        RanAndWentOn (starts_by plan from) text slots saves (running run.dies.items)) }
     ensures starts { IfOk result (λ run. starts_of run.dies.items ≡ starts_by plan from) }
     ensures report { IfOk result (λ run. run.report ≡ text_so_far (reports_of 0 run.dies.items)) }
     ensures count { IfOk result (λ run. length run.dies.items ≡ length plan) }
 {
     let mut dies = dies_of(alloc, plan, from)?;
-    let refused = run_rows(alloc, script, &mut dies, slots)?;
+    let refused = run_dies(alloc, script, &mut dies, slots)?;
     let idle = settled(alloc, &mut dies, saves)?;
     let report = report_of(alloc, &dies)?;
     Ok(StoreRun {
@@ -116,6 +128,9 @@ pub fn run_script<R: Read + Drop>(
     requires few_dies { length plan ≤ 8 }
     requires bound { All MeetsBound plan }
     requires few_slots { slots ≤ MAX_SLOT }
+    ensures ran { IfOk result (λ run.
+        RanAndWentOn (starts_by plan from) (R.remaining script) slots saves
+        (running run.dies.items)) }
     ensures starts { IfOk result (λ run. starts_of run.dies.items ≡ starts_by plan from) }
     ensures report { IfOk result (λ run. run.report ≡ text_so_far (reports_of 0 run.dies.items)) }
     ensures count { IfOk result (λ run. length run.dies.items ≡ length plan) }

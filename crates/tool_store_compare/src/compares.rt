@@ -1,19 +1,27 @@
 //! A script on the store and on plain layers.
 
-ghost use Rattle.std.specs.Prelude.{◌≤◌};
+ghost use Rattle.std.specs.Prelude.{◌≡◌, ◌≤◌, ◌++◌, ◌∷◌, [], All, length, map, IfOk, OnOk};
+ghost use Rattle.slot_types.specs.Refusal.{FailsForMemory};
+ghost use Rattle.die_log.specs.Model.Start.{fresh};
+ghost use Rattle.script_texts.specs.ScriptLeft.{dies_of, script_left, slots_of};
+ghost use Rattle.tool_script_runs.specs.RunningDies.{HasEmptyLog, starts_of};
+ghost use Rattle.tool_script_runs.specs.ScriptRuns.{IsRunOf, RanScript};
+ghost use Rattle.tool_store_compare.specs.Runs.{running};
 
 use crate::curves::Curve;
 use crate::figures::End;
 use crate::forms::Form;
 use crate::pictures::{Caption, picture};
+use crate::plan_copies::plan_copy;
 use crate::plays::{Counted, Play};
-use crate::store_dies::{Carried, JobRow, StoreDie};
+use crate::store_dies::{Carried, StoreDie};
 use crate::tables::{Sheet, put_die, put_header};
-use script_texts::{ScriptItem, ScriptReader};
-use slot_types::{DiePlan, Event, MAX_SLOT, Refusal, StorePlan};
+use script_texts::ScriptReader;
+use slot_types::{DiePlan, MAX_SLOT, Refusal, StorePlan};
 use std::alloc::Global;
 use std::io::Read;
 use tool_plain_layers::{Load, Marks, Policy, play};
+use tool_script_runs::run_dies;
 
 /// What is measured.
 #[derive(Clone, Copy, PartialEq, Eq, Debug, Drop)]
@@ -44,65 +52,62 @@ impl From<Refusal> for CompareFault {
     }
 }
 
-fn fresh_dies(alloc: Global, plan: &StorePlan, from: u32) -> Result<Vec<Box<StoreDie>>, Refusal> {
+/// Adds a die. The only refusal is NoMemory.
+fn push_die(dies: &mut Vec<Box<StoreDie>>, die: Box<StoreDie>) -> Result<(), Refusal>
+    ensures ok { OnOk result (dies.new.items ≡ dies.old.items ++ die ∷ []) }
+    ensures refused { FailsForMemory result }
+{
+    dies.push(die)?;
+    Ok(())
+}
+
+/// A fresh die for each plan. BadShape or BadPlan where one misses its bound; or NoMemory.
+fn fresh_dies(alloc: Global, plans: &StorePlan, from: u32) -> Result<Vec<Box<StoreDie>>, Refusal>
+    ensures starts { IfOk result (λ dies. starts_of (map running dies.items) ≡ map fresh plans.now) }
+    ensures empty { IfOk result (λ dies. All HasEmptyLog (map running dies.items)) }
+{
     let mut dies = Vec::new(alloc);
-    for plan in plan.as_slice() {
-        let die = StoreDie::new(alloc, plan.clone()?, from)?;
-        dies.push(die)?;
+    for plan in plans.as_slice() {
+        let own = plan_copy(alloc, plan)?;
+        let die = StoreDie::new(alloc, own, from)?;
+        push_die(&mut dies, die)?;
     }
     Ok(dies)
 }
 
-// Asks a die for what a row says, once the slots before it are carried out.
-fn ask(alloc: Global, die: &mut StoreDie, at: u32, event: &Event) -> Result<(), Refusal> {
-    die.carry_to(alloc, at)?;
-    match event {
-        Event::Submit {
-            task,
-            release,
-            due,
-            ops,
-        } => die.submit(
-            alloc,
-            &JobRow {
-                task: *task,
-                release: *release,
-                due: *due,
-                ops,
-            },
-        ),
-        Event::Collect { task, release, due } => {
-            die.collect(alloc, *task, *release, *due);
-            Ok(())
-        }
-        Event::Slot => Ok(()),
-    }
-}
-
-fn ask_die(alloc: Global, dies: &mut [Box<StoreDie>], item: &ScriptItem) -> Result<(), Refusal> {
-    match dies.get_mut(item.die as usize) {
-        Some(die) => ask(alloc, die, item.at, &item.event),
-        None => Ok(()),
-    }
-}
-
-// Runs the rows of a script on these dies, and then so many slots.
-fn run_rows<R: Read + Drop>(
+/// Runs a script on fresh dies, as [`run_store`] does. It is lent, since a reader is large to free where a row stops the
+/// run.
+fn run_lent<R: Read + Drop>(
     alloc: Global,
-    mut script: ScriptReader<R>,
-    dies: &mut [Box<StoreDie>],
-    slots: u32,
-) -> Result<(), Refusal> {
-    for _ in 0..u64::MAX {
-        let Some(item) = script.next()? else {
-            break;
-        };
-        ask_die(alloc, dies, &item)?;
-    }
-    for place in 0..dies.len() {
-        dies[place].carry_to(alloc, slots)?;
-    }
-    Ok(())
+    script: &mut ScriptReader<R>,
+    plan: &StorePlan,
+    measure: Measure,
+) -> Result<Vec<Box<StoreDie>>, Refusal>
+    requires few { measure.slots ≤ MAX_SLOT }
+    requires slots { slots_of script.old ≡ measure.slots }
+    requires dies { dies_of script.old ≡ length plan.now }
+    ensures starts { IfOk result (λ dies. starts_of (map running dies.items) ≡ map fresh plan.now) }
+    ensures ran { IfOk result (λ dies.
+        RanScript (script_left R.remaining script.old) measure.slots (map running dies.items)) }
+{
+    let mut dies = fresh_dies(alloc, plan, measure.from)?;
+    run_dies(alloc, script, &mut dies, measure.slots)?;
+    Ok(dies)
+}
+
+/// Runs a script on a store of fresh dies in memory.
+fn run_store<R: Read + Drop>(
+    alloc: Global,
+    plan: &StorePlan,
+    script: R,
+    measure: Measure,
+) -> Result<Vec<Box<StoreDie>>, Refusal>
+    requires { measure.slots ≤ MAX_SLOT }
+    ensures { IfOk result (λ dies.
+        IsRunOf (map fresh plan.now) (R.remaining script) measure.slots (map running dies.items)) }
+{
+    let mut script = ScriptReader::new(alloc, script, plan, measure.slots)?;
+    run_lent(alloc, &mut script, plan, measure)
 }
 
 // What became of the jobs of a play.
@@ -298,9 +303,7 @@ pub fn compare<R: Read + Drop>(
     requires { measure.slots ≤ MAX_SLOT }
 {
     check_form(plan, form)?;
-    let script = ScriptReader::new(alloc, script, plan, measure.slots)?;
-    let mut dies = fresh_dies(alloc, plan, measure.from)?;
-    run_rows(alloc, script, dies.as_mut_slice(), measure.slots)?;
+    let dies = run_store(alloc, plan, script, measure)?;
     let mut teller = Teller::new(alloc, form, measure)?;
     add_stores(alloc, &mut teller, plan, dies.as_slice())?;
     for policy in Policy::ALL {

@@ -10,6 +10,7 @@ mod curves;
 mod figures;
 mod forms;
 mod pictures;
+mod plan_copies;
 mod plays;
 mod shares;
 mod store_dies;

@@ -1,12 +1,21 @@
 //! A die of the store that runs the rows of a script.
 
+ghost use Rattle.std.specs.Prelude.{◌≡◌, ◌<◌, [], IfOk};
+ghost use Rattle.std.specs.Box.{box_value};
+ghost use Rattle.std.specs.Result.{result_err};
+ghost use Rattle.slot_types.specs.Refusal.{FailsForMemory};
+ghost use Rattle.die_log.specs.Model.Log.{now};
+ghost use Rattle.die_log.specs.Model.Start.{fresh};
+ghost use Rattle.tool_script_runs.specs.RunningDies.{IsAsked, TakesSlot, running_of};
+
 use crate::figures::End;
 use flash_die::MemoryNand;
 use plan_rules::bound;
 use slot_core::{DieCore, Outcome};
-use slot_types::{Act, DiePlan, JobNo, OpList, Refusal, SlotReply, TaskNo};
+use slot_types::{Act, DiePlan, Event, JobNo, MAX_SLOT, OpList, Refusal, SlotReply, TaskNo};
 use std::alloc::Global;
 use tool_plain_layers::Load;
+use tool_script_runs::ScriptDie;
 
 /// What the slots of a run carried, from the first measured one on.
 #[derive(Clone, Copy, PartialEq, Eq, Debug, Drop)]
@@ -38,11 +47,11 @@ impl Carried {
 
 /// A job of a script on its die.
 #[derive(Clone, Copy, Drop)]
-pub(crate) struct JobRow<'a> {
-    pub(crate) task: TaskNo,
-    pub(crate) release: u32,
-    pub(crate) due: u32,
-    pub(crate) ops: &'a OpList,
+struct JobRow<'a> {
+    task: TaskNo,
+    release: u32,
+    due: u32,
+    ops: &'a OpList,
 }
 
 /// A die in memory, and the jobs that it was asked for and took, or refused for lack of tokens.
@@ -57,8 +66,12 @@ pub(crate) struct StoreDie {
 }
 
 impl StoreDie {
-    /// A fresh die, whose slots are counted from this one on. `BadShape` or `BadPlan` where the plan misses its bound.
-    pub(crate) fn new(alloc: Global, plan: DiePlan, from: u32) -> Result<Box<StoreDie>, Refusal> {
+    /// A fresh die, whose slots are counted from this one on. `BadShape` or `BadPlan` where the plan misses its bound; or
+    /// NoMemory.
+    pub(crate) fn new(alloc: Global, plan: DiePlan, from: u32) -> Result<Box<StoreDie>, Refusal>
+        ensures start { IfOk result (λ die. (box_value (box_value die).core).start ≡ fresh plan) }
+        ensures log { IfOk result (λ die. (box_value (box_value die).core).log ≡ []) }
+    {
         bound(&plan)?;
         let nand = match MemoryNand::new(alloc, plan.shape) {
             Ok(nand) => nand,
@@ -78,7 +91,12 @@ impl StoreDie {
         Ok(Box::new(alloc, die)?)
     }
 
-    fn step(&mut self, alloc: Global) -> Result<(), Refusal> {
+    /// Carries out the present slot, and counts what it carried. It is refused as by the die.
+    fn step(&mut self, alloc: Global) -> Result<(), Refusal>
+        requires { now (box_value self.old.core).log < MAX_SLOT }
+        ensures { TakesSlot result (running_of (box_value self.old.core))
+            (running_of (box_value self.new.core)) }
+    {
         let reply = self.core.slot(alloc, 0)?;
         if reply.slot >= self.from {
             self.carried.add(&reply);
@@ -86,16 +104,11 @@ impl StoreDie {
         Ok(())
     }
 
-    /// Carries out slots until this one is the present one.
-    pub(crate) fn carry_to(&mut self, alloc: Global, slot: u32) -> Result<(), Refusal> {
-        for _present in self.core.now()..slot {
-            self.step(alloc)?;
-        }
-        Ok(())
-    }
-
-    // Keeps a job that was taken with this number, or refused for lack of tokens.
-    fn keep(&mut self, row: &JobRow<'_>, number: Option<JobNo>) -> Result<(), Refusal> {
+    /// Keeps a job that was taken with this number, or refused for lack of tokens. The only refusal is NoMemory.
+    fn keep(&mut self, row: &JobRow<'_>, number: Option<JobNo>) -> Result<(), Refusal>
+        ensures core { self.new.core ≡ self.old.core }
+        ensures refused { FailsForMemory result }
+    {
         self.numbers.reserve(1)?;
         self.load
             .push(row.task.0, row.release, row.due, row.ops.as_slice())?;
@@ -103,23 +116,47 @@ impl StoreDie {
         Ok(())
     }
 
-    /// Asks for a job. What is refused for another cause than lack of tokens is in no count.
-    pub(crate) fn submit(&mut self, alloc: Global, row: &JobRow<'_>) -> Result<(), Refusal> {
-        let ops = row.ops.clone()?;
-        match self
-            .core
-            .submit(alloc, 0, row.task, row.release, row.due, ops)
-        {
-            Ok(number) => self.keep(row, Some(number)),
-            Err(Refusal::NoTokens { .. }) => self.keep(row, None),
+    /// Keeps a job that was taken, or refused for lack of tokens, and answers why it was refused, if it was. The only refusal is
+    /// NoMemory, where the job was refused so, or is to be kept and isn't.
+    fn end_job(
+        &mut self,
+        row: &JobRow<'_>,
+        taken: Result<JobNo, Refusal>,
+    ) -> Result<Option<Refusal>, Refusal>
+        ensures core { self.new.core ≡ self.old.core }
+        ensures is { IfOk result (λ refusal. refusal ≡ result_err taken) }
+        ensures refused { FailsForMemory result }
+    {
+        match taken {
+            Ok(number) => {
+                self.keep(row, Some(number))?;
+                Ok(None)
+            }
             Err(Refusal::NoMemory) => Err(Refusal::NoMemory),
-            Err(_) => Ok(()),
+            Err(refusal) => {
+                if let Refusal::NoTokens { .. } = refusal {
+                    self.keep(row, None)?;
+                }
+                Ok(Some(refusal))
+            }
         }
     }
 
-    /// Asks for a collection. A refused one changes nothing.
-    pub(crate) fn collect(&mut self, alloc: Global, task: TaskNo, release: u32, due: u32) {
-        let _ = self.core.collect(alloc, 0, task, release, due);
+    /// Asks for a job. What is refused for another cause than lack of tokens is in no count. Where memory is refused, so is
+    /// this call.
+    fn submit(&mut self, alloc: Global, row: &JobRow<'_>) -> Result<Option<Refusal>, Refusal>
+        ensures asked { IfOk result (λ refusal.
+            IsAsked (Event.Submit row.now.task row.now.release row.now.due row.now.ops.now)
+            refusal (running_of (box_value self.old.core))
+            (running_of (box_value self.new.core))) }
+        ensures start { (box_value self.new.core).start ≡ (box_value self.old.core).start }
+        ensures refused { FailsForMemory result }
+    {
+        let ops = row.ops.as_slice();
+        let taken = self
+            .core
+            .submit_lent(alloc, 0, row.task, row.release, row.due, ops);
+        self.end_job(row, taken)
     }
 
     fn end_of(&self, alloc: Global, number: JobNo) -> Result<End, Refusal> {
@@ -141,5 +178,49 @@ impl StoreDie {
             ends.push_reserved(end);
         }
         Ok(ends)
+    }
+}
+
+impl ScriptDie for StoreDie {
+    ghost use Rattle.std.specs.Box.{box_value};
+    ghost use Rattle.tool_script_runs.specs.RunningDies.{running_of};
+
+    ghost running = { λ die. running_of (box_value die.core) };
+
+    fn carry_to(&mut self, alloc: Global, slot: u32) -> Result<(), Refusal> {
+        for _present in self.core.now()..slot {
+            match self.step(alloc) {
+                Ok(()) => {}
+                Err(_) if self.core.is_stopped() => return Ok(()),
+                Err(refusal) => return Err(refusal),
+            }
+        }
+        Ok(())
+    }
+
+    fn ask(&mut self, alloc: Global, event: Event) -> Result<Option<Refusal>, Refusal> {
+        match event {
+            Event::Submit {
+                task,
+                release,
+                due,
+                ops,
+            } => self.submit(
+                alloc,
+                &JobRow {
+                    task,
+                    release,
+                    due,
+                    ops: &ops,
+                },
+            ),
+            Event::Collect { task, release, due } => {
+                match self.core.collect(alloc, 0, task, release, due) {
+                    Ok(_) => Ok(None),
+                    Err(refusal) => Ok(Some(refusal)),
+                }
+            }
+            Event::Slot => unreachable!(),
+        }
     }
 }

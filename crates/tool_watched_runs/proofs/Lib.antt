@@ -1,4 +1,4 @@
 pub mod Slots
 pub mod Counting
-mod Starts
 mod WornDies
+mod RunsOf

@@ -1,25 +1,28 @@
 -- What is printed of dies that ran is what they wore.
-use Rattle.std.proofs.Common.{◌≡◌, ℕ, List, [], ◌∷◌, All, map, refl, ap, sym, ◌∙◌}
+use Rattle.std.proofs.Common.{◌≡◌, ℕ, List, [], ◌∷◌, All, map, refl, ap, sym, ◌∙◌, subst, Option}
 use Rattle.std.specs.Global.{Box}
 use Rattle.std.proofs.lemmas.List.Elements.{All-map}
 use Rattle.slot_types.specs.declared.plans.DiePlan.{DiePlan}
-use Rattle.die_log.specs.Model.Start.{Start, fresh}
-use Rattle.tool_watched_runs.specs.Runs.{starts_of, worn_of}
+use Rattle.die_log.specs.Model.Start.{fresh}
+use Rattle.tool_script_runs.specs.RunningDies.{RunningDie}
+use Rattle.tool_script_runs.specs.ScriptRuns.{IsRunOf}
+use Rattle.tool_watched_runs.specs.Runs.{running, worn_of}
 use Rattle.tool_watched_runs.specs.Wear.{IsWorn, Worn}
 use Rattle.tool_watched_runs.specs.WearText.{IsWearText, wear_text}
 use Rattle.tool_watched_runs.specs.declared.die_runs.DieRun.{DieRun}
 use Rattle.tool_watched_runs.specs.declared.tallies.Tally.{Tally}
 
-map_twice : {X Y Z : Type 0} (f : Y → Z) (g : X → Y) (xs : List X) → map f (map g xs) ≡ map (λ (x : X). f (g x)) xs
+pub map_twice : {X Y Z : Type 0} (f : Y → Z) (g : X → Y) (xs : List X) → map f (map g xs) ≡ map (λ (x : X). f (g x)) xs
 map_twice f g [] = refl
 map_twice {X} {Y} {Z} f g (x ∷ xs) = ap (λ (l : List Z). f (g x) ∷ l) (map_twice f g xs)
 
-pub is_wear_text : (plans : List DiePlan) (dies : List (Box DieRun)) (tallies : List Tally) (text : List ℕ)
-    → starts_of dies ≡ map fresh plans → tallies ≡ map (λ (run : Box DieRun). (worn_of run).tally) dies
-    → All (λ (run : Box DieRun). IsWorn (worn_of run)) dies → text ≡ wear_text tallies → IsWearText plans text
-is_wear_text plans dies tallies text starts are worn is = record {
+pub is_wear_text : (plans : List DiePlan) (script : Option (List ℕ)) (slots : ℕ) (dies : List (Box DieRun)) (tallies : List Tally)
+    (text : List ℕ)
+    → IsRunOf (map fresh plans) script slots (map running dies) → tallies ≡ map (λ (run : Box DieRun). (worn_of run).tally) dies
+    → All (λ (run : Box DieRun). IsWorn (worn_of run)) dies → text ≡ wear_text tallies → IsWearText plans script slots text
+is_wear_text plans script slots dies tallies text ran are worn is = record {
   dies = map worn_of dies;
-  starts = map_twice (λ (die : Worn). die.start) worn_of dies ∙ starts;
+  ran = subst (λ (l : List RunningDie). IsRunOf (map fresh plans) script slots l) (sym (map_twice (λ (die : Worn). die.run) worn_of dies)) ran;
   worn = All-map IsWorn worn_of dies worn;
   is = is ∙ ap wear_text (are ∙ sym (map_twice (λ (die : Worn). die.tally) worn_of dies));
 }

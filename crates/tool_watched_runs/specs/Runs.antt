@@ -1,22 +1,52 @@
 -- Dies that run.
-use Rattle.std.specs.Prelude.{List, map, box_value}
+use Rattle.std.specs.Prelude.{◌≡◌, ◌==◌, ℕ, List, Option, Some, None, box_value, if◌then◌else◌, map, option_map, slice_get}
 use Rattle.std.specs.Global.{Box}
-use Rattle.die_log.specs.Model.Start.{Start}
+use Rattle.slot_types.specs.declared.plans.DiePlan.{DiePlan}
+use Rattle.die_log.specs.Model.Start.{fresh}
+use Rattle.flash_die.specs.Fuse.{Fuse}
+use Rattle.flash_die.specs.Memory.{Memory}
+use Rattle.slot_core.specs.Core.{Core}
+use Rattle.tool_script_runs.specs.RunningDies.{RunningDie, running_of}
+use Rattle.tool_script_runs.specs.ScriptRuns.{IsRunAs, IsRunOf}
+use Rattle.tool_watched_runs.specs.Failing.{failure_in}
 use Rattle.tool_watched_runs.specs.Wear.{Worn}
 use Rattle.tool_watched_runs.specs.declared.die_runs.DieRun.{DieRun}
+use Rattle.tool_watched_runs.specs.declared.failing.FailAt.{FailAt}
+use Rattle.tool_watched_runs.specs.declared.failing.Failure.{Failure}
 
--- where the log of a die starts
-abbrev pub start_of : Box DieRun → Start
-start_of run = (box_value (box_value run).core).start
+-- the die itself
+abbrev pub core_of : Box DieRun → Core (Fuse Memory)
+core_of run = box_value (box_value run).core
 
--- where the logs of dies start
-abbrev pub starts_of : List (Box DieRun) → List Start
-starts_of dies = map (λ (run : Box DieRun). start_of run) dies
+-- as one that runs the rows of a script
+abbrev pub running : Box DieRun → RunningDie
+running run = running_of (core_of run)
 
--- what a die that runs wore so far
+-- what it wore so far
 abbrev pub worn_of : Box DieRun → Worn
-worn_of run = record {
-  start = start_of run;
-  log = (box_value (box_value run).core).log;
-  tally = (box_value run).tally;
-}
+worn_of run = record { run = running run; tally = (box_value run).tally }
+
+-- what became of the device that was to fail, if it is that of the die of this number
+abbrev pub failure_as : {N : Type 0} → ℕ → Option FailAt → Core N → Option Failure
+failure_as number None die = None
+failure_as number (Some at) die = if at.die == number then Some (failure_in at die) else None
+
+-- what became of the device that was to fail, of one of these dies
+abbrev pub failure_among : {N : Type 0} → Option FailAt → List (Core N) → Option Failure
+failure_among None dies = None
+failure_among (Some at) dies = option_map (failure_in at) (slice_get dies at.die)
+
+-- fresh dies of these plans ran a script, where its text is known, and so many slots; and this became of the device of one
+-- that was to fail
+pub record IsReportOf (plans : List DiePlan) (script : Option (List ℕ)) (slots : ℕ) (fail : Option FailAt) (failure : Option Failure)
+    : Type 0 where
+  pub dies : List (Core (Fuse Memory))
+  pub ran : IsRunOf (map fresh plans) script slots (map running_of dies)
+  pub failure_is : failure ≡ failure_among fail dies
+
+-- the same of the die of this number alone
+pub record IsDrawingOf (plans : List DiePlan) (script : Option (List ℕ)) (slots number : ℕ) (fail : Option FailAt) (failure : Option Failure)
+    : Type 0 where
+  pub die : Core (Fuse Memory)
+  pub ran : IsRunAs (map fresh plans) script slots number (running_of die)
+  pub failure_is : failure ≡ failure_as number fail die

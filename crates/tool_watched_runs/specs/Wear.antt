@@ -1,5 +1,5 @@
 -- What the slots of a log wore.
-use Rattle.std.specs.Prelude.{◌≡◌, ℕ, ◌<◌, ◌==◌, ◌&&◌, Bool, true, false, List, Option, Some, None, is_some, length, count_by, get_or}
+use Rattle.std.specs.Prelude.{◌≡◌, ℕ, ◌<◌, ◌==◌, ◌&&◌, Bool, true, false, Some, None, is_some, length, count_by, get_or}
 use Rattle.slot_types.specs.declared.events.Event.TheVariants as events
 use Rattle.slot_types.specs.declared.replies.Entry.{Entry}
 use Rattle.slot_types.specs.declared.replies.Reply.{Reply}
@@ -7,7 +7,7 @@ use Rattle.slot_types.specs.declared.replies.Reply.TheVariants as replies
 use Rattle.slot_types.specs.declared.replies.SlotReply.{SlotReply}
 use Rattle.die_log.specs.Model.Answers.{IsExact}
 use Rattle.die_log.specs.Model.Log.{Log, Carried}
-use Rattle.die_log.specs.Model.Start.{Start}
+use Rattle.tool_script_runs.specs.RunningDies.{RunningDie}
 use Rattle.tool_watched_runs.specs.Briefs.{brief_of}
 use Rattle.tool_watched_runs.specs.declared.briefs.ActBrief.{ActBrief}
 use Rattle.tool_watched_runs.specs.declared.briefs.Kind.{Kind}
@@ -63,15 +63,14 @@ pub record IsWearOf (blocks : ℕ) (log : Log) (tally : Tally) : Type 0 where
   pub written : tally.written ≡ slots_of does_write log
   pub copied : tally.copied ≡ slots_of does_copy log
 
--- a die that ran: where its log starts, its log, and the counts of what it wore
+-- a die that ran, and the counts of what it wore
 pub record Worn : Type 0 where
-  pub start : Start
-  pub log : Log
+  pub run : RunningDie
   pub tally : Tally
 
--- the log is the exact answer to its calls, and the counts are those of the log
+-- its log is the exact answer to its calls, and the counts are those of the log
 abbrev pub IsWorn : Worn → Type 0
-IsWorn die = IsExact die.start die.log × IsWearOf die.start.plan.shape.blocks die.log die.tally
+IsWorn die = IsExact die.run.start die.run.log × IsWearOf die.run.start.plan.shape.blocks die.run.log die.tally
 
 -- the entry of a slot of caller 0
 abbrev pub slot_entry : SlotReply → Entry

@@ -1,9 +1,10 @@
 -- What dies wore, as a text.
 use Rattle.std.specs.Prelude.{◌≡◌, ◌==◌, ℕ, ◌+◌, ◌*◌, ◌/◌, ◌%◌, if◌then◌else◌}
-use Rattle.std.specs.Prelude.{All, map, ◌++◌, List, [], ◌∷◌, flat_map, codes, decimal}
+use Rattle.std.specs.Prelude.{Option, All, map, ◌++◌, List, [], ◌∷◌, flat_map, codes, decimal}
 use Rattle.std.specs.List.{enumerate_from}
 use Rattle.slot_types.specs.declared.plans.DiePlan.{DiePlan}
 use Rattle.die_log.specs.Model.Start.{fresh}
+use Rattle.tool_script_runs.specs.ScriptRuns.{IsRunOf}
 use Rattle.tool_watched_runs.specs.Wear.{IsWorn, Worn}
 use Rattle.tool_watched_runs.specs.declared.tallies.Tally.{Tally}
 
@@ -42,9 +43,9 @@ header = codes "row,die,block,erases,written,copied,amplification" ++ 10 ∷ []
 abbrev pub wear_text : List Tally → List ℕ
 wear_text dies = header ++ flat_map (λ (p : ℕ × Tally). records_of p.0 p.1) (enumerate_from 0 dies)
 
--- the text of what dies wore that began fresh by these plans
-pub record IsWearText (plans : List DiePlan) (text : List ℕ) : Type 0 where
+-- the text of what dies wore that began fresh by these plans, and ran this script, where it is known, and so many slots
+pub record IsWearText (plans : List DiePlan) (script : Option (List ℕ)) (slots : ℕ) (text : List ℕ) : Type 0 where
   pub dies : List Worn
-  pub starts : map (λ (die : Worn). die.start) dies ≡ map fresh plans
+  pub ran : IsRunOf (map fresh plans) script slots (map (λ (die : Worn). die.run) dies)
   pub worn : All IsWorn dies
   pub is : text ≡ wear_text (map (λ (die : Worn). die.tally) dies)

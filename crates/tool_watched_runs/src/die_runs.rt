@@ -1,20 +1,22 @@
 //! A die that runs the rows of a script, and what is noted of it.
 
-ghost use Rattle.std.specs.Prelude.{◌≡◌, ◌+◌, ◌≤◌, [], IfOk, OnOk};
+ghost use Rattle.std.specs.Prelude.{◌≡◌, ◌<◌, [], IfOk};
 ghost use Rattle.std.specs.Box.{box_value};
 ghost use Rattle.slot_types.specs.Refusal.{FailsForMemory};
 ghost use Rattle.plan_rules.specs.Bound.{MeetsBound};
 ghost use Rattle.die_log.specs.Model.Start.{fresh};
 ghost use Rattle.die_log.specs.Model.Log.{now};
+ghost use Rattle.tool_script_runs.specs.RunningDies.{TakesSlot, running_of};
 ghost use Rattle.tool_watched_runs.specs.Wear.{IsWearOf};
 
 use crate::failing::RunNand;
 use crate::{Level, Tally, Waiver, Whose, Window};
 use flash_die::{FuseNand, MemoryNand};
 use slot_core::{DieCore, Stage};
-use slot_types::{DiePlan, Event, JobNo, Op, Refusal, SlotReply};
+use slot_types::{DiePlan, Event, JobNo, MAX_SLOT, Op, Refusal, SlotReply};
 use std::alloc::Global;
 use tool_run_figures::DieCounts;
+use tool_script_runs::{ScriptDie, arrive};
 
 /// A die, what its slots wore, and what was done in a window of them.
 #[derive(Drop)]
@@ -203,70 +205,53 @@ impl DieRun {
         seen: (u32, u32),
     ) -> Result<Box<DieRun>, Refusal>
         requires { MeetsBound plan }
-        ensures start { IfOk result (λ run.
-            (box_value (box_value run).core).start ≡ fresh plan) }
+        ensures start { IfOk result (λ run. (box_value (box_value run).core).start ≡ fresh plan) }
+        ensures log { IfOk result (λ run. (box_value (box_value run).core).log ≡ []) }
         ensures refused { FailsForMemory result }
     {
         in_box(alloc, DieRun::new(alloc, die, plan, calls, seen)?)
     }
 
-    /// Carries out the present slot.
+    /// Carries out the present slot, and notes what was done in it. It is refused as by the die; or with NoMemory.
     fn step(&mut self, alloc: Global) -> Result<(), Refusal>
-        ensures start { (box_value self.new.core).start ≡ (box_value self.old.core).start }
-        ensures die { self.new.die ≡ self.old.die }
-        ensures slot { OnOk result (now (box_value self.new.core).log
-            ≡ now (box_value self.old.core).log + 1) }
+        requires { now (box_value self.old.core).log < MAX_SLOT }
+        ensures { TakesSlot result (running_of (box_value self.old.core))
+            (running_of (box_value self.new.core)) }
     {
         let reply = self.core.slot(alloc, 0)?;
-        // So many slots fit a number.
-        let _ = self.core.now();
         self.tally.note(&reply);
         count(&mut self.counts, &self.core, &reply);
         note(&mut self.window, &self.counts, &self.core, &reply)
     }
+}
 
-    /// Carries out slots until this one is the present one. The refusals are NoMemory; DeviceFault, where the device
-    /// fails in the slot that is then the present one; and DieStopped, where it failed before.
-    pub fn carry_to(&mut self, alloc: Global, slot: u32) -> Result<(), Refusal>
-        ensures start { (box_value self.new.core).start ≡ (box_value self.old.core).start }
-        ensures die { self.new.die ≡ self.old.die }
-        ensures slot { OnOk result (now (box_value self.old.core).log ≤ slot
-            → now (box_value self.new.core).log ≡ slot) }
-    {
+impl ScriptDie for DieRun {
+    ghost use Rattle.std.specs.Box.{box_value};
+    ghost use Rattle.tool_script_runs.specs.RunningDies.{running_of};
+
+    ghost running = { λ run. running_of (box_value run.core) };
+
+    fn carry_to(&mut self, alloc: Global, slot: u32) -> Result<(), Refusal> {
         for _present in self.core.now()..slot {
-            self.step(alloc)?;
+            match self.step(alloc) {
+                Ok(()) => {}
+                Err(_) if self.core.is_stopped() => return Ok(()),
+                Err(refusal) => return Err(refusal),
+            }
         }
         Ok(())
     }
 
-    /// Asks for what a row says, and answers why it was refused, if it was.
-    pub fn ask(&mut self, alloc: Global, event: Event) -> Option<Refusal>
-        ensures start { (box_value self.new.core).start ≡ (box_value self.old.core).start }
-        ensures die { self.new.die ≡ self.old.die }
-        ensures slot { now (box_value self.new.core).log ≡ now (box_value self.old.core).log }
-    {
+    fn ask(&mut self, alloc: Global, event: Event) -> Result<Option<Refusal>, Refusal> {
         let (asked, writes, collects) = asked_of(&event);
-        let taken = match event {
-            Event::Submit {
-                task,
-                release,
-                due,
-                ops,
-            } => self.core.submit(alloc, 0, task, release, due, ops),
-            Event::Collect { task, release, due } => {
-                self.core.collect(alloc, 0, task, release, due)
-            }
-            // No row asks for a slot.
-            Event::Slot => return None,
-        };
-        match taken {
+        match arrive(&mut self.core, alloc, event) {
             Ok(_) => {
                 self.counts.note_job(asked, writes, self.core.now());
-                None
+                Ok(None)
             }
             Err(refusal) => {
                 self.counts.note_refused(asked, collects);
-                Some(refusal)
+                Ok(Some(refusal))
             }
         }
     }

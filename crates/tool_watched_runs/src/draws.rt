@@ -1,19 +1,24 @@
 //! Runs that are drawn.
 
-ghost use Rattle.std.specs.Prelude.{◌≡◌, ◌+◌, ◌<◌, ◌≤◌, true, All, length, IfOk, IfSome, None, OnOk};
+ghost use Rattle.std.specs.Prelude.{◌≡◌, ◌+◌, ◌<◌, ◌≤◌, [], true, All, length, map, slice_get, IfOk, IfSome, None, Option};
 ghost use Rattle.slot_types.specs.Refusal.{FailsForMemory};
 ghost use Rattle.plan_rules.specs.Bound.{MeetsBound};
+ghost use Rattle.die_log.specs.Model.Start.{Start, fresh};
+ghost use Rattle.script_texts.specs.ScriptLeft.{script_left, slots_of};
+ghost use Rattle.tool_script_runs.specs.ScriptRuns.{IsRunAs, RanAsDie};
 ghost use Rattle.tool_watched_runs.specs.Failing.{IsBeyond};
+ghost use Rattle.tool_watched_runs.specs.Runs.{IsDrawingOf, core_of, failure_as, running};
 
 use crate::die_runs::{DieRun, whose};
-use crate::failing::{FailAt, RunNand, calls_of, check_failing};
-use crate::script_runs::{Ran, Reported, Sights, failure_of, push_run, run_on};
+use crate::failing::{FailAt, Failure, RunNand, calls_of, check_failing, failure_in};
+use crate::script_runs::{Reported, Sights};
 use crate::{End, Kind, Level, Row, Scene, Whose, Window, Worst, lines, picture};
 use script_texts::ScriptReader;
 use slot_core::{DieCore, Job, Stage};
 use slot_types::{DiePlan, JobNo, MAX_JOBS, MAX_SLOT, Refusal, StorePlan};
 use std::alloc::Global;
 use std::io::Read;
+use tool_script_runs::{RefusedRows, run_die};
 
 /// The collections that were waived in a window, by number, each with the slot. The only refusal is NoMemory.
 fn waivers_of(alloc: Global, window: &Window) -> Result<Vec<(u32, u32)>, Refusal>
@@ -296,7 +301,8 @@ impl Shown {
 /// The plan of a die. UnknownDie where there is none, and nothing else.
 fn plan_of(plan: StorePlan, die: u32) -> Result<DiePlan, Refusal>
     requires { All MeetsBound plan }
-    ensures { IfOk result MeetsBound }
+    ensures bound { IfOk result MeetsBound }
+    ensures is { IfOk result (λ found. slice_get plan die ≡ Some found) }
 {
     let mut plans = plan.into_vec();
     if die as usize >= plans.len() {
@@ -305,21 +311,71 @@ fn plan_of(plan: StorePlan, die: u32) -> Result<DiePlan, Refusal>
     Ok(plans.swap_remove(die as usize))
 }
 
-/// The fresh die of a store that is drawn, and no other one. UnknownDie where it isn't there; or NoMemory.
+/// The fresh die of a store that is drawn. UnknownDie where it isn't there; or NoMemory.
 fn one_die(
     alloc: Global,
     plan: StorePlan,
     die: u32,
     calls: u64,
     seen: (u32, u32),
-) -> Result<Vec<Box<DieRun>>, Refusal>
+) -> Result<Box<DieRun>, Refusal>
     requires { All MeetsBound plan }
+    ensures start { IfOk result (λ run.
+        slice_get (map fresh plan) die ≡ Some (core_of run).start) }
+    ensures log { IfOk result (λ run. (core_of run).log ≡ []) }
 {
     let plan = plan_of(plan, die)?;
-    let run = DieRun::boxed(alloc, die, plan, calls, seen)?;
-    let mut dies = Vec::new(alloc);
-    push_run(&mut dies, run)?;
-    Ok(dies)
+    DieRun::boxed(alloc, die, plan, calls, seen)
+}
+
+/// A die of a store that ran a script, and which of its rows it refused.
+#[derive(Drop)]
+struct RanDie {
+    die: Box<DieRun>,
+    refused: RefusedRows,
+}
+
+/// Runs a script on a die that was made. Where it wasn't, the refusal is the same. The script is lent, since a reader is
+/// large to free where a row stops the run.
+fn run_made<R: Read + Drop>(
+    alloc: Global,
+    script: &mut ScriptReader<R>,
+    made: Result<Box<DieRun>, Refusal>,
+    die: u32,
+    slots: u32,
+) -> Result<RanDie, Refusal>
+    requires few { slots ≤ MAX_SLOT }
+    requires slots { slots_of script.old ≡ slots }
+    requires log { IfOk made (λ run. (core_of run).log ≡ []) }
+    ensures start { (start : Option Start) →
+        IfOk made (λ run. start ≡ Some (core_of run).start) →
+        IfOk result (λ ran. start ≡ Some (core_of ran.die).start) }
+    ensures ran { IfOk result (λ ran.
+        RanAsDie (script_left R.remaining script.old) slots die (running ran.die)) }
+{
+    let mut made = made?;
+    let refused = run_die(alloc, script, &mut made, die, slots)?;
+    Ok(RanDie { die: made, refused })
+}
+
+/// Runs a script on a fresh die of a store, of which the slots from one to before another are looked at.
+fn run_one<R: Read + Drop>(
+    alloc: Global,
+    plan: StorePlan,
+    script: R,
+    slots: u32,
+    die: u32,
+    seen: (u32, u32),
+    fail: Option<FailAt>,
+) -> Result<RanDie, Refusal>
+    requires few { slots ≤ MAX_SLOT }
+    requires bound { All MeetsBound plan }
+    ensures { IfOk result (λ ran.
+        IsRunAs (map fresh plan) (R.remaining script) slots die (running ran.die)) }
+{
+    let mut script = ScriptReader::new(alloc, script, &plan, slots)?;
+    let made = one_die(alloc, plan, die, calls_of(fail, die), seen);
+    run_made(alloc, &mut script, made, die, slots)
 }
 
 /// Draws a die that ran, and tells what of it is worth a picture. The only refusal is NoMemory.
@@ -338,30 +394,33 @@ fn draw_run(alloc: Global, run: &mut DieRun, frame: Frame) -> Result<(Vec<u8>, S
     Ok((text, sights))
 }
 
-/// Draws the only one of these dies. The only refusal is NoMemory.
-fn draw_dies(
-    alloc: Global,
-    dies: &mut Vec<Box<DieRun>>,
-    frame: Frame,
-) -> Result<(Vec<u8>, Sights), Refusal>
-    ensures { FailsForMemory result }
+/// What became of the device that was to fail, if it is that of this die.
+fn failure_as(fail: Option<FailAt>, die: u32, core: &DieCore<RunNand>) -> Option<Failure>
+    ensures { result ≡ failure_as die fail core.now }
 {
-    match dies.first_mut() {
-        Some(run) => draw_run(alloc, run, frame),
-        None => Ok((Vec::new(alloc), Sights::NONE)),
+    match fail {
+        Some(at) if at.die == die => Some(failure_in(at, core)),
+        _ => None,
     }
 }
 
-/// What is reported of a run of one die, which is drawn. Where it wasn't run, the refusal is the same.
+/// Draws a die of this number that ran. The only refusal is NoMemory.
 fn drawn(
     alloc: Global,
-    ran: Result<Ran, Refusal>,
+    ran: RanDie,
     frame: Frame,
+    die: u32,
     fail: Option<FailAt>,
-) -> Result<Reported, Refusal> {
-    let Ran { mut dies, refused } = ran?;
-    let failure = failure_of(fail, dies.as_slice());
-    let (text, sights) = draw_dies(alloc, &mut dies, frame)?;
+) -> Result<Reported, Refusal>
+    ensures failure { IfOk result (λ reported. reported.failure ≡ failure_as die fail (core_of ran.die)) }
+    ensures refused { FailsForMemory result }
+{
+    let RanDie {
+        die: mut drawn,
+        refused,
+    } = ran;
+    let failure = failure_as(fail, die, &drawn.core);
+    let (text, sights) = draw_run(alloc, &mut drawn, frame)?;
     Ok(Reported {
         text,
         refused,
@@ -390,14 +449,14 @@ pub fn draw<R: Read + Drop>(
     requires few { slots ≤ MAX_SLOT }
     requires bound { All MeetsBound plan }
     ensures unknown { IsBeyond fail (length plan) → result ≡ Err Refusal.UnknownDie }
+    ensures ran { IfOk result (λ reported.
+        IsDrawingOf plan (R.remaining script) slots die fail reported.failure) }
 {
     check_failing(fail, plan.len())?;
-    let mut script = ScriptReader::new(alloc, script, &plan, slots)?;
     let frame = Frame {
         shown,
         dies: u32::try_from(plan.len()).unwrap_or(u32::MAX),
     };
-    let dies = one_die(alloc, plan, die, calls_of(fail, die), shown.seen(slots));
-    let ran = run_on(alloc, &mut script, dies, slots);
-    drawn(alloc, ran, frame, fail)
+    let ran = run_one(alloc, plan, script, slots, die, shown.seen(slots), fail)?;
+    drawn(alloc, ran, frame, die, fail)
 }

@@ -1,8 +1,9 @@
 //! Runs whose figures are printed.
 
-ghost use Rattle.std.specs.Prelude.{◌≡◌, ◌≤◌, All, length};
+ghost use Rattle.std.specs.Prelude.{◌≡◌, ◌≤◌, All, IfOk, length, map};
 ghost use Rattle.plan_rules.specs.Bound.{MeetsBound};
 ghost use Rattle.tool_watched_runs.specs.Failing.{IsBeyond};
+ghost use Rattle.tool_watched_runs.specs.Runs.{IsReportOf, core_of, failure_among};
 
 use crate::die_runs::DieRun;
 use crate::failing::{FailAt, RunNand, check_failing};
@@ -118,6 +119,27 @@ fn report_text(
     Ok(text)
 }
 
+/// What a run came to, as a text: as a table for eyes, or as CSV. The only refusal is NoMemory.
+fn reported(
+    alloc: Global,
+    ran: Ran,
+    life: Life,
+    as_csv: bool,
+    fail: Option<FailAt>,
+) -> Result<Reported, Refusal>
+    ensures { IfOk result (λ reported.
+        reported.failure ≡ failure_among fail (map core_of ran.dies.items)) }
+{
+    let Ran { dies, refused } = ran;
+    let text = report_text(alloc, dies.as_slice(), life, as_csv)?;
+    Ok(Reported {
+        text,
+        refused,
+        sights: Sights::NONE,
+        failure: failure_of(fail, dies.as_slice()),
+    })
+}
+
 /// Runs a script on a store of dies in memory, and tells what it came to, by die and task: as a table for eyes, or as
 /// CSV. With an endurance and the length of a slot above 0, it tells when a block will be worn out. One device may be to
 /// fail: its die stays in that slot, and refuses all later rows.
@@ -136,14 +158,10 @@ pub fn report<R: Read + Drop>(
     requires few { slots ≤ MAX_SLOT }
     requires bound { All MeetsBound plan }
     ensures unknown { IsBeyond fail (length plan) → result ≡ Err Refusal.UnknownDie }
+    ensures ran { IfOk result (λ reported.
+        IsReportOf plan (R.remaining script) slots fail reported.failure) }
 {
     check_failing(fail, plan.len())?;
-    let Ran { dies, refused } = run_store(alloc, plan, script, slots, fail)?;
-    let text = report_text(alloc, dies.as_slice(), life, as_csv)?;
-    Ok(Reported {
-        text,
-        refused,
-        sights: Sights::NONE,
-        failure: failure_of(fail, dies.as_slice()),
-    })
+    let ran = run_store(alloc, plan, script, slots, fail)?;
+    reported(alloc, ran, life, as_csv, fail)
 }

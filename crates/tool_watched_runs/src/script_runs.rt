@@ -1,23 +1,25 @@
 //! Scripts that are run, row by row, on dies whose devices are in memory.
 
-ghost use Rattle.std.specs.Prelude.{◌≡◌, ◌<◌, ◌≤◌, ◌⊎◌, ◌++◌, ◌∷◌, [], true, All, length, map, List, IfOk, IfSome, OnOk};
+ghost use Rattle.std.specs.Prelude.{◌≡◌, ◌≤◌, ◌++◌, ◌∷◌, [], All, length, map, IfOk, OnOk};
 ghost use Rattle.std.specs.Box.{box_value};
 ghost use Rattle.plan_rules.specs.Bound.{MeetsBound};
-ghost use Rattle.die_log.specs.Model.Log.{now};
-ghost use Rattle.die_log.specs.Model.Start.{Start, fresh};
+ghost use Rattle.die_log.specs.Model.Start.{fresh};
 ghost use Rattle.slot_types.specs.Refusal.{FailsForMemory};
-ghost use Rattle.tool_watched_runs.specs.Runs.{start_of, starts_of, worn_of};
+ghost use Rattle.script_texts.specs.ScriptLeft.{dies_of, script_left, slots_of};
+ghost use Rattle.tool_script_runs.specs.RunningDies.{HasEmptyLog, starts_of};
+ghost use Rattle.tool_script_runs.specs.ScriptRuns.{IsRunOf, RanScript};
+ghost use Rattle.tool_watched_runs.specs.Runs.{core_of, failure_among, running, worn_of};
 ghost use Rattle.tool_watched_runs.specs.Wear.{IsWorn};
 ghost use Rattle.tool_watched_runs.specs.WearText.{IsWearText};
 
 use crate::die_runs::DieRun;
 use crate::failing::{FailAt, Failure, calls_of, failure_in};
-use crate::refused::RefusedRows;
 use crate::{Tally, wear_text};
-use script_texts::{ScriptItem, ScriptReader};
-use slot_types::{Event, MAX_SLOT, Refusal, StorePlan};
+use script_texts::ScriptReader;
+use slot_types::{MAX_SLOT, Refusal, StorePlan};
 use std::alloc::Global;
 use std::io::Read;
+use tool_script_runs::{RefusedRows, run_dies};
 
 /// What of a run is worth a picture.
 #[derive(Clone, Copy, Drop)]
@@ -70,7 +72,8 @@ fn fresh_dies(
     fail: Option<FailAt>,
 ) -> Result<Vec<Box<DieRun>>, Refusal>
     requires { All MeetsBound plan }
-    ensures { IfOk result (λ dies. starts_of dies.items ≡ map fresh plan) }
+    ensures starts { IfOk result (λ dies. starts_of (map running dies.items) ≡ map fresh plan) }
+    ensures empty { IfOk result (λ dies. All HasEmptyLog (map running dies.items)) }
 {
     let mut dies = Vec::new(alloc);
     let mut die: u32 = 0;
@@ -83,152 +86,34 @@ fn fresh_dies(
     Ok(dies)
 }
 
-/// The place of a die among these.
-fn place_of(dies: &[Box<DieRun>], die: u32) -> Option<usize>
-    ensures { IfSome result (λ place. place < length dies.now) }
-{
-    dies.iter().position(|run| run.die == die)
-}
-
 /// What became of the device that was to fail; none where none was, or its die isn't one of these.
 pub fn failure_of(fail: Option<FailAt>, dies: &[Box<DieRun>]) -> Option<Failure>
-    ensures at { IfSome result (λ failure. fail ≡ Some failure.at) }
+    ensures { result ≡ failure_among fail (map core_of dies.now) }
 {
     let at = fail?;
-    let place = place_of(dies, at.die)?;
-    Some(failure_in(at, &dies[place].core))
+    let run = dies.get(at.die as usize)?;
+    Some(failure_in(at, &run.core))
 }
 
-/// Carries a die to a slot, or to the one in which its device fails. The only refusal is NoMemory. It is lent with its
-/// box, as the list has it.
-fn carry(alloc: Global, run: &mut Box<DieRun>, slot: u32) -> Result<(), Refusal>
-    ensures start { start_of run.new ≡ start_of run.old }
-    ensures die { (box_value run.new).die ≡ (box_value run.old).die }
-    ensures slot { OnOk result (now (box_value (box_value run.old).core).log ≤ slot
-        → (now (box_value (box_value run.new).core).log ≡ slot)
-        ⊎ ((box_value (box_value run.new).core).stopped ≡ true)) }
-{
-    match run.carry_to(alloc, slot) {
-        Err(_) if run.core.is_stopped() => Ok(()),
-        carried => carried,
-    }
-}
-
-/// Asks a die for what a row says, and answers why it was refused, if it was.
-fn ask(alloc: Global, run: &mut Box<DieRun>, event: Event) -> Option<Refusal>
-    ensures start { start_of run.new ≡ start_of run.old }
-{
-    run.ask(alloc, event)
-}
-
-/// Carries a die to a slot, as [`carry`] does.
-fn carry_die(
-    alloc: Global,
-    dies: &mut Vec<Box<DieRun>>,
-    place: usize,
-    slot: u32,
-) -> Result<(), Refusal>
-    requires there { place < length dies.old.items }
-    ensures starts { starts_of dies.new.items ≡ starts_of dies.old.items }
-    ensures count { length dies.new.items ≡ length dies.old.items }
-{
-    carry(alloc, &mut dies[place], slot)
-}
-
-/// Carries a die to the slot of a row, and asks for what the row says. Answers why that was refused, if it was.
-fn carry_row(
-    alloc: Global,
-    dies: &mut Vec<Box<DieRun>>,
-    place: usize,
-    at: u32,
-    event: Event,
-) -> Result<Option<Refusal>, Refusal>
-    requires there { place < length dies.old.items }
-    ensures starts { starts_of dies.new.items ≡ starts_of dies.old.items }
-    ensures count { length dies.new.items ≡ length dies.old.items }
-{
-    let run = &mut dies[place];
-    carry(alloc, run, at)?;
-    Ok(ask(alloc, run, event))
-}
-
-/// Carries each die to a slot, as [`carry`] does.
-fn carry_all(alloc: Global, dies: &mut Vec<Box<DieRun>>, slot: u32) -> Result<(), Refusal>
-    ensures starts { starts_of dies.new.items ≡ starts_of dies.old.items }
-    ensures count { length dies.new.items ≡ length dies.old.items }
-{
-    for place in 0..dies.len() {
-        carry_die(alloc, dies, place, slot)?;
-    }
-    Ok(())
-}
-
-/// Runs a row of a script on its die, and counts it where the die refuses it. One of another die is passed over.
-fn run_row(
-    alloc: Global,
-    dies: &mut Vec<Box<DieRun>>,
-    refused: &mut RefusedRows,
-    item: ScriptItem,
-) -> Result<(), Refusal>
-    ensures starts { starts_of dies.new.items ≡ starts_of dies.old.items }
-    ensures count { length dies.new.items ≡ length dies.old.items }
-{
-    let Some(place) = place_of(dies, item.die) else {
-        return Ok(());
-    };
-    if let Some(refusal) = carry_row(alloc, dies, place, item.at, item.event)? {
-        refused.add(item.line, refusal);
-    }
-    Ok(())
-}
-
-/// Runs the rows of a script. It is lent, since a reader is large to free where a row stops the run.
-fn read_rows<R: Read + Drop>(
+/// Runs a script on fresh dies, as [`run_store`] does. It is lent, since a reader is large to free where a row stops the
+/// run.
+fn run_lent<R: Read + Drop>(
     alloc: Global,
     script: &mut ScriptReader<R>,
-    dies: &mut Vec<Box<DieRun>>,
-) -> Result<RefusedRows, Refusal>
-    ensures starts { starts_of dies.new.items ≡ starts_of dies.old.items }
-    ensures count { length dies.new.items ≡ length dies.old.items }
-{
-    let mut refused = RefusedRows::NONE;
-    for _ in 0..u64::MAX {
-        let Some(item) = script.next()? else {
-            break;
-        };
-        run_row(alloc, dies, &mut refused, item)?;
-    }
-    Ok(refused)
-}
-
-/// Runs the rows of a script on these dies, and then so many slots. Rows of other dies are passed over. A die whose device
-/// failed stays at that slot, and refuses all later rows.
-fn run_rows<R: Read + Drop>(
-    alloc: Global,
-    script: &mut ScriptReader<R>,
-    dies: &mut Vec<Box<DieRun>>,
+    plan: StorePlan,
     slots: u32,
-) -> Result<RefusedRows, Refusal>
-    ensures starts { starts_of dies.new.items ≡ starts_of dies.old.items }
-    ensures count { length dies.new.items ≡ length dies.old.items }
-{
-    let refused = read_rows(alloc, script, dies)?;
-    carry_all(alloc, dies, slots)?;
-    Ok(refused)
-}
-
-/// Runs a script on dies that were made, as [`run_rows`] does. Where they weren't, the refusal is the same.
-pub fn run_on<R: Read + Drop>(
-    alloc: Global,
-    script: &mut ScriptReader<R>,
-    made: Result<Vec<Box<DieRun>>, Refusal>,
-    slots: u32,
+    fail: Option<FailAt>,
 ) -> Result<Ran, Refusal>
-    ensures { (starts : List Start) → IfOk made (λ dies. starts_of dies.items ≡ starts)
-        → IfOk result (λ ran. starts_of ran.dies.items ≡ starts) }
+    requires few { slots ≤ MAX_SLOT }
+    requires slots { slots_of script.old ≡ slots }
+    requires dies { dies_of script.old ≡ length plan }
+    requires bound { All MeetsBound plan }
+    ensures starts { IfOk result (λ ran. starts_of (map running ran.dies.items) ≡ map fresh plan) }
+    ensures ran { IfOk result (λ ran.
+        RanScript (script_left R.remaining script.old) slots (map running ran.dies.items)) }
 {
-    let mut dies = made?;
-    let refused = run_rows(alloc, script, &mut dies, slots)?;
+    let mut dies = fresh_dies(alloc, plan, fail)?;
+    let refused = run_dies(alloc, script, &mut dies, slots)?;
     Ok(Ran { dies, refused })
 }
 
@@ -242,11 +127,13 @@ pub fn run_store<R: Read + Drop>(
     slots: u32,
     fail: Option<FailAt>,
 ) -> Result<Ran, Refusal>
-    requires { All MeetsBound plan }
-    ensures { IfOk result (λ ran. starts_of ran.dies.items ≡ map fresh plan) }
+    requires few { slots ≤ MAX_SLOT }
+    requires bound { All MeetsBound plan }
+    ensures { IfOk result (λ ran.
+        IsRunOf (map fresh plan) (R.remaining script) slots (map running ran.dies.items)) }
 {
     let mut script = ScriptReader::new(alloc, script, &plan, slots)?;
-    run_on(alloc, &mut script, fresh_dies(alloc, plan, fail), slots)
+    run_lent(alloc, &mut script, plan, slots, fail)
 }
 
 /// What a die wore, which is given up.
@@ -282,7 +169,7 @@ fn tallies_of(alloc: Global, dies: Vec<Box<DieRun>>) -> Result<Vec<Tally>, Refus
 }
 
 /// Runs a script on a store of dies in memory, and reports what it wore, as a text of records: the counts are those of
-/// the logs of dies that began fresh by these plans.
+/// the logs of dies that began fresh by these plans, and ran the script.
 ///
 /// Refused with the first fault of the script, as [`ScriptReader`] says it; or with ReadFault or NoMemory.
 pub fn wear<R: Read + Drop>(
@@ -293,7 +180,8 @@ pub fn wear<R: Read + Drop>(
 ) -> Result<Reported, Refusal>
     requires few { slots ≤ MAX_SLOT }
     requires bound { All MeetsBound plan }
-    ensures text { IfOk result (λ reported. IsWearText plan reported.text.items) }
+    ensures text { IfOk result (λ reported.
+        IsWearText plan (R.remaining script) slots reported.text.items) }
 {
     let Ran { dies, refused } = run_store(alloc, plan, script, slots, None)?;
     let tallies = tallies_of(alloc, dies)?;

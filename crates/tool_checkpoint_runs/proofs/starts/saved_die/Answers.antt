@@ -18,4 +18,5 @@ returns-in-Ok c = record {
   ok = ap (λ (core : Core Memory). core.start) c.in-Ok.ensures.ok
       ∙ resumed_as_saved c.args.plan c.args.saved.now c.in_ok-checkpoint.checkpoint c.in_ok-device.device.blocks
       c.in_ok-checkpoint.ensures.checkpoint c.in_ok-device.ensures.holds;
+  log = ap (λ (core : Core Memory). core.log) c.in-Ok.ensures.ok;
 }

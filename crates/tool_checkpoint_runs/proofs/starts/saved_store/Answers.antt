@@ -1,12 +1,14 @@
-use Rattle.std.proofs.Common.{rules, ◌≡◌, ◌++◌, ◌∷◌, [], List, ap, sym, ◌∙◌, arith, length, length-append}
+use Rattle.std.proofs.Common.{rules, ◌≡◌, ◌++◌, ◌∷◌, [], List, ap, sym, subst, ◌∙◌, arith, length, length-append}
+use Rattle.std.specs.Prelude.{All}
 use Rattle.std.specs.Vec.Iter.{into_iter_items}
 use Rattle.slot_types.specs.declared.plans.DiePlan.{DiePlan}
 use Rattle.checkpoint_texts.specs.declared.saved.SavedDie.{SavedDie}
 use Rattle.flash_die.specs.Memory.{Memory}
 use Rattle.slot_core.specs.Core.{Core}
-use Rattle.tool_checkpoint_runs.specs.Runs.{starts_of}
+use Rattle.tool_checkpoint_runs.specs.Runs.{running, starts_of}
 use Rattle.tool_checkpoint_runs.specs.SavedDies.{saved_start, saved_starts}
-use Rattle.tool_checkpoint_runs.proofs.StartsMore.{starts_more}
+use Rattle.tool_script_runs.specs.RunningDies.{HasEmptyLog, running_of}
+use Rattle.tool_script_runs.proofs.TextRuns.{empty_more, starts_more}
 use Rattle.tool_checkpoint_runs.proofs.starts.saved_store.Goals as goal
 
 pub loop-plan-preserved : goal.loop-plan-preserved
@@ -19,13 +21,15 @@ loop-plan-preserved c =
       can_next = tt;
       is_finite = tt;
       starts = ap (λ (dies : List (Core Memory)). starts_of dies ++ saved_starts plans c.in-Some-split_first.later.now) pushed
-          ∙ starts_more c.loop-plan.dies.items c.in_ok-die.die (saved_start c.in-Some.plan c.in-Some-split_first.next.now)
+          ∙ starts_more running_of c.loop-plan.dies.items c.in_ok-die.die (saved_start c.in-Some.plan c.in-Some-split_first.next.now)
           (saved_starts plans c.in-Some-split_first.later.now) (saved_starts c.args.plan c.args.saved.now) c.in_ok-die.ensures.ok
           (ap (λ (l : List DiePlan). starts_of c.loop-plan.dies.items
           ++ saved_starts l (c.in-Some-split_first.next.now ∷ c.in-Some-split_first.later.now)) (sym here)
           ∙ ap (λ (l : List SavedDie). starts_of c.loop-plan.dies.items
           ++ saved_starts (into_iter_items c.loop-plan.plan-iterator) l) (sym cut)
           ∙ c.loop-plan.invariant.starts);
+      empty = subst (λ (dies : List (Core Memory)). All HasEmptyLog (running dies)) (sym pushed)
+          (empty_more running_of c.loop-plan.dies.items c.in_ok-die.die c.loop-plan.invariant.empty c.in_ok-die.ensures.log);
       count = omega (
         arith,
         ap length pushed,

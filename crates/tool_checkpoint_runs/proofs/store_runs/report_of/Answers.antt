@@ -2,7 +2,7 @@ use Rattle.std.proofs.Common.{rules, ◌≡◌, ◌+◌, [], refl, subst, arith,
 use Rattle.std.proofs.lemmas.List.{at_drop_all}
 use Rattle.task_script.specs.StoreRuns.{reports_of}
 use Rattle.task_script.proofs.Gathering.{IsReportedOf, all_reported, reported_more}
-use Rattle.tool_checkpoint_runs.proofs.StartsMore.{first_left}
+use Rattle.tool_checkpoint_runs.proofs.DiesLeft.{first_left}
 use Rattle.tool_checkpoint_runs.proofs.store_runs.report_of.Goals as goal
 
 pub loop-number-init : goal.loop-number-init

@@ -1,6 +1,14 @@
-use Rattle.std.proofs.Common.{ap}
+use Rattle.std.proofs.Common.{rules, ◌≡◌, ◌<◌, Err, ap, subst, sym}
+use Rattle.std.specs.Box.{box_value}
+use Rattle.slot_types.specs.declared.limits.TheConstants.{MAX_SLOT}
+use Rattle.die_log.specs.Model.Log.{now}
 use Rattle.die_log.specs.Model.Start.{Start}
-use Rattle.tool_watched_runs.proofs.Slots.{worn_after}
+use Rattle.flash_die.specs.Fuse.{Fuse}
+use Rattle.flash_die.specs.Memory.{Memory}
+use Rattle.slot_core.specs.Core.{Core}
+use Rattle.tool_script_runs.specs.RunningDies.{CarriesSlot, RefusesSlot, running_of}
+use Rattle.tool_script_runs.proofs.Calls.{slot_carried, slot_refused}
+use Rattle.tool_watched_runs.proofs.Slots.{slot_noted, worn_after}
 use Rattle.tool_watched_runs.proofs.die_runs.DieRun.step.Goals as goal
 
 pub invariant_of-self-2 : goal.invariant_of-self-2
@@ -10,3 +18,20 @@ invariant_of-self-2 c = record {
       (ap (λ (s : Start). s.plan) c.in_ok-reply.ensures.start_stays)
       c.note.ensures (rw c.deref_mut.ensures.value c.args.self.now.worn);
 }
+
+pub returns-in_err-reply : goal.returns-in_err-reply
+returns-in_err-reply c =
+    let why = c.in_err-reply.field-0.0 in
+    let refused : c.from_residual.result ≡ Err why = search rules in
+    rw refused (
+    subst (λ (core : Core (Fuse Memory)). RefusesSlot why (running_of core) (running_of c.slot.new.self)) c.deref_mut.ensures.value
+    (slot_refused why c.deref_mut.result.now c.slot.new.self
+    (subst (λ (core : Core (Fuse Memory)). now core.log < MAX_SLOT) (sym c.deref_mut.ensures.value) c.requires) c.in_err-reply.ensures)
+    )
+
+pub returns : goal.returns
+returns c =
+    slot_noted _ (running_of (box_value c.args.self.now.core)) (running_of c.slot.new.self)
+    (subst (λ (core : Core (Fuse Memory)). CarriesSlot (running_of core) (running_of c.slot.new.self)) c.deref_mut.ensures.value
+    (slot_carried c.in_ok-reply.reply c.deref_mut.result.now c.slot.new.self c.in_ok-reply.ensures))
+    c.note-2.ensures

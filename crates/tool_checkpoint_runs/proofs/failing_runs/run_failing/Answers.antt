@@ -1,0 +1,19 @@
+use Rattle.std.proofs.Common.{◌≡◌, length, map}
+use Rattle.std.proofs.lemmas.List.{length-map}
+use Rattle.die_log.specs.Model.Start.{fresh}
+use Rattle.script_texts.specs.ScriptLeft.{script_left}
+use Rattle.tool_script_runs.specs.ScriptRuns.{RanScript}
+use Rattle.tool_script_runs.proofs.TextRuns.{both_ok, run_of_text}
+use Rattle.tool_checkpoint_runs.specs.Runs.{running, starts_of}
+use Rattle.tool_checkpoint_runs.specs.declared.failing_runs.FailingRun.{FailingRun}
+use Rattle.tool_checkpoint_runs.proofs.failing_runs.run_failing.Goals as goal
+
+pub returns-clause-ran : goal.returns-clause-ran
+returns-clause-ran g c =
+    let left = script_left g.R.Read.remaining c.in_ok-script.script in
+    both_ok c.run_lent.result
+    (λ (came : FailingRun) (begun : starts_of came.dies.items ≡ map fresh c.args.plan)
+    (runs : RanScript left c.args.slots (running came.dies.items)).
+    run_of_text (map fresh c.args.plan) (g.R.Read.remaining c.args.script) c.args.slots (length c.args.plan) left
+    (running came.dies.items) (length-map c.args.plan fresh) c.in_ok-script.ensures.script begun runs)
+    c.run_lent.ensures.starts c.run_lent.ensures.ran

@@ -1,0 +1,19 @@
+use Rattle.std.proofs.Common.{length, ◌∙◌}
+use Rattle.script_texts.specs.ScriptLeft.{script_left}
+use Rattle.tool_script_runs.proofs.TextRuns.{run_of_text}
+use Rattle.tool_checkpoint_runs.specs.Runs.{running, starts_by}
+use Rattle.tool_checkpoint_runs.proofs.ManyStarts.{many_starts}
+use Rattle.tool_checkpoint_runs.proofs.store_runs.run_lent.Goals as goal
+
+pub returns-clause-ran : goal.returns-clause-ran
+returns-clause-ran g c = λ text is.
+    let starts = starts_by c.args.plan c.args.from in
+    record {
+      came = running c.run_dies.new.dies.items;
+      ran = run_of_text starts text c.args.slots (length c.args.plan) (script_left g.R.Read.remaining c.args.script.now)
+          (running c.run_dies.new.dies.items)
+          (many_starts starts c.in_ok-dies.dies.items (length c.args.plan) c.in_ok-dies.ensures.starts c.in_ok-dies.ensures.count) is
+          (c.run_dies.ensures.starts ∙ c.in_ok-dies.ensures.starts) c.in_ok-refused.ensures.ran;
+      went_on = c.in_ok-idle.ensures.went_on;
+      no_more = c.settled.ensures.no_more;
+    }

@@ -1,0 +1,12 @@
+use Rattle.std.proofs.Common.{◌≡◌}
+use Rattle.script_texts.specs.ScriptLeft.{script_left, slots_of}
+use Rattle.tool_script_runs.proofs.ReadSoFar.{HasReadAs}
+use Rattle.tool_script_runs.proofs.script_runs.read_own.Given as goal
+
+abbrev pub invariant-loop : goal.invariant-loop
+invariant-loop g l = record {
+  slots : slots_of l.script ≡ slots_of l.fn.script;
+  start : (g.D.ScriptDie.running l.die).start ≡ (g.D.ScriptDie.running l.fn.die).start;
+  read : HasReadAs l.number (script_left g.R.Read.remaining l.fn.script) (script_left g.R.Read.remaining l.script)
+      (g.D.ScriptDie.running l.die);
+}

@@ -1,0 +1,2 @@
+pub mod RunningDies
+pub mod ScriptRuns

@@ -1,0 +1,14 @@
+//! Scripts that are run row by row on dies, each row once the slots before it are carried out, and then so many slots.
+#![tactic(auto)]
+
+mod boxes;
+mod die_cores;
+mod refused;
+mod rows;
+mod script_dies;
+mod script_runs;
+
+pub use die_cores::arrive;
+pub use refused::RefusedRows;
+pub use script_dies::ScriptDie;
+pub use script_runs::{run_die, run_dies};

@@ -1,0 +1,10 @@
+use Rattle.std.specs.Box.{box_value}
+use Rattle.tool_script_runs.specs.RunningDies.{running_of}
+use Rattle.tool_script_runs.proofs.Calls.{way_goes_on}
+use Rattle.tool_store_compare.proofs.store_dies.StoreDieScriptDie.carry_to.Goals as goal
+
+pub loop-present-preserved : goal.loop-present-preserved
+loop-present-preserved c =
+    way_goes_on c.args.slot c.loop-present._present (running_of (box_value c.args.self.now.core))
+    (running_of (box_value c.loop-present.self.core)) (running_of (box_value c.step.new.self.core)) c.loop-present-test.true
+    c.loop-present.invariant c.in-Ok.ensures
