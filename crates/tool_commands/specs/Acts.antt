@@ -21,6 +21,10 @@ use Rattle.tool_plan_fit.specs.declared.faults.FitFault.{FitFault}
 use Rattle.tool_plan_fit.specs.declared.faults.FitFault.TheVariants.{NotFound}
 use Rattle.tool_plan_breaches.specs.declared.breaches.Breach.{Breach}
 use Rattle.tool_plan_keeping.specs.Verdicts.{IsBrokenScript, IsFrontOf}
+use Rattle.demand_keeping.specs.declared.keeping.Breach.{Breach as TermsBreach}
+use Rattle.terms_texts.specs.TermsReading.{IsStoreOf as IsTermsStoreOf}
+use Rattle.terms_texts.specs.declared.stores.DieTerms.{DieTerms}
+use Rattle.tool_terms_keeping.specs.Verdicts.{IsBrokenScript as BreaksTermsOf, IsKeptScript, KeepsBelow}
 use Rattle.flash_die.specs.Fuse.{Fuse}
 use Rattle.flash_die.specs.Memory.{Memory}
 use Rattle.flash_commands.specs.Acts.{IsReportOf, RefusesAudit}
@@ -32,6 +36,8 @@ use Rattle.slot_core.specs.Core.{Core}
 use Rattle.task_script.specs.StoreRuns.{reports_of}
 use Rattle.tool_command_words.specs.declared.asked.Command.{Command}
 use Rattle.tool_command_words.specs.declared.asked.Command.TheVariants as command
+use Rattle.tool_commands.specs.PlanKinds.{ByKind, ReadsStore}
+pub use Rattle.tool_commands.specs.PlanKinds.{IsReadOf}
 
 -- what is said of the text of a plan without terms, and whether it is accepted
 abbrev pub ExplainsPlan : List ℕ → Bool → List ℕ → Type 0
@@ -61,18 +67,25 @@ Explains plan is_accepted old new = (said : List ℕ) × SaysOf plan is_accepted
 abbrev pub ExplainsMore : Option (List ℕ) → Bool → Option (List ℕ) → Option (List ℕ) → Type 0
 ExplainsMore plan is_accepted old new = (said more : List ℕ) × SaysOf plan is_accepted said × Appends old new (said ++ more)
 
--- the script of a plan's arrivals is printed: its rows keep the plans of the store that was read, with times that pass
--- their test, so that its runs go as planned
-pub record PrintsArrivals (plan : Option (List ℕ)) (slots : ℕ) (old new : Option (List ℕ)) : Type 0 where
+-- the script of the arrivals of a plan with times: its rows keep the plans of the store that was read, with times that
+-- pass their test, so that its runs go as planned
+pub record AreTimedArrivals (plan : Option (List ℕ)) (slots : ℕ) (script : List ℕ) : Type 0 where
   pub store : List DiePlan
   pub read : IsStoreOf plan store
-  pub script : List ℕ
   pub planned : IsPlannedScript store slots script
-  pub written : Appends old new script
 
--- what was read of a datasheet: all of it, or its first 1,048,577 bytes
-abbrev pub IsReadOf : Option (List ℕ) → List ℕ → Type 0
-IsReadOf sheet text = IfSome sheet (λ bytes. text ≡ take 1048577 bytes)
+-- of one with terms: its rows keep the plans of the store that was read, which pass their tests
+pub record AreTermsArrivals (plan : Option (List ℕ)) (slots : ℕ) (script : List ℕ) : Type 0 where
+  pub store : List DieTerms
+  pub read : IsTermsStoreOf plan store
+  pub kept : IsKeptScript store slots script
+
+abbrev pub AreArrivals : Option (List ℕ) → ℕ → List ℕ → Type 0
+AreArrivals plan slots script = ByKind plan (AreTermsArrivals plan slots script) (AreTimedArrivals plan slots script)
+
+-- the script of a plan's arrivals is printed
+abbrev pub PrintsArrivals : Option (List ℕ) → ℕ → Option (List ℕ) → Option (List ℕ) → Type 0
+PrintsArrivals plan slots old new = (script : List ℕ) × AreArrivals plan slots script × Appends old new script
 
 -- the text is a plan of the datasheet that was read, and passes its test
 pub record IsFoundFor (sheet : Option (List ℕ)) (plan : List ℕ) : Type 0 where
@@ -110,18 +123,49 @@ pub record BreaksPlans (plan script : Option (List ℕ)) (slots : ℕ) : Type 0 
   pub breach : Breach
   pub broken : IsBrokenScript store slots text die breach
 
+-- the rows of the script that was read keep the plans, with terms, of the store that was read
+pub record KeepsTerms (plan script : Option (List ℕ)) (slots : ℕ) : Type 0 where
+  pub store : List DieTerms
+  pub read : IsTermsStoreOf plan store
+  pub text : List ℕ
+  pub whole : IsFrontOf script text
+  pub kept : IsKeptScript store slots text
+
+-- a condition of a die's plan with terms doesn't hold of its rows in the script that was read; the rows of each die before
+-- it keep theirs
+pub record BreaksTerms (plan script : Option (List ℕ)) (slots : ℕ) : Type 0 where
+  pub store : List DieTerms
+  pub read : IsTermsStoreOf plan store
+  pub text : List ℕ
+  pub whole : IsFrontOf script text
+  pub die : ℕ
+  pub breach : TermsBreach
+  pub broken : BreaksTermsOf store slots text die breach
+  pub before : KeepsBelow store slots text die
+
 -- what dies wore is printed that began fresh by the plans of the store that was read
 pub record PrintsWear (plan : Option (List ℕ)) (old new : Option (List ℕ)) : Type 0 where
   pub store : List DiePlan
-  pub read : IsStoreOf plan store
+  pub read : ReadsStore plan store
   pub text : List ℕ
   pub worn : IsWearText store text
   pub written : Appends old new text
 
+-- a script's text keeps plans with times, or breaks one
+abbrev pub SaysTimesKept : List DiePlan → ℕ → List ℕ → Bool → Type 0
+SaysTimesKept store slots text true = IsPlannedScript store slots text
+SaysTimesKept store slots text false = (die : ℕ) × (breach : Breach) × IsBrokenScript store slots text die breach
+
+-- it keeps plans with terms, or breaks one, the first
+abbrev pub SaysTermsKept : List DieTerms → ℕ → List ℕ → Bool → Type 0
+SaysTermsKept store slots text true = IsKeptScript store slots text
+SaysTermsKept store slots text false =
+    (die : ℕ) × (breach : TermsBreach) × BreaksTermsOf store slots text die breach × KeepsBelow store slots text die
+
 -- a script keeps the plans of its dies, or breaks one
 abbrev pub SaysKept : Option (List ℕ) → Option (List ℕ) → ℕ → Bool → Type 0
-SaysKept plan script slots true = KeepsPlans plan script slots
-SaysKept plan script slots false = BreaksPlans plan script slots
+SaysKept plan script slots true = ByKind plan (KeepsTerms plan script slots) (KeepsPlans plan script slots)
+SaysKept plan script slots false = ByKind plan (BreaksTerms plan script slots) (BreaksPlans plan script slots)
 
 -- which of both it is is printed
 abbrev pub PrintsKept : Option (List ℕ) → Option (List ℕ) → ℕ → Bool → Option (List ℕ) → Option (List ℕ) → Type 0
@@ -172,10 +216,10 @@ AuditsFiles held (name ∷ names) before worst =
     (audited : Result Bool Refusal) × IsAudited (held name.now) audited × AuditsFiles held names (worse_of before audited) worst
 
 -- the status of what is reported of a script
-abbrev pub kept_status : Result Bool Refusal → ℕ
+abbrev pub kept_status : {E : Type 0} → Result Bool E → ℕ
 kept_status (Ok true) = 0
 kept_status (Ok false) = 3
-kept_status (Err refusal) = 1
+kept_status (Err fault) = 1
 
 -- the status of an explained plan, by whether it is accepted; and of a script, by whether it keeps its plans
 abbrev pub accepted_status : Bool → ℕ

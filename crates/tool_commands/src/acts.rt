@@ -56,9 +56,10 @@ fn failing_in(fail: Option<FailingDie>) -> Option<FailAt> {
 /// accepted, and 1 where it isn't. `fit` prints the plan that [`fit`](tool_plan_fit::fit) finds for a datasheet, or
 /// tells why it found none (status 3). `arrivals` prints the script of what the plan's tasks ask for, as
 /// [`arrivals`](tool_plan_arrivals::arrivals) makes it: its rows keep the plan of each die, so that a run of it refuses
-/// none and is never late. A plan without times that pass their test is reported as `error 3 BadPlan`; then, and where
-/// more slots are asked for than a script may have, nothing is printed, and the status is 1. `keeps` prints whether the
-/// script keeps the plan of each die (status 0), or a condition that doesn't hold, and of which record (status 3).
+/// none and is never late. A plan with neither times nor terms that pass their test is reported as `error 3 BadPlan`;
+/// then, where an option says nothing of a plan with terms, and where more slots are asked for than a script may have,
+/// nothing is printed, and the status is 1. `keeps` prints whether the script keeps the plan of each die (status 0), or a
+/// condition that doesn't hold, and of which record (status 3).
 /// `wear` prints what [`wear`](tool_watched_runs::wear) says of the run of the script, `report` what
 /// [`report`](tool_watched_runs::report) does, and `draw` what [`draw`](tool_watched_runs::draw) draws of it, each
 /// whole; the status is 0, and where rows were refused, `err` gets a line, as `refused 1 first line 6 with 6`.

@@ -11,9 +11,11 @@ pub mod fitting;
 pub mod keeping;
 pub mod listed_acts;
 pub mod outputs;
+pub mod plan_faults;
 mod requests;
 pub mod runs;
 pub mod shelves;
+pub mod stores;
 pub mod strict;
 
 pub use acts::act;

@@ -4,12 +4,13 @@ ghost use Rattle.std.specs.Prelude.{◌≡◌, ◌≤◌, OnErr, OnOk, if◌then
 ghost use Rattle.text_base.specs.Writing.{IsNotWhole};
 ghost use Rattle.tool_commands.specs.Acts.{Ends, PrintsText, PrintsWear};
 
-use crate::endings::{end_refused, end_run, report_failure};
-use plan_texts::read_plan_from;
-use slot_types::{MAX_SLOT, Refusal};
+use crate::endings::report_failure;
+use crate::plan_faults::{end_run, end_unread};
+use crate::stores::{Unread, store_of};
+use slot_types::MAX_SLOT;
 use std::alloc::Global;
 use std::io::{Read, Write};
-use text_base::{FlaggedReader, Output, write_whole};
+use text_base::{Output, write_whole};
 use tool_run_figures::Life;
 use tool_watched_runs::{
     FailAt, Failure, MOST_SLOTS, RefusedRows, Shown, Sights, TooMany, draw, report, wear,
@@ -22,14 +23,14 @@ fn print_wear<P: Read + Drop, S: Read + Drop, W: Output>(
     script: S,
     slots: u32,
     out: &mut W,
-) -> Result<RefusedRows, Refusal>
+) -> Result<RefusedRows, Unread>
     requires slots { slots ≤ MAX_SLOT }
     ensures printed { OnOk result
         (PrintsWear (P.remaining plan) (W.contents out.old) (W.contents out.new)) }
     ensures part { OnErr result
         (IsNotWhole W.contents W.has_failed (PrintsWear (P.remaining plan)) out.old out.new) }
 {
-    let store = read_plan_from(alloc, &mut FlaggedReader::new(plan))?;
+    let store = store_of(alloc, plan)?;
     let worn = wear(alloc, store, script, slots)?;
     write_whole(out, &worn.text)?;
     Ok(worn.refused)
@@ -63,19 +64,19 @@ fn print_report<P: Read + Drop, S: Read + Drop, W: Output>(
     as_csv: bool,
     fail: Option<FailAt>,
     out: &mut W,
-) -> Result<(RefusedRows, Option<Failure>), Refusal>
+) -> Result<(RefusedRows, Option<Failure>), Unread>
     requires slots { slots ≤ MAX_SLOT }
     ensures printed { OnOk result (PrintsText (W.contents out.old) (W.contents out.new)) }
     ensures part { OnErr result (IsNotWhole W.contents W.has_failed PrintsText out.old out.new) }
 {
-    let store = read_plan_from(alloc, &mut FlaggedReader::new(plan))?;
+    let store = store_of(alloc, plan)?;
     let said = report(alloc, store, script, slots, life, as_csv, fail)?;
     write_whole(out, &said.text)?;
     Ok((said.refused, said.failure))
 }
 
 /// Reports what came of a report's run, and answers the status.
-fn end_report<E: Write>(err: &mut E, ran: Result<(RefusedRows, Option<Failure>), Refusal>) -> u8
+fn end_report<E: Write>(err: &mut E, ran: Result<(RefusedRows, Option<Failure>), Unread>) -> u8
     ensures { result ≡ (if is_ok ran then 0 else 1) }
 {
     match ran {
@@ -83,7 +84,7 @@ fn end_report<E: Write>(err: &mut E, ran: Result<(RefusedRows, Option<Failure>),
             report_failure(err, failure);
             end_run(err, Ok(refused))
         }
-        Err(refusal) => end_refused(err, refusal),
+        Err(unread) => end_unread(err, unread),
     }
 }
 
@@ -126,12 +127,12 @@ fn print_drawn<P: Read + Drop, S: Read + Drop, W: Output>(
     shown: Shown,
     fail: Option<FailAt>,
     out: &mut W,
-) -> Result<Drawn, Refusal>
+) -> Result<Drawn, Unread>
     requires slots { slots ≤ MAX_SLOT }
     ensures printed { OnOk result (PrintsText (W.contents out.old) (W.contents out.new)) }
     ensures part { OnErr result (IsNotWhole W.contents W.has_failed PrintsText out.old out.new) }
 {
-    let store = read_plan_from(alloc, &mut FlaggedReader::new(plan))?;
+    let store = store_of(alloc, plan)?;
     let drawn = draw(alloc, store, script, slots, die, shown, fail)?;
     write_whole(out, &drawn.text)?;
     Ok(Drawn {
@@ -146,7 +147,7 @@ fn print_drawn<P: Read + Drop, S: Read + Drop, W: Output>(
 enum Undrawn {
     /// The picture would have too many slots.
     TooMany(TooMany),
-    Refused(Refusal),
+    Unread(Unread),
 }
 
 /// Prints the picture of what the slots of a die carried, unless it would have too many: then nothing is read.
@@ -169,7 +170,7 @@ fn print_bounded<P: Read + Drop, S: Read + Drop, W: Output>(
     }
     match print_drawn(alloc, plan, script, slots, die, shown, fail, out) {
         Ok(drawn) => Ok(drawn),
-        Err(refusal) => Err(Undrawn::Refused(refusal)),
+        Err(unread) => Err(Undrawn::Unread(unread)),
     }
 }
 
@@ -217,7 +218,7 @@ fn end_drawn<E: Write>(err: &mut E, slots: u32, drawn: Result<Drawn, Undrawn>) -
             report_failure(err, drawn.failure);
             end_run(err, Ok(drawn.refused))
         }
-        Err(Undrawn::Refused(refusal)) => end_refused(err, refusal),
+        Err(Undrawn::Unread(unread)) => end_unread(err, unread),
         Err(Undrawn::TooMany(many)) => end_many(err, many),
     }
 }
