@@ -282,6 +282,7 @@ EndsSo contents has_failed (command.Report plan script slots endurance slot_us a
     Ends contents has_failed PrintsText old new status
 EndsSo contents has_failed (command.Draw plan script slots die first end worst as_text all fail) text rows old new status =
     Ends contents has_failed PrintsText old new status
+EndsSo contents has_failed (command.Demand plan die) text rows old new status = Ends contents has_failed PrintsText old new status
 EndsSo contents has_failed (command.Compare plan script slots first pool as_csv draws die task) text rows old new status =
     Ends contents has_failed PrintsText old new status
 EndsSo contents has_failed (command.Run plan script slots from to None) text rows old new status =

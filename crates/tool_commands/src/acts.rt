@@ -6,6 +6,7 @@ ghost use Rattle.tool_commands.specs.Acts.{EndsSo};
 use crate::arriving::act_arrivals;
 use crate::checkpoint_acts::{Kept, act_failing, act_run};
 use crate::comparing::act_compare;
+use crate::demanding::act_demand;
 use crate::explaining::{act_explain, act_explain_from};
 use crate::fitting::act_fit;
 use crate::keeping::act_keeps;
@@ -63,6 +64,7 @@ fn failing_in(fail: Option<FailingDie>) -> Option<FailAt> {
 /// `wear` prints what [`wear`](tool_watched_runs::wear) says of the run of the script, `report` what
 /// [`report`](tool_watched_runs::report) does, and `draw` what [`draw`](tool_watched_runs::draw) draws of it, each
 /// whole; the status is 0, and where rows were refused, `err` gets a line, as `refused 1 first line 6 with 6`.
+/// `draw --demand` prints the picture of what may be asked of a die, as [`act_demand`] says, and reads no script.
 /// `compare` prints the table, the records or the picture of [`compare`](tool_store_compare::compare), whole. `run`
 /// prints the report of dies that go on from a checkpoint, and has the checkpoint of their end written, as [`act_run`]
 /// says. Where a device is to fail, `err` gets a line that says in which slot it did, as `die 0 failed in slot 12, at
@@ -143,6 +145,7 @@ pub fn act<P: Read + Drop, S: Read + Drop, C: Read + Drop, K: Shelf, W: Output, 
             let fail = failing_in(fail);
             act_draw(alloc, plan, script, slots, die, shown, fail, out, err)
         }
+        Command::Demand { die, .. } => act_demand(alloc, plan, die, out, err),
         Command::Compare {
             slots,
             from,

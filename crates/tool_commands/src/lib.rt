@@ -5,6 +5,7 @@ mod acts;
 pub mod arriving;
 pub mod checkpoint_acts;
 pub mod comparing;
+pub mod demanding;
 pub mod endings;
 pub mod explaining;
 pub mod fitting;
