@@ -68,7 +68,10 @@ fn end_undrawn<E: Write>(err: &mut E, die: u32, undrawn: Undrawn) -> u8
         Undrawn::Refused(refusal) => end_refused(err, refusal),
         Undrawn::NoDie { dies } => {
             let status = end_refused(err, Refusal::UnknownDie);
-            let _ = writeln!(err, "the plan has {dies} dies, numbered from 0");
+            let _ = match dies {
+                1 => writeln!(err, "the plan has die 0 alone"),
+                _ => writeln!(err, "the plan has {dies} dies, numbered from 0"),
+            };
             status
         }
         Undrawn::NoInterval => {
