@@ -1,8 +1,8 @@
 -- What a command asks for that clap met.
-use Rattle.std.specs.Prelude.{ℕ, ◌&&◌, ◌||◌, List, codes, Option, Some, None, is_some, if◌then◌else◌}
+use Rattle.std.specs.Prelude.{ℕ, ◌&&◌, ◌||◌, ◌==◌, Bool, not, List, codes, Option, Some, None, is_some, if◌then◌else◌}
 use Rattle.std.specs.Str.{bytes_eq}
 use Rattle.clap.specs.Words.{Row, Text, all_of, first_of}
-use Rattle.tool_command_words.specs.RequestTexts.{CommandText, Explain, Fit, Arrivals, Keeps, Wear, Report, Draw, Compare, Run, RequestText, Listed}
+use Rattle.tool_command_words.specs.RequestTexts.{CommandText, Explain, Fit, Arrivals, Keeps, Wear, Report, Draw, Demand, Compare, Run, RequestText, Listed}
 use Rattle.tool_command_words.specs.Together.{asked_together}
 use Rattle.tool_command_words.specs.Values.{◌>>=◌, fail_of, number_upto}
 use Rattle.tool_command_words.specs.declared.asked.ListCommand.{ListCommand}
@@ -72,8 +72,47 @@ draw_from rows plan script slots = do
   Some (Draw plan script slots die first end (bytes_eq worst (codes "true")) (bytes_eq as_text (codes "true"))
       (bytes_eq all (codes "true")) fail)
 
+abbrev pub draw_run_of : List Row → Option CommandText
+draw_run_of rows = on_script rows (draw_from rows)
+
+-- whether a script is named, or how long it runs, or a device that is to fail
+abbrev pub names_script : List Row → Bool
+names_script rows =
+    is_some (first_of (codes "SCRIPT") rows) || (is_some (first_of (codes "slots") rows) || is_some (first_of (codes "fail-at") rows))
+
+-- whether other slots are named than all
+abbrev pub names_window : List Row → Option Bool
+names_window rows = do
+  first ← first_of (codes "from") rows >>= number_upto
+  end ← first_of (codes "to") rows >>= number_upto
+  Some (not (first == 0 && end == 1048576))
+
+-- whether it is said how the picture of a run is drawn
+abbrev pub names_form : List Row → Option Bool
+names_form rows = do
+  worst ← first_of (codes "worst") rows
+  as_text ← first_of (codes "text") rows
+  all ← first_of (codes "all") rows
+  Some (bytes_eq worst (codes "true") || (bytes_eq as_text (codes "true") || bytes_eq all (codes "true")))
+
+-- whether an option is given that says something of the picture of a run alone
+abbrev pub names_run : List Row → Option Bool
+names_run rows = do
+  window ← names_window rows
+  form ← names_form rows
+  Some (names_script rows || (window || form))
+
+abbrev pub demand_of : List Row → Option CommandText
+demand_of rows = do
+  plan ← first_of (codes "PLAN") rows
+  die ← first_of (codes "die") rows >>= number_upto
+  runs ← names_run rows
+  if runs then None else Some (Demand plan die)
+
 abbrev pub draw_of : List Row → Option CommandText
-draw_of rows = on_script rows (draw_from rows)
+draw_of rows = do
+  demand ← first_of (codes "demand") rows
+  if bytes_eq demand (codes "true") then demand_of rows else draw_run_of rows
 
 abbrev pub compare_from : List Row → Text → Text → ℕ → Option CommandText
 compare_from rows plan script slots = do

@@ -19,6 +19,7 @@ pub data CommandText : Type 0 where
   Wear : (plan script : Text) (slots : ℕ) → CommandText
   Report : (plan script : Text) (slots endurance slot_us : ℕ) (as_csv : Bool) (fail : Option FailingDie) → CommandText
   Draw : (plan script : Text) (slots die first end : ℕ) (worst as_text all : Bool) (fail : Option FailingDie) → CommandText
+  Demand : (plan : Text) (die : ℕ) → CommandText
   Compare : (plan script : Text) (slots first pool : ℕ) (as_csv draws : Bool) (die task : ℕ) → CommandText
   Run : (plan script : Text) (slots : ℕ) (from to : Option Text) (fail : Option FailingDie) → CommandText
 
@@ -40,6 +41,7 @@ text_of_command (command.Wear plan script slots) = Wear plan.now script.now slot
 text_of_command (command.Report plan script slots endurance slot_us as_csv fail) = Report plan.now script.now slots endurance slot_us as_csv fail
 text_of_command (command.Draw plan script slots die first end worst as_text all fail) =
     Draw plan.now script.now slots die first end worst as_text all fail
+text_of_command (command.Demand plan die) = Demand plan.now die
 text_of_command (command.Compare plan script slots first pool as_csv draws die task) =
     Compare plan.now script.now slots first pool as_csv draws die task
 text_of_command (command.Run plan script slots from to fail) = Run plan.now script.now slots (name_of from) (name_of to) fail

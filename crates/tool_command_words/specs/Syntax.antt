@@ -1,7 +1,7 @@
 -- The words that the program takes, as clap reads them.
 use Rattle.std.specs.Prelude.{◌≡◌, codes, Bool, false, true, Some}
 use Rattle.clap.specs.declared.builder.action.ArgAction.TheVariants.{Append}
-use Rattle.clap.specs.Words.{App, Rule, Text, app_of, new_app, with_rule, with_subcommand}
+use Rattle.clap.specs.Words.{App, Rule, Text, app_of, new_app, new_rule, with_rule, with_subcommand}
 use Rattle.clap.specs.declared.builder.command.Command.{Command}
 use Rattle.clap.specs.declared.builder.command.Command.TheViews.{out-Command}
 use Rattle.command_arguments.specs.Arguments.{default_rule, flag_rule, needed_rule, option_rule, required_rule, slots_rule}
@@ -104,11 +104,12 @@ report_run_app = with_rule (with_rule report_files_app slots_rule) (flag_rule (c
 abbrev pub report_app : App
 report_app = with_rule (with_rule (with_rule report_run_app (count_rule (codes "endurance"))) (count_rule (codes "slot-us"))) fail_rule
 
+-- without a script and its slots, which are of a run
 abbrev pub draw_files_app : App
-draw_files_app = on_files (new_app (codes "draw"))
+draw_files_app = with_rule (with_rule (new_app (codes "draw")) (required_rule (codes "PLAN"))) (new_rule (codes "SCRIPT"))
 
 abbrev pub draw_run_app : App
-draw_run_app = with_rule (with_rule draw_files_app slots_rule) die_rule
+draw_run_app = with_rule (with_rule draw_files_app (option_rule (codes "slots"))) die_rule
 
 abbrev pub draw_window_app : App
 draw_window_app = with_rule (with_rule draw_run_app from_rule) to_rule
@@ -117,7 +118,7 @@ abbrev pub draw_forms_app : App
 draw_forms_app = with_rule (with_rule draw_window_app (flag_rule (codes "worst"))) (flag_rule (codes "text"))
 
 abbrev pub draw_app : App
-draw_app = with_rule (with_rule draw_forms_app (flag_rule (codes "all"))) fail_rule
+draw_app = with_rule (with_rule (with_rule draw_forms_app (flag_rule (codes "all"))) fail_rule) (flag_rule (codes "demand"))
 
 abbrev pub compare_files_app : App
 compare_files_app = on_files (new_app (codes "compare"))

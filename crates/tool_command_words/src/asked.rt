@@ -84,6 +84,12 @@ pub enum Command<'a> {
         all: bool,
         fail: Option<FailingDie>,
     },
+    /// Draw what the tasks of a die may ask for.
+    Demand {
+        plan: &'a str,
+        /// Which die.
+        die: u32,
+    },
     /// Run a script on a store and by plain layers.
     Compare {
         plan: &'a str,

@@ -3,8 +3,8 @@
 ghost use Rattle.std.specs.Prelude.{◌≡◌, ◌≤◌, ℕ, IfOk, IfSome, Option, option_and_then, option_map};
 ghost use Rattle.clap.specs.Words.{Text, found_of, rows_of};
 ghost use Rattle.tool_command_words.specs.RequestTexts.{CommandText, FitsRun, RequestFits, text_of_command, text_of_request};
-ghost use Rattle.tool_command_words.specs.Commands.{arrivals_of, audit_of, command_named, compare_of, draw_of, explain_of, fit_of, import_in, import_of};
-ghost use Rattle.tool_command_words.specs.Commands.{keeps_of, on_script, report_of, request_named, run_of, wear_of};
+ghost use Rattle.tool_command_words.specs.Commands.{arrivals_of, audit_of, command_named, compare_of, demand_of, draw_of, draw_run_of, explain_of, fit_of, import_in, import_of};
+ghost use Rattle.tool_command_words.specs.Commands.{keeps_of, names_form, names_run, names_script, names_window, on_script, report_of, request_named, run_of, wear_of};
 
 use crate::asked::{Command, ListCommand, Request};
 use crate::together::goes_together;
@@ -116,9 +116,60 @@ fn report<'a>(met: &ArgMatches<'a>) -> Option<Command<'a>>
     })
 }
 
-/// The command `draw` that was met.
-fn draw<'a>(met: &ArgMatches<'a>) -> Option<Command<'a>>
-    ensures draw { option_map text_of_command result ≡ draw_of (rows_of (found_of met.now)) }
+/// Whether a script is named, or how long it runs, or a device that is to fail.
+fn names_script(met: &ArgMatches<'_>) -> bool
+    ensures { result ≡ names_script (rows_of (found_of met.now)) }
+{
+    let script = value(met, "SCRIPT").is_some();
+    let slots = value(met, "slots").is_some();
+    let fail = value(met, "fail-at").is_some();
+    script || (slots || fail)
+}
+
+/// Whether other slots are named than all.
+fn names_window(met: &ArgMatches<'_>) -> Option<bool>
+    ensures { result ≡ names_window (rows_of (found_of met.now)) }
+{
+    let from = number_at(met, "from")?;
+    let to = number_at(met, "to")?;
+    Some(!(from == 0 && to == MAX_SLOT))
+}
+
+/// Whether it is said how the picture of a run is drawn.
+fn names_form(met: &ArgMatches<'_>) -> Option<bool>
+    ensures { result ≡ names_form (rows_of (found_of met.now)) }
+{
+    let worst = value(met, "worst")? == "true";
+    let as_text = value(met, "text")? == "true";
+    let all = value(met, "all")? == "true";
+    Some(worst || (as_text || all))
+}
+
+/// Whether an option is given that says something of the picture of a run alone.
+fn names_run(met: &ArgMatches<'_>) -> Option<bool>
+    ensures { result ≡ names_run (rows_of (found_of met.now)) }
+{
+    let window = names_window(met)?;
+    let form = names_form(met)?;
+    Some(names_script(met) || (window || form))
+}
+
+/// The command `draw --demand` that was met, which runs nothing.
+fn demand<'a>(met: &ArgMatches<'a>) -> Option<Command<'a>>
+    ensures demand { option_map text_of_command result ≡ demand_of (rows_of (found_of met.now)) }
+    ensures fits { IfSome result FitsRun }
+{
+    let plan = value(met, "PLAN")?;
+    let die = number_at(met, "die")?;
+    if names_run(met)? {
+        return None;
+    }
+    Some(Command::Demand { plan, die })
+}
+
+/// The command `draw` that was met, which runs a script.
+fn draw_run<'a>(met: &ArgMatches<'a>) -> Option<Command<'a>>
+    ensures draw { option_map text_of_command result ≡ draw_run_of (rows_of (found_of met.now)) }
     ensures fits { IfSome result FitsRun }
 {
     let (plan, script, slots) = scripted(met)?;
@@ -141,6 +192,18 @@ fn draw<'a>(met: &ArgMatches<'a>) -> Option<Command<'a>>
         all,
         fail,
     })
+}
+
+/// The command `draw` that was met.
+fn draw<'a>(met: &ArgMatches<'a>) -> Option<Command<'a>>
+    ensures draw { option_map text_of_command result ≡ draw_of (rows_of (found_of met.now)) }
+    ensures fits { IfSome result FitsRun }
+{
+    if value(met, "demand")? == "true" {
+        demand(met)
+    } else {
+        draw_run(met)
+    }
 }
 
 /// The command `compare` that was met.

@@ -75,8 +75,39 @@ fn between<'a>(
     })
 }
 
+/// The options of `draw` that say something of a run alone, those with a value first.
+const OF_RUNS: [&str; 4] = ["--slots", "--from", "--to", "--fail-at"];
+
+const OF_RUNS_ALONE: [&str; 3] = ["--worst", "--text", "--all"];
+
+/// An option of `draw` that stands beside `--demand`, and says nothing there.
+fn beside_demand(words: &[String]) -> Option<Conflict<'_>> {
+    let why = "it draws no run";
+    for option in &OF_RUNS {
+        let named = beside(words, option, "--demand", why);
+        if named.is_some() {
+            return named;
+        }
+    }
+    for flag in &OF_RUNS_ALONE {
+        if has(words, flag) {
+            return Some(Conflict {
+                option: flag,
+                value: "",
+                other: "--demand",
+                other_value: "",
+                why,
+            });
+        }
+    }
+    None
+}
+
 /// The options of `draw` that don't go together.
 fn in_draw(words: &[String]) -> Option<Conflict<'_>> {
+    if has(words, "--demand") {
+        return beside_demand(words);
+    }
     if has(words, "--worst") {
         let why = "the picture of the worst has its own slots";
         let from = beside(words, "--from", "--worst", why);

@@ -34,8 +34,22 @@ fn failing_fault(alloc: Global, words: &[String]) -> Result<Option<String>, Allo
     Ok(None)
 }
 
-/// What is reported of words that name no command, of a number that is none or too great, or of options that don't go
-/// together.
+/// What is wanted of words whose options go together: a command; of `draw` what it draws.
+fn wanted_in(words: &[String]) -> &'static str {
+    let draws = words
+        .get(1)
+        .is_some_and(|command| command.as_str() == "draw");
+    if !draws {
+        "a command is wanted: explain, fit, arrivals, keeps, wear, report, draw, compare, import, run or audit"
+    } else if words.iter().any(|word| word.as_str() == "--demand") {
+        "draw --demand draws no run: it takes no SCRIPT"
+    } else {
+        "draw wants a SCRIPT and --slots N, or --demand"
+    }
+}
+
+/// What is reported of words that name no command, of a number that is none or too great, of options that don't go
+/// together, or of a picture of nothing.
 fn reported_of(alloc: Global, words: &[String]) -> Result<String, AllocError> {
     if let Some((option, value)) = bad_number(words) {
         return format!(in alloc;
@@ -47,9 +61,7 @@ fn reported_of(alloc: Global, words: &[String]) -> Result<String, AllocError> {
     }
     match conflict_in(words) {
         Some(conflict) => format!(in alloc; "{conflict}"),
-        None => format!(in alloc;
-            "a command is wanted: explain, fit, arrivals, keeps, wear, report, draw, compare, import, run or audit"
-        ),
+        None => String::from_str(alloc, wanted_in(words)),
     }
 }
 

@@ -1,10 +1,8 @@
 -- An audit of what a reader gives is one of its file.
-use Rattle.std.proofs.Common.{ℕ, List, Bool, Option, None, Some, Result, Ok, Err, inl, inr, ◌∷◌, []}
-use Rattle.std.specs.Prelude.{◌≡◌}
-use Rattle.std.specs.Borrow.{Bor}
+use Rattle.std.proofs.Common.{ℕ, List, Bool, Option, None, Some, Result, Ok, Err, inl, inr}
 use Rattle.slot_types.specs.declared.refusals.Refusal.{Refusal}
-use Rattle.flash_commands.specs.Files.{FileContents, GivesFile}
-use Rattle.tool_commands.specs.Acts.{AuditsFiles, IsAuditOf, IsAudited, worse_of}
+use Rattle.flash_commands.specs.Files.{GivesFile}
+use Rattle.tool_commands.specs.Acts.{IsAudited}
 
 pub audited_file : (file text : Option (List ℕ)) (audited : Result Bool Refusal) → GivesFile file text → IsAudited text audited → IsAudited file audited
 audited_file None text (Ok refused) gives (report, is, status) = (report, tt, status)

@@ -1,5 +1,5 @@
 -- What was printed or refused is how a command ends.
-use Rattle.std.proofs.Common.{◌≡◌, ◌⊎◌, ℕ, Bool, true, false, List, [], Option, Some, None, Result, Ok, Err, IfOk, IfSome, OnErr, OnOk, is_ok, inl, inr, refl, ap}
+use Rattle.std.proofs.Common.{◌≡◌, ℕ, Bool, true, false, List, Option, Some, None, Result, Ok, Err, IfOk, IfSome, OnErr, OnOk, is_ok, inl, inr}
 use Rattle.std.proofs.Common.{subst, ◌∙◌}
 use Rattle.std.specs.Prelude.{if◌then◌else◌, take}
 use Rattle.slot_types.specs.declared.refusals.Refusal.{Refusal}
@@ -25,8 +25,8 @@ ends_explained contents has_failed prints old new (Ok true) status printed part 
 ends_explained contents has_failed prints old new (Ok false) status printed part is = inl (false, printed, is)
 ends_explained contents has_failed prints old new (Err e) status printed part is = inr (part, is)
 
-pub ends_kept : {W : Type 0} (contents : W → Option (List ℕ)) (has_failed : W → Option Bool)
-    (prints : Bool → Option (List ℕ) → Option (List ℕ) → Type 0) (old new : W) (kept : Result Bool Refusal) (status : ℕ)
+pub ends_kept : {W E : Type 0} (contents : W → Option (List ℕ)) (has_failed : W → Option Bool)
+    (prints : Bool → Option (List ℕ) → Option (List ℕ) → Type 0) (old new : W) (kept : Result Bool E) (status : ℕ)
     → IfOk kept (λ (yes : Bool). prints yes (contents old) (contents new)) → OnErr kept (IsNotWhole contents has_failed (Says prints) old new) → status ≡ kept_status kept
     → EndsSaying contents has_failed prints verdict_status old new status
 ends_kept contents has_failed prints old new (Ok true) status printed part is = inl (true, printed, is)

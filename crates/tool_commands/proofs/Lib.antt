@@ -1,2 +1,4 @@
 mod Audits
 mod EndedSo
+mod PlansRead
+mod Verdicts

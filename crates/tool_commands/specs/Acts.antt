@@ -1,6 +1,6 @@
 -- What a command prints, and its status; and what it leaves where it is refused.
-use Rattle.std.specs.Prelude.{◌≡◌, ◌==◌, ◌↔◌, ◌⊎◌, List, [], ◌∷◌, ◌++◌, ℕ, take, ⊤}
-use Rattle.std.specs.Prelude.{Option, Some, None, Result, Ok, Err, IfSome, is_none, IsTrue, MatchBool, Bool, true, false}
+use Rattle.std.specs.Prelude.{◌≡◌, ◌==◌, ◌↔◌, ◌⊎◌, List, [], ◌∷◌, ◌++◌, ℕ, map, take, ⊤}
+use Rattle.std.specs.Prelude.{Option, Some, None, Result, Ok, Err, IfSome, is_none, is_some, option_map, IsTrue, MatchBool, Bool, true, false}
 use Rattle.std.specs.Borrow.{Bor}
 use Rattle.std.specs.Prelude.{if◌then◌else◌}
 use Rattle.std.specs.Io.KnownBytes.{Appends}
@@ -21,6 +21,10 @@ use Rattle.tool_plan_fit.specs.declared.faults.FitFault.{FitFault}
 use Rattle.tool_plan_fit.specs.declared.faults.FitFault.TheVariants.{NotFound}
 use Rattle.tool_plan_breaches.specs.declared.breaches.Breach.{Breach}
 use Rattle.tool_plan_keeping.specs.Verdicts.{IsBrokenScript, IsFrontOf}
+use Rattle.demand_keeping.specs.declared.keeping.Breach.{Breach as TermsBreach}
+use Rattle.terms_texts.specs.TermsReading.{IsStoreOf as IsTermsStoreOf}
+use Rattle.terms_texts.specs.declared.stores.DieTerms.{DieTerms}
+use Rattle.tool_terms_keeping.specs.Verdicts.{IsBrokenScript as BreaksTermsOf, IsKeptScript, KeepsBelow}
 use Rattle.flash_die.specs.Fuse.{Fuse}
 use Rattle.flash_die.specs.Memory.{Memory}
 use Rattle.flash_commands.specs.Acts.{IsReportOf, RefusesAudit}
@@ -30,8 +34,18 @@ use Rattle.report_texts.specs.declared.reports.DieReport.{DieReport}
 use Rattle.report_texts.specs.ReportText.{report_text}
 use Rattle.slot_core.specs.Core.{Core}
 use Rattle.task_script.specs.StoreRuns.{reports_of}
+use Rattle.checkpoint_texts.specs.declared.saved.SavedDie.{SavedDie}
+use Rattle.tool_checkpoint_runs.specs.Runs.{RanAndWentOn, running, starts_by}
+use Rattle.tool_script_runs.specs.ScriptRuns.{IsRunOf}
+use Rattle.die_log.specs.Model.Start.{fresh}
+use Rattle.tool_watched_runs.specs.Runs.{IsDrawingOf, IsReportOf as ReportsRun}
+use Rattle.tool_watched_runs.specs.declared.failing.FailAt.{FailAt}
+use Rattle.tool_watched_runs.specs.declared.failing.Failure.{Failure}
+use Rattle.tool_command_words.specs.declared.asked.FailingDie.{FailingDie}
 use Rattle.tool_command_words.specs.declared.asked.Command.{Command}
 use Rattle.tool_command_words.specs.declared.asked.Command.TheVariants as command
+use Rattle.tool_commands.specs.PlanKinds.{ByKind, ReadsStore}
+pub use Rattle.tool_commands.specs.PlanKinds.{IsReadOf}
 
 -- what is said of the text of a plan without terms, and whether it is accepted
 abbrev pub ExplainsPlan : List ℕ → Bool → List ℕ → Type 0
@@ -61,18 +75,25 @@ Explains plan is_accepted old new = (said : List ℕ) × SaysOf plan is_accepted
 abbrev pub ExplainsMore : Option (List ℕ) → Bool → Option (List ℕ) → Option (List ℕ) → Type 0
 ExplainsMore plan is_accepted old new = (said more : List ℕ) × SaysOf plan is_accepted said × Appends old new (said ++ more)
 
--- the script of a plan's arrivals is printed: its rows keep the plans of the store that was read, with times that pass
--- their test, so that its runs go as planned
-pub record PrintsArrivals (plan : Option (List ℕ)) (slots : ℕ) (old new : Option (List ℕ)) : Type 0 where
+-- the script of the arrivals of a plan with times: its rows keep the plans of the store that was read, with times that
+-- pass their test, so that its runs go as planned
+pub record AreTimedArrivals (plan : Option (List ℕ)) (slots : ℕ) (script : List ℕ) : Type 0 where
   pub store : List DiePlan
   pub read : IsStoreOf plan store
-  pub script : List ℕ
   pub planned : IsPlannedScript store slots script
-  pub written : Appends old new script
 
--- what was read of a datasheet: all of it, or its first 1,048,577 bytes
-abbrev pub IsReadOf : Option (List ℕ) → List ℕ → Type 0
-IsReadOf sheet text = IfSome sheet (λ bytes. text ≡ take 1048577 bytes)
+-- of one with terms: its rows keep the plans of the store that was read, which pass their tests
+pub record AreTermsArrivals (plan : Option (List ℕ)) (slots : ℕ) (script : List ℕ) : Type 0 where
+  pub store : List DieTerms
+  pub read : IsTermsStoreOf plan store
+  pub kept : IsKeptScript store slots script
+
+abbrev pub AreArrivals : Option (List ℕ) → ℕ → List ℕ → Type 0
+AreArrivals plan slots script = ByKind plan (AreTermsArrivals plan slots script) (AreTimedArrivals plan slots script)
+
+-- the script of a plan's arrivals is printed
+abbrev pub PrintsArrivals : Option (List ℕ) → ℕ → Option (List ℕ) → Option (List ℕ) → Type 0
+PrintsArrivals plan slots old new = (script : List ℕ) × AreArrivals plan slots script × Appends old new script
 
 -- the text is a plan of the datasheet that was read, and passes its test
 pub record IsFoundFor (sheet : Option (List ℕ)) (plan : List ℕ) : Type 0 where
@@ -110,18 +131,73 @@ pub record BreaksPlans (plan script : Option (List ℕ)) (slots : ℕ) : Type 0 
   pub breach : Breach
   pub broken : IsBrokenScript store slots text die breach
 
--- what dies wore is printed that began fresh by the plans of the store that was read
-pub record PrintsWear (plan : Option (List ℕ)) (old new : Option (List ℕ)) : Type 0 where
-  pub store : List DiePlan
-  pub read : IsStoreOf plan store
+-- the rows of the script that was read keep the plans, with terms, of the store that was read
+pub record KeepsTerms (plan script : Option (List ℕ)) (slots : ℕ) : Type 0 where
+  pub store : List DieTerms
+  pub read : IsTermsStoreOf plan store
   pub text : List ℕ
-  pub worn : IsWearText store text
+  pub whole : IsFrontOf script text
+  pub kept : IsKeptScript store slots text
+
+-- a condition of a die's plan with terms doesn't hold of its rows in the script that was read; the rows of each die before
+-- it keep theirs
+pub record BreaksTerms (plan script : Option (List ℕ)) (slots : ℕ) : Type 0 where
+  pub store : List DieTerms
+  pub read : IsTermsStoreOf plan store
+  pub text : List ℕ
+  pub whole : IsFrontOf script text
+  pub die : ℕ
+  pub breach : TermsBreach
+  pub broken : BreaksTermsOf store slots text die breach
+  pub before : KeepsBelow store slots text die
+
+-- what dies wore is printed that began fresh by the plans of the store that was read, and ran the script that was read and
+-- so many slots
+pub record PrintsWear (plan script : Option (List ℕ)) (slots : ℕ) (old new : Option (List ℕ)) : Type 0 where
+  pub store : List DiePlan
+  pub read : ReadsStore plan store
+  pub text : List ℕ
+  pub worn : IsWearText store script slots text
   pub written : Appends old new text
+
+-- the device that is to fail, as a run takes it
+abbrev pub failing : FailingDie → FailAt
+failing fail = record { die = fail.die; call = fail.call }
+
+abbrev pub failing_in : Option FailingDie → Option FailAt
+failing_in fail = option_map failing fail
+
+-- a text is printed of such a run, of which one device may be to fail
+pub record PrintsFigures (plan script : Option (List ℕ)) (slots : ℕ) (fail : Option FailAt) (old new : Option (List ℕ)) : Type 0 where
+  pub store : List DiePlan
+  pub read : ReadsStore plan store
+  pub failure : Option Failure
+  pub ran : ReportsRun store script slots fail failure
+  pub text : PrintsText old new
+
+-- a picture is printed of a run of the die of this number
+pub record PrintsDrawing (plan script : Option (List ℕ)) (slots die : ℕ) (fail : Option FailAt) (old new : Option (List ℕ)) : Type 0 where
+  pub store : List DiePlan
+  pub read : ReadsStore plan store
+  pub failure : Option Failure
+  pub ran : IsDrawingOf store script slots die fail failure
+  pub text : PrintsText old new
+
+-- a script's text keeps plans with times, or breaks one
+abbrev pub SaysTimesKept : List DiePlan → ℕ → List ℕ → Bool → Type 0
+SaysTimesKept store slots text true = IsPlannedScript store slots text
+SaysTimesKept store slots text false = (die : ℕ) × (breach : Breach) × IsBrokenScript store slots text die breach
+
+-- it keeps plans with terms, or breaks one, the first
+abbrev pub SaysTermsKept : List DieTerms → ℕ → List ℕ → Bool → Type 0
+SaysTermsKept store slots text true = IsKeptScript store slots text
+SaysTermsKept store slots text false =
+    (die : ℕ) × (breach : TermsBreach) × BreaksTermsOf store slots text die breach × KeepsBelow store slots text die
 
 -- a script keeps the plans of its dies, or breaks one
 abbrev pub SaysKept : Option (List ℕ) → Option (List ℕ) → ℕ → Bool → Type 0
-SaysKept plan script slots true = KeepsPlans plan script slots
-SaysKept plan script slots false = BreaksPlans plan script slots
+SaysKept plan script slots true = ByKind plan (KeepsTerms plan script slots) (KeepsPlans plan script slots)
+SaysKept plan script slots false = ByKind plan (BreaksTerms plan script slots) (BreaksPlans plan script slots)
 
 -- which of both it is is printed
 abbrev pub PrintsKept : Option (List ℕ) → Option (List ℕ) → ℕ → Bool → Option (List ℕ) → Option (List ℕ) → Type 0
@@ -142,13 +218,24 @@ explained_status (Err fault) = 1
 abbrev pub PrintsReport : {N : Type 0} → Option (List ℕ) → Option (List ℕ) → List (Core N) → Type 0
 PrintsReport old new dies = Appends old new (report_text (reports_of 0 dies))
 
--- of some dies, whose devices are in memory
-abbrev pub PrintsRun : Option (List ℕ) → Option (List ℕ) → Type 0
-PrintsRun old new = (dies : List (Core Memory)) × PrintsReport old new dies
+-- The report is printed of dies that ran the script that was read, and so many slots. They began fresh by the plans of the
+-- store that was read, or as they were saved, if that was asked for; and went on for some slots more, if their end was.
+pub record PrintsRun (plan script : Option (List ℕ)) (slots : ℕ) (begins_fresh saves : Bool) (old new : Option (List ℕ)) : Type 0 where
+  pub store : List DiePlan
+  pub read : ReadsStore plan store
+  pub saved : Option (List SavedDie)
+  pub begun : begins_fresh ≡ true → saved ≡ None
+  pub dies : List (Core Memory)
+  pub ran : RanAndWentOn (starts_by store saved) script slots saves (running dies)
+  pub written : PrintsReport old new dies
 
--- of some dies, whose devices are in memory, and one of which fails
-abbrev pub PrintsFailing : Option (List ℕ) → Option (List ℕ) → Type 0
-PrintsFailing old new = (dies : List (Core (Fuse Memory))) × PrintsReport old new dies
+-- the report is printed of dies that began fresh, one of which may fail on its way
+pub record PrintsFailing (plan script : Option (List ℕ)) (slots : ℕ) (old new : Option (List ℕ)) : Type 0 where
+  pub store : List DiePlan
+  pub read : ReadsStore plan store
+  pub dies : List (Core (Fuse Memory))
+  pub ran : IsRunOf (map fresh store) script slots (running dies)
+  pub written : PrintsReport old new dies
 
 -- a report was read and audited, and this says whether a certificate of it is refused
 abbrev pub IsAuditOf : Option (List ℕ) → Bool → Type 0
@@ -172,10 +259,10 @@ AuditsFiles held (name ∷ names) before worst =
     (audited : Result Bool Refusal) × IsAudited (held name.now) audited × AuditsFiles held names (worse_of before audited) worst
 
 -- the status of what is reported of a script
-abbrev pub kept_status : Result Bool Refusal → ℕ
+abbrev pub kept_status : {E : Type 0} → Result Bool E → ℕ
 kept_status (Ok true) = 0
 kept_status (Ok false) = 3
-kept_status (Err refusal) = 1
+kept_status (Err fault) = 1
 
 -- the status of an explained plan, by whether it is accepted; and of a script, by whether it keeps its plans
 abbrev pub accepted_status : Bool → ℕ
@@ -216,9 +303,10 @@ abbrev pub IsRunStatus : Bool → ℕ → Type 0
 IsRunStatus alone status = (status ≡ 0) ⊎ ((alone ≡ false) × ((status ≡ 1) ⊎ (status ≡ 3)))
 
 -- the report of a run is printed, alone or with a checkpoint, or it is refused
-abbrev pub EndsRun : {W : Type 0} → (W → Option (List ℕ)) → (W → Option Bool) → Bool → W → W → ℕ → Type 0
-EndsRun contents has_failed alone old new status =
-    (PrintsRun (contents old) (contents new) × IsRunStatus alone status) ⊎ IsRefused contents has_failed PrintsRun old new status
+abbrev pub EndsRun : {W : Type 0} → (W → Option (List ℕ)) → (W → Option Bool) → (Option (List ℕ) → Option (List ℕ) → Type 0) → Bool
+    → W → W → ℕ → Type 0
+EndsRun contents has_failed prints alone old new status =
+    (prints (contents old) (contents new) × IsRunStatus alone status) ⊎ IsRefused contents has_failed prints old new status
 
 -- how a command ends
 abbrev pub EndsSo : {W : Type 0} → (W → Option (List ℕ)) → (W → Option Bool) → Command → Option (List ℕ) → Option (List ℕ) → W → W → ℕ
@@ -233,14 +321,15 @@ EndsSo contents has_failed (command.Arrivals plan slots seed fills phases jitter
 EndsSo contents has_failed (command.Keeps plan script slots) text rows old new status =
     EndsSaying contents has_failed (PrintsKept text rows slots) verdict_status old new status
 EndsSo contents has_failed (command.Wear plan script slots) text rows old new status =
-    Ends contents has_failed (PrintsWear text) old new status
+    Ends contents has_failed (PrintsWear text rows slots) old new status
 EndsSo contents has_failed (command.Report plan script slots endurance slot_us as_csv fail) text rows old new status =
-    Ends contents has_failed PrintsText old new status
+    Ends contents has_failed (PrintsFigures text rows slots (failing_in fail)) old new status
 EndsSo contents has_failed (command.Draw plan script slots die first end worst as_text all fail) text rows old new status =
-    Ends contents has_failed PrintsText old new status
+    Ends contents has_failed (PrintsDrawing text rows slots die (failing_in fail)) old new status
+EndsSo contents has_failed (command.Demand plan die) text rows old new status = Ends contents has_failed PrintsText old new status
 EndsSo contents has_failed (command.Compare plan script slots first pool as_csv draws die task) text rows old new status =
     Ends contents has_failed PrintsText old new status
 EndsSo contents has_failed (command.Run plan script slots from to None) text rows old new status =
-    EndsRun contents has_failed (is_none to) old new status
+    EndsRun contents has_failed (PrintsRun text rows slots (is_none from) (is_some to)) (is_none to) old new status
 EndsSo contents has_failed (command.Run plan script slots from to (Some fail)) text rows old new status =
-    Ends contents has_failed PrintsFailing old new status
+    Ends contents has_failed (PrintsFailing text rows slots) old new status

@@ -14,6 +14,7 @@ plan_name (command.Keeps plan script slots) = plan.now
 plan_name (command.Wear plan script slots) = plan.now
 plan_name (command.Report plan script slots endurance slot_us as_csv fail) = plan.now
 plan_name (command.Draw plan script slots die first end worst as_text all fail) = plan.now
+plan_name (command.Demand plan die) = plan.now
 plan_name (command.Compare plan script slots first pool as_csv draws die task) = plan.now
 plan_name (command.Run plan script slots from to fail) = plan.now
 

@@ -1,2 +1,3 @@
+pub mod PlanKinds
 pub mod Acts
 pub mod Files

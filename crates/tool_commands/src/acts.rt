@@ -1,11 +1,13 @@
 //! Commands that are carried out.
 
 ghost use Rattle.tool_command_words.specs.RequestTexts.{FitsRun};
-ghost use Rattle.tool_commands.specs.Acts.{EndsSo};
+ghost use Rattle.std.specs.Prelude.{◌≡◌, is_none, true};
+ghost use Rattle.tool_commands.specs.Acts.{EndsSo, failing, failing_in};
 
 use crate::arriving::act_arrivals;
 use crate::checkpoint_acts::{Kept, act_failing, act_run};
 use crate::comparing::act_compare;
+use crate::demanding::act_demand;
 use crate::explaining::{act_explain, act_explain_from};
 use crate::fitting::act_fit;
 use crate::keeping::act_keeps;
@@ -36,7 +38,9 @@ fn form_of(as_csv: bool, draws: bool, die: u32, task: u32) -> Form {
 }
 
 /// The device that is to fail, as a run takes it.
-fn failing(fail: FailingDie) -> FailAt {
+fn failing(fail: FailingDie) -> FailAt
+    ensures { result ≡ failing fail }
+{
     FailAt {
         die: fail.die,
         call: fail.call,
@@ -44,8 +48,17 @@ fn failing(fail: FailingDie) -> FailAt {
 }
 
 /// The device that is to fail, if one is.
-fn failing_in(fail: Option<FailingDie>) -> Option<FailAt> {
+fn failing_in(fail: Option<FailingDie>) -> Option<FailAt>
+    ensures { result ≡ failing_in fail }
+{
     Some(failing(fail?))
+}
+
+/// The checkpoint from which dies go on, where one was asked for.
+fn begun<C: Drop>(from: Option<C>, begins_fresh: bool) -> Option<C>
+    ensures { begins_fresh ≡ true → is_none result ≡ true }
+{
+    if begins_fresh { None } else { from }
 }
 
 /// Carries a command out, with `plan` and `script` in place of its files, and `kept` in place of its checkpoints.
@@ -56,12 +69,14 @@ fn failing_in(fail: Option<FailingDie>) -> Option<FailAt> {
 /// accepted, and 1 where it isn't. `fit` prints the plan that [`fit`](tool_plan_fit::fit) finds for a datasheet, or
 /// tells why it found none (status 3). `arrivals` prints the script of what the plan's tasks ask for, as
 /// [`arrivals`](tool_plan_arrivals::arrivals) makes it: its rows keep the plan of each die, so that a run of it refuses
-/// none and is never late. A plan without times that pass their test is reported as `error 3 BadPlan`; then, and where
-/// more slots are asked for than a script may have, nothing is printed, and the status is 1. `keeps` prints whether the
-/// script keeps the plan of each die (status 0), or a condition that doesn't hold, and of which record (status 3).
+/// none and is never late. A plan with neither times nor terms that pass their test is reported as `error 3 BadPlan`;
+/// then, where an option says nothing of a plan with terms, and where more slots are asked for than a script may have,
+/// nothing is printed, and the status is 1. `keeps` prints whether the script keeps the plan of each die (status 0), or a
+/// condition that doesn't hold, and of which record (status 3).
 /// `wear` prints what [`wear`](tool_watched_runs::wear) says of the run of the script, `report` what
 /// [`report`](tool_watched_runs::report) does, and `draw` what [`draw`](tool_watched_runs::draw) draws of it, each
 /// whole; the status is 0, and where rows were refused, `err` gets a line, as `refused 1 first line 6 with 6`.
+/// `draw --demand` prints the picture of what may be asked of a die, as [`act_demand`] says, and reads no script.
 /// `compare` prints the table, the records or the picture of [`compare`](tool_store_compare::compare), whole. `run`
 /// prints the report of dies that go on from a checkpoint, and has the checkpoint of their end written, as [`act_run`]
 /// says. Where a device is to fail, `err` gets a line that says in which slot it did, as `die 0 failed in slot 12, at
@@ -142,6 +157,7 @@ pub fn act<P: Read + Drop, S: Read + Drop, C: Read + Drop, K: Shelf, W: Output, 
             let fail = failing_in(fail);
             act_draw(alloc, plan, script, slots, die, shown, fail, out, err)
         }
+        Command::Demand { die, .. } => act_demand(alloc, plan, die, out, err),
         Command::Compare {
             slots,
             from,
@@ -162,12 +178,17 @@ pub fn act<P: Read + Drop, S: Read + Drop, C: Read + Drop, K: Shelf, W: Output, 
         }
         Command::Run {
             slots,
+            from,
             to,
             fail,
             ..
         } => match fail {
             Some(fail) => act_failing(alloc, plan, script, slots, failing(fail), out, err),
-            None => act_run(alloc, plan, script, kept, slots, to, out, err),
+            None => {
+                let Kept { from: text, shelf } = kept;
+                let begun = begun(text, from.is_none());
+                act_run(alloc, plan, script, begun, shelf, slots, to, out, err)
+            }
         },
     }
 }

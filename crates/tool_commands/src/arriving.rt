@@ -1,29 +1,131 @@
 //! The script of a plan's arrivals.
 
-ghost use Rattle.std.specs.Prelude.{◌≡◌, ◌≤◌, IfErr, OnErr, OnOk, if◌then◌else◌, is_ok};
+ghost use Rattle.std.specs.Prelude.{◌≡◌, ◌≤◌, All, IfErr, IfOk, OnErr, OnOk, if◌then◌else◌, is_ok, length};
+ghost use Rattle.plan_rules.specs.Bound.{MeetsBound};
+ghost use Rattle.terms_texts.specs.Stores.{IsUsable};
 ghost use Rattle.text_base.specs.Writing.{IsNotWhole};
-ghost use Rattle.tool_commands.specs.Acts.{Ends, PrintsArrivals};
+ghost use Rattle.tool_plan_arrivals.specs.PlannedScripts.{IsPlannedScript};
+ghost use Rattle.tool_terms_keeping.specs.Verdicts.{IsKeptScript};
+ghost use Rattle.tool_commands.specs.Acts.{AreArrivals, Ends, PrintsArrivals};
 
-use crate::endings::end_refused;
-use plan_texts::read_plan_from;
+use crate::plan_faults::end_unread;
+use crate::stores::{PlanRead, Unread, plan_in};
 use slot_types::{MAX_SLOT, Refusal, StorePlan};
 use std::alloc::Global;
 use std::io::{Read, Write};
-use text_base::{FlaggedReader, Output, write_whole};
+use terms_texts::StoreTerms;
+use text_base::{Output, write_whole};
 use tool_plan_arrivals::{Fault as Unplanned, Filling, Manner, arrivals, fillings_of};
+use tool_terms_arrivals::arrivals as terms_arrivals;
 
-/// What is reported beside a plan that has no arrivals.
+/// What is reported beside a plan without terms that has no arrivals.
 const WANTED: &str =
-    "arrivals wants a plan with times (version 2) that is accepted: flashplan explain says more";
+    "arrivals wants a plan that is accepted, with times (version 2) or terms: flashplan explain says more";
 
-/// Prints the script of a plan's arrivals, which is made whole before its first byte.
+/// Why no script of arrivals is printed.
+#[derive(Clone, Copy, Drop)]
+enum Unmade {
+    Unread(Unread),
+    Unplanned(Unplanned),
+    /// This option is none for a plan with terms.
+    OfTimes(&'static str),
+}
+
+impl From<Unread> for Unmade {
+    fn from(unread: Unread) -> Unmade {
+        Unmade::Unread(unread)
+    }
+}
+
+impl From<Unplanned> for Unmade {
+    fn from(fault: Unplanned) -> Unmade {
+        Unmade::Unplanned(fault)
+    }
+}
+
+impl From<Refusal> for Unmade {
+    fn from(refusal: Refusal) -> Unmade {
+        Unmade::Unread(Unread::Refused(refusal))
+    }
+}
+
+/// The script of a plan's arrivals; and the plan, if it has times.
+#[derive(Drop)]
+struct Made {
+    script: Vec<u8>,
+    store: Option<StorePlan>,
+}
+
+/// The option of these that a plan with terms has no use for: it says where a die is filled, or that less is asked for than
+/// the plan allows. The load is so many of a hundred jobs, or more.
+fn of_times_alone(manner: Manner) -> Option<&'static str> {
+    if manner.fills {
+        Some("--fill")
+    } else if manner.phases {
+        Some("--phases")
+    } else if manner.jitter > 0 {
+        Some("--jitter")
+    } else if manner.load < 100 {
+        Some("--load")
+    } else {
+        None
+    }
+}
+
+/// The script of the arrivals of a plan with terms, of which a manner may name the seed alone.
+fn with_terms(
+    alloc: Global,
+    store: &StoreTerms,
+    slots: u32,
+    manner: Manner,
+) -> Result<Vec<u8>, Unmade>
+    requires some { 1 ≤ length store.now }
+    requires few { length store.now ≤ 8 }
+    requires usable { All IsUsable store.now }
+    ensures { IfOk result (λ script. IsKeptScript store.now slots script.items) }
+{
+    if let Some(option) = of_times_alone(manner) {
+        return Err(Unmade::OfTimes(option));
+    }
+    let script = terms_arrivals(alloc, store, slots, manner.seed)?;
+    Ok(script)
+}
+
+/// The script of a plan's arrivals, with times or with terms.
+fn script_of<R: Read + Drop>(
+    alloc: Global,
+    plan: R,
+    slots: u32,
+    manner: Manner,
+) -> Result<Made, Unmade>
+    ensures { IfOk result (λ made. AreArrivals (R.remaining plan) slots made.script.items) }
+{
+    match plan_in(alloc, plan)? {
+        PlanRead::Plain(store) => {
+            let script = arrivals(alloc, &store, slots, manner)?;
+            Ok(Made {
+                script,
+                store: Some(store),
+            })
+        }
+        PlanRead::WithTerms(store) => {
+            let script = with_terms(alloc, &store, slots, manner)?;
+            Ok(Made {
+                script,
+                store: None,
+            })
+        }
+    }
+}
+
+/// Prints the script of a plan's arrivals, which is made whole before its first byte. Answers the plan, if it has times.
 fn print_arrivals<R: Read + Drop, W: Output>(
     alloc: Global,
     plan: R,
     slots: u32,
     manner: Manner,
     out: &mut W,
-) -> Result<StorePlan, Unplanned>
+) -> Result<Option<StorePlan>, Unmade>
     requires slots { slots ≤ MAX_SLOT }
     ensures printed { OnOk result
         (PrintsArrivals (R.remaining plan) slots (W.contents out.old) (W.contents out.new)) }
@@ -31,10 +133,9 @@ fn print_arrivals<R: Read + Drop, W: Output>(
         (IsNotWhole W.contents W.has_failed (PrintsArrivals (R.remaining plan) slots) out.old
         out.new) }
 {
-    let store = read_plan_from(alloc, &mut FlaggedReader::new(plan))?;
-    let script = arrivals(alloc, &store, slots, manner)?;
-    write_whole(out, &script)?;
-    Ok(store)
+    let made = script_of(alloc, plan, slots, manner)?;
+    write_whole(out, &made.script)?;
+    Ok(made.store)
 }
 
 /// Says from which slot on a die is full in so many slots; or that it isn't, and what would be needed. A writer that fails is
@@ -77,34 +178,51 @@ fn end_arrivals<E: Write>(
     err: &mut E,
     slots: u32,
     manner: Manner,
-    made: Result<StorePlan, Unplanned>,
+    made: Result<Option<StorePlan>, Unmade>,
 ) -> u8
     ensures { result ≡ (if is_ok made then 0 else 1) }
 {
     match made {
         Ok(store) => {
-            if manner.fills {
+            if let Some(store) = store
+                && manner.fills
+            {
                 report_full(alloc, err, &store, slots);
             }
             0
         }
-        Err(fault) => end_unplanned(err, fault),
+        Err(fault) => end_unmade(err, fault),
     }
 }
 
-/// Reports why no script was made, and answers the status. A writer that fails is passed over.
-fn end_unplanned<E: Write>(err: &mut E, fault: Unplanned) -> u8
+/// Reports that a plan has no arrivals, and answers the status. A writer that fails is passed over.
+fn end_refused<E: Write>(err: &mut E, unread: Unread) -> u8
     ensures { result ≡ 1 }
 {
-    match fault {
-        Unplanned::Refused(refusal) => {
-            let _ = end_refused(err, refusal);
-            if refusal == Refusal::BadPlan {
-                let _ = writeln!(err, "{WANTED}");
-            }
+    let _ = end_unread(err, unread);
+    if unread == Unread::Refused(Refusal::BadPlan) {
+        let _ = writeln!(err, "{WANTED}");
+    }
+    1
+}
+
+/// Reports why no script was made, and answers the status. A writer that fails is passed over.
+fn end_unmade<E: Write>(err: &mut E, unmade: Unmade) -> u8
+    ensures { result ≡ 1 }
+{
+    match unmade {
+        Unmade::Unread(unread) => return end_refused(err, unread),
+        Unmade::Unplanned(Unplanned::Refused(refusal)) => {
+            return end_refused(err, Unread::Refused(refusal));
         }
-        _ => {
+        Unmade::Unplanned(fault) => {
             let _ = writeln!(err, "error: {fault}");
+        }
+        Unmade::OfTimes(option) => {
+            let _ = writeln!(
+                err,
+                "error: {option} is for plans with times alone, and this one has terms"
+            );
         }
     }
     1

@@ -1,18 +1,19 @@
 //! Runs that go on from a checkpoint, and end with one.
 
-ghost use Rattle.std.specs.Prelude.{◌≡◌, ◌⊎◌, ◌≤◌, IfOk, OnErr, OnOk, is_none, length, true};
+ghost use Rattle.std.specs.Prelude.{◌≡◌, ◌⊎◌, ◌≤◌, IfOk, None, OnErr, OnOk, is_none, is_some, length, true};
 ghost use Rattle.text_base.specs.Writing.{IsNotWhole};
-ghost use Rattle.tool_commands.specs.Acts.{Ends, EndsRun, PrintsFailing, PrintsReport, PrintsRun};
+ghost use Rattle.tool_commands.specs.Acts.{Ends, EndsRun, PrintsFailing, PrintsRun};
 
 use crate::endings::{end_refused, report_failure, report_refused};
 use crate::outputs::written_path;
+use crate::plan_faults::end_unread;
 use crate::shelves::{Shelf, report_unput};
+use crate::stores::{Unread, store_of};
 use checkpoint_texts::{CheckpointReader, SavedStore, TextFault};
-use plan_texts::read_plan_from;
 use slot_types::{MAX_SLOT, Refusal};
 use std::alloc::Global;
 use std::io::{Read, Write};
-use text_base::{FlaggedReader, Output};
+use text_base::Output;
 use tool_checkpoint_runs::{
     FailingRun, RunFault, StoreDies, StoreRun, Unsaved, run_failing, run_script, save,
 };
@@ -39,7 +40,9 @@ pub fn saved_in<C: Read + Drop>(alloc: Global, text: C) -> Result<SavedStore, Ru
 fn begun_in<C: Read + Drop>(
     alloc: Global,
     from: Option<C>,
-) -> Result<Option<SavedStore>, RunFault> {
+) -> Result<Option<SavedStore>, RunFault>
+    ensures { IfOk result (λ saved. is_none from ≡ true → saved ≡ None) }
+{
     match from {
         Some(text) => Ok(Some(saved_in(alloc, text)?)),
         None => Ok(None),
@@ -61,6 +64,31 @@ struct FailingReported {
     failure: Failure,
 }
 
+/// Why no report of a run is printed.
+#[derive(Clone, Copy, Drop)]
+enum Unprinted {
+    Unread(Unread),
+    Unrun(RunFault),
+}
+
+impl From<Unread> for Unprinted {
+    fn from(unread: Unread) -> Unprinted {
+        Unprinted::Unread(unread)
+    }
+}
+
+impl From<RunFault> for Unprinted {
+    fn from(fault: RunFault) -> Unprinted {
+        Unprinted::Unrun(fault)
+    }
+}
+
+impl From<Refusal> for Unprinted {
+    fn from(refusal: Refusal) -> Unprinted {
+        Unprinted::Unrun(RunFault::Refused(refusal))
+    }
+}
+
 /// Runs a script on the dies of a plan, and prints their report, which is made whole before its first byte.
 fn print_run<P: Read + Drop, S: Read + Drop, C: Read + Drop, W: Output>(
     alloc: Global,
@@ -70,14 +98,17 @@ fn print_run<P: Read + Drop, S: Read + Drop, C: Read + Drop, W: Output>(
     slots: u32,
     saves: bool,
     out: &mut W,
-) -> Result<PrintedRun, RunFault>
+) -> Result<PrintedRun, Unprinted>
     requires slots { slots ≤ MAX_SLOT }
-    ensures printed { IfOk result (λ run.
-        PrintsReport (W.contents out.old) (W.contents out.new) run.dies.items) }
-    ensures part { OnErr result (IsNotWhole W.contents W.has_failed PrintsRun out.old out.new) }
+    ensures printed { OnOk result
+        (PrintsRun (P.remaining plan) (S.remaining script) slots (is_none from) saves
+        (W.contents out.old) (W.contents out.new)) }
+    ensures part { OnErr result
+        (IsNotWhole W.contents W.has_failed
+        (PrintsRun (P.remaining plan) (S.remaining script) slots (is_none from) saves) out.old out.new) }
     ensures few { IfOk result (λ run. length run.dies.items ≤ 8) }
 {
-    let store = read_plan_from(alloc, &mut FlaggedReader::new(plan))?;
+    let store = store_of(alloc, plan)?;
     let from = begun_in(alloc, from)?;
     let StoreRun {
         dies,
@@ -103,6 +134,16 @@ pub fn end_unrun<E: Write>(err: &mut E, fault: RunFault) -> u8
             let _ = writeln!(err, "error: {fault}");
             1
         }
+    }
+}
+
+/// Reports why no report of a run is printed, and answers the status. A writer that fails is passed over.
+fn end_unprinted<E: Write>(err: &mut E, unprinted: Unprinted) -> u8
+    ensures { result ≡ 1 }
+{
+    match unprinted {
+        Unprinted::Unread(unread) => end_unread(err, unread),
+        Unprinted::Unrun(fault) => end_unrun(err, fault),
     }
 }
 
@@ -157,19 +198,21 @@ pub fn act_run<P: Read + Drop, S: Read + Drop, C: Read + Drop, K: Shelf, W: Outp
     alloc: Global,
     plan: P,
     script: S,
-    kept: Kept<'_, C, K>,
+    from: Option<C>,
+    shelf: &K,
     slots: u32,
     to: Option<&str>,
     out: &mut W,
     err: &mut E,
 ) -> u8
     requires slots { slots ≤ MAX_SLOT }
-    ensures { EndsRun W.contents W.has_failed (is_none to.entry) out.old out.new result }
+    ensures { EndsRun W.contents W.has_failed
+        (PrintsRun (P.remaining plan) (S.remaining script) slots (is_none from) (is_some to.entry))
+        (is_none to.entry) out.old out.new result }
 {
-    let Kept { from, shelf } = kept;
     let ran = match print_run(alloc, plan, script, from, slots, to.is_some(), out) {
         Ok(ran) => ran,
-        Err(fault) => return end_unrun(err, fault),
+        Err(unprinted) => return end_unprinted(err, unprinted),
     };
     report_idle(err, ran.idle.as_slice());
     report_refused(err, ran.refused);
@@ -188,12 +231,16 @@ fn print_failing<P: Read + Drop, S: Read + Drop, W: Output>(
     slots: u32,
     fail: FailAt,
     out: &mut W,
-) -> Result<FailingReported, Refusal>
+) -> Result<FailingReported, Unread>
     requires slots { slots ≤ MAX_SLOT }
-    ensures printed { OnOk result (PrintsFailing (W.contents out.old) (W.contents out.new)) }
-    ensures part { OnErr result (IsNotWhole W.contents W.has_failed PrintsFailing out.old out.new) }
+    ensures printed { OnOk result
+        (PrintsFailing (P.remaining plan) (S.remaining script) slots (W.contents out.old)
+        (W.contents out.new)) }
+    ensures part { OnErr result
+        (IsNotWhole W.contents W.has_failed
+        (PrintsFailing (P.remaining plan) (S.remaining script) slots) out.old out.new) }
 {
-    let store = read_plan_from(alloc, &mut FlaggedReader::new(plan))?;
+    let store = store_of(alloc, plan)?;
     let FailingRun {
         dies,
         report,
@@ -217,7 +264,8 @@ pub fn act_failing<P: Read + Drop, S: Read + Drop, W: Output, E: Write>(
     err: &mut E,
 ) -> u8
     requires slots { slots ≤ MAX_SLOT }
-    ensures { Ends W.contents W.has_failed PrintsFailing out.old out.new result }
+    ensures { Ends W.contents W.has_failed
+        (PrintsFailing (P.remaining plan) (S.remaining script) slots) out.old out.new result }
 {
     match print_failing(alloc, plan, script, slots, fail, out) {
         Ok(reported) => {
@@ -225,6 +273,6 @@ pub fn act_failing<P: Read + Drop, S: Read + Drop, W: Output, E: Write>(
             report_refused(err, reported.refused);
             0
         }
-        Err(refusal) => end_refused(err, refusal),
+        Err(unread) => end_unread(err, unread),
     }
 }

@@ -1,6 +1,6 @@
 //! What a command reports beside its text, and the statuses of refusals.
 
-ghost use Rattle.std.specs.Prelude.{◌≡◌, if◌then◌else◌, is_ok};
+ghost use Rattle.std.specs.Prelude.{◌≡◌};
 
 use flash_commands::{Fault, end, refusal_name};
 use slot_types::Refusal;
@@ -58,19 +58,5 @@ pub fn report_refused<E: Write>(err: &mut E, refused: RefusedRows) {
             report_kind(err, number, count);
         }
         number = number.saturating_add(1);
-    }
-}
-
-/// Reports the rows that were refused, or why nothing was printed, and answers the status. A writer that fails is passed
-/// over.
-pub fn end_run<E: Write>(err: &mut E, ran: Result<RefusedRows, Refusal>) -> u8
-    ensures { result ≡ (if is_ok ran then 0 else 1) }
-{
-    match ran {
-        Ok(refused) => {
-            report_refused(err, refused);
-            0
-        }
-        Err(refusal) => end_refused(err, refusal),
     }
 }

@@ -1,20 +1,24 @@
 //! Whether a script keeps the plans of its dies.
 
-ghost use Rattle.std.specs.Prelude.{◌≡◌, ◌≤◌, IfOk, OnErr};
+ghost use Rattle.std.specs.Prelude.{◌≡◌, ◌≤◌, All, IfOk, OnErr, false, length, true};
+ghost use Rattle.plan_rules.specs.Bound.{MeetsBound};
+ghost use Rattle.terms_texts.specs.Stores.{IsUsable};
 ghost use Rattle.text_base.specs.Writing.{IsNotWhole};
-ghost use Rattle.tool_commands.specs.Acts.{EndsSaying, PrintsKept, Says, SaysKept, kept_status, verdict_status};
+ghost use Rattle.tool_commands.specs.Acts.{EndsSaying, PrintsKept, Says, SaysKept, SaysTermsKept, SaysTimesKept, kept_status, verdict_status};
 
-use crate::endings::end_refused;
-use plan_texts::read_plan_from;
-use slot_types::{MAX_SLOT, Refusal};
+use crate::plan_faults::end_unread;
+use crate::stores::{PlanRead, Unread, plan_in};
+use slot_types::{MAX_SLOT, Refusal, StorePlan};
 use std::alloc::Global;
 use std::io::{Read, Write};
-use text_base::{FlaggedReader, Output, write_whole};
+use terms_texts::StoreTerms;
+use text_base::{Output, write_whole};
 use tool_plan_keeping::{Verdict, keep, script_text, sentence};
+use tool_terms_keeping::{Verdict as TermsVerdict, keep_terms, sentence as terms_sentence};
 
-/// What is reported beside a plan that no script keeps.
-const TIMES_WANTED: &str =
-    "keeps wants a plan with times (version 2) that is accepted: flashplan explain says more";
+/// What is reported beside a plan without terms that no script keeps.
+const WANTED: &str =
+    "keeps wants a plan that is accepted, with times (version 2) or terms: flashplan explain says more";
 
 /// What is printed of a script that keeps the plans of its dies.
 const KEPT: &[u8] = b"the script keeps the plan of each die\n";
@@ -26,29 +30,73 @@ struct Kept {
     text: Vec<u8>,
 }
 
+/// What is said of a script that keeps the plans of its dies. The only refusal is NoMemory.
+fn kept_whole(alloc: Global) -> Result<Kept, Refusal>
+    ensures { IfOk result (λ kept. kept.keeps ≡ true) }
+{
+    Ok(Kept {
+        keeps: true,
+        text: Vec::from_slice(alloc, KEPT)?,
+    })
+}
+
+/// What is said of one that doesn't: a condition that doesn't hold.
+fn broken(text: Vec<u8>) -> Kept
+    ensures { result.keeps ≡ false }
+{
+    Kept { keeps: false, text }
+}
+
+/// Whether a script keeps plans with times, with a condition that doesn't hold where it doesn't.
+fn keeps_times(alloc: Global, store: &StorePlan, text: &[u8], slots: u32) -> Result<Kept, Refusal>
+    requires some { 1 ≤ length store.now }
+    requires few { length store.now ≤ 8 }
+    requires bound { All MeetsBound store.now }
+    ensures { IfOk result (λ kept. SaysTimesKept store.now slots text.now kept.keeps) }
+{
+    match keep(alloc, text, store, slots)? {
+        Verdict::Kept => kept_whole(alloc),
+        Verdict::Broken(breach) => {
+            let said = sentence(alloc, text, store, slots, breach)?;
+            Ok(broken(said))
+        }
+    }
+}
+
+/// Whether a script keeps plans with terms, with a condition that doesn't hold where it doesn't.
+fn keeps_terms(alloc: Global, store: &StoreTerms, text: &[u8], slots: u32) -> Result<Kept, Refusal>
+    requires some { 1 ≤ length store.now }
+    requires few { length store.now ≤ 8 }
+    requires usable { All IsUsable store.now }
+    ensures { IfOk result (λ kept. SaysTermsKept store.now slots text.now kept.keeps) }
+{
+    match keep_terms(alloc, text, store, slots)? {
+        TermsVerdict::Kept => kept_whole(alloc),
+        TermsVerdict::Broken(breach) => {
+            let said = terms_sentence(alloc, text, store, slots, breach)?;
+            Ok(broken(said))
+        }
+    }
+}
+
 /// Whether a script keeps the plans of its dies, with a condition that doesn't hold where it doesn't.
 fn kept_of<P: Read + Drop, S: Read + Drop>(
     alloc: Global,
     plan: P,
     script: S,
     slots: u32,
-) -> Result<Kept, Refusal>
+) -> Result<Kept, Unread>
     requires slots { slots ≤ MAX_SLOT }
     ensures said { IfOk result (λ kept.
         SaysKept (P.remaining plan) (S.remaining script) slots kept.keeps) }
 {
-    let store = read_plan_from(alloc, &mut FlaggedReader::new(plan))?;
+    let plan = plan_in(alloc, plan)?;
     let text = script_text(alloc, script)?;
-    match keep(alloc, &text, &store, slots)? {
-        Verdict::Kept => Ok(Kept {
-            keeps: true,
-            text: Vec::from_slice(alloc, KEPT)?,
-        }),
-        Verdict::Broken(broken) => Ok(Kept {
-            keeps: false,
-            text: sentence(alloc, &text, &store, slots, broken)?,
-        }),
-    }
+    let kept = match &plan {
+        PlanRead::Plain(store) => keeps_times(alloc, store, &text, slots)?,
+        PlanRead::WithTerms(store) => keeps_terms(alloc, store, &text, slots)?,
+    };
+    Ok(kept)
 }
 
 /// Prints whether a script keeps the plans of its dies, and says whether it does, as [`kept_of`] finds.
@@ -58,7 +106,7 @@ fn print_kept<P: Read + Drop, S: Read + Drop, W: Output>(
     script: S,
     slots: u32,
     out: &mut W,
-) -> Result<bool, Refusal>
+) -> Result<bool, Unread>
     requires slots { slots ≤ MAX_SLOT }
     ensures printed { IfOk result (λ keeps.
         PrintsKept (P.remaining plan) (S.remaining script) slots keeps (W.contents out.old)
@@ -73,16 +121,16 @@ fn print_kept<P: Read + Drop, S: Read + Drop, W: Output>(
 }
 
 /// Reports why it isn't known whether a script keeps its plans, or answers whether it does.
-fn end_kept<E: Write>(err: &mut E, kept: Result<bool, Refusal>) -> u8
+fn end_kept<E: Write>(err: &mut E, kept: Result<bool, Unread>) -> u8
     ensures { result ≡ kept_status kept }
 {
     match kept {
         Ok(true) => 0,
         Ok(false) => 3,
-        Err(refusal) => {
-            let _ = end_refused(err, refusal);
-            if refusal == Refusal::BadPlan {
-                let _ = writeln!(err, "{TIMES_WANTED}");
+        Err(unread) => {
+            let _ = end_unread(err, unread);
+            if unread == Unread::Refused(Refusal::BadPlan) {
+                let _ = writeln!(err, "{WANTED}");
             }
             1
         }

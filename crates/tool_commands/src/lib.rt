@@ -5,15 +5,18 @@ mod acts;
 pub mod arriving;
 pub mod checkpoint_acts;
 pub mod comparing;
+pub mod demanding;
 pub mod endings;
 pub mod explaining;
 pub mod fitting;
 pub mod keeping;
 pub mod listed_acts;
 pub mod outputs;
+pub mod plan_faults;
 mod requests;
 pub mod runs;
 pub mod shelves;
+pub mod stores;
 pub mod strict;
 
 pub use acts::act;

@@ -26,7 +26,9 @@ fn files_of<'a>(command: Command<'a>) -> (&'a str, Option<&'a str>, Option<&'a s
 {
     match command {
         Command::Explain { plan, from } => (plan, None, from),
-        Command::Fit { sheet: plan } | Command::Arrivals { plan, .. } => (plan, None, None),
+        Command::Fit { sheet: plan }
+        | Command::Arrivals { plan, .. }
+        | Command::Demand { plan, .. } => (plan, None, None),
         Command::Keeps { plan, script, .. }
         | Command::Wear { plan, script, .. }
         | Command::Report { plan, script, .. }
@@ -62,7 +64,7 @@ fn parts_of(command: Command<'_>) -> (Option<(&'static str, u32)>, Option<(&'sta
             fail: Some(fail),
             ..
         } => (Some(("the die of --fail-at", fail.die)), None),
-        Command::Draw { die, .. } => (Some(("--die", die)), None),
+        Command::Draw { die, .. } | Command::Demand { die, .. } => (Some(("--die", die)), None),
         Command::Compare { die, task, .. } => (Some(("--die", die)), Some(("--task", task))),
         _ => (None, None),
     }

@@ -2,14 +2,15 @@
 
 ghost use Rattle.std.specs.Prelude.{◌≡◌, ◌≤◌, OnErr, OnOk, if◌then◌else◌, is_ok};
 ghost use Rattle.text_base.specs.Writing.{IsNotWhole};
-ghost use Rattle.tool_commands.specs.Acts.{Ends, PrintsText, PrintsWear};
+ghost use Rattle.tool_commands.specs.Acts.{Ends, PrintsDrawing, PrintsFigures, PrintsWear};
 
-use crate::endings::{end_refused, end_run, report_failure};
-use plan_texts::read_plan_from;
-use slot_types::{MAX_SLOT, Refusal};
+use crate::endings::report_failure;
+use crate::plan_faults::{end_run, end_unread};
+use crate::stores::{Unread, store_of};
+use slot_types::MAX_SLOT;
 use std::alloc::Global;
 use std::io::{Read, Write};
-use text_base::{FlaggedReader, Output, write_whole};
+use text_base::{Output, write_whole};
 use tool_run_figures::Life;
 use tool_watched_runs::{
     FailAt, Failure, MOST_SLOTS, RefusedRows, Shown, Sights, TooMany, draw, report, wear,
@@ -22,14 +23,16 @@ fn print_wear<P: Read + Drop, S: Read + Drop, W: Output>(
     script: S,
     slots: u32,
     out: &mut W,
-) -> Result<RefusedRows, Refusal>
+) -> Result<RefusedRows, Unread>
     requires slots { slots ≤ MAX_SLOT }
     ensures printed { OnOk result
-        (PrintsWear (P.remaining plan) (W.contents out.old) (W.contents out.new)) }
+        (PrintsWear (P.remaining plan) (S.remaining script) slots (W.contents out.old)
+        (W.contents out.new)) }
     ensures part { OnErr result
-        (IsNotWhole W.contents W.has_failed (PrintsWear (P.remaining plan)) out.old out.new) }
+        (IsNotWhole W.contents W.has_failed (PrintsWear (P.remaining plan) (S.remaining script) slots)
+        out.old out.new) }
 {
-    let store = read_plan_from(alloc, &mut FlaggedReader::new(plan))?;
+    let store = store_of(alloc, plan)?;
     let worn = wear(alloc, store, script, slots)?;
     write_whole(out, &worn.text)?;
     Ok(worn.refused)
@@ -47,7 +50,8 @@ pub fn act_wear<P: Read + Drop, S: Read + Drop, W: Output, E: Write>(
     err: &mut E,
 ) -> u8
     requires slots { slots ≤ MAX_SLOT }
-    ensures { Ends W.contents W.has_failed (PrintsWear (P.remaining plan)) out.old out.new result }
+    ensures { Ends W.contents W.has_failed
+        (PrintsWear (P.remaining plan) (S.remaining script) slots) out.old out.new result }
 {
     let ran = print_wear(alloc, plan, script, slots, out);
     end_run(err, ran)
@@ -63,19 +67,23 @@ fn print_report<P: Read + Drop, S: Read + Drop, W: Output>(
     as_csv: bool,
     fail: Option<FailAt>,
     out: &mut W,
-) -> Result<(RefusedRows, Option<Failure>), Refusal>
+) -> Result<(RefusedRows, Option<Failure>), Unread>
     requires slots { slots ≤ MAX_SLOT }
-    ensures printed { OnOk result (PrintsText (W.contents out.old) (W.contents out.new)) }
-    ensures part { OnErr result (IsNotWhole W.contents W.has_failed PrintsText out.old out.new) }
+    ensures printed { OnOk result
+        (PrintsFigures (P.remaining plan) (S.remaining script) slots fail (W.contents out.old)
+        (W.contents out.new)) }
+    ensures part { OnErr result
+        (IsNotWhole W.contents W.has_failed
+        (PrintsFigures (P.remaining plan) (S.remaining script) slots fail) out.old out.new) }
 {
-    let store = read_plan_from(alloc, &mut FlaggedReader::new(plan))?;
+    let store = store_of(alloc, plan)?;
     let said = report(alloc, store, script, slots, life, as_csv, fail)?;
     write_whole(out, &said.text)?;
     Ok((said.refused, said.failure))
 }
 
 /// Reports what came of a report's run, and answers the status.
-fn end_report<E: Write>(err: &mut E, ran: Result<(RefusedRows, Option<Failure>), Refusal>) -> u8
+fn end_report<E: Write>(err: &mut E, ran: Result<(RefusedRows, Option<Failure>), Unread>) -> u8
     ensures { result ≡ (if is_ok ran then 0 else 1) }
 {
     match ran {
@@ -83,7 +91,7 @@ fn end_report<E: Write>(err: &mut E, ran: Result<(RefusedRows, Option<Failure>),
             report_failure(err, failure);
             end_run(err, Ok(refused))
         }
-        Err(refusal) => end_refused(err, refusal),
+        Err(unread) => end_unread(err, unread),
     }
 }
 
@@ -102,7 +110,8 @@ pub fn act_report<P: Read + Drop, S: Read + Drop, W: Output, E: Write>(
     err: &mut E,
 ) -> u8
     requires slots { slots ≤ MAX_SLOT }
-    ensures { Ends W.contents W.has_failed PrintsText out.old out.new result }
+    ensures { Ends W.contents W.has_failed
+        (PrintsFigures (P.remaining plan) (S.remaining script) slots fail) out.old out.new result }
 {
     let ran = print_report(alloc, plan, script, slots, life, as_csv, fail, out);
     end_report(err, ran)
@@ -126,12 +135,16 @@ fn print_drawn<P: Read + Drop, S: Read + Drop, W: Output>(
     shown: Shown,
     fail: Option<FailAt>,
     out: &mut W,
-) -> Result<Drawn, Refusal>
+) -> Result<Drawn, Unread>
     requires slots { slots ≤ MAX_SLOT }
-    ensures printed { OnOk result (PrintsText (W.contents out.old) (W.contents out.new)) }
-    ensures part { OnErr result (IsNotWhole W.contents W.has_failed PrintsText out.old out.new) }
+    ensures printed { OnOk result
+        (PrintsDrawing (P.remaining plan) (S.remaining script) slots die fail (W.contents out.old)
+        (W.contents out.new)) }
+    ensures part { OnErr result
+        (IsNotWhole W.contents W.has_failed
+        (PrintsDrawing (P.remaining plan) (S.remaining script) slots die fail) out.old out.new) }
 {
-    let store = read_plan_from(alloc, &mut FlaggedReader::new(plan))?;
+    let store = store_of(alloc, plan)?;
     let drawn = draw(alloc, store, script, slots, die, shown, fail)?;
     write_whole(out, &drawn.text)?;
     Ok(Drawn {
@@ -146,7 +159,7 @@ fn print_drawn<P: Read + Drop, S: Read + Drop, W: Output>(
 enum Undrawn {
     /// The picture would have too many slots.
     TooMany(TooMany),
-    Refused(Refusal),
+    Unread(Unread),
 }
 
 /// Prints the picture of what the slots of a die carried, unless it would have too many: then nothing is read.
@@ -161,15 +174,19 @@ fn print_bounded<P: Read + Drop, S: Read + Drop, W: Output>(
     out: &mut W,
 ) -> Result<Drawn, Undrawn>
     requires slots { slots ≤ MAX_SLOT }
-    ensures printed { OnOk result (PrintsText (W.contents out.old) (W.contents out.new)) }
-    ensures part { OnErr result (IsNotWhole W.contents W.has_failed PrintsText out.old out.new) }
+    ensures printed { OnOk result
+        (PrintsDrawing (P.remaining plan) (S.remaining script) slots die fail (W.contents out.old)
+        (W.contents out.new)) }
+    ensures part { OnErr result
+        (IsNotWhole W.contents W.has_failed
+        (PrintsDrawing (P.remaining plan) (S.remaining script) slots die fail) out.old out.new) }
 {
     if let Some(many) = shown.too_many(slots) {
         return Err(Undrawn::TooMany(many));
     }
     match print_drawn(alloc, plan, script, slots, die, shown, fail, out) {
         Ok(drawn) => Ok(drawn),
-        Err(refusal) => Err(Undrawn::Refused(refusal)),
+        Err(unread) => Err(Undrawn::Unread(unread)),
     }
 }
 
@@ -217,7 +234,7 @@ fn end_drawn<E: Write>(err: &mut E, slots: u32, drawn: Result<Drawn, Undrawn>) -
             report_failure(err, drawn.failure);
             end_run(err, Ok(drawn.refused))
         }
-        Err(Undrawn::Refused(refusal)) => end_refused(err, refusal),
+        Err(Undrawn::Unread(unread)) => end_unread(err, unread),
         Err(Undrawn::TooMany(many)) => end_many(err, many),
     }
 }
@@ -247,7 +264,8 @@ pub fn act_draw<P: Read + Drop, S: Read + Drop, W: Output, E: Write>(
     err: &mut E,
 ) -> u8
     requires slots { slots ≤ MAX_SLOT }
-    ensures { Ends W.contents W.has_failed PrintsText out.old out.new result }
+    ensures { Ends W.contents W.has_failed
+        (PrintsDrawing (P.remaining plan) (S.remaining script) slots die fail) out.old out.new result }
 {
     let many = many_of(shown, slots);
     let drawn = print_bounded(alloc, plan, script, slots, die, shown, fail, out);

@@ -11,10 +11,13 @@ use command_arguments::{defaulted, flag, plan_file, slots};
 use std::alloc::{AllocError, Global};
 
 /// What the script of arrivals has in it.
-const ARRIVALS_HELP: &str = "The plan has to have times (version 2), and to pass their test.
+const ARRIVALS_HELP: &str =
+    "The plan has to have times (version 2) or terms (terms = 1), and to pass its test.
 A collection of each task comes at each multiple of its collect_period, a job at each multiple of its period.
 A job has `work` operations, of which `writes` are writes; the seed draws which, and their pages.
 Of a task that writes one in eight of the others is a trim, the rest are reads.
+Of a plan with terms it is asked for in jobs of at most 64 operations, which are due `deadline` slots later; --fill, --phases,
+--jitter and --load are for plans with times alone.
 The pages of task t of n tasks are t, t + n, t + 2n and so on; a task beyond the last page has page t modulo `logical`.
 With --fill the writing tasks share all pages, and each first writes its own once, in order; nothing is trimmed.
 A task that fills its pages begins in slot 0, and leaves no job out and none late until it has.

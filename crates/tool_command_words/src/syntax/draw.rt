@@ -1,20 +1,47 @@
 //! The command `draw`.
 
 ghost use Rattle.std.specs.Prelude.{◌≡◌, false, codes, IfOk};
-ghost use Rattle.clap.specs.Words.{rule_of};
-ghost use Rattle.command_arguments.specs.Arguments.{flag_rule};
+ghost use Rattle.clap.specs.Words.{new_rule, rule_of};
+ghost use Rattle.command_arguments.specs.Arguments.{flag_rule, option_rule};
 ghost use Rattle.tool_command_words.specs.Syntax.{IsCommand, draw_app, draw_files_app, draw_forms_app, draw_run_app, draw_window_app, from_rule, to_rule};
 
-use crate::syntax::parts::{command, on_files, with_arg};
+use crate::syntax::parts::{command, with_arg};
 use crate::syntax::shared::{die, fail_at};
 use clap::{Arg, Command};
-use command_arguments::{defaulted, flag, slots};
+use command_arguments::{defaulted, flag, option, plan_file};
 use std::alloc::{AllocError, Global};
 
-/// How a picture is drawn, as SVG and as text.
+/// How a picture is drawn, as SVG and as text; and without a script.
 const DRAW_HELP: &str =
-    "Example: flashplan draw plan.toml script.csv --slots 1000 --from 200 --to 300 > run.svg
-         flashplan draw plan.toml script.csv --slots 1000 --worst --text";
+    "A run is drawn of a SCRIPT and --slots N. With --demand nothing runs: drawn is how many slots the tasks of a die may ask
+for, by the length of an interval; the plan has to have terms (terms = 1), and needn't be accepted.
+
+Example: flashplan draw plan.toml script.csv --slots 1000 --from 200 --to 300 > run.svg
+         flashplan draw plan.toml script.csv --slots 1000 --worst --text
+         flashplan draw plan.toml --demand > demand.svg";
+
+/// The file that has the script of a run.
+fn script<'a>(alloc: Global) -> Arg<'a>
+    ensures rule { rule_of result ≡ new_rule (codes "SCRIPT") }
+    ensures local { result.global ≡ false }
+{
+    Arg::new(alloc, "SCRIPT").help(
+        "The jobs and collections that the dies get, a CSV file; - is standard input (required but for --demand)",
+    )
+}
+
+/// How many slots a run has.
+fn slots<'a>(alloc: Global) -> Arg<'a>
+    ensures rule { rule_of result ≡ option_rule (codes "slots") }
+    ensures local { result.global ≡ false }
+{
+    option(
+        alloc,
+        "slots",
+        "N",
+        "How many slots each die runs, from 0 to 1048576 (required but for --demand)",
+    )
+}
 
 /// Where the picture begins.
 fn first<'a>(alloc: Global) -> Arg<'a>
@@ -80,12 +107,28 @@ fn all<'a>(alloc: Global) -> Arg<'a>
     )
 }
 
+/// Whether what may be asked for is drawn.
+fn demand<'a>(alloc: Global) -> Arg<'a>
+    ensures rule { rule_of result ≡ flag_rule (codes "demand") }
+    ensures local { result.global ≡ false }
+{
+    flag(
+        alloc,
+        "demand",
+        "Draw what the tasks of die D may ask for, and no run; takes no other option but --die",
+    )
+}
+
 /// The command `draw`, with its files.
 fn draw_files<'a>(alloc: Global) -> Result<Command<'a>, AllocError>
     ensures { IfOk result (λ c. IsCommand c draw_files_app) }
 {
     let about = "Run a script on a die, and draw what its slots carried, as an SVG picture";
-    on_files(alloc, command(alloc, "draw", about, DRAW_HELP))
+    let planned = with_arg(
+        Ok(command(alloc, "draw", about, DRAW_HELP)),
+        plan_file(alloc),
+    );
+    with_arg(planned, script(alloc))
 }
 
 /// The command `draw`, with what it runs.
@@ -117,5 +160,6 @@ pub(crate) fn draw_words<'a>(alloc: Global) -> Result<Command<'a>, AllocError>
     ensures { IfOk result (λ c. IsCommand c draw_app) }
 {
     let told = with_arg(draw_forms(alloc), all(alloc));
-    with_arg(told, fail_at(alloc))
+    let failing = with_arg(told, fail_at(alloc));
+    with_arg(failing, demand(alloc))
 }

@@ -13,11 +13,28 @@ returns-in_err-write-clause-part g c =
       c.in_err-write.ensures.failed,
       (
         report_text (reports_of 0 dies),
-        (dies, refl),
+        record {
+          store = c.in_ok-store.store;
+          read = c.in_ok-store.ensures.store;
+          saved = c.in_ok-from.from;
+          begun = c.in_ok-from.ensures;
+          dies = dies;
+          ran = c.in_ok-dies.ensures.ran;
+          written = refl;
+        },
         rw (whole_is (reports_of 0 dies) _ c.in_ok-dies.ensures.report) at c.in_err-write.ensures.part,
       ),
     ))
 
 pub returns-clause-printed : goal.returns-clause-printed
 returns-clause-printed g c =
-    rw (whole_is (reports_of 0 c.in_ok-dies.field-0.dies.items) _ c.in_ok-dies.ensures.report) at c.in_ok-write.ensures.written
+    let dies = c.in_ok-dies.field-0.dies.items in
+    record {
+      store = c.in_ok-store.store;
+      read = c.in_ok-store.ensures.store;
+      saved = c.in_ok-from.from;
+      begun = c.in_ok-from.ensures;
+      dies = dies;
+      ran = c.in_ok-dies.ensures.ran;
+      written = rw (whole_is (reports_of 0 dies) _ c.in_ok-dies.ensures.report) at c.in_ok-write.ensures.written;
+    }

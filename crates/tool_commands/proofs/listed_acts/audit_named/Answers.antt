@@ -1,4 +1,4 @@
-use Rattle.std.proofs.Common.{◌≡◌, Bool, ap, ◌∙◌}
+use Rattle.std.proofs.Common.{Bool, ap, ◌∙◌}
 use Rattle.std.specs.Prelude.{if◌then◌else◌}
 use Rattle.std.specs.List.{list_any}
 use Rattle.flash_commands.specs.Audit.{is_refused_work}

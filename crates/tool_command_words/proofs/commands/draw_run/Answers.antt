@@ -3,7 +3,7 @@ use Rattle.clap.specs.Words.{found_of, rows_of}
 use Rattle.tool_command_words.specs.RequestTexts.{text_of_command}
 use Rattle.tool_command_words.specs.Commands.{draw_from}
 use Rattle.tool_command_words.proofs.Scripted.{when_scripted}
-use Rattle.tool_command_words.proofs.commands.draw.Goals as goal
+use Rattle.tool_command_words.proofs.commands.draw_run.Goals as goal
 
 pub returns-in_err-plan-clause-draw : goal.returns-in_err-plan-clause-draw
 returns-in_err-plan-clause-draw c =

@@ -1,0 +1,10 @@
+use Rattle.tool_commands.specs.Acts.{PrintsDrawing}
+use Rattle.tool_commands.proofs.EndedSo.{ends}
+use Rattle.tool_commands.proofs.runs.act_draw.Goals as goal
+
+pub returns : goal.returns
+returns g c =
+    ends g.W.Write.contents g.W.Output.has_failed
+    (PrintsDrawing (g.P.Read.remaining c.args.plan) (g.S.Read.remaining c.args.script) c.args.slots c.args.die c.args.fail) c.args.out.now
+    c.print_bounded-drawn.new.out c.print_bounded-drawn.result c.end_drawn.result c.print_bounded-drawn.ensures.printed
+    c.print_bounded-drawn.ensures.part c.end_drawn.ensures

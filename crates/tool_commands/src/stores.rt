@@ -1,0 +1,93 @@
+//! The plans of a store's dies, of a text with terms or without.
+
+ghost use Rattle.std.specs.Prelude.{◌≤◌, All, IfOk, length};
+ghost use Rattle.plan_rules.specs.Bound.{MeetsBound};
+ghost use Rattle.tool_commands.specs.PlanKinds.{ReadsPlan, ReadsStore};
+
+use plan_texts::{plan_text, read_plan};
+use slot_types::{Refusal, StorePlan};
+use std::alloc::Global;
+use std::io::Read;
+use terms_texts::{StoreTerms, TermsRefusal, plans_of, read_terms};
+use text_base::FlaggedReader;
+use tool_terms_design::is_terms_text;
+
+/// Why a plan's text makes no store.
+#[derive(Clone, Copy, PartialEq, Eq, Debug, Drop)]
+pub enum Unread {
+    /// Of a plan without terms; or the reader failed, or memory ran out.
+    Refused(Refusal),
+    /// Of a plan with terms.
+    WithTerms(TermsRefusal),
+}
+
+impl From<Refusal> for Unread {
+    ghost use Rattle.std.specs.Prelude.{◌≡◌};
+    ghost use Rattle.tool_commands.specs.declared.stores.Unread.TheVariants.{Refused};
+
+    ghost from_gives = { λ refusal made. made ≡ Refused refusal };
+
+    fn from(refusal: Refusal) -> Self {
+        Unread::Refused(refusal)
+    }
+}
+
+impl From<TermsRefusal> for Unread {
+    ghost use Rattle.std.specs.Prelude.{◌≡◌};
+    ghost use Rattle.tool_commands.specs.declared.stores.Unread.TheVariants.{WithTerms};
+
+    ghost from_gives = { λ refusal made. made ≡ WithTerms refusal };
+
+    fn from(refusal: TermsRefusal) -> Self {
+        Unread::WithTerms(refusal)
+    }
+}
+
+impl Unread {
+    /// The refusal without its place.
+    pub fn refusal(self) -> Refusal {
+        match self {
+            Unread::Refused(refusal) => refusal,
+            Unread::WithTerms(refusal) => refusal.refusal(),
+        }
+    }
+}
+
+/// A plan as it was read: the store that its text makes.
+#[derive(Drop)]
+pub enum PlanRead {
+    Plain(StorePlan),
+    WithTerms(StoreTerms),
+}
+
+/// Reads a plan, with terms or without: of each kind as [`read_terms`] and [`read_plan`] do, no more of it than 1,048,577
+/// bytes. Which kind it is, [`is_terms_text`] tells. ReadFault comes where the reader fails, and NoMemory where memory is
+/// refused.
+pub fn plan_in<R: Read + Drop>(alloc: Global, plan: R) -> Result<PlanRead, Unread>
+    ensures { IfOk result (ReadsPlan (R.remaining plan)) }
+{
+    let text = plan_text(alloc, &mut FlaggedReader::new(plan))?;
+    if is_terms_text(alloc, &text)? {
+        let store = read_terms(alloc, &text)?;
+        Ok(PlanRead::WithTerms(store))
+    } else {
+        let store = read_plan(alloc, &text)?;
+        Ok(PlanRead::Plain(store))
+    }
+}
+
+/// Reads the plans of a store's dies, of a plan with terms or without, as [`plan_in`] does: of one with terms, which has
+/// passed its tests, without these. It is refused as [`plan_in`] refuses it.
+pub fn store_of<R: Read + Drop>(alloc: Global, plan: R) -> Result<StorePlan, Unread>
+    ensures store { IfOk result (ReadsStore (R.remaining plan)) }
+    ensures few { IfOk result (λ store. length store ≤ 8) }
+    ensures bound { IfOk result (All MeetsBound) }
+{
+    match plan_in(alloc, plan)? {
+        PlanRead::Plain(store) => Ok(store),
+        PlanRead::WithTerms(store) => {
+            let plans = plans_of(alloc, &store)?;
+            Ok(plans)
+        }
+    }
+}
