@@ -37,10 +37,7 @@ pub fn saved_in<C: Read + Drop>(alloc: Global, text: C) -> Result<SavedStore, Ru
 }
 
 /// What was saved of dies, in a text that there may be.
-fn begun_in<C: Read + Drop>(
-    alloc: Global,
-    from: Option<C>,
-) -> Result<Option<SavedStore>, RunFault>
+fn begun_in<C: Read + Drop>(alloc: Global, from: Option<C>) -> Result<Option<SavedStore>, RunFault>
     ensures { IfOk result (λ saved. is_none from ≡ true → saved ≡ None) }
 {
     match from {
