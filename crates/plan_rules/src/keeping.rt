@@ -25,28 +25,16 @@ fn task_times(times: &Times, task: usize) -> TaskTimes
     }
 }
 
-fn page(op: &Op) -> u32
-    ensures { result ≡ page_of op.now }
-{
-    match op {
-        Op::Read(page) => *page,
-        Op::Write(page, _) => *page,
-        Op::Trim(page) => *page,
-    }
-}
-
 fn are_on_die(ops: &[Op], logical: u32) -> bool
     ensures { result ≡ list_all (λ op. nat_lt (page_of op) logical) ops.now }
 {
-    ops.iter().all(|op| page(op) < logical)
+    ops.iter().all(|op| op.page() < logical)
 }
 
 fn writes(ops: &[Op]) -> usize
     ensures { result ≡ count_by is_write ops.now }
 {
-    ops.iter()
-        .filter(|op| matches!(op, Op::Write(_, _)))
-        .count()
+    ops.iter().filter(|op| op.is_write()).count()
 }
 
 fn is_planned_job(
