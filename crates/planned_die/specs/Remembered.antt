@@ -7,9 +7,7 @@ use Rattle.demand_rules.specs.declared.terms.TaskTerms.{TaskTerms}
 use Rattle.demand_rules.specs.declared.terms.Terms.{Terms}
 use Rattle.demand_rules.specs.Demand.{terms_of}
 use Rattle.die_log.specs.Model.Lives.{Lives}
-use Rattle.planned_log.specs.Asks.{Asked, counting, asked_by, has_room, room_at, most_operations}
-use Rattle.planned_die.specs.declared.ask_kinds.AskKind.{AskKind}
-use Rattle.planned_die.specs.declared.ask_kinds.AskKind.TheVariants as kinds
+use Rattle.planned_log.specs.Asks.{Asked, counting, asked_by, has_room, room_at}
 use Rattle.planned_die.specs.declared.memory.AskedJob.{AskedJob}
 use Rattle.planned_die.specs.declared.task_asks.TaskAsks.{TaskAsks}
 
@@ -36,11 +34,6 @@ CountAs plan terms clock asked lives = (task slot : ℕ) → task < length plan.
 abbrev pub next_room : TaskTerms → (first clock : ℕ) → List Asked → (operations writes : ℕ) → Option ℕ
 next_room t first clock asked ops written =
     if has_room t clock asked ops written then None else Some (room_at t (counting t.period clock asked) ops written - first)
-
--- the most operations that a task may ask for at once
-abbrev pub most_of : AskKind → TaskTerms → ℕ
-most_of kinds.Job t = most_operations t
-most_of kinds.Burst t = t.work
 
 -- each collection of the task that comes in a life of so many slots is due by its end: the life ends where the task's
 -- collections come again, or no sooner after the last one than that is due

@@ -5,13 +5,12 @@ ghost use Rattle.planned_die.specs.Planned.{HasLived};
 ghost use Rattle.planned_die.specs.PlannedCalls.{IsAsk};
 
 use crate::all_asks::note_job;
-use crate::ask_kinds::AskKind;
 use crate::memory::job_of;
 use crate::planned_die::PlannedDie;
 use crate::rooms::why_refused;
 use crate::terms::terms_at;
 use flash_die::Nand;
-use planned_log::AskRefusal;
+use planned_log::{AskKind, AskRefusal};
 use slot_types::{JobNo, Op, TaskNo};
 use std::alloc::Global;
 

@@ -5,12 +5,11 @@ ghost use Rattle.die_log.specs.Model.Lives.{Lives};
 ghost use Rattle.planned_die.specs.Planned.{HasLived};
 ghost use Rattle.planned_die.specs.PlannedCalls.{burst_refusal_in, RefusesBurst, IsBurst};
 
-use crate::ask_kinds::AskKind;
 use crate::burst_jobs::cut;
 use crate::planned_die::PlannedDie;
 use crate::rooms::why_refused;
 use flash_die::Nand;
-use planned_log::AskRefusal;
+use planned_log::{AskKind, AskRefusal};
 use slot_types::{JobNo, Op, TaskNo};
 use std::alloc::Global;
 

@@ -2,7 +2,6 @@
 #![tactic(auto)]
 
 pub mod all_asks;
-pub mod ask_kinds;
 pub mod asks;
 pub mod burst_jobs;
 pub mod bursts;
@@ -20,5 +19,5 @@ pub mod terms;
 pub use bursts::Burst;
 pub use memory::AskedJob;
 pub use planned_die::PlannedDie;
-pub use planned_log::AskRefusal;
+pub use planned_log::{AskKind, AskRefusal};
 pub use refusals::{LifeRefusal, PlanRefusal};

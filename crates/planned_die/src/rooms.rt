@@ -4,16 +4,16 @@ ghost use Rattle.std.specs.Prelude.{◌≡◌, ◌+◌, ◌≤◌, ◌<◌, All,
 ghost use Rattle.slot_types.specs.Operations.{writes};
 ghost use Rattle.demand_rules.specs.Demand.{terms_of};
 ghost use Rattle.planned_log.specs.Asks.{refusals_above, first_refusal};
+ghost use Rattle.planned_log.specs.AskKinds.{most_of};
 ghost use Rattle.planned_die.specs.declared.task_asks.TaskAsks.{TaskAsks};
-ghost use Rattle.planned_die.specs.Remembered.{most_of, own_asks, jobs_of, AreKept, HasRoomFor, HaveMemory};
+ghost use Rattle.planned_die.specs.Remembered.{own_asks, jobs_of, AreKept, HasRoomFor, HaveMemory};
 
 use crate::all_asks::too_soon;
-use crate::ask_kinds::AskKind;
 use crate::task_asks::TaskAsks;
 use crate::terms::terms_at;
 use demand_rules::{TaskTerms, Terms};
 use job_table::CountedOps;
-use planned_log::AskRefusal;
+use planned_log::{AskKind, AskRefusal};
 use slot_types::{DiePlan, LentOps, MAX_OPS, Op, TaskNo};
 
 /// The most operations that a task may ask for at once.

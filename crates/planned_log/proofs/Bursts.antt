@@ -3,15 +3,13 @@ use Rattle.std.proofs.Common.{◌≡◌, ℕ, zero, suc, ◌+◌, ◌-◌, ◌<�
 use Rattle.std.proofs.Common.{Option, None, nat_lt, take_all, refl, ap, sym, subst, ◌∙◌, arith, inl, inr, length-take, length-drop, take-append-drop}
 use Rattle.std.specs.Prelude.{flat_map, All}
 use Rattle.std.specs.List.{AllByRecursion}
-use Rattle.std.proofs.lemmas.Bool.{leb-true, cases_lt}
+use Rattle.std.proofs.lemmas.Bool.{cases_lt}
 use Rattle.std.proofs.lemmas.Bool.Decides.{nat_tests}
-use Rattle.std.proofs.lemmas.List.{append-nil}
 use Rattle.std.proofs.lemmas.List.Sums.{sum_by-cons, sum_by-take-drop}
 use Rattle.std.proofs.lemmas.List.Elements.{All-take, All-drop, All-from_recursion, recursion_from_All}
 use Rattle.slot_types.specs.declared.limits.TheConstants.{MAX_OPS}
 use Rattle.slot_types.specs.declared.plans.DiePlan.{DiePlan}
 use Rattle.slot_types.specs.declared.events.Op.{Op}
-use Rattle.slot_types.specs.declared.events.Event.{Event}
 use Rattle.slot_types.specs.Operations.{page_of, is_write, writes}
 use Rattle.demand_rules.specs.declared.terms.Terms.{Terms}
 use Rattle.demand_rules.specs.Demand.{terms_of}
@@ -20,7 +18,7 @@ use Rattle.die_log.specs.Model.Start.{Start}
 use Rattle.die_log.specs.Model.Lives.{Lives, all_slots}
 use Rattle.die_log.specs.Model.Answers.{after_call, with_answer, reply_if_accepted}
 use Rattle.planned_log.specs.declared.refusals.AskRefusal.{AskRefusal}
-use Rattle.planned_log.specs.Asks.{Asked, asked_by, asked_job, counts_in, operations_in, writes_in, most_operations}
+use Rattle.planned_log.specs.Asks.{Asked, asked_by, asked_job, counts_in, most_operations}
 use Rattle.planned_log.specs.Asks.{ask_refusal, burst_refusal, burst_refusals, refusals_above, first_refusal}
 use Rattle.planned_log.specs.Bursts.{first_jobs, job_count, jobs_of, AreUnrefused}
 use Rattle.planned_log.specs.Laws.{IsKept}

@@ -7,6 +7,7 @@ use Rattle.std.proofs.lemmas.Bool.Decides.{nat_tests}
 use Rattle.std.proofs.lemmas.List.{length-set, length-replicate, length-map}
 use Rattle.std.proofs.lemmas.List.Sums.{sum_by-cons, sum_by-le-sum_by}
 use Rattle.std.proofs.lemmas.Option.{same_Some}
+use Rattle.slot_types.specs.declared.limits.TheConstants.{MAX_OPS}
 use Rattle.slot_types.specs.declared.events.Op.{Op}
 use Rattle.slot_types.specs.declared.plans.DiePlan.{DiePlan}
 use Rattle.slot_types.specs.Operations.{writes}
@@ -15,22 +16,28 @@ use Rattle.demand_rules.specs.declared.terms.Terms.{Terms}
 use Rattle.demand_rules.specs.Demand.{terms_of}
 use Rattle.die_log.specs.Model.Log.{Log, now}
 use Rattle.die_log.specs.Model.Start.{Start}
-use Rattle.die_log.specs.Model.Answers.{after_call, bad_page}
+use Rattle.die_log.specs.Model.Answers.{bad_page}
 use Rattle.die_log.specs.Model.Lives.{Lives, all_slots, start_after}
+use Rattle.planned_log.specs.declared.ask_kinds.AskKind.{AskKind}
+use Rattle.planned_log.specs.declared.ask_kinds.AskKind.TheVariants as kinds
 use Rattle.planned_log.specs.declared.refusals.AskRefusal.{AskRefusal}
 use Rattle.planned_log.specs.declared.refusals.AskRefusal.TheVariants as because
-use Rattle.planned_log.specs.Asks.{Asked, asked_by, asked_job, counts_in, counting, operations_in, writes_in, has_room, room_at, most_operations}
-use Rattle.planned_log.specs.Asks.{ask_refusal, ask_refusals, first_refusal}
+use Rattle.planned_log.specs.Asks.{Asked, asked_by, counts_in, counting, operations_in, writes_in, has_room, room_at, most_operations}
+use Rattle.planned_log.specs.Asks.{burst_refusal, burst_refusals, refusals_above, first_refusal}
+use Rattle.planned_log.specs.AskKinds.{most_of, refusal_as, jobs_as, with_jobs}
+use Rattle.planned_log.specs.Bursts.{AreUnrefused}
 use Rattle.planned_log.specs.Laws.{IsKept, StartsFull, Seen, Asks, Answer, Accepted, seen_by, answers_of}
 use Rattle.planned_log.specs.Laws.{answer_by as answer_told}
 use Rattle.planned_log.specs.Moves.{Move, Ask, Slot, after_ask, after_move, after_moves}
 use Rattle.planned_log.specs.Ongoing.{WaitingAsk, Ongoing, waiting_of, new_ongoing, start_of, answer_by, answer_to, after_answer}
 use Rattle.planned_log.specs.Ongoing.{asks_of, next_life, ongoing_after_move, ongoing_after, AreLongEnough, IsOngoing, Waits}
-use Rattle.planned_log.proofs.Kept.{after_accepted, ask_accepted, ask_goes_on, ends_quiet, next_begins, begun}
-use Rattle.planned_log.proofs.Asking.{timely_ask}
+use Rattle.planned_log.proofs.Kept.{ends_quiet, next_begins, begun}
+use Rattle.planned_log.proofs.Asking.{timely}
+use Rattle.planned_log.proofs.Bursts.{burst_alike}
+use Rattle.planned_log.proofs.AskJobs.{jobs_kept, jobs_now, unrefused_as}
 use Rattle.planned_log.proofs.Served.{done_in_time}
 use Rattle.planned_log.proofs.Moving.{move_keeps, moves_keep}
-use Rattle.planned_log.proofs.Answered.{other_ask, a_slot, answers_told, seen_answers, refused_alike}
+use Rattle.planned_log.proofs.Answered.{other_ask, a_slot, answers_told, seen_answers}
 
 -- Why an ask waits
 
@@ -123,7 +130,7 @@ module _ (plan : DiePlan) (terms : Terms) (life task : ℕ) (ops : List Op) wher
   t = terms_of terms task
 
   abbrev late_at : (first slot : ℕ) → List Asked → Type 0
-  late_at first slot asked = first_refusal (ask_refusals plan terms life first slot asked task ops) ≡ Some because.LifeEnd
+  late_at first slot asked = first_refusal (burst_refusals plan terms life first slot asked task ops) ≡ Some because.LifeEnd
 
   abbrev task_out : Bool
   task_out = nat_le (length plan.caps) task
@@ -132,7 +139,7 @@ module _ (plan : DiePlan) (terms : Terms) (life task : ℕ) (ops : List Op) wher
   empty = length ops == 0
 
   abbrev long : Bool
-  long = nat_lt (most_operations t) (length ops)
+  long = nat_lt t.work (length ops)
 
   abbrev bad : Bool
   bad = is_some (bad_page plan ops)
@@ -150,15 +157,35 @@ module _ (plan : DiePlan) (terms : Terms) (life task : ℕ) (ops : List Op) wher
   next_at first slot asked = room_at t (counting t.period (first + slot) asked) (length ops) (writes ops) - first
 
   parts : (first slot : ℕ) (asked : List Asked) → late_at first slot asked
-      → StandFirst task_out empty long bad (most_operations t) page t.writes many × (soon_at (first + slot) asked ≡ false) × (nat_lt life (slot + t.deadline) ≡ true)
-  parts first slot asked e = late_alone task_out empty long bad (most_operations t) page t.writes many (soon_at (first + slot) asked)
+      → StandFirst task_out empty long bad t.work page t.writes many × (soon_at (first + slot) asked ≡ false) × (nat_lt life (slot + t.deadline) ≡ true)
+  parts first slot asked e = late_alone task_out empty long bad t.work page t.writes many (soon_at (first + slot) asked)
       (next_at first slot asked) (nat_lt life (slot + t.deadline)) e
 
-  again : (first slot : ℕ) (asked : List Asked) → StandFirst task_out empty long bad (most_operations t) page t.writes many → soon_at (first + slot) asked ≡ false
-      → first_refusal (ask_refusals plan terms life first slot asked task ops)
+  again : (first slot : ℕ) (asked : List Asked) → StandFirst task_out empty long bad t.work page t.writes many → soon_at (first + slot) asked ≡ false
+      → first_refusal (burst_refusals plan terms life first slot asked task ops)
       ≡ cond (nat_lt life (slot + t.deadline)) (Some because.LifeEnd) None
-  again first slot asked h e = then_first task_out empty long bad (most_operations t) page t.writes many h (soon_at (first + slot) asked)
+  again first slot asked h e = then_first task_out empty long bad t.work page t.writes many h (soon_at (first + slot) asked)
       (next_at first slot asked) (nat_lt life (slot + t.deadline)) e
+
+  -- an ask of either kind that comes too late is a burst that does
+  pub as_burst : (kind : AskKind) (first slot : ℕ) (asked : List Asked)
+      → first_refusal (refusals_above (most_of kind t) plan terms life first slot asked task ops) ≡ Some because.LifeEnd → late_at first slot asked
+  as_burst kinds.Burst first slot asked e = e
+  as_burst kinds.Job first slot asked e =
+      let p = late_alone task_out empty (nat_lt (most_operations t) (length ops)) bad (most_operations t) page t.writes many
+      (soon_at (first + slot) asked) (next_at first slot asked) (nat_lt life (slot + t.deadline)) e in
+      again first slot asked (record {
+        out_is = p.0.out_is;
+        empty_is = p.0.empty_is;
+        long_is = no_longer t.work (length ops) (nat_le t.work MAX_OPS) refl p.0.long_is;
+        bad_is = p.0.bad_is;
+        many_is = p.0.many_is;
+      }) p.1
+      ∙ ap (λ b. cond b (Some because.LifeEnd) None) p.2
+    where
+      no_longer : (work n : ℕ) (b : Bool) → nat_le work MAX_OPS ≡ b → nat_lt (cond b work MAX_OPS) n ≡ false → nat_lt work n ≡ false
+      no_longer work n true e few = few
+      no_longer work n false e few = grind (arith, nat_tests, e, few)
 
   roomy : (slot later : ℕ) → slot ≤ later → (asked : List Asked) → soon_at slot asked ≡ false → soon_at later asked ≡ false
   roomy slot later le asked e =
@@ -176,7 +203,7 @@ module _ (plan : DiePlan) (terms : Terms) (life task : ℕ) (ops : List Op) wher
 
   -- a later life that is long enough takes it in its first slot
   late_enters : (first slot next : ℕ) → first + slot ≤ next → t.deadline ≤ life → (asked : List Asked) → late_at first slot asked
-      → first_refusal (ask_refusals plan terms life next 0 asked task ops) ≡ None
+      → first_refusal (burst_refusals plan terms life next 0 asked task ops) ≡ None
   late_enters first slot next le few asked e =
       let p = parts first slot asked e in
       again next 0 asked p.0 (roomy (first + slot) (next + 0) (omega (arith, le)) asked p.1)
@@ -193,11 +220,11 @@ module _ (plan : DiePlan) (terms : Terms) (life task : ℕ) (ops : List Op) wher
       below h = grind (arith, nat_tests, h)
 
   -- while it waits, no ask of the task enters
-  none_enters : (first slot : ℕ) (asked : List Asked) → late_at first slot asked → (others : List Op)
-      → first_refusal (ask_refusals plan terms life first slot asked task others) ≡ None → ⊥
-  none_enters first slot asked e others none =
+  none_enters : (first slot : ℕ) (asked : List Asked) → late_at first slot asked → (kind : AskKind) (others : List Op)
+      → first_refusal (refusals_above (most_of kind t) plan terms life first slot asked task others) ≡ None → ⊥
+  none_enters first slot asked e kind others none =
       let p = parts first slot asked e in
-      let q = timely_ask plan terms life first slot asked task others none in
+      let q = timely (most_of kind t) plan terms life first slot asked task others none in
       omega (arith, ltb-true life (slot + t.deadline) p.2, q.due)
 
 -- what waits was late
@@ -240,7 +267,7 @@ none_left (v ∷ ws) (suc j) w e = none_left ws j w e
 -- what a task sees of the asks that waited
 abbrev pub seen_of : Option WaitingAsk → List Seen
 seen_of None = []
-seen_of (Some w) = Asks w.ops ∷ []
+seen_of (Some w) = Asks kinds.Burst w.ops ∷ []
 
 none_seen : (ws : List (Option WaitingAsk)) (n task : ℕ) → task < n → seen_by task (asks_of n ws) ≡ []
 none_seen [] n task lt = refl
@@ -257,7 +284,7 @@ own_seen (None ∷ ws) n (suc k) = ap (λ task. seen_by task (asks_of (n + 1) ws
   where
     moved : n + suc k ≡ (n + 1) + k
     moved = omega arith
-own_seen (Some w ∷ ws) n zero = rw same (ap (λ (l : List Seen). Asks w.ops ∷ l) (none_seen ws (n + 1) (n + 0) (omega arith)))
+own_seen (Some w ∷ ws) n zero = rw same (ap (λ (l : List Seen). Asks kinds.Burst w.ops ∷ l) (none_seen ws (n + 1) (n + 0) (omega arith)))
   where
     same : (n == n + 0) ≡ true
     same = grind (arith, nat_tests)
@@ -277,65 +304,68 @@ module _ (first : Start) (terms : Terms) (life : ℕ) (long : AreLongEnough term
     abbrev start : Start
     start = start_of first d
 
-    abbrev refuses : ℕ → List Op → Option AskRefusal
-    refuses task ops = ask_refusal start.plan terms life d.earlier d.log task ops
+    abbrev refuses : AskKind → ℕ → List Op → Option AskRefusal
+    refuses kind task ops = refusal_as kind start.plan terms life d.earlier d.log task ops
 
     -- an ask enters
-    entered : (caller task : ℕ) (ops : List Op) → refuses task ops ≡ None
-        → IsOngoing first terms life (record d { log = after_call start d.log (caller, asked_job terms d.log task ops) })
-    entered caller task ops none = record {
+    entered : (kind : AskKind) (caller task : ℕ) (ops : List Op) → refuses kind task ops ≡ None
+        → IsOngoing first terms life (record d { log = with_jobs start terms d.log caller task (jobs_as kind ops) })
+    entered kind caller task ops none = record {
       ended = k.ended;
       were = k.were;
-      kept = ask_goes_on start terms d.earlier life 0 d.log k.kept caller task ops none;
+      kept = jobs_kept start terms d.earlier life 0 caller task (jobs_as kind ops) d.log k.kept unrefused;
       goes_on = omega (arith, slot_is, k.goes_on);
       tasks = k.tasks;
       waits = λ other w e. still other w e (task == other) refl;
     }
       where
         next : Log
-        next = after_call start d.log (caller, asked_job terms d.log task ops)
+        next = with_jobs start terms d.log caller task (jobs_as kind ops)
+
+        unrefused : AreUnrefused start terms d.earlier life d.log caller task (jobs_as kind ops)
+        unrefused = unrefused_as start terms d.earlier life 0 caller task kind d.log k.kept ops none
 
         slot_is : now next ≡ now d.log
-        slot_is = ap now (after_accepted start terms d.earlier life 0 d.log k.kept caller (asked_job terms d.log task ops)
-            (ask_accepted start terms d.earlier life 0 d.log k.kept task ops none))
+        slot_is = jobs_now start terms d.earlier life 0 caller task (jobs_as kind ops) d.log k.kept unrefused
 
         still : (other : ℕ) (w : WaitingAsk) → waiting_of d other ≡ Some w → (b : Bool) → (task == other) ≡ b
-            → ask_refusal start.plan terms life d.earlier next other w.ops ≡ Some because.LifeEnd
+            → burst_refusal start.plan terms life d.earlier next other w.ops ≡ Some because.LifeEnd
         still other w e true same =
             absurd (none_enters start.plan terms life other w.ops (all_slots d.earlier) (now d.log) (asked_by other (d.log ∷ d.earlier))
-            (k.waits other w e) ops (ap (λ i. refuses i ops) (sym (eqb-true task other same)) ∙ none))
+            (k.waits other w e) kind ops (ap (λ i. refuses kind i ops) (sym (eqb-true task other same)) ∙ none))
         still other w e false away =
-            let o = other_ask start terms d.earlier life other d.log k.kept caller task ops away None none in
-            refused_alike start.plan terms life d.earlier d.earlier next d.log other w.ops refl o.0 o.1 ∙ k.waits other w e
+            let o = other_ask start terms d.earlier life other d.log k.kept kind caller task ops away None none in
+            burst_alike start.plan terms life d.earlier d.earlier next d.log other w.ops refl o.0 o.1 ∙ k.waits other w e
 
     -- an ask waits
-    waits_then : (caller task : ℕ) (ops : List Op) → refuses task ops ≡ Some because.LifeEnd
+    waits_then : (kind : AskKind) (caller task : ℕ) (ops : List Op) → refuses kind task ops ≡ Some because.LifeEnd
         → IsOngoing first terms life (record d { waiting = set d.waiting task (Some (record { caller = caller; ops = ops })) })
-    waits_then caller task ops late = record {
+    waits_then kind caller task ops late = record {
       ended = k.ended;
       were = k.were;
       kept = k.kept;
       goes_on = k.goes_on;
       tasks = length-set d.waiting task (Some (record { caller = caller; ops = ops })) ∙ k.tasks;
       waits = λ other w e. elim (set_reads d.waiting task other (record { caller = caller; ops = ops }) w e) [
-        | inl both ↦ ap (λ i. refuses i w.ops) both.0 ∙ (ap (λ (x : WaitingAsk). refuses task x.ops) (sym both.1) ∙ late)
+        | inl both ↦ ap (λ i. refuses kinds.Burst i w.ops) both.0 ∙ (ap (λ (x : WaitingAsk). refuses kinds.Burst task x.ops) (sym both.1)
+            ∙ as_burst start.plan terms life task ops kind (all_slots d.earlier) (now d.log) (asked_by task (d.log ∷ d.earlier)) late)
         | inr before ↦ k.waits other w before
       ];
     }
 
-    answered : (caller task : ℕ) (ops : List Op) (v : Option WaitingAsk) (o : Option AskRefusal) → refuses task ops ≡ o
-        → IsOngoing first terms life (after_answer first terms d caller task ops
+    answered : (kind : AskKind) (caller task : ℕ) (ops : List Op) (v : Option WaitingAsk) (o : Option AskRefusal) → refuses kind task ops ≡ o
+        → IsOngoing first terms life (after_answer first terms d kind caller task ops
         (answer_by (all_slots d.earlier) (now d.log) life (terms_of terms task).deadline v o))
-    answered caller task ops v None e = entered caller task ops e
-    answered caller task ops None (Some because.LifeEnd) e = waits_then caller task ops e
-    answered caller task ops (Some w) (Some because.LifeEnd) e = k
-    answered caller task ops v (Some because.DieStopped) e = k
-    answered caller task ops v (Some because.UnknownTask) e = k
-    answered caller task ops v (Some because.EmptyJob) e = k
-    answered caller task ops v (Some (because.TooManyOps most)) e = k
-    answered caller task ops v (Some (because.BadPage first_bad)) e = k
-    answered caller task ops v (Some (because.TooManyWrites most)) e = k
-    answered caller task ops v (Some (because.TooSoon next)) e = k
+    answered kind caller task ops v None e = entered kind caller task ops e
+    answered kind caller task ops None (Some because.LifeEnd) e = waits_then kind caller task ops e
+    answered kind caller task ops (Some w) (Some because.LifeEnd) e = k
+    answered kind caller task ops v (Some because.DieStopped) e = k
+    answered kind caller task ops v (Some because.UnknownTask) e = k
+    answered kind caller task ops v (Some because.EmptyJob) e = k
+    answered kind caller task ops v (Some (because.TooManyOps most)) e = k
+    answered kind caller task ops v (Some (because.BadPage first_bad)) e = k
+    answered kind caller task ops v (Some (because.TooManyWrites most)) e = k
+    answered kind caller task ops v (Some (because.TooSoon next)) e = k
 
     -- a slot
     abbrev pub slot_log : (caller : ℕ) → Log
@@ -356,11 +386,11 @@ module _ (first : Start) (terms : Terms) (life : ℕ) (long : AreLongEnough term
 
     -- what waits goes on to wait
     late_then : (caller task : ℕ) (w : WaitingAsk) → waiting_of d task ≡ Some w
-        → ask_refusal start.plan terms life d.earlier (slot_log caller) task w.ops ≡ Some because.LifeEnd
+        → burst_refusal start.plan terms life d.earlier (slot_log caller) task w.ops ≡ Some because.LifeEnd
     late_then caller task w e =
-        ap (λ n. first_refusal (ask_refusals start.plan terms life (all_slots d.earlier) n (asked_by task (slot_log caller ∷ d.earlier)) task w.ops))
+        ap (λ n. first_refusal (burst_refusals start.plan terms life (all_slots d.earlier) n (asked_by task (slot_log caller ∷ d.earlier)) task w.ops))
         (slot_now caller)
-        ∙ (ap (λ (l : List Asked). first_refusal (ask_refusals start.plan terms life (all_slots d.earlier) (now d.log + 1) l task w.ops))
+        ∙ (ap (λ (l : List Asked). first_refusal (burst_refusals start.plan terms life (all_slots d.earlier) (now d.log + 1) l task w.ops))
         (slot_asked caller task)
         ∙ late_stays start.plan terms life task w.ops (all_slots d.earlier) (now d.log) (now d.log + 1) (omega arith)
         (asked_by task (d.log ∷ d.earlier)) (k.waits task w e))
@@ -375,10 +405,10 @@ module _ (first : Start) (terms : Terms) (life : ℕ) (long : AreLongEnough term
 
     -- what waits isn't refused where the next life begins
     pub enters_next : (caller task : ℕ) (w : WaitingAsk) → waiting_of d task ≡ Some w
-        → first_refusal (ask_refusals start.plan terms life (all_slots (slot_log caller ∷ d.earlier)) 0
+        → first_refusal (burst_refusals start.plan terms life (all_slots (slot_log caller ∷ d.earlier)) 0
         (asked_by task (slot_log caller ∷ d.earlier)) task w.ops) ≡ None
     enters_next caller task w e =
-        ap (λ (l : List Asked). first_refusal (ask_refusals start.plan terms life (all_slots (slot_log caller ∷ d.earlier)) 0 l task w.ops))
+        ap (λ (l : List Asked). first_refusal (burst_refusals start.plan terms life (all_slots (slot_log caller ∷ d.earlier)) 0 l task w.ops))
         (slot_asked caller task)
         ∙ late_enters start.plan terms life task w.ops (all_slots d.earlier) (now d.log) (all_slots (slot_log caller ∷ d.earlier))
         (omega (arith, next_clock caller)) (long.jobs task within) (asked_by task (d.log ∷ d.earlier)) (k.waits task w e)
@@ -396,14 +426,14 @@ module _ (first : Start) (terms : Terms) (life : ℕ) (long : AreLongEnough term
   at_first start earlier moves log k n [] e = rw e refl
   at_first start earlier moves log k n (None ∷ ws) e = at_first start earlier moves log k (n + 1) ws e
   at_first start earlier moves log k n (Some w ∷ ws) e =
-      rw e (at_first start earlier (asks_of (n + 1) ws) (after_move start terms earlier life log (Ask w.caller n w.ops))
-      (move_keeps start terms earlier life log (Ask w.caller n w.ops) k) (n + 1) ws refl
-      ∙ asks_leave (ask_refusal start.plan terms life earlier log n w.ops) refl)
+      rw e (at_first start earlier (asks_of (n + 1) ws) (after_move start terms earlier life log (Ask kinds.Burst w.caller n w.ops))
+      (move_keeps start terms earlier life log (Ask kinds.Burst w.caller n w.ops) k) (n + 1) ws refl
+      ∙ asks_leave (burst_refusal start.plan terms life earlier log n w.ops) refl)
     where
-      asks_leave : (o : Option AskRefusal) → ask_refusal start.plan terms life earlier log n w.ops ≡ o
-          → now (after_ask start terms log w.caller n w.ops o) ≡ now log
-      asks_leave None none = ap now (after_accepted start terms earlier life 0 log k w.caller (asked_job terms log n w.ops)
-          (ask_accepted start terms earlier life 0 log k n w.ops none))
+      asks_leave : (o : Option AskRefusal) → burst_refusal start.plan terms life earlier log n w.ops ≡ o
+          → now (after_ask start terms log kinds.Burst w.caller n w.ops o) ≡ now log
+      asks_leave None none = jobs_now start terms earlier life 0 w.caller n (jobs_as kinds.Burst w.ops) log k
+          (unrefused_as start terms earlier life 0 w.caller n kinds.Burst log k w.ops none)
       asks_leave (Some refusal) none = refl
 
   module _ (d : Ongoing) (k : IsOngoing first terms life d) (caller : ℕ) where
@@ -437,7 +467,7 @@ module _ (first : Start) (terms : Terms) (life : ℕ) (long : AreLongEnough term
         }
 
   pub move_goes_on : (d : Ongoing) → IsOngoing first terms life d → (move : Move) → IsOngoing first terms life (ongoing_after_move first terms life d move)
-  move_goes_on d k (Ask caller task ops) = answered d k caller task ops (waiting_of d task) (refuses d k task ops) refl
+  move_goes_on d k (Ask kind caller task ops) = answered d k kind caller task ops (waiting_of d task) (refuses d k kind task ops) refl
   move_goes_on d k (Slot caller) = slot_goes d k caller (now (slot_log d k caller) == life) refl
 
   pub goes_on_for_ever : (d : Ongoing) → IsOngoing first terms life d → (moves : List Move) → IsOngoing first terms life (ongoing_after first terms life d moves)
@@ -463,7 +493,7 @@ module _ (first : Start) (terms : Terms) (life : ℕ) (long : AreLongEnough term
   waiting_is_taken d k caller ended task w e =
       let log : Log = slot_log d k caller in
       let next : Start = start_after first (log ∷ d.earlier) in
-      let seen : seen_by task (asks_of 0 d.waiting) ≡ Asks w.ops ∷ [] =
+      let seen : seen_by task (asks_of 0 d.waiting) ≡ Asks kinds.Burst w.ops ∷ [] =
       ap (λ n. seen_by n (asks_of 0 d.waiting)) from_first ∙ (own_seen d.waiting 0 task ∙ ap seen_of e) in
       answers_told next terms (log ∷ d.earlier) life task (asks_of 0 d.waiting) [] (begins d k caller ended)
       ∙ (ap (λ (l : List Seen). seen_answers next.plan terms life (all_slots (log ∷ d.earlier)) task 0 (asked_by task (log ∷ d.earlier)) l) seen
@@ -475,12 +505,13 @@ module _ (first : Start) (terms : Terms) (life : ℕ) (long : AreLongEnough term
       told_by : Option AskRefusal → List Answer
       told_by o = answer_told terms task 0 o ∷ []
 
-pub waits_for_few : (first : Start) (terms : Terms) (life : ℕ) (d : Ongoing) → (task release due : ℕ) (ops : List Op)
-    → answer_to first terms life d task ops ≡ Waits release due → life < now d.log + (terms_of terms task).deadline
-waits_for_few first terms life d task release due ops e =
+pub waits_for_few : (first : Start) (terms : Terms) (life : ℕ) (d : Ongoing) → (kind : AskKind) (task release due : ℕ) (ops : List Op)
+    → answer_to first terms life d kind task ops ≡ Waits release due → life < now d.log + (terms_of terms task).deadline
+waits_for_few first terms life d kind task release due ops e =
     let plan : DiePlan = (start_of first d).plan in
-    let late : ask_refusal plan terms life d.earlier d.log task ops ≡ Some because.LifeEnd =
+    let late : refusal_as kind plan terms life d.earlier d.log task ops ≡ Some because.LifeEnd =
     waits_late (all_slots d.earlier) (now d.log) life (terms_of terms task).deadline release due (waiting_of d task)
-    (ask_refusal plan terms life d.earlier d.log task ops) e in
+    (refusal_as kind plan terms life d.earlier d.log task ops) e in
     ltb-true life (now d.log + (terms_of terms task).deadline)
-    (parts plan terms life task ops (all_slots d.earlier) (now d.log) (asked_by task (d.log ∷ d.earlier)) late).2
+    (parts plan terms life task ops (all_slots d.earlier) (now d.log) (asked_by task (d.log ∷ d.earlier))
+    (as_burst plan terms life task ops kind (all_slots d.earlier) (now d.log) (asked_by task (d.log ∷ d.earlier)) late)).2

@@ -5,6 +5,7 @@ mod Steps
 pub mod Kept
 pub mod Served
 pub mod Bursts
+pub mod AskJobs
 mod Moving
 mod Answered
 pub mod Waiting

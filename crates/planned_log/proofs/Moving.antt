@@ -13,12 +13,15 @@ use Rattle.die_log.specs.Model.Log.{Log, now}
 use Rattle.die_log.specs.Model.Start.{Start}
 use Rattle.die_log.specs.Model.Answers.{after_call, run}
 use Rattle.die_log.specs.Model.Lives.{Lives, start_after, HaveEnded}
+use Rattle.planned_log.specs.declared.ask_kinds.AskKind.{AskKind}
 use Rattle.planned_log.specs.declared.refusals.AskRefusal.{AskRefusal}
-use Rattle.planned_log.specs.Asks.{Asked, ask_refusal, asked_by}
+use Rattle.planned_log.specs.Asks.{Asked, asked_by}
+use Rattle.planned_log.specs.AskKinds.{refusal_as, jobs_as}
 use Rattle.planned_log.specs.KeptLogs.{comes_at, collections_at, own_collection}
 use Rattle.planned_log.specs.Laws.{IsKept}
 use Rattle.planned_log.specs.Moves.{Move, Ask, Slot, after_ask, after_own, after_move, after_moves, lives_after, ReachTheEnd}
-use Rattle.planned_log.proofs.Kept.{after_accepted, ask_goes_on, collection_accepted, collection_goes_on, passed_goes_on, slot_goes_on}
+use Rattle.planned_log.proofs.AskJobs.{jobs_kept, unrefused_as}
+use Rattle.planned_log.proofs.Kept.{after_accepted, collection_accepted, collection_goes_on, passed_goes_on, slot_goes_on}
 use Rattle.planned_log.proofs.Kept.{ends_quiet, next_begins}
 
 -- the collections of a slot, from a task on
@@ -113,10 +116,11 @@ module _ (start : Start) (terms : Terms) (earlier : Lives) (life caller : ℕ) (
   come before = own_come start terms earlier life caller (λ task. asked_by task (log ∷ earlier)) terms.tasks 0 (now log) log k refl refl before
       (λ task. refl)
 
-  ask_moves : (task : ℕ) (ops : List Op) (o : Option AskRefusal) → ask_refusal start.plan terms life earlier log task ops ≡ o
-      → IsKept start terms earlier life 0 (after_ask start terms log caller task ops o)
-  ask_moves task ops None e = ask_goes_on start terms earlier life 0 log k caller task ops e
-  ask_moves task ops (Some refusal) e = k
+  ask_moves : (kind : AskKind) (task : ℕ) (ops : List Op) (o : Option AskRefusal) → refusal_as kind start.plan terms life earlier log task ops ≡ o
+      → IsKept start terms earlier life 0 (after_ask start terms log kind caller task ops o)
+  ask_moves kind task ops None e = jobs_kept start terms earlier life 0 caller task (jobs_as kind ops) log k
+      (unrefused_as start terms earlier life 0 caller task kind log k ops e)
+  ask_moves kind task ops (Some refusal) e = k
 
   slot_moves : (b : Bool) → nat_lt (now log) life ≡ b
       → IsKept start terms earlier life 0 (cond b (after_call start (after_own start terms log caller) (caller, events.Slot)) log)
@@ -128,8 +132,8 @@ module _ (start : Start) (terms : Terms) (earlier : Lives) (life caller : ℕ) (
 
 pub move_keeps : (start : Start) (terms : Terms) (earlier : Lives) (life : ℕ) (log : Log) (move : Move) → IsKept start terms earlier life 0 log
     → IsKept start terms earlier life 0 (after_move start terms earlier life log move)
-move_keeps start terms earlier life log (Ask caller task ops) k =
-    ask_moves start terms earlier life caller log k task ops (ask_refusal start.plan terms life earlier log task ops) refl
+move_keeps start terms earlier life log (Ask kind caller task ops) k =
+    ask_moves start terms earlier life caller log k kind task ops (refusal_as kind start.plan terms life earlier log task ops) refl
 move_keeps start terms earlier life log (Slot caller) k = slot_moves start terms earlier life caller log k (nat_lt (now log) life) refl
 
 pub moves_keep : (start : Start) (terms : Terms) (earlier : Lives) (life : ℕ) (log : Log) (moves : List Move) → IsKept start terms earlier life 0 log

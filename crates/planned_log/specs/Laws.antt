@@ -13,8 +13,9 @@ use Rattle.die_log.specs.Model.Opening.{IsOpening}
 use Rattle.die_log.specs.Model.Answers.{IsExact}
 use Rattle.die_log.specs.Model.Lives.{Lives, all_slots}
 use Rattle.die_log.specs.Results.DemandedLives.{AreFull, AreStockedAfter}
+use Rattle.planned_log.specs.declared.ask_kinds.AskKind.{AskKind}
 use Rattle.planned_log.specs.declared.refusals.AskRefusal.{AskRefusal}
-use Rattle.planned_log.specs.Asks.{ask_refusal}
+use Rattle.planned_log.specs.AskKinds.{refusal_as}
 use Rattle.planned_log.specs.Lives.{IsLife, all_came, ArePlannedLives}
 use Rattle.planned_log.specs.KeptLogs.{KeepsSoFar, AskForFew}
 use Rattle.planned_log.specs.Moves.{Move, Ask, Slot, after_move}
@@ -56,15 +57,15 @@ AreDoneInTime plan log =
 
 -- what a task sees of a move: a slot, or its own ask
 pub data Seen : Type 0 where
-  Asks : (ops : List Op) → Seen
+  Asks : (kind : AskKind) (ops : List Op) → Seen
   Slots : Seen
 
 abbrev pub seen_by : ℕ → List Move → List Seen
 seen_by task [] = []
-seen_by task (Ask caller other ops ∷ moves) = if other == task then Asks ops ∷ seen_by task moves else seen_by task moves
+seen_by task (Ask kind caller other ops ∷ moves) = if other == task then Asks kind ops ∷ seen_by task moves else seen_by task moves
 seen_by task (Slot caller ∷ moves) = Slots ∷ seen_by task moves
 
--- an ask was refused for this cause, or is a job with this release and this deadline
+-- an ask was refused for this cause, or all its jobs have this release and this deadline
 pub data Answer : Type 0 where
   Refused : AskRefusal → Answer
   Accepted : (release due : ℕ) → Answer
@@ -76,8 +77,8 @@ answer_by terms task slot (Some refusal) = Refused refusal
 -- what the asks of a task are answered as these moves are made
 abbrev pub answers_of : Start → Terms → Lives → ℕ → ℕ → Log → List Move → List Answer
 answers_of start terms earlier life task log [] = []
-answers_of start terms earlier life task log (Ask caller other ops ∷ moves) =
-    let rest = answers_of start terms earlier life task (after_move start terms earlier life log (Ask caller other ops)) moves in
-    if other == task then answer_by terms task (now log) (ask_refusal start.plan terms life earlier log task ops) ∷ rest else rest
+answers_of start terms earlier life task log (Ask kind caller other ops ∷ moves) =
+    let rest = answers_of start terms earlier life task (after_move start terms earlier life log (Ask kind caller other ops)) moves in
+    if other == task then answer_by terms task (now log) (refusal_as kind start.plan terms life earlier log task ops) ∷ rest else rest
 answers_of start terms earlier life task log (Slot caller ∷ moves) =
     answers_of start terms earlier life task (after_move start terms earlier life log (Slot caller)) moves

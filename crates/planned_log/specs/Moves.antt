@@ -1,5 +1,5 @@
--- All that the callers of a die that keeps its plan itself may do: ask, and carry out slots, in whatever order and
--- amount.
+-- All that the callers of a die that keeps its plan itself may do: ask, for a job or for a burst, and carry out slots, in
+-- whatever order and amount.
 use Rattle.std.specs.Prelude.{◌≡◌, ℕ, nat_lt, if◌then◌else◌, List, [], ◌∷◌, map, Option, Some, None}
 use Rattle.slot_types.specs.declared.events.Op.{Op}
 use Rattle.slot_types.specs.declared.events.Event.TheVariants as events
@@ -8,27 +8,29 @@ use Rattle.die_log.specs.Model.Log.{Log, now}
 use Rattle.die_log.specs.Model.Start.{Start}
 use Rattle.die_log.specs.Model.Answers.{after_call, run}
 use Rattle.die_log.specs.Model.Lives.{Lives, start_after}
+use Rattle.planned_log.specs.declared.ask_kinds.AskKind.{AskKind}
 use Rattle.planned_log.specs.declared.refusals.AskRefusal.{AskRefusal}
-use Rattle.planned_log.specs.Asks.{asked_job, ask_refusal}
+use Rattle.planned_log.specs.AskKinds.{refusal_as, jobs_as, with_jobs}
 use Rattle.planned_log.specs.KeptLogs.{collections_at}
 
 pub data Move : Type 0 where
-  Ask : (caller task : ℕ) (ops : List Op) → Move
+  Ask : (kind : AskKind) (caller task : ℕ) (ops : List Op) → Move
   Slot : (caller : ℕ) → Move
 
-abbrev pub after_ask : Start → Terms → Log → ℕ → ℕ → List Op → Option AskRefusal → Log
-after_ask start terms log caller task ops None = after_call start log (caller, asked_job terms log task ops)
-after_ask start terms log caller task ops (Some refusal) = log
+-- all jobs of an ask that isn't refused, and none of one that is
+abbrev pub after_ask : Start → Terms → Log → AskKind → ℕ → ℕ → List Op → Option AskRefusal → Log
+after_ask start terms log kind caller task ops None = with_jobs start terms log caller task (jobs_as kind ops)
+after_ask start terms log kind caller task ops (Some refusal) = log
 
 -- the log with all collections of the present slot
 abbrev pub after_own : Start → Terms → Log → ℕ → Log
 after_own start terms log caller = run start log (map (λ event. (caller, event)) (collections_at terms.tasks 0 (now log)))
 
--- an ask that the plan doesn't refuse is a call of the log; a slot is so many collections and a slot, until the life
--- ends
+-- an ask that the plan doesn't refuse is a call of the log for each of its jobs; a slot is so many collections and a slot,
+-- until the life ends
 abbrev pub after_move : Start → Terms → Lives → ℕ → Log → Move → Log
-after_move start terms earlier life log (Ask caller task ops) =
-    after_ask start terms log caller task ops (ask_refusal start.plan terms life earlier log task ops)
+after_move start terms earlier life log (Ask kind caller task ops) =
+    after_ask start terms log kind caller task ops (refusal_as kind start.plan terms life earlier log task ops)
 after_move start terms earlier life log (Slot caller) =
     if nat_lt (now log) life then after_call start (after_own start terms log caller) (caller, events.Slot) else log
 

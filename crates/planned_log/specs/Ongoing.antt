@@ -1,5 +1,5 @@
--- A die that goes on by itself: where a life ends it begins the next one, and an ask whose job would be due after the
--- end waits for that one.
+-- A die that goes on by itself: where a life ends it begins the next one, and an ask, for a job or for a burst, that would
+-- be due after the end waits for that one.
 use Rattle.std.specs.Prelude.{◌≡◌, ℕ, ◌+◌, ◌<◌, ◌≤◌, ◌==◌, if◌then◌else◌, List, [], ◌∷◌, length, map, replicate}
 use Rattle.std.specs.Prelude.{Option, Some, None, option_map, slice_index_or, slice_set}
 use Rattle.slot_types.specs.declared.events.Op.{Op}
@@ -8,11 +8,13 @@ use Rattle.demand_rules.specs.declared.terms.Terms.{Terms}
 use Rattle.demand_rules.specs.Demand.{terms_of}
 use Rattle.die_log.specs.Model.Log.{Log, now}
 use Rattle.die_log.specs.Model.Start.{Start}
-use Rattle.die_log.specs.Model.Answers.{after_call}
 use Rattle.die_log.specs.Model.Lives.{Lives, all_slots, start_after, HaveEnded}
+use Rattle.planned_log.specs.declared.ask_kinds.AskKind.{AskKind}
+use Rattle.planned_log.specs.declared.ask_kinds.AskKind.TheVariants as kinds
 use Rattle.planned_log.specs.declared.refusals.AskRefusal.{AskRefusal}
 use Rattle.planned_log.specs.declared.refusals.AskRefusal.TheVariants as because
-use Rattle.planned_log.specs.Asks.{ask_refusal, asked_job}
+use Rattle.planned_log.specs.Asks.{burst_refusal}
+use Rattle.planned_log.specs.AskKinds.{refusal_as, jobs_as, with_jobs}
 use Rattle.planned_log.specs.Laws.{IsKept, AreDoneInTime}
 use Rattle.planned_log.specs.Moves.{Move, Ask, Slot, after_move, after_moves}
 
@@ -46,15 +48,15 @@ start_of first d = start_after first d.earlier
 
 -- Answers
 
--- what an ask is answered: it is refused for its own task's part of the plan; or it is a job, with this release and this
--- deadline on the clock of all lives; or it waits, to be such a job; or one of the task waits already
+-- what an ask is answered: it is refused for its own task's part of the plan; or its jobs enter, all with this release and
+-- this deadline on the clock of all lives; or it waits, to be such jobs; or one of the task waits already
 pub data Answer : Type 0 where
   Refused : AskRefusal → Answer
   Enters : (release due : ℕ) → Answer
   Waits : (release due : ℕ) → Answer
   WaitsAlready : Answer
 
--- where the job would be due after the end of a life of `life` slots, which began in slot `first` of the clock, and this
+-- where the jobs would be due after the end of a life of `life` slots, which began in slot `first` of the clock, and this
 -- ask of the task waits
 abbrev pub late_answer : (first life deadline : ℕ) → Option WaitingAsk → Answer
 late_answer first life deadline None = Waits (first + life) (first + life + deadline)
@@ -66,25 +68,25 @@ answer_by first slot life deadline waiting None = Enters (first + slot) (first +
 answer_by first slot life deadline waiting (Some because.LifeEnd) = late_answer first life deadline waiting
 answer_by first slot life deadline waiting (Some refusal) = Refused refusal
 
-abbrev pub answer_to : Start → Terms → ℕ → Ongoing → ℕ → List Op → Answer
-answer_to first terms life d task ops =
+abbrev pub answer_to : Start → Terms → ℕ → Ongoing → AskKind → ℕ → List Op → Answer
+answer_to first terms life d kind task ops =
     answer_by (all_slots d.earlier) (now d.log) life (terms_of terms task).deadline (waiting_of d task)
-    (ask_refusal (start_of first d).plan terms life d.earlier d.log task ops)
+    (refusal_as kind (start_of first d).plan terms life d.earlier d.log task ops)
 
 -- What a move does
 
-abbrev pub after_answer : Start → Terms → Ongoing → (caller task : ℕ) → List Op → Answer → Ongoing
-after_answer first terms d caller task ops (Enters release due) =
-    record d { log = after_call (start_of first d) d.log (caller, asked_job terms d.log task ops) }
-after_answer first terms d caller task ops (Waits release due) =
+abbrev pub after_answer : Start → Terms → Ongoing → AskKind → (caller task : ℕ) → List Op → Answer → Ongoing
+after_answer first terms d kind caller task ops (Enters release due) =
+    record d { log = with_jobs (start_of first d) terms d.log caller task (jobs_as kind ops) }
+after_answer first terms d kind caller task ops (Waits release due) =
     record d { waiting = slice_set d.waiting task (Some (record { caller = caller; ops = ops })) }
-after_answer first terms d caller task ops _ = d
+after_answer first terms d kind caller task ops _ = d
 
--- what waits, as asks, task by task
+-- what waits, as asks, task by task: a burst each, also where it was asked for as one job
 abbrev pub asks_of : ℕ → List (Option WaitingAsk) → List Move
 asks_of task [] = []
 asks_of task (None ∷ rest) = asks_of (task + 1) rest
-asks_of task (Some w ∷ rest) = Ask w.caller task w.ops ∷ asks_of (task + 1) rest
+asks_of task (Some w ∷ rest) = Ask kinds.Burst w.caller task w.ops ∷ asks_of (task + 1) rest
 
 -- the next life begins, with what waited
 abbrev pub next_life : Start → Terms → ℕ → Ongoing → Ongoing
@@ -101,7 +103,8 @@ abbrev pub going_on : Start → Terms → ℕ → Ongoing → Ongoing
 going_on first terms life d = if now d.log == life then next_life first terms life d else d
 
 abbrev pub ongoing_after_move : Start → Terms → ℕ → Ongoing → Move → Ongoing
-ongoing_after_move first terms life d (Ask caller task ops) = after_answer first terms d caller task ops (answer_to first terms life d task ops)
+ongoing_after_move first terms life d (Ask kind caller task ops) =
+    after_answer first terms d kind caller task ops (answer_to first terms life d kind task ops)
 ongoing_after_move first terms life d (Slot caller) =
     going_on first terms life (record d { log = after_move (start_of first d) terms d.earlier life d.log (Slot caller) })
 
@@ -113,9 +116,9 @@ ongoing_after first terms life d (move ∷ moves) = ongoing_after first terms li
 -- what the asks of a task are answered as these moves are made
 abbrev pub answers_to : Start → Terms → ℕ → ℕ → Ongoing → List Move → List Answer
 answers_to first terms life task d [] = []
-answers_to first terms life task d (Ask caller other ops ∷ moves) =
-    let rest = answers_to first terms life task (ongoing_after_move first terms life d (Ask caller other ops)) moves in
-    if other == task then answer_to first terms life d task ops ∷ rest else rest
+answers_to first terms life task d (Ask kind caller other ops ∷ moves) =
+    let rest = answers_to first terms life task (ongoing_after_move first terms life d (Ask kind caller other ops)) moves in
+    if other == task then answer_to first terms life d kind task ops ∷ rest else rest
 answers_to first terms life task d (Slot caller ∷ moves) =
     answers_to first terms life task (ongoing_after_move first terms life d (Slot caller)) moves
 
@@ -140,4 +143,4 @@ pub record IsOngoing (first : Start) (terms : Terms) (life : ℕ) (d : Ongoing) 
   pub goes_on : now d.log < life
   pub tasks : length d.waiting ≡ length (start_of first d).plan.caps
   pub waits : (task : ℕ) (w : WaitingAsk) → waiting_of d task ≡ Some w
-      → ask_refusal (start_of first d).plan terms life d.earlier d.log task w.ops ≡ Some because.LifeEnd
+      → burst_refusal (start_of first d).plan terms life d.earlier d.log task w.ops ≡ Some because.LifeEnd

@@ -3,6 +3,7 @@
 //!
 //! - `Asks`: when a task may ask for a job or a burst, and why not;
 //! - `Bursts`: the jobs of a burst;
+//! - `AskKinds`: an ask for a job or for a burst, by its kind;
 //! - `Lives`: how long a life is, and what came in all lives, on one clock;
 //! - `KeptLogs`: the collections that the plan has in a slot; which logs keep the plan so far;
 //! - `Moves`: all that callers may do;
@@ -12,10 +13,12 @@
 //! Each law is a function that does nothing, whose contract is the law.
 #![tactic(auto)]
 
+mod ask_kinds;
 mod laws;
 mod ongoing;
 mod refusals;
 
+pub use ask_kinds::AskKind;
 pub use laws::{
     asks_are_accepted, bursts_are_asks, bursts_are_cut_into_jobs, kept_lives_end_quiet,
     kept_lives_go_on, kept_logs_are_in_time, kept_logs_begin,

@@ -1,14 +1,16 @@
 //! What holds of a die that goes on by itself. Each law is a function that does nothing.
 
-ghost use Rattle.std.specs.Prelude.{◌≡◌, ◌⊎◌, ◌+◌, ◌∷◌, ◌<◌, ◌≤◌, ℕ, List, [], Some, length};
+ghost use Rattle.std.specs.Prelude.{◌≡◌, ◌⊎◌, ◌+◌, ◌∷◌, ◌<◌, ◌≤◌, ℕ, List, [], Some};
 ghost use Rattle.slot_types.specs.declared.events.Op.{Op};
-ghost use Rattle.slot_types.specs.Operations.{writes};
 ghost use Rattle.demand_rules.specs.declared.terms.Terms.{Terms};
 ghost use Rattle.demand_rules.specs.Demand.{terms_of};
 ghost use Rattle.die_log.specs.Model.Log.{now};
 ghost use Rattle.die_log.specs.Model.Start.{Start};
 ghost use Rattle.die_log.specs.Model.Lives.{all_slots, start_after};
+ghost use Rattle.planned_log.specs.declared.ask_kinds.AskKind.{AskKind};
 ghost use Rattle.planned_log.specs.Asks.{asked_by};
+ghost use Rattle.planned_log.specs.Bursts.{jobs_of};
+ghost use Rattle.planned_log.specs.AskKinds.{with_asked};
 ghost use Rattle.planned_log.specs.Laws.{StartsFull, Accepted, seen_by, answers_of};
 ghost use Rattle.planned_log.specs.Moves.{Move, Slot, after_move};
 ghost use Rattle.planned_log.specs.Ongoing.{Ongoing, WaitingAsk, new_ongoing, waiting_of, start_of};
@@ -25,10 +27,10 @@ pub fn a_die_goes_on_by_itself()
         → IsOngoing first terms life (ongoing_after first terms life d moves) }
 {}
 
-/// What waits goes on to wait until the life ends. Then it is a job of the first slot of the next one: with the slot that
-/// ends a life, the ask of each task that waits is accepted, whatever the others ask, with the release and the deadline
-/// that it was answered, and the task has asked for just that. It waits for fewer slots than its deadline has: so it is
-/// done in less than twice as many slots as its deadline has, counted from the ask.
+/// What waits, for a job or for a burst, goes on to wait until the life ends. Then its jobs are released in the first slot
+/// of the next one: with the slot that ends a life, the ask of each task that waits is accepted, whatever the others ask,
+/// with the release and the deadline that it was answered, and the task has asked for just these jobs. It waits for fewer
+/// slots than its deadline has: so it is done in less than twice as many slots as its deadline has, counted from the ask.
 pub fn waiting_asks_are_taken()
     ensures taken { (first : Start) (terms : Terms) (life : ℕ) → AreLongEnough terms life →
         (d : Ongoing) → IsOngoing first terms life d → (caller : ℕ) →
@@ -46,11 +48,10 @@ pub fn waiting_asks_are_taken()
         (task : ℕ) (w : WaitingAsk) → waiting_of d task ≡ Some w →
         let next = ongoing_after_move first terms life d (Slot caller) in
         asked_by task (next.log ∷ next.earlier)
-        ≡ record { at = all_slots next.earlier; operations = length w.ops; writes = writes w.ops }
-        ∷ asked_by task (d.log ∷ d.earlier) }
+        ≡ with_asked (all_slots next.earlier) (jobs_of w.ops) (asked_by task (d.log ∷ d.earlier)) }
     ensures soon { (first : Start) (terms : Terms) (life : ℕ) (d : Ongoing) → IsOngoing first terms life d →
-        (task release due : ℕ) (ops : List Op)
-        → answer_to first terms life d task ops ≡ Waits release due
+        (kind : AskKind) (task release due : ℕ) (ops : List Op)
+        → answer_to first terms life d kind task ops ≡ Waits release due
         → life < now d.log + (terms_of terms task).deadline }
 {}
 

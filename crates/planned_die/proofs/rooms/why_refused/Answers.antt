@@ -3,7 +3,8 @@ use Rattle.std.specs.Prelude.{option_map}
 use Rattle.slot_types.specs.Operations.{page_of, writes}
 use Rattle.demand_rules.specs.declared.terms.TaskTerms.{TaskTerms}
 use Rattle.demand_rules.specs.Demand.{terms_of}
-use Rattle.planned_die.specs.Remembered.{most_of, next_room, own_asks, jobs_of, AreKept}
+use Rattle.planned_log.specs.AskKinds.{most_of}
+use Rattle.planned_die.specs.Remembered.{next_room, own_asks, jobs_of, AreKept}
 use Rattle.planned_die.specs.declared.memory.AskedJob.{AskedJob}
 use Rattle.planned_die.proofs.Waits.{bad_page_first, too_soon_first}
 use Rattle.planned_die.proofs.rooms.why_refused.Goals as goal
