@@ -1,5 +1,5 @@
 -- What an ask leaves, with what the die below answered.
-use Rattle.std.proofs.Common.{◌≡◌, ℕ, ◌+◌, ◌<◌, ◌≤◌, true, false, List, Option, [], ◌∷◌, length, map, get_or, set, vec_capacity, None, Some, Ok, Err, refl, ap, sym, subst, ◌∙◌, arith}
+use Rattle.std.proofs.Common.{◌≡◌, ℕ, ◌+◌, ◌<◌, ◌≤◌, true, false, List, Option, ◌∷◌, length, map, get_or, set, vec_capacity, None, Some, Ok, Err, refl, ap, sym, ◌∙◌, arith}
 use Rattle.std.proofs.lemmas.List.{length-map, get_or-map}
 use Rattle.slot_types.specs.declared.events.Op.{Op}
 use Rattle.demand_rules.specs.declared.terms.Terms.{Terms}
@@ -7,44 +7,43 @@ use Rattle.demand_rules.specs.Demand.{terms_of}
 use Rattle.die_log.specs.Model.Log.{now}
 use Rattle.die_log.specs.Model.Start.{Start}
 use Rattle.die_log.specs.Model.Lives.{Lives, all_slots}
+use Rattle.planned_log.specs.declared.ask_kinds.AskKind.{AskKind}
 use Rattle.planned_log.specs.declared.refusals.AskRefusal.TheVariants as because
-use Rattle.planned_log.specs.Asks.{asked_by, most_operations}
+use Rattle.planned_log.specs.Asks.{asked_by}
 use Rattle.planned_log.specs.Moves.{Move}
 use Rattle.planned_log.specs.Ongoing.{Ongoing, WaitingAsk, ongoing_after, AreLongEnough, IsOngoing}
 use Rattle.planned_die.specs.Planned.{Planned, HasLived}
-use Rattle.planned_die.specs.PlannedCalls.{IsAsk}
+use Rattle.planned_die.specs.declared.bursts.Burst.{Burst}
 use Rattle.ongoing_die.specs.declared.waiting.Waiting.{Waiting}
-use Rattle.ongoing_die.specs.declared.answers.Taken.{Taken}
 use Rattle.ongoing_die.specs.declared.answers.Taken.TheVariants as taken
-use Rattle.ongoing_die.specs.Standing.{OngoingParts, ask_in, StandsAs, HaveRoom, IsOngoingDie}
-use Rattle.ongoing_die.specs.OngoingCalls.{HasBegun, HasTaken, HaveOnePlan}
+use Rattle.ongoing_die.specs.Standing.{OngoingParts, ask_in, StandsAs, HaveRoom}
+use Rattle.ongoing_die.specs.OngoingCalls.{HasBegun, HasTaken}
+use Rattle.ongoing_die.specs.DieAsks.{IsDieAsk}
 use Rattle.ongoing_die.proofs.Asking.{late_ask, refused_by, ask_enters, ask_waits}
-use Rattle.ongoing_die.proofs.Entering.{asked_same}
-use Rattle.ongoing_die.proofs.NextLives.{goes_on_so, goes_on_yet}
 
 -- what the laws of logs say
 abbrev pub Law : Type 0
 Law = (first : Start) (terms : Terms) (life : ℕ) → AreLongEnough terms life → (d : Ongoing) → IsOngoing first terms life d → (moves : List Move)
     → IsOngoing first terms life (ongoing_after first terms life d moves)
 
-module _ {N : Type 0} (law : Law) (caller task : ℕ) (ops : List Op) (die after : Planned N) (long : AreLongEnough die.terms die.life)
+module _ {N : Type 0} (law : Law) (kind : AskKind) (caller task : ℕ) (ops : List Op) (die after : Planned N) (long : AreLongEnough die.terms die.life)
     (lives : (earlier : Lives) → HasLived die earlier → HasLived after earlier) (ws : List (Option WaitingAsk)) where
-  pub entered : (number release due : ℕ) (asked : (earlier : Lives) → HasLived die earlier → IsAsk caller task ops earlier (Ok number) die after)
+  pub entered : (burst : Burst) (release due : ℕ) (asked : (earlier : Lives) → HasLived die earlier → IsDieAsk kind caller task ops earlier (Ok burst) die after)
       → release ≡ after.first + now after.core.log → due ≡ release + (terms_of die.terms task).deadline → (first : Start) (d : Ongoing)
       (before : OngoingParts N) → HasBegun first d before (record { die = die; waiting = ws })
-      → HasTaken caller task ops first d (taken.Enters release due number) before (record { die = after; waiting = ws })
-  entered number release due asked at due_is first d before b =
-      ask_enters first d before (record { die = die; waiting = ws }) b (law first die.terms die.life long d (b.stands.runs b.runs).goes_on) caller task ops
-      (record { die = after; waiting = ws }) (lives b.stands.earlier b.stands.lived) number release due (asked b.stands.earlier b.stands.lived) at due_is refl
+      → HasTaken kind caller task ops first d (taken.Enters release due burst.first burst.jobs) before (record { die = after; waiting = ws })
+  entered burst release due asked at due_is first d before b =
+      ask_enters first d before (record { die = die; waiting = ws }) b (law first die.terms die.life long d (b.stands.runs b.runs).goes_on) kind caller task ops
+      (record { die = after; waiting = ws }) (lives b.stands.earlier b.stands.lived) burst release due (asked b.stands.earlier b.stands.lived) at due_is refl
 
   pub waited : (release due : ℕ) (left : List (Option WaitingAsk))
-      (asked : (earlier : Lives) → HasLived die earlier → IsAsk caller task ops earlier (Err because.LifeEnd) die after)
+      (asked : (earlier : Lives) → HasLived die earlier → IsDieAsk kind caller task ops earlier (Err because.LifeEnd) die after)
       → release ≡ after.first + after.life → due ≡ release + (terms_of die.terms task).deadline → get_or ws task None ≡ None
       → left ≡ set ws task (Some (record { caller = caller; ops = ops })) → (first : Start) (d : Ongoing)
       (before : OngoingParts N) → HasBegun first d before (record { die = die; waiting = ws })
-      → HasTaken caller task ops first d (taken.Waits release due) before (record { die = after; waiting = left })
+      → HasTaken kind caller task ops first d (taken.Waits release due) before (record { die = after; waiting = left })
   waited release due left asked at due_is none kept first d before b =
-      ask_waits first d before (record { die = die; waiting = ws }) b (law first die.terms die.life long d (b.stands.runs b.runs).goes_on) caller task ops
+      ask_waits first d before (record { die = die; waiting = ws }) b (law first die.terms die.life long d (b.stands.runs b.runs).goes_on) kind caller task ops
       (record { die = after; waiting = left }) (lives b.stands.earlier b.stands.lived) release due (asked b.stands.earlier b.stands.lived) at due_is none kept
 
 -- What waits
@@ -57,11 +56,11 @@ module _ (ws : List Waiting) (task : ℕ) (w : Waiting) (lt : task < length ws) 
   none_waits waits = get_or-map ask_in ws task w None lt ∙ (sym (ap ask_in is) ∙ rw waits refl)
 
 module _ {N : Type 0} (first : Start) (d : Ongoing) (die after : Planned N) (ws : List Waiting) (s : StandsAs first d (record { die = die; waiting = map ask_in ws }))
-    (runs : die.core.stopped ≡ false) (caller task : ℕ) (ops : List Op)
-    (asked : (earlier : Lives) → HasLived die earlier → IsAsk caller task ops earlier (Err because.LifeEnd) die after) where
-  late : (task < length die.core.start.plan.caps) × (length ops ≤ most_operations (terms_of die.terms task))
-  late = late_ask die.core.start.plan die.terms die.life (all_slots s.earlier) (now die.core.log) (asked_by task (die.core.log ∷ s.earlier)) task ops
-      (refused_by caller task ops s.earlier because.LifeEnd die after runs (asked s.earlier s.lived))
+    (runs : die.core.stopped ≡ false) (kind : AskKind) (caller task : ℕ) (ops : List Op)
+    (asked : (earlier : Lives) → HasLived die earlier → IsDieAsk kind caller task ops earlier (Err because.LifeEnd) die after) where
+  late : (task < length die.core.start.plan.caps) × (length ops ≤ (terms_of die.terms task).work)
+  late = late_ask die.core.start.plan die.terms die.life (all_slots s.earlier) (now die.core.log) (asked_by task (die.core.log ∷ s.earlier)) kind task ops
+      (refused_by kind caller task ops s.earlier because.LifeEnd die after runs (asked s.earlier s.lived))
 
   pub late_known : task < length ws
   late_known = omega (arith, late.0, s.one_each, length-map ws ask_in)

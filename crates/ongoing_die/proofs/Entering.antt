@@ -1,25 +1,31 @@
--- An ask of the die below is a move of its log; and what waited is entered task by task.
-use Rattle.std.proofs.Common.{◌≡◌, ℕ, zero, suc, ◌+◌, ◌<◌, ◌≤◌, true, false, List, [], ◌∷◌, length, map, drop, get_or, set, Option, None, Some, Result, Ok, Err}
+-- An ask of the die below, for a job or for a burst, is a move of its log; and what waited is entered task by task.
+use Rattle.std.proofs.Common.{◌≡◌, ℕ, zero, suc, ◌+◌, ◌<◌, ◌≤◌, false, List, [], ◌∷◌, length, map, drop, get_or, set, Option, None, Some, Result, Ok, Err}
 use Rattle.std.proofs.Common.{◌++◌, take, vec_capacity, refl, ap, sym, ◌∙◌, inl, inr, arith, add-one}
 use Rattle.std.proofs.lemmas.Bool.{true≢false}
 use Rattle.std.proofs.lemmas.List.{drop_more, get_or-map, length-map, map-set}
 use Rattle.slot_types.specs.declared.events.Op.{Op}
 use Rattle.slot_types.specs.declared.replies.Reply.{Reply}
+use Rattle.slot_types.specs.declared.replies.Reply.TheVariants as replies
 use Rattle.demand_rules.specs.declared.terms.Terms.{Terms}
-use Rattle.die_log.specs.Model.Log.{Log}
+use Rattle.die_log.specs.Model.Log.{Log, now}
 use Rattle.die_log.specs.Model.Start.{Start}
 use Rattle.die_log.specs.Model.Lives.{Lives}
-use Rattle.die_log.specs.Model.Answers.{with_answer}
-use Rattle.slot_core.specs.Core.{Core}
+use Rattle.die_log.specs.Model.Answers.{after_call, with_answer}
+use Rattle.slot_core.specs.Core.{Core, with_entry}
+use Rattle.planned_log.specs.declared.ask_kinds.AskKind.{AskKind}
 use Rattle.planned_log.specs.declared.refusals.AskRefusal.{AskRefusal}
 use Rattle.planned_log.specs.Asks.{asked_job}
+use Rattle.planned_log.specs.AskKinds.{jobs_as, with_jobs}
 use Rattle.planned_log.specs.Moves.{Ask, after_ask, after_move, after_moves}
 use Rattle.planned_log.specs.Ongoing.{WaitingAsk, asks_of}
 use Rattle.planned_die.specs.Planned.{Planned}
-use Rattle.planned_die.specs.PlannedCalls.{IsAsk}
+use Rattle.planned_die.specs.declared.bursts.Burst.{Burst}
+use Rattle.planned_die.specs.PlannedCalls.{HasAsked, HaveAsked}
 use Rattle.ongoing_die.specs.declared.waiting.Waiting.{Waiting}
 use Rattle.ongoing_die.specs.Standing.{ask_in}
 use Rattle.ongoing_die.specs.Entering.{after_one, IsSameDie}
+use Rattle.ongoing_die.specs.DieAsks.{IsDieAsk}
+use Rattle.ongoing_die.specs.OngoingCalls.{with_numbered}
 
 pub same_die : {N : Type 0} (one two three : Planned N) → IsSameDie one two → IsSameDie two three → IsSameDie one three
 same_die one two three a b = record {
@@ -35,10 +41,22 @@ same_die one two three a b = record {
 pub itself : {N : Type 0} (one : Planned N) → IsSameDie one one
 itself one = record { start = refl; device = refl; stopped = refl; terms = refl; life = refl; entered = refl; first = refl }
 
-module _ {N : Type 0} (caller task : ℕ) (ops : List Op) (earlier : Lives) (before after : Planned N) where
-  -- it leaves the die but for its log
-  pub asked_same : (result : Result ℕ AskRefusal) → IsAsk caller task ops earlier result before after → IsSameDie before after
-  asked_same (Ok number) h = record {
+-- one that nothing happened to
+unchanged : {N : Type 0} (before after : Planned N) → after ≡ before → IsSameDie before after
+unchanged {N} before after is = record {
+  start = ap (λ (d : Planned N). d.core.start) is;
+  device = ap (λ (d : Planned N). d.core.device) is;
+  stopped = ap (λ (d : Planned N). d.core.stopped) is;
+  terms = ap (λ (d : Planned N). d.terms) is;
+  life = ap (λ (d : Planned N). d.life) is;
+  entered = ap (λ (d : Planned N). d.entered) is;
+  first = ap (λ (d : Planned N). d.first) is;
+}
+
+module _ {N : Type 0} (caller task : ℕ) (earlier : Lives) where
+  -- a job leaves the die but for its log, and is its next entry, the log's next call
+  one_same : (ops : List Op) (number : ℕ) (before after : Planned N) → HasAsked caller task ops earlier number before after → IsSameDie before after
+  one_same ops number before after h = record {
     start = ap (λ (c : Core N). c.start) h.entered.logged;
     device = ap (λ (c : Core N). c.device) h.entered.logged;
     stopped = ap (λ (c : Core N). c.stopped) h.entered.logged;
@@ -47,15 +65,49 @@ module _ {N : Type 0} (caller task : ℕ) (ops : List Op) (earlier : Lives) (bef
     entered = ap (λ (d : Planned N). d.entered) h.stays;
     first = ap (λ (d : Planned N). d.first) h.stays;
   }
-  asked_same (Err refusal) h = record {
-    start = ap (λ (d : Planned N). d.core.start) h.0;
-    device = ap (λ (d : Planned N). d.core.device) h.0;
-    stopped = ap (λ (d : Planned N). d.core.stopped) h.0;
-    terms = ap (λ (d : Planned N). d.terms) h.0;
-    life = ap (λ (d : Planned N). d.life) h.0;
-    entered = ap (λ (d : Planned N). d.entered) h.0;
-    first = ap (λ (d : Planned N). d.first) h.0;
-  }
+
+  one_log : (ops : List Op) (number : ℕ) (before after : Planned N) → HasAsked caller task ops earlier number before after
+      → after.core.log ≡ after_call before.core.start before.core.log (caller, asked_job before.terms before.core.log task ops)
+  one_log ops number before after h =
+      ap (λ (c : Core N). c.log) h.entered.logged
+      ∙ sym (ap (λ (r : Reply). with_answer caller (asked_job before.terms before.core.log task ops) r before.core.log) h.entered.answered)
+
+  -- so do jobs one after the other
+  pub jobs_same : (jobs : List (List Op)) (number : ℕ) (before after : Planned N) → HaveAsked caller task jobs earlier number before after
+      → IsSameDie before after
+  jobs_same [] number before after h = unchanged before after h
+  jobs_same (ops ∷ jobs) number before after h =
+      same_die before h.0 after (one_same ops number before h.0 h.1.0) (jobs_same jobs (number + 1) h.0 after h.1.1)
+
+  pub jobs_log : (jobs : List (List Op)) (number : ℕ) (before after : Planned N) → HaveAsked caller task jobs earlier number before after
+      → after.core.log ≡ with_jobs before.core.start before.terms before.core.log caller task jobs
+  jobs_log [] number before after h = ap (λ (d : Planned N). d.core.log) h
+  jobs_log (ops ∷ jobs) number before after h =
+      let same = one_same ops number before h.0 h.1.0 in
+      jobs_log jobs (number + 1) h.0 after h.1.1
+      ∙ (λ i. with_jobs (same.start i) (same.terms i) (one_log ops number before h.0 h.1.0 i) caller task jobs)
+
+  -- and they have one number after the other
+  pub jobs_numbered : (jobs : List (List Op)) (number : ℕ) (before after : Planned N) → HaveAsked caller task jobs earlier number before after
+      → after.core.log ≡ with_numbered before.terms caller task jobs number before.core.log
+  jobs_numbered [] number before after h = ap (λ (d : Planned N). d.core.log) h
+  jobs_numbered (ops ∷ jobs) number before after h =
+      let same = one_same ops number before h.0 h.1.0 in
+      jobs_numbered jobs (number + 1) h.0 after h.1.1
+      ∙ (λ i. with_numbered (same.terms i) caller task jobs (number + 1) (ap (λ (c : Core N). c.log) h.1.0.entered.logged i))
+
+-- in the slot in which they are asked for
+pub numbered_now : (terms : Terms) (caller task : ℕ) (jobs : List (List Op)) (number : ℕ) (log : Log)
+    → now (with_numbered terms caller task jobs number log) ≡ now log
+numbered_now terms caller task [] number log = refl
+numbered_now terms caller task (ops ∷ jobs) number log =
+    numbered_now terms caller task jobs (number + 1) (with_entry caller (asked_job terms log task ops) (replies.Taken number) log)
+
+module _ {N : Type 0} (kind : AskKind) (caller task : ℕ) (ops : List Op) (earlier : Lives) (before after : Planned N) where
+  -- an ask leaves the die but for its log
+  pub asked_same : (result : Result Burst AskRefusal) → IsDieAsk kind caller task ops earlier result before after → IsSameDie before after
+  asked_same (Ok burst) h = jobs_same caller task earlier (jobs_as kind ops) burst.first before after h.asked
+  asked_same (Err refusal) h = unchanged before after h.0
 
   abbrev start : Start
   start = before.core.start
@@ -64,16 +116,15 @@ module _ {N : Type 0} (caller task : ℕ) (ops : List Op) (earlier : Lives) (bef
   log = before.core.log
 
   -- the log is that after this move, whatever is answered
-  pub asked_log : (result : Result ℕ AskRefusal) → before.core.stopped ≡ false → IsAsk caller task ops earlier result before after
-      → after.core.log ≡ after_move start before.terms earlier before.life log (Ask caller task ops)
-  asked_log (Ok number) runs h =
-      ap (λ (c : Core N). c.log) h.entered.logged
-      ∙ (sym (ap (λ (r : Reply). with_answer caller (asked_job before.terms log task ops) r log) h.entered.answered)
-      ∙ sym (ap (λ (o : Option AskRefusal). after_ask start before.terms log caller task ops o) h.unrefused))
+  pub asked_log : (result : Result Burst AskRefusal) → before.core.stopped ≡ false → IsDieAsk kind caller task ops earlier result before after
+      → after.core.log ≡ after_move start before.terms earlier before.life log (Ask kind caller task ops)
+  asked_log (Ok burst) runs h =
+      jobs_log caller task earlier (jobs_as kind ops) burst.first before after h.asked
+      ∙ sym (ap (λ (o : Option AskRefusal). after_ask start before.terms log kind caller task ops o) h.unrefused)
   asked_log (Err refusal) runs h = elim h.1 [
     | inl stopped ↦ absurd (true≢false (sym stopped.0 ∙ runs))
     | inr refused ↦ ap (λ (d : Planned N). d.core.log) h.0
-        ∙ sym (ap (λ (o : Option AskRefusal). after_ask start before.terms log caller task ops o) refused.1)
+        ∙ sym (ap (λ (o : Option AskRefusal). after_ask start before.terms log kind caller task ops o) refused.1)
   ]
 
 -- what waited from a task on

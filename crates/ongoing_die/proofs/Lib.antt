@@ -1,3 +1,4 @@
+pub mod DieAsks
 mod TermsOf
 mod Entering
 mod Standings

@@ -1,7 +1,6 @@
 -- A die on which nothing was done.
-use Rattle.std.proofs.Common.{◌≡◌, ℕ, ◌+◌, ◌≤◌, [], List, length, replicate, Option, None, ap, sym, subst, ◌∙◌, arith}
+use Rattle.std.proofs.Common.{◌≡◌, [], List, length, replicate, Option, None, ap, sym, subst, ◌∙◌, arith}
 use Rattle.slot_types.specs.declared.plans.DiePlan.{DiePlan}
-use Rattle.demand_rules.specs.declared.terms.Terms.{Terms}
 use Rattle.demand_rules.specs.Demand.{PassesDemand}
 use Rattle.demand_rules.specs.Supply.{PassesSupply}
 use Rattle.die_log.specs.Model.Start.{Start, fresh}
@@ -9,9 +8,9 @@ use Rattle.die_log.specs.Model.Opening.{IsOpening}
 use Rattle.die_log.specs.Results.DemandedLives.{AreFull}
 use Rattle.planned_log.specs.Lives.{IsLife}
 use Rattle.planned_log.specs.Laws.{StartsFull}
-use Rattle.planned_log.specs.Ongoing.{WaitingAsk, AreLongEnough, IsOngoing, new_ongoing}
+use Rattle.planned_log.specs.Ongoing.{WaitingAsk, IsOngoing, new_ongoing}
 use Rattle.planned_die.specs.Planned.{Planned, HasLived}
-use Rattle.ongoing_die.specs.Standing.{OngoingParts, StandsAs}
+use Rattle.ongoing_die.specs.Standing.{StandsAs}
 use Rattle.ongoing_die.proofs.Standings.{stands_in}
 
 fresh_full : (plan : DiePlan) → AreFull (fresh plan)

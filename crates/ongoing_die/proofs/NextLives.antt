@@ -1,5 +1,5 @@
 -- The next life begins, and the die stands as it did.
-use Rattle.std.proofs.Common.{◌≡◌, ℕ, ◌+◌, ◌<◌, false, List, [], ◌∷◌, map, None, refl, ap, sym, subst, ◌∙◌, arith}
+use Rattle.std.proofs.Common.{◌≡◌, ◌+◌, ◌<◌, false, [], ◌∷◌, map, None, refl, ap, sym, subst, ◌∙◌}
 use Rattle.demand_rules.specs.declared.terms.Terms.{Terms}
 use Rattle.die_log.specs.Model.Log.{Log, now}
 use Rattle.die_log.specs.Model.Start.{Start}

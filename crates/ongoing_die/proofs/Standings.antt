@@ -12,7 +12,10 @@ use Rattle.die_log.specs.Model.Start.{Start}
 use Rattle.die_log.specs.Model.Lives.{Lives, all_slots, start_after, HaveEnded}
 use Rattle.die_log.specs.Model.Answers.{answer, answer_by, refusal_of, with_answer, after_call}
 use Rattle.planned_log.specs.declared.refusals.AskRefusal.{AskRefusal}
-use Rattle.planned_log.specs.Asks.{ask_refusal}
+use Rattle.planned_log.specs.declared.ask_kinds.AskKind.TheVariants as kinds
+use Rattle.planned_log.specs.Asks.{asked_job, burst_refusal}
+use Rattle.planned_log.specs.AskKinds.{with_jobs}
+use Rattle.planned_log.specs.Bursts.{jobs_of}
 use Rattle.planned_log.specs.Moves.{Ask, after_ask, after_move, after_moves}
 use Rattle.planned_log.specs.Ongoing.{Ongoing, WaitingAsk, asks_of, start_of, next_life, going_on, WereInTime, IsOngoing}
 use Rattle.planned_die.specs.Planned.{HasLived}
@@ -66,16 +69,24 @@ asked_now start log caller task release due ops = by (refusal_of start log (even
     by None = refl
     by (Some refusal) = refl
 
+-- nor do the jobs of one
+jobs_now : (start : Start) (terms : Terms) (log : Log) (caller task : ℕ) (jobs : List (List Op))
+    → now (with_jobs start terms log caller task jobs) ≡ now log
+jobs_now start terms log caller task [] = refl
+jobs_now start terms log caller task (ops ∷ jobs) =
+    jobs_now start terms (after_call start log (caller, asked_job terms log task ops)) caller task jobs
+    ∙ asked_now start log caller task (now log) (now log + (terms_of terms task).deadline) ops
+
 entered_now : (start : Start) (terms : Terms) (earlier : Lives) (life n : ℕ) (ws : List (Option WaitingAsk)) (log : Log)
     → now (after_moves start terms earlier life log (asks_of n ws)) ≡ now log
 entered_now start terms earlier life n [] log = refl
 entered_now start terms earlier life n (None ∷ ws) log = entered_now start terms earlier life (n + 1) ws log
 entered_now start terms earlier life n (Some w ∷ ws) log =
-    entered_now start terms earlier life (n + 1) ws (after_move start terms earlier life log (Ask w.caller n w.ops))
-    ∙ by (ask_refusal start.plan terms life earlier log n w.ops)
+    entered_now start terms earlier life (n + 1) ws (after_move start terms earlier life log (Ask kinds.Burst w.caller n w.ops))
+    ∙ by (burst_refusal start.plan terms life earlier log n w.ops)
   where
-    by : (o : Option AskRefusal) → now (after_ask start terms log w.caller n w.ops o) ≡ now log
-    by None = asked_now start log w.caller n (now log) (now log + (terms_of terms n).deadline) w.ops
+    by : (o : Option AskRefusal) → now (after_ask start terms log kinds.Burst w.caller n w.ops o) ≡ now log
+    by None = jobs_now start terms log w.caller n (jobs_of w.ops)
     by (Some refusal) = refl
 
 -- the next life begins in the slot in which the one before ended

@@ -4,14 +4,15 @@ use Rattle.demand_rules.specs.declared.terms.Terms.{Terms}
 use Rattle.die_log.specs.Model.Log.{Log}
 use Rattle.die_log.specs.Model.Start.{Start}
 use Rattle.die_log.specs.Model.Lives.{Lives}
+use Rattle.planned_log.specs.declared.ask_kinds.AskKind.TheVariants as kinds
 use Rattle.planned_log.specs.Moves.{Ask, after_move}
 use Rattle.planned_log.specs.Ongoing.{WaitingAsk}
 use Rattle.planned_die.specs.Planned.{Planned}
 
--- the log after the ask of one task, if one waited
+-- the log after the ask of one task, if one waited: a burst
 abbrev pub after_one : Start → Terms → Lives → ℕ → Log → ℕ → Option WaitingAsk → Log
 after_one start terms earlier life log task None = log
-after_one start terms earlier life log task (Some w) = after_move start terms earlier life log (Ask w.caller task w.ops)
+after_one start terms earlier life log task (Some w) = after_move start terms earlier life log (Ask kinds.Burst w.caller task w.ops)
 
 -- the die but for its log, what is reserved for it, and what it remembers of asks
 pub record IsSameDie {N : Type 0} (before after : Planned N) : Type 0 where

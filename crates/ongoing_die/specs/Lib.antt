@@ -1,4 +1,5 @@
 pub mod Standing
 pub mod Entering
+pub mod DieAsks
 pub mod OngoingCalls
 pub mod OngoingPlans

@@ -1,15 +1,17 @@
 -- What a die that goes on by itself answers, and what it leaves.
-use Rattle.std.specs.Prelude.{◌≡◌, ℕ, ◌<◌, Bool, true, false, ◌∷◌, List, Option, Some, None, Result, Ok, Err}
+use Rattle.std.specs.Prelude.{◌≡◌, ℕ, ◌+◌, ◌<◌, Bool, true, false, [], ◌∷◌, List, length, Result, Ok, Err}
 use Rattle.slot_types.specs.declared.events.Op.{Op}
-use Rattle.slot_types.specs.declared.refusals.Refusal.{Refusal}
 use Rattle.slot_types.specs.declared.refusals.Refusal.TheVariants as because
 use Rattle.slot_types.specs.declared.replies.Reply.TheVariants as replies
 use Rattle.slot_types.specs.declared.replies.SlotReply.{SlotReply}
 use Rattle.flash_die.specs.declared.nand.NandCall.{NandCall}
-use Rattle.die_log.specs.Model.Log.{now}
+use Rattle.demand_rules.specs.declared.terms.Terms.{Terms}
+use Rattle.die_log.specs.Model.Log.{Log, now}
 use Rattle.die_log.specs.Model.Start.{Start}
 use Rattle.slot_core.specs.Core.{with_entry}
+use Rattle.planned_log.specs.declared.ask_kinds.AskKind.{AskKind}
 use Rattle.planned_log.specs.Asks.{asked_job}
+use Rattle.planned_log.specs.AskKinds.{jobs_as}
 use Rattle.planned_log.specs.Moves.{Ask, Slot}
 use Rattle.planned_log.specs.Ongoing.{Ongoing, Answer, answer_to, ongoing_after_move}
 use Rattle.planned_log.specs.Ongoing.{Enters, Waits, Refused, WaitsAlready}
@@ -52,34 +54,42 @@ pub record HasBegun {N : Type 0} (first : Start) (d : Ongoing) (before after : O
 
 -- the answer, as the rules have it
 abbrev pub told : Taken → Answer
-told (taken.Enters release due number) = Enters release due
+told (taken.Enters release due first jobs) = Enters release due
 told (taken.Waits release due) = Waits release due
 
--- an accepted job is the next entry of the log, and has its number
-abbrev pub IsNumbered : {N : Type 0} → ℕ → ℕ → List Op → Ongoing → Taken → OngoingParts N → Type 0
-IsNumbered caller task ops d (taken.Enters release due number) after =
-    after.die.core.log ≡ with_entry caller (asked_job after.die.terms d.log task ops) (replies.Taken number) d.log
-IsNumbered caller task ops d (taken.Waits release due) after = after.die.core.log ≡ d.log
+-- the log with these jobs of a task as its next entries, which have one number after the other, from this one on
+abbrev pub with_numbered : Terms → (caller task : ℕ) → List (List Op) → (number : ℕ) → Log → Log
+with_numbered terms caller task [] number log = log
+with_numbered terms caller task (ops ∷ jobs) number log =
+    with_numbered terms caller task jobs (number + 1) (with_entry caller (asked_job terms log task ops) (replies.Taken number) log)
+
+-- the accepted jobs are the next entries of the log, and have these numbers
+abbrev pub IsNumbered : {N : Type 0} → AskKind → ℕ → ℕ → List Op → Ongoing → Taken → OngoingParts N → Type 0
+IsNumbered kind caller task ops d (taken.Enters release due first jobs) after =
+    (jobs ≡ length (jobs_as kind ops))
+    × (after.die.core.log ≡ with_numbered after.die.terms caller task (jobs_as kind ops) first d.log)
+IsNumbered kind caller task ops d (taken.Waits release due) after = after.die.core.log ≡ d.log
 
 -- it is answered by the rules, and the die stands as after this move
-pub record HasTaken {N : Type 0} (caller task : ℕ) (ops : List Op) (first : Start) (d : Ongoing) (answer : Taken) (before after : OngoingParts N) : Type 0 where
+pub record HasTaken {N : Type 0} (kind : AskKind) (caller task : ℕ) (ops : List Op) (first : Start) (d : Ongoing) (answer : Taken)
+    (before after : OngoingParts N) : Type 0 where
   pub ran : before.die.core.stopped ≡ false
-  pub answered : answer_to first before.die.terms before.die.life d task ops ≡ told answer
-  pub stands : StandsAs first (ongoing_after_move first before.die.terms before.die.life d (Ask caller task ops)) after
-  pub numbered : IsNumbered caller task ops d answer after
+  pub answered : answer_to first before.die.terms before.die.life d kind task ops ≡ told answer
+  pub stands : StandsAs first (ongoing_after_move first before.die.terms before.die.life d (Ask kind caller task ops)) after
+  pub numbered : IsNumbered kind caller task ops d answer after
 
 -- Why it is refused: the whole die takes none, and nothing changes; or by the rules, and the die stands as it did, and as
 -- after this move. Memory is no cause.
-abbrev pub RefusesAsk : {N : Type 0} → ℕ → List Op → Start → Ongoing → AskStop → OngoingParts N → OngoingParts N → Type 0
-RefusesAsk task ops first d (asks.Ended stop) before after = HasStopped before stop × (after ≡ before)
-RefusesAsk task ops first d (asks.Plan refusal) before after =
-    (answer_to first before.die.terms before.die.life d task ops ≡ Refused refusal) × HasBegun first d before after
-RefusesAsk task ops first d asks.WaitsAlready before after =
-    (answer_to first before.die.terms before.die.life d task ops ≡ WaitsAlready) × HasBegun first d before after
+abbrev pub RefusesAsk : {N : Type 0} → AskKind → ℕ → List Op → Start → Ongoing → AskStop → OngoingParts N → OngoingParts N → Type 0
+RefusesAsk kind task ops first d (asks.Ended stop) before after = HasStopped before stop × (after ≡ before)
+RefusesAsk kind task ops first d (asks.Plan refusal) before after =
+    (answer_to first before.die.terms before.die.life d kind task ops ≡ Refused refusal) × HasBegun first d before after
+RefusesAsk kind task ops first d asks.WaitsAlready before after =
+    (answer_to first before.die.terms before.die.life d kind task ops ≡ WaitsAlready) × HasBegun first d before after
 
-abbrev pub IsOngoingAsk : {N : Type 0} → ℕ → ℕ → List Op → Start → Ongoing → Result Taken AskStop → OngoingParts N → OngoingParts N → Type 0
-IsOngoingAsk caller task ops first d (Ok answer) before after = HasTaken caller task ops first d answer before after
-IsOngoingAsk caller task ops first d (Err refusal) before after = RefusesAsk task ops first d refusal before after
+abbrev pub IsOngoingAsk : {N : Type 0} → AskKind → ℕ → ℕ → List Op → Start → Ongoing → Result Taken AskStop → OngoingParts N → OngoingParts N → Type 0
+IsOngoingAsk kind caller task ops first d (Ok answer) before after = HasTaken kind caller task ops first d answer before after
+IsOngoingAsk kind caller task ops first d (Err refusal) before after = RefusesAsk kind task ops first d refusal before after
 
 -- Slots
 

@@ -2,10 +2,8 @@
 use Rattle.std.specs.Prelude.{◌≡◌, ℕ, ◌≤◌, ◌<◌, if◌then◌else◌, false, List, length, vec_capacity, slice_index_or, Option, Some, None}
 use Rattle.demand_rules.specs.declared.terms.Terms.{Terms}
 use Rattle.demand_rules.specs.Demand.{terms_of}
-use Rattle.die_log.specs.Model.Log.{now}
 use Rattle.die_log.specs.Model.Start.{Start}
 use Rattle.die_log.specs.Model.Lives.{Lives, start_after, HaveEnded}
-use Rattle.planned_log.specs.Asks.{most_operations}
 use Rattle.planned_log.specs.Ongoing.{Ongoing, WaitingAsk, going_on, AreLongEnough, WereInTime, IsOngoing}
 use Rattle.planned_die.specs.Planned.{Planned, HasLived}
 use Rattle.ongoing_die.specs.declared.waiting.Waiting.{Waiting}
@@ -19,10 +17,10 @@ pub record OngoingParts (N : Type 0) : Type 0 where
 abbrev pub ask_in : Waiting → Option WaitingAsk
 ask_in w = if w.waits then Some (record { caller = w.caller; ops = w.ops.items }) else None
 
--- for an ask of each task there is memory
+-- for a burst of each task there is memory: for all that the task may ask for in a period
 abbrev pub HaveRoom : Terms → List Waiting → Type 0
 HaveRoom terms waiting =
-    (task : ℕ) (d : Waiting) → task < length waiting → most_operations (terms_of terms task) ≤ vec_capacity (slice_index_or waiting task d).ops
+    (task : ℕ) (d : Waiting) → task < length waiting → (terms_of terms task).work ≤ vec_capacity (slice_index_or waiting task d).ops
 
 -- what stands, after these earlier lives
 abbrev pub standing : {N : Type 0} → OngoingParts N → Lives → Ongoing

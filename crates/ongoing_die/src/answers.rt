@@ -5,13 +5,16 @@ use slot_types::JobNo;
 /// What an ask is answered that isn't refused. Slots are those of the clock of all lives.
 #[derive(Clone, Copy, PartialEq, Eq, Debug, Drop)]
 pub enum Taken {
-    /// It is a job of the present life, released now.
+    /// Its jobs are jobs of the present life, released now. An ask for one job has one.
     Enters {
         release: u64,
         due: u64,
-        number: JobNo,
+        /// The number of the first one; each next one has the next number.
+        first: JobNo,
+        /// How many jobs, from 1 on.
+        jobs: u32,
     },
-    /// It waits for the next life, and is released and due as a job of that.
+    /// It waits for the next life, and its jobs are released and due as jobs of that.
     Waits {
         release: u64,
         due: u64,

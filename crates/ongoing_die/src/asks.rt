@@ -1,4 +1,4 @@
-//! Asks of tasks.
+//! Asks of tasks, for a job or for a burst.
 
 ghost use Rattle.std.specs.Prelude.{};
 ghost use Rattle.die_log.specs.Model.Start.{Start};
@@ -7,12 +7,13 @@ ghost use Rattle.ongoing_die.specs.Standing.{StandsAs};
 ghost use Rattle.ongoing_die.specs.OngoingCalls.{IsOngoingAsk, HaveOnePlan};
 
 use crate::answers::Taken;
+use crate::die_asks::ask_die;
 use crate::lengths::deadline_of;
 use crate::ongoing_die::OngoingDie;
 use crate::refusals::AskStop;
 use crate::waiting::keep_waiting;
 use flash_die::Nand;
-use planned_log::{AskRefusal, a_die_goes_on_by_itself};
+use planned_log::{AskKind, AskRefusal, a_die_goes_on_by_itself};
 use slot_types::{Op, TaskNo};
 use std::alloc::Global;
 
@@ -35,7 +36,46 @@ impl<N: Nand> OngoingDie<N> {
         ops: &[Op],
     ) -> Result<Taken, AskStop>
         ensures ask { (first : Start) (d : Ongoing) → StandsAs first d self.old
-            → IsOngoingAsk caller task ops.now first d result self.old self.new }
+            → IsOngoingAsk AskKind.Job caller task ops.now first d result self.old self.new }
+        ensures plan { HaveOnePlan self.old self.new }
+    {
+        self.ask_as(alloc, caller, AskKind::Job, task, ops)
+    }
+
+    /// Asks for a burst of the task: for as many jobs as its operations take, in order, of 64 operations each but for the
+    /// last one, which may have fewer, and for all of them or none. They are released and due together, as the job of
+    /// [`ask`](OngoingDie::ask) is: in the present slot (`Enters`), or, where they would be due after the present life, in
+    /// the first slot of the next one (`Waits`). A burst of at most 64 operations is answered as `ask` answers it.
+    ///
+    /// The refusals are those of `ask`, of which the first that stands is answered, and the die stands as it did; but that
+    /// `Plan` has the causes of [`PlannedDie::ask_all`](planned_die::PlannedDie::ask_all), without `DieStopped` and
+    /// `LifeEnd`: up to the task's `work` operations may be asked for. `WaitsAlready` is answered where it would wait, and
+    /// an ask of the task does, for a job or for a burst. It takes no memory.
+    pub fn ask_all(
+        &mut self,
+        alloc: Global,
+        caller: u32,
+        task: TaskNo,
+        ops: &[Op],
+    ) -> Result<Taken, AskStop>
+        ensures ask { (first : Start) (d : Ongoing) → StandsAs first d self.old
+            → IsOngoingAsk AskKind.Burst caller task ops.now first d result self.old self.new }
+        ensures plan { HaveOnePlan self.old self.new }
+    {
+        self.ask_as(alloc, caller, AskKind::Burst, task, ops)
+    }
+
+    /// Asks for a job, as [`ask`](OngoingDie::ask) does, or for a burst, as [`ask_all`](OngoingDie::ask_all) does.
+    pub fn ask_as(
+        &mut self,
+        alloc: Global,
+        caller: u32,
+        kind: AskKind,
+        task: TaskNo,
+        ops: &[Op],
+    ) -> Result<Taken, AskStop>
+        ensures ask { (first : Start) (d : Ongoing) → StandsAs first d self.old
+            → IsOngoingAsk kind caller task ops.now first d result self.old self.new }
         ensures plan { HaveOnePlan self.old self.new }
     {
         match self.go_on(alloc) {
@@ -45,13 +85,14 @@ impl<N: Nand> OngoingDie<N> {
         a_die_goes_on_by_itself();
         let own = task.0 as usize;
         let deadline = u64::from(deadline_of(self.die.terms(), own));
-        match self.die.ask(alloc, caller, task, ops) {
-            Ok(number) => {
+        match ask_die(&mut self.die, alloc, caller, kind, task, ops) {
+            Ok(burst) => {
                 let release = self.die.first() + u64::from(self.die.now());
                 Ok(Taken::Enters {
                     release,
                     due: release + deadline,
-                    number,
+                    first: burst.first,
+                    jobs: burst.jobs,
                 })
             }
             Err(refusal) => {

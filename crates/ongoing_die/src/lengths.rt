@@ -2,11 +2,9 @@
 
 ghost use Rattle.std.specs.Prelude.{◌≡◌, ◌≤◌, ◌<◌, ℕ, length, IfSome, IfNone};
 ghost use Rattle.demand_rules.specs.Demand.{terms_of};
-ghost use Rattle.planned_log.specs.Asks.{most_operations};
 ghost use Rattle.ongoing_die.specs.OngoingPlans.{IsFirstTooLate};
 
 use demand_rules::Terms;
-use slot_types::MAX_OPS;
 
 /// After how many slots a job of the task is due; of a task that the plan doesn't have it is 0.
 pub(crate) fn deadline_of(terms: &Terms, task: usize) -> u32
@@ -18,12 +16,11 @@ pub(crate) fn deadline_of(terms: &Terms, task: usize) -> u32
     }
 }
 
-/// The most operations that an ask of the task has; of a task that the plan doesn't have it is 0.
-pub(crate) fn most_of(terms: &Terms, task: usize) -> u32
-    ensures { result ≡ most_operations (terms_of terms.now task) }
+/// The most operations that the task may ask for at once; of a task that the plan doesn't have it is 0.
+pub(crate) fn work_of(terms: &Terms, task: usize) -> u32
+    ensures { result ≡ (terms_of terms.now task).work }
 {
     match terms.tasks.get(task) {
-        Some(own) if own.work > MAX_OPS => MAX_OPS,
         Some(own) => own.work,
         None => 0,
     }

@@ -4,6 +4,7 @@
 
 pub mod answers;
 pub mod asks;
+pub mod die_asks;
 pub mod lengths;
 pub mod next_life;
 pub mod ongoing_die;
@@ -13,6 +14,6 @@ pub mod waiting;
 
 pub use answers::Taken;
 pub use ongoing_die::OngoingDie;
-pub use planned_log::AskRefusal;
+pub use planned_log::{AskKind, AskRefusal};
 pub use refusals::{AskStop, LifeStop, OngoingRefusal, SlotStop};
 pub use waiting::Waiting;

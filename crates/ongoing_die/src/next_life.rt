@@ -12,15 +12,17 @@ ghost use Rattle.ongoing_die.specs.Standing.{ask_in, StandsAs};
 ghost use Rattle.ongoing_die.specs.OngoingCalls.{HasStopped, HasBegun, HaveOnePlan};
 ghost use Rattle.ongoing_die.specs.Entering.{after_one, IsSameDie};
 
+use crate::die_asks::ask_die;
 use crate::ongoing_die::OngoingDie;
 use crate::refusals::LifeStop;
 use crate::waiting::Waiting;
 use flash_die::Nand;
 use planned_die::{LifeRefusal, PlannedDie};
+use planned_log::AskKind;
 use slot_types::TaskNo;
 use std::alloc::Global;
 
-/// Enters the ask of a task that waited, if one did.
+/// Enters the ask of a task that waited, if one did: a burst, of one job where it was asked for as one.
 fn enter_one<N: Nand>(die: &mut PlannedDie<N>, alloc: Global, task: u32, waiting: &mut Waiting)
     requires runs { die.old.core.stopped ≡ false }
     ensures log { (earlier : Lives) → HasLived die.old earlier
@@ -36,7 +38,14 @@ fn enter_one<N: Nand>(die: &mut PlannedDie<N>, alloc: Global, task: u32, waiting
     }
     waiting.waits = false;
     // It is never refused, since the life is long enough for it.
-    let _ = die.ask(alloc, waiting.caller, TaskNo(task), waiting.ops.as_slice());
+    let _ = ask_die(
+        die,
+        alloc,
+        waiting.caller,
+        AskKind::Burst,
+        TaskNo(task),
+        waiting.ops.as_slice(),
+    );
 }
 
 /// Enters what waited, task by task.

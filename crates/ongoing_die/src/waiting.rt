@@ -1,10 +1,10 @@
-//! Asks that wait for the next life, one a task.
+//! Asks that wait for the next life, for a job or for a burst, one a task.
 
 ghost use Rattle.std.specs.Prelude.{◌≡◌, ◌≤◌, ◌<◌, ◌∷◌, List, [], ℕ, length, map, replicate, slice_index_or, slice_set, vec_capacity, None, Some, IfOk};
 ghost use Rattle.ongoing_die.specs.Standing.{ask_in, HaveRoom};
 ghost use Rattle.ongoing_die.specs.declared.waiting.Waiting.{Waiting};
 
-use crate::lengths::most_of;
+use crate::lengths::work_of;
 use demand_rules::Terms;
 use slot_types::Op;
 use std::alloc::{AllocError, Global};
@@ -53,7 +53,7 @@ pub(crate) fn none_waiting(alloc: Global, terms: &Terms) -> Result<Vec<Waiting>,
 {
     let mut waiting = Vec::with_capacity(alloc, terms.tasks.len())?;
     for task in 0..terms.tasks.len() {
-        let none = Waiting::new(alloc, most_of(terms, task))?;
+        let none = Waiting::new(alloc, work_of(terms, task))?;
         waiting.push(none)?;
     }
     Ok(waiting)

@@ -1,7 +1,7 @@
 use Rattle.std.proofs.Common.{ap}
-use Rattle.planned_log.specs.Asks.{most_operations}
+use Rattle.demand_rules.specs.declared.terms.TaskTerms.{TaskTerms}
 use Rattle.ongoing_die.proofs.TermsOf.{none_there}
-use Rattle.ongoing_die.proofs.lengths.most_of.Goals as goal
+use Rattle.ongoing_die.proofs.lengths.work_of.Goals as goal
 
 pub returns-in-None : goal.returns-in-None
-returns-in-None c = ap most_operations (none_there c.args.terms.now.tasks c.args.task c.in-None.ensures)
+returns-in-None c = ap (λ (t : TaskTerms). t.work) (none_there c.args.terms.now.tasks c.args.task c.in-None.ensures)

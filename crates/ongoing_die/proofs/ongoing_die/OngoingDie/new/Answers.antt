@@ -1,4 +1,4 @@
-use Rattle.std.proofs.Common.{◌≡◌, ℕ, ◌<◌, ◌≤◌, [], length, map, replicate, None, ap, sym, subst, ◌∙◌, arith}
+use Rattle.std.proofs.Common.{◌≡◌, ℕ, ◌<◌, ◌≤◌, [], length, map, replicate, None, ap, subst, ◌∙◌, arith}
 use Rattle.demand_rules.specs.declared.terms.Terms.{Terms}
 use Rattle.demand_rules.specs.Demand.{terms_of}
 use Rattle.die_log.specs.Model.Start.{fresh}

@@ -1,7 +1,7 @@
 use Rattle.std.proofs.Common.{◌≡◌, ◌<◌, false, map, refl, ap, sym, subst, ◌∙◌}
 use Rattle.die_log.specs.Model.Log.{now}
 use Rattle.ongoing_die.specs.Standing.{OngoingParts, ask_in}
-use Rattle.ongoing_die.specs.OngoingCalls.{HasBegun, HaveOnePlan, HasCarried, HasFailed}
+use Rattle.ongoing_die.specs.OngoingCalls.{HasBegun, HaveOnePlan}
 use Rattle.ongoing_die.proofs.CarriedSlots.{carried, failed, carried_plan, failed_plan}
 use Rattle.ongoing_die.proofs.NextLives.{goes_on_so, goes_on_yet, plan_then, same_plan}
 use Rattle.ongoing_die.proofs.Rooms.{have_room}

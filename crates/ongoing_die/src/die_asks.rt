@@ -1,0 +1,34 @@
+//! Asks of the die of the present life.
+
+ghost use Rattle.std.specs.Prelude.{};
+ghost use Rattle.die_log.specs.Model.Lives.{Lives};
+ghost use Rattle.planned_die.specs.Planned.{HasLived};
+ghost use Rattle.ongoing_die.specs.DieAsks.{IsDieAsk};
+
+use flash_die::Nand;
+use planned_die::{Burst, PlannedDie};
+use planned_log::{AskKind, AskRefusal};
+use slot_types::{Op, TaskNo};
+use std::alloc::Global;
+
+/// Asks for a job or for a burst.
+pub(crate) fn ask_die<N: Nand>(
+    die: &mut PlannedDie<N>,
+    alloc: Global,
+    caller: u32,
+    kind: AskKind,
+    task: TaskNo,
+    ops: &[Op],
+) -> Result<Burst, AskRefusal>
+    ensures ask { (earlier : Lives) → HasLived die.old earlier
+        → IsDieAsk kind caller task ops.now earlier result die.old die.new }
+    ensures lived { (earlier : Lives) → HasLived die.old earlier → HasLived die.new earlier }
+{
+    match kind {
+        AskKind::Job => match die.ask(alloc, caller, task, ops) {
+            Ok(first) => Ok(Burst { first, jobs: 1 }),
+            Err(refusal) => Err(refusal),
+        },
+        AskKind::Burst => die.ask_all(alloc, caller, task, ops),
+    }
+}
