@@ -4,6 +4,7 @@ use Rattle.std.proofs.lemmas.Bool.Decides.{nat_tests}
 use Rattle.slot_types.specs.declared.events.Op.{Op}
 use Rattle.demand_rules.specs.declared.terms.Terms.{Terms}
 use Rattle.die_log.specs.Model.Start.{Start}
+use Rattle.planned_log.specs.declared.ask_kinds.AskKind.{AskKind}
 use Rattle.planned_log.specs.Laws.{Seen, Asks, Slots, seen_by}
 use Rattle.planned_log.specs.Moves.{Move, Ask, Slot}
 use Rattle.planned_log.specs.Ongoing.{Ongoing, Answer, answer_to, answers_to, ongoing_after, ongoing_after_move}
@@ -42,17 +43,17 @@ module _ (first : Start) (terms : Terms) (life task : ℕ) where
       → WasGranted first terms life d caller request reply
       → answers_to first terms life task d (move_by caller request ∷ rest)
       ≡ answer_in task request reply ++ answers_to first terms life task (ongoing_after_move first terms life d (move_by caller request)) rest
-  one_answer d caller (requests.Ask other ops) (Ok (granted.Job answer)) rest h = by (other == task) refl
+  one_answer d caller (requests.Ask kind other ops) (Ok (granted.Job answer)) rest h = by (other == task) refl
     where
       then_rest : List Answer
-      then_rest = answers_to first terms life task (ongoing_after_move first terms life d (Ask caller other ops)) rest
+      then_rest = answers_to first terms life task (ongoing_after_move first terms life d (Ask kind caller other ops)) rest
 
       by : (b : Bool) → (other == task) ≡ b
-          → answers_to first terms life task d (Ask caller other ops ∷ rest)
-          ≡ answer_in task (requests.Ask other ops) (Ok (granted.Job answer)) ++ then_rest
-      by true e = rw e (ap (λ (a : Answer). a ∷ then_rest) (ap (λ n. answer_to first terms life d n ops) (sym (equal other task e)) ∙ h))
+          → answers_to first terms life task d (Ask kind caller other ops ∷ rest)
+          ≡ answer_in task (requests.Ask kind other ops) (Ok (granted.Job answer)) ++ then_rest
+      by true e = rw e (ap (λ (a : Answer). a ∷ then_rest) (ap (λ n. answer_to first terms life d kind n ops) (sym (equal other task e)) ∙ h.0))
       by false e = rw e refl
-  one_answer d caller (requests.Ask other ops) (Ok (granted.Slot reply)) rest h = absurd h
+  one_answer d caller (requests.Ask kind other ops) (Ok (granted.Slot reply)) rest h = absurd h
   one_answer d caller requests.Slot (Ok (granted.Slot reply)) rest h = refl
   one_answer d caller requests.Slot (Ok (granted.Job answer)) rest h = absurd h
   one_answer d caller request (Err refusal) rest h = absurd h
@@ -66,33 +67,33 @@ module _ (first : Start) (terms : Terms) (life task : ℕ) where
       ∙ sym (one_answer d call.caller call.event call.reply (moves_of calls) all.0)
 
   -- with one ask more of the task
-  pub answers_then : (d : Ongoing) (moves : List Move) (caller : ℕ) (ops : List Op)
-      → answers_to first terms life task d (moves ++ Ask caller task ops ∷ [])
-      ≡ answers_to first terms life task d moves ++ answer_to first terms life (ongoing_after first terms life d moves) task ops ∷ []
-  answers_then d [] caller ops = rw (same_task task) refl
-  answers_then d (Slot by ∷ moves) caller ops = answers_then (ongoing_after_move first terms life d (Slot by)) moves caller ops
-  answers_then d (Ask by other own ∷ moves) caller ops =
-      either (other == task) refl (answers_then (ongoing_after_move first terms life d (Ask by other own)) moves caller ops)
+  pub answers_then : (kind : AskKind) (d : Ongoing) (moves : List Move) (caller : ℕ) (ops : List Op)
+      → answers_to first terms life task d (moves ++ Ask kind caller task ops ∷ [])
+      ≡ answers_to first terms life task d moves ++ answer_to first terms life (ongoing_after first terms life d moves) kind task ops ∷ []
+  answers_then kind d [] caller ops = rw (same_task task) refl
+  answers_then kind d (Slot by ∷ moves) caller ops = answers_then kind (ongoing_after_move first terms life d (Slot by)) moves caller ops
+  answers_then kind d (Ask its by other own ∷ moves) caller ops =
+      either (other == task) refl (answers_then kind (ongoing_after_move first terms life d (Ask its by other own)) moves caller ops)
     where
       here : Ongoing
-      here = ongoing_after_move first terms life d (Ask by other own)
+      here = ongoing_after_move first terms life d (Ask its by other own)
 
       either : (b : Bool) → (other == task) ≡ b
-          → answers_to first terms life task here (moves ++ Ask caller task ops ∷ [])
-          ≡ answers_to first terms life task here moves ++ answer_to first terms life (ongoing_after first terms life here moves) task ops ∷ []
-          → answers_to first terms life task d (Ask by other own ∷ (moves ++ Ask caller task ops ∷ []))
-          ≡ answers_to first terms life task d (Ask by other own ∷ moves)
-          ++ answer_to first terms life (ongoing_after first terms life d (Ask by other own ∷ moves)) task ops ∷ []
-      either true e after = rw e (ap (λ (l : List Answer). answer_to first terms life d task own ∷ l) after)
+          → answers_to first terms life task here (moves ++ Ask kind caller task ops ∷ [])
+          ≡ answers_to first terms life task here moves ++ answer_to first terms life (ongoing_after first terms life here moves) kind task ops ∷ []
+          → answers_to first terms life task d (Ask its by other own ∷ (moves ++ Ask kind caller task ops ∷ []))
+          ≡ answers_to first terms life task d (Ask its by other own ∷ moves)
+          ++ answer_to first terms life (ongoing_after first terms life d (Ask its by other own ∷ moves)) kind task ops ∷ []
+      either true e after = rw e (ap (λ (l : List Answer). answer_to first terms life d its task own ∷ l) after)
       either false e after = rw e after
 
-pub seen_then : (task : ℕ) (moves : List Move) (caller : ℕ) (ops : List Op)
-    → seen_by task (moves ++ Ask caller task ops ∷ []) ≡ seen_by task moves ++ Asks ops ∷ []
-seen_then task [] caller ops = rw (same_task task) refl
-seen_then task (Slot by ∷ moves) caller ops = ap (λ (l : List Seen). Slots ∷ l) (seen_then task moves caller ops)
-seen_then task (Ask by other own ∷ moves) caller ops = either (other == task) refl (seen_then task moves caller ops)
+pub seen_then : (kind : AskKind) (task : ℕ) (moves : List Move) (caller : ℕ) (ops : List Op)
+    → seen_by task (moves ++ Ask kind caller task ops ∷ []) ≡ seen_by task moves ++ Asks kind ops ∷ []
+seen_then kind task [] caller ops = rw (same_task task) refl
+seen_then kind task (Slot by ∷ moves) caller ops = ap (λ (l : List Seen). Slots ∷ l) (seen_then kind task moves caller ops)
+seen_then kind task (Ask its by other own ∷ moves) caller ops = either (other == task) refl (seen_then kind task moves caller ops)
   where
-    either : (b : Bool) → (other == task) ≡ b → seen_by task (moves ++ Ask caller task ops ∷ []) ≡ seen_by task moves ++ Asks ops ∷ []
-        → seen_by task (Ask by other own ∷ (moves ++ Ask caller task ops ∷ [])) ≡ seen_by task (Ask by other own ∷ moves) ++ Asks ops ∷ []
-    either true e after = rw e (ap (λ (l : List Seen). Asks own ∷ l) after)
+    either : (b : Bool) → (other == task) ≡ b → seen_by task (moves ++ Ask kind caller task ops ∷ []) ≡ seen_by task moves ++ Asks kind ops ∷ []
+        → seen_by task (Ask its by other own ∷ (moves ++ Ask kind caller task ops ∷ [])) ≡ seen_by task (Ask its by other own ∷ moves) ++ Asks kind ops ∷ []
+    either true e after = rw e (ap (λ (l : List Seen). Asks its own ∷ l) after)
     either false e after = rw e after

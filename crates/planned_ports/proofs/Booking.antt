@@ -6,6 +6,7 @@ use Rattle.slot_types.specs.declared.replies.SlotReply.{SlotReply}
 use Rattle.flash_die.specs.declared.nand.NandCall.{NandCall}
 use Rattle.demand_rules.specs.declared.terms.Terms.{Terms}
 use Rattle.die_log.specs.Model.Start.{Start}
+use Rattle.planned_log.specs.declared.ask_kinds.AskKind.{AskKind}
 use Rattle.planned_log.specs.Ongoing.{Ongoing}
 use Rattle.turn_lock.specs.Log.{entry}
 use Rattle.ongoing_die.specs.declared.answers.Taken.{Taken}
@@ -31,12 +32,12 @@ pub record Answers {N : Type 0} (caller : ℕ) (request : Request) (result : Res
   pub plan : HaveOnePlan before after
 
 module _ {N : Type 0} (caller : ℕ) (before after : OngoingParts N) (plan : HaveOnePlan before after) where
-  pub ask_answers : (task : ℕ) (ops : List Op) (result : Result Taken AskStop)
-      → ((first : Start) (d : Ongoing) → StandsAs first d before → IsOngoingAsk caller task ops first d result before after)
-      → Answers caller (requests.Ask task ops) (of_ask result) before after
-  ask_answers task ops result h = record {
-    reply = λ first d s. ask_reply caller first d before after s task ops result (h first d s);
-    stands = λ first d s. ask_stands caller first d before after s task ops result (h first d s);
+  pub ask_answers : (kind : AskKind) (task : ℕ) (ops : List Op) (result : Result Taken AskStop)
+      → ((first : Start) (d : Ongoing) → StandsAs first d before → IsOngoingAsk kind caller task ops first d result before after)
+      → Answers caller (requests.Ask kind task ops) (of_ask result) before after
+  ask_answers kind task ops result h = record {
+    reply = λ first d s. ask_reply caller first d before after s kind task ops result (h first d s);
+    stands = λ first d s. ask_stands caller first d before after s kind task ops result (h first d s);
     plan = plan;
   }
 

@@ -13,24 +13,26 @@ use Rattle.die_log.specs.Model.Log.{Log, now}
 use Rattle.die_log.specs.Model.Start.{Start}
 use Rattle.die_log.specs.Model.Lives.{Lives}
 use Rattle.die_log.specs.Model.Answers.{answer, run}
+use Rattle.planned_log.specs.declared.ask_kinds.AskKind.{AskKind}
 use Rattle.planned_log.specs.KeptLogs.{collections_at}
 use Rattle.planned_log.specs.Moves.{after_own}
 use Rattle.planned_log.specs.Ongoing.{Ongoing, start_of, going_on}
 use Rattle.planned_die.specs.Planned.{Planned}
 use Rattle.planned_die.specs.PlannedCalls.{own_calls, with_all_own}
 use Rattle.ongoing_die.specs.declared.answers.Taken.{Taken}
+use Rattle.ongoing_die.specs.declared.answers.Taken.TheVariants as taken
 use Rattle.ongoing_die.specs.declared.refusals.AskStop.{AskStop}
 use Rattle.ongoing_die.specs.declared.refusals.AskStop.TheVariants as asks
 use Rattle.ongoing_die.specs.declared.refusals.SlotStop.{SlotStop}
 use Rattle.ongoing_die.specs.declared.refusals.SlotStop.TheVariants as slots
 use Rattle.ongoing_die.specs.Standing.{OngoingParts, standing, StandsAs}
-use Rattle.ongoing_die.specs.OngoingCalls.{IsOngoingAsk, IsOngoingSlot, HasCarried}
+use Rattle.ongoing_die.specs.OngoingCalls.{IsOngoingAsk, IsNumbered, IsOngoingSlot, HasCarried}
 use Rattle.planned_ports.specs.declared.calls.Request.TheVariants as requests
 use Rattle.planned_ports.specs.declared.calls.Granted.{Granted}
 use Rattle.planned_ports.specs.declared.calls.Granted.TheVariants as granted
 use Rattle.planned_ports.specs.declared.calls.Refused.{Refused}
 use Rattle.planned_ports.specs.declared.calls.Refused.TheVariants as refused
-use Rattle.planned_ports.specs.Replies.{IsReply, IsSlotReply, after_reply}
+use Rattle.planned_ports.specs.Replies.{IsReply, IsSlotReply, TellsJobs, after_reply}
 
 -- a call of the die, as an answer to a request
 abbrev pub of_ask : Result Taken AskStop → Result Granted Refused
@@ -48,16 +50,20 @@ module _ {N : Type 0} (caller : ℕ) (first : Start) (d : Ongoing) (before after
   abbrev life : ℕ
   life = before.die.life
 
-  module _ (task : ℕ) (ops : List Op) where
-    pub ask_reply : (result : Result Taken AskStop) → IsOngoingAsk caller task ops first d result before after
-        → IsReply N first terms life d caller (requests.Ask task ops) (of_ask result)
-    ask_reply (Ok answer) h = h.answered
+  module _ (kind : AskKind) (task : ℕ) (ops : List Op) where
+    tells_jobs : (answer : Taken) → IsNumbered kind caller task ops d answer after → TellsJobs kind ops answer
+    tells_jobs (taken.Enters release due number jobs) h = h.0
+    tells_jobs (taken.Waits release due) h = tt
+
+    pub ask_reply : (result : Result Taken AskStop) → IsOngoingAsk kind caller task ops first d result before after
+        → IsReply N first terms life d caller (requests.Ask kind task ops) (of_ask result)
+    ask_reply (Ok answer) h = (h.answered, tells_jobs answer h.numbered)
     ask_reply (Err (asks.Ended stop)) h = (before, s, h.0)
     ask_reply (Err (asks.Plan refusal)) h = h.0
     ask_reply (Err asks.WaitsAlready) h = h.0
 
-    pub ask_stands : (result : Result Taken AskStop) → IsOngoingAsk caller task ops first d result before after
-        → StandsAs first (after_reply first terms life d caller (requests.Ask task ops) (of_ask result)) after
+    pub ask_stands : (result : Result Taken AskStop) → IsOngoingAsk kind caller task ops first d result before after
+        → StandsAs first (after_reply first terms life d caller (requests.Ask kind task ops) (of_ask result)) after
     ask_stands (Ok answer) h = h.stands
     ask_stands (Err (asks.Ended stop)) h = subst (StandsAs first d) (sym h.1) s
     ask_stands (Err (asks.Plan refusal)) h = h.1.stands

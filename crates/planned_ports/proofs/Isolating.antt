@@ -5,6 +5,7 @@ use Rattle.demand_rules.specs.declared.terms.Terms.{Terms}
 use Rattle.die_log.specs.Model.Log.{now}
 use Rattle.die_log.specs.Model.Start.{Start}
 use Rattle.die_log.specs.Model.Lives.{all_slots}
+use Rattle.planned_log.specs.declared.ask_kinds.AskKind.{AskKind}
 use Rattle.planned_log.specs.Asks.{asked_by}
 use Rattle.planned_log.specs.Laws.{Seen, Asks, seen_by, AreDoneInTime, ForKeptLogs}
 use Rattle.planned_log.specs.Moves.{Move, Ask}
@@ -68,15 +69,15 @@ module _ {N : Type 0} (law : Isolates) (task : ℕ) (opened again : OngoingParts
       answers_are first terms life task one calls (h.ran.shared.granted first one h.ran.stands)
       ∙ (same (moves_of calls) (moves_of others) h.seen ∙ sym (answers_are other terms life task two others granted_again))
 
-  pub same_next : (ops : List Op) → answer_to first terms life (after_calls first terms life one calls) task ops
-      ≡ answer_to other terms life (after_calls other terms life two others) task ops
-  same_next ops =
-      let x : Answer = answer_to first terms life (after_calls first terms life one calls) task ops in
-      let y : Answer = answer_to other terms life (after_calls other terms life two others) task ops in
-      let seen = seen_then task (moves_of calls) 0 ops
-      ∙ (ap (λ (l : List Seen). l ++ Asks ops ∷ []) h.seen ∙ sym (seen_then task (moves_of others) 0 ops)) in
+  pub same_next : (kind : AskKind) (ops : List Op) → answer_to first terms life (after_calls first terms life one calls) kind task ops
+      ≡ answer_to other terms life (after_calls other terms life two others) kind task ops
+  same_next kind ops =
+      let x : Answer = answer_to first terms life (after_calls first terms life one calls) kind task ops in
+      let y : Answer = answer_to other terms life (after_calls other terms life two others) kind task ops in
+      let seen = seen_then kind task (moves_of calls) 0 ops
+      ∙ (ap (λ (l : List Seen). l ++ Asks kind ops ∷ []) h.seen ∙ sym (seen_then kind task (moves_of others) 0 ops)) in
       last_same (answers_to first terms life task one (moves_of calls)) x y
-      (sym (answers_then first terms life task one (moves_of calls) 0 ops)
-      ∙ (same (moves_of calls ++ Ask 0 task ops ∷ []) (moves_of others ++ Ask 0 task ops ∷ []) seen
-      ∙ (answers_then other terms life task two (moves_of others) 0 ops
+      (sym (answers_then first terms life task kind one (moves_of calls) 0 ops)
+      ∙ (same (moves_of calls ++ Ask kind 0 task ops ∷ []) (moves_of others ++ Ask kind 0 task ops ∷ []) seen
+      ∙ (answers_then other terms life task kind two (moves_of others) 0 ops
       ∙ ap (λ (l : List Answer). l ++ y ∷ []) (sym (same (moves_of calls) (moves_of others) h.seen)))))

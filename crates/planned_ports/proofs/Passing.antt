@@ -4,6 +4,7 @@ use Rattle.std.proofs.lemmas.List.{append-nil}
 use Rattle.std.specs.Prelude.{is_ok}
 use Rattle.std.specs.List.{AllByRecursion}
 use Rattle.slot_types.specs.declared.events.Op.{Op}
+use Rattle.planned_log.specs.declared.ask_kinds.AskKind.{AskKind}
 use Rattle.turn_lock.specs.Log.{entry, calls_by}
 use Rattle.turn_lock.specs.Passes.{Replies}
 use Rattle.planned_ports.specs.declared.calls.Request.{Request}
@@ -57,30 +58,30 @@ module _ {N : Type 0} where
   }
 
   -- an ask is answered as an ask, and a slot as a slot
-  pub is_job : (v : PortView N) (task : ℕ) (ops : List Op) (answer : Granted) (w : PortView N) → AddsEntry v (requests.Ask task ops) answer w → IsJob answer
-  is_job v task ops (granted.Job answer) w a = tt
-  is_job v task ops (granted.Slot reply) w a = let die = a.shared.is_die in a.granted die.first die.ongoing die.stands
+  pub is_job : (v : PortView N) (kind : AskKind) (task : ℕ) (ops : List Op) (answer : Granted) (w : PortView N) → AddsEntry v (requests.Ask kind task ops) answer w → IsJob answer
+  is_job v kind task ops (granted.Job answer) w a = tt
+  is_job v kind task ops (granted.Slot reply) w a = let die = a.shared.is_die in a.granted die.first die.ongoing die.stands
 
   pub is_slot : (v : PortView N) (answer : Granted) (w : PortView N) → AddsEntry v requests.Slot answer w → IsSlot answer
   is_slot v (granted.Slot reply) w a = tt
   is_slot v (granted.Job answer) w a = let die = a.shared.is_die in a.granted die.first die.ongoing die.stands
 
-  pub refuses_asks : (v : PortView N) (task : ℕ) (ops : List Op) (refusal : Refused) (w : PortView N) → AddsNone v (requests.Ask task ops) refusal w
+  pub refuses_asks : (v : PortView N) (kind : AskKind) (task : ℕ) (ops : List Op) (refusal : Refused) (w : PortView N) → AddsNone v (requests.Ask kind task ops) refusal w
       → RefusesAsks refusal
-  refuses_asks v task ops (refused.Ask stop) w a = tt
-  refuses_asks v task ops (refused.Slot stop) w a = let die = a.grown.fit.is_die in a.reason.1 die.first die.ongoing die.stands
-  refuses_asks v task ops refused.LockFull w a = tt
+  refuses_asks v kind task ops (refused.Ask stop) w a = tt
+  refuses_asks v kind task ops (refused.Slot stop) w a = let die = a.grown.fit.is_die in a.reason.1 die.first die.ongoing die.stands
+  refuses_asks v kind task ops refused.LockFull w a = tt
 
   pub refuses_slots : (v : PortView N) (refusal : Refused) (w : PortView N) → AddsNone v requests.Slot refusal w → RefusesSlots refusal
   refuses_slots v (refused.Ask stop) w a = let die = a.grown.fit.is_die in a.reason.1 die.first die.ongoing die.stands
   refuses_slots v (refused.Slot stop) w a = tt
   refuses_slots v refused.LockFull w a = tt
 
-  pub refuses_task : (p : TaskParts N) (ops : List Op) (refusal : Refused) (result : AskRefused) (q : TaskParts N) → foreign_page p.pages ops ≡ None
-      → AddsNone p.view (requests.Ask p.task ops) refusal q.view → IsAskRefusal refusal result → RefusesTask p ops result q
-  refuses_task p ops (refused.Ask stop) result q own a is = subst (λ (r : AskRefused). RefusesTask p ops r q) (sym is) (own, a)
-  refuses_task p ops (refused.Slot stop) result q own a is = absurd is
-  refuses_task p ops refused.LockFull result q own a is = subst (λ (r : AskRefused). RefusesTask p ops r q) (sym is) (own, a)
+  pub refuses_task : (kind : AskKind) (p : TaskParts N) (ops : List Op) (refusal : Refused) (result : AskRefused) (q : TaskParts N) → foreign_page p.pages ops ≡ None
+      → AddsNone p.view (requests.Ask kind p.task ops) refusal q.view → IsAskRefusal refusal result → RefusesTask kind p ops result q
+  refuses_task kind p ops (refused.Ask stop) result q own a is = subst (λ (r : AskRefused). RefusesTask kind p ops r q) (sym is) (own, a)
+  refuses_task kind p ops (refused.Slot stop) result q own a is = absurd is
+  refuses_task kind p ops refused.LockFull result q own a is = subst (λ (r : AskRefused). RefusesTask kind p ops r q) (sym is) (own, a)
 
   pub refuses_clock : (p : ClockParts N) (refusal : Refused) (result : SlotRefused) (q : ClockParts N) → AddsNone p.view requests.Slot refusal q.view
       → IsSlotRefusal refusal result → RefusesClock p result q
@@ -89,11 +90,11 @@ module _ {N : Type 0} where
   refuses_clock p refused.LockFull result q a is = subst (λ (r : SlotRefused). RefusesClock p r q) (sym is) a
 
   -- the port's own requests, with one more
-  pub own_asks : (p q : TaskParts N) (ops : List Op) (answer : Granted) → HasOwnAsks p → foreign_page p.pages ops ≡ None → q.task ≡ p.task → q.pages ≡ p.pages
-      → q.view.number ≡ p.view.number → AddsEntry p.view (requests.Ask p.task ops) answer q.view → HasOwnAsks q
-  own_asks p q ops answer own page task pages number a =
+  pub own_asks : (kind : AskKind) (p q : TaskParts N) (ops : List Op) (answer : Granted) → HasOwnAsks p → foreign_page p.pages ops ≡ None → q.task ≡ p.task → q.pages ≡ p.pages
+      → q.view.number ≡ p.view.number → AddsEntry p.view (requests.Ask kind p.task ops) answer q.view → HasOwnAsks q
+  own_asks kind p q ops answer own page task pages number a =
       rw (task, pages, number, a.own) (all_push (λ (c : PortCall). IsOwnAsk p.task p.pages c.event) (calls_by p.view.number p.view.seen)
-      (entry p.view.number (requests.Ask p.task ops) (Ok answer)) own (refl, page))
+      (entry p.view.number (requests.Ask kind p.task ops) (Ok answer)) own (refl, page))
 
   pub own_slots : (p q : ClockParts N) (answer : Granted) → HasOwnSlots p → q.view.number ≡ p.view.number → AddsEntry p.view requests.Slot answer q.view
       → HasOwnSlots q
@@ -103,9 +104,9 @@ module _ {N : Type 0} where
 
   -- and where nothing is granted
 
-  pub same_asks : (p q : TaskParts N) (ops : List Op) (refusal : Refused) → HasOwnAsks p → q.task ≡ p.task → q.pages ≡ p.pages
-      → q.view.number ≡ p.view.number → AddsNone p.view (requests.Ask p.task ops) refusal q.view → HasOwnAsks q
-  same_asks p q ops refusal own task pages number a = rw (task, pages, number, a.own) own
+  pub same_asks : (kind : AskKind) (p q : TaskParts N) (ops : List Op) (refusal : Refused) → HasOwnAsks p → q.task ≡ p.task → q.pages ≡ p.pages
+      → q.view.number ≡ p.view.number → AddsNone p.view (requests.Ask kind p.task ops) refusal q.view → HasOwnAsks q
+  same_asks kind p q ops refusal own task pages number a = rw (task, pages, number, a.own) own
 
   pub same_slots : (p q : ClockParts N) (refusal : Refused) → HasOwnSlots p → q.view.number ≡ p.view.number → AddsNone p.view requests.Slot refusal q.view
       → HasOwnSlots q

@@ -16,7 +16,7 @@ abbrev pub PortCall : Type 0
 PortCall = Entry Request (Result Granted Refused)
 
 abbrev pub move_by : ℕ → Request → Move
-move_by caller (requests.Ask task ops) = Ask caller task ops
+move_by caller (requests.Ask kind task ops) = Ask kind caller task ops
 move_by caller requests.Slot = Slot caller
 
 abbrev pub move_of : PortCall → Move

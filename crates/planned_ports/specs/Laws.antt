@@ -26,7 +26,7 @@ IsInTime first life d = WereInTime first life d.earlier × AreDoneInTime (start_
 
 -- what a task was answered by this call, if it was its ask
 abbrev pub answer_in : ℕ → Request → Result Granted Refused → List Answer
-answer_in task (requests.Ask other ops) (Ok (granted.Job answer)) = if other == task then told answer ∷ [] else []
+answer_in task (requests.Ask kind other ops) (Ok (granted.Job answer)) = if other == task then told answer ∷ [] else []
 answer_in task _ _ = []
 
 -- and by these calls, in order

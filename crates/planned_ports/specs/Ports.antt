@@ -4,6 +4,7 @@ use Rattle.std.specs.List.{AllByRecursion}
 use Rattle.atomic_table.specs.Seated.{TableId}
 use Rattle.slot_types.specs.declared.events.Op.{Op}
 use Rattle.die_log.specs.Model.Start.{Start}
+use Rattle.planned_log.specs.declared.ask_kinds.AskKind.{AskKind}
 use Rattle.planned_log.specs.Ongoing.{Ongoing}
 use Rattle.turn_lock.specs.declared.view.View.{View}
 use Rattle.turn_lock.specs.Log.{entry, calls_by}
@@ -40,9 +41,9 @@ pub record TaskParts (N : Type 0) : Type 0 where
 
 -- The port's own requests
 
--- an ask of this task, on pages that the port may use
+-- an ask of this task, for a job or for a burst, on pages that the port may use
 abbrev pub IsOwnAsk : ℕ → Option PageRange → Request → Type 0
-IsOwnAsk task pages (requests.Ask other ops) = (other ≡ task) × (foreign_page pages ops ≡ None)
+IsOwnAsk task pages (requests.Ask kind other ops) = (other ≡ task) × (foreign_page pages ops ≡ None)
 IsOwnAsk task pages requests.Slot = ⊥
 
 -- all that the port was granted are such asks
@@ -63,7 +64,7 @@ pub record ClockParts (N : Type 0) : Type 0 where
   pub view : PortView N
 
 abbrev pub IsSlotRequest : Request → Type 0
-IsSlotRequest (requests.Ask task ops) = ⊥
+IsSlotRequest (requests.Ask kind task ops) = ⊥
 IsSlotRequest requests.Slot = Unit {0}
 
 -- all that it was granted are slots
@@ -108,10 +109,10 @@ IsClock v w slot = (g : HasGrown v w) × SaysClock g.topic w.seen slot
 
 -- Why a task's ask is refused: it is on a page that isn't the port's, and the port knows no more than before; or it is on
 -- its own pages, and is refused behind the lock
-abbrev pub RefusesTask : {N : Type 0} → TaskParts N → List Op → AskRefused → TaskParts N → Type 0
-RefusesTask p ops (asks.ForeignPage page) q = (foreign_page p.pages ops ≡ Some page) × (q ≡ p)
-RefusesTask p ops asks.LockFull q = (foreign_page p.pages ops ≡ None) × AddsNone p.view (requests.Ask p.task ops) refused.LockFull q.view
-RefusesTask p ops (asks.Die stop) q = (foreign_page p.pages ops ≡ None) × AddsNone p.view (requests.Ask p.task ops) (refused.Ask stop) q.view
+abbrev pub RefusesTask : {N : Type 0} → AskKind → TaskParts N → List Op → AskRefused → TaskParts N → Type 0
+RefusesTask kind p ops (asks.ForeignPage page) q = (foreign_page p.pages ops ≡ Some page) × (q ≡ p)
+RefusesTask kind p ops asks.LockFull q = (foreign_page p.pages ops ≡ None) × AddsNone p.view (requests.Ask kind p.task ops) refused.LockFull q.view
+RefusesTask kind p ops (asks.Die stop) q = (foreign_page p.pages ops ≡ None) × AddsNone p.view (requests.Ask kind p.task ops) (refused.Ask stop) q.view
 
 abbrev pub RefusesClock : {N : Type 0} → ClockParts N → SlotRefused → ClockParts N → Type 0
 RefusesClock p slots.LockFull q = AddsNone p.view requests.Slot refused.LockFull q.view

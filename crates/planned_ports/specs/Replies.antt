@@ -9,9 +9,13 @@ use Rattle.die_log.specs.Model.Start.{Start}
 use Rattle.die_log.specs.Model.Answers.{answer}
 use Rattle.die_log.specs.Model.Lives.{all_slots}
 use Rattle.die_log.specs.Model.Log.{now}
+use Rattle.planned_log.specs.declared.ask_kinds.AskKind.{AskKind}
+use Rattle.planned_log.specs.AskKinds.{jobs_as}
 use Rattle.planned_log.specs.Moves.{after_own}
 use Rattle.planned_log.specs.Ongoing as rules
 use Rattle.planned_log.specs.Ongoing.{Ongoing, start_of, answer_to, ongoing_after_move}
+use Rattle.ongoing_die.specs.declared.answers.Taken.{Taken}
+use Rattle.ongoing_die.specs.declared.answers.Taken.TheVariants as taken
 use Rattle.ongoing_die.specs.declared.refusals.AskStop.{AskStop}
 use Rattle.ongoing_die.specs.declared.refusals.AskStop.TheVariants as asks
 use Rattle.ongoing_die.specs.declared.refusals.LifeStop.{LifeStop}
@@ -35,9 +39,15 @@ abbrev pub IsSlotReply : Start → Terms → Ongoing → ℕ → SlotReply → T
 IsSlotReply first terms d caller reply =
     let start = start_of first d in answer start (after_own start terms d.log caller) events.Slot ≡ replies.Slot reply
 
+-- the answer of an ask that enters tells how many jobs it has
+abbrev pub TellsJobs : AskKind → List Op → Taken → Type 0
+TellsJobs kind ops (taken.Enters release due number jobs) = jobs ≡ length (jobs_as kind ops)
+TellsJobs kind ops (taken.Waits release due) = Unit {0}
+
 -- where this stands, the request is granted with this answer
 abbrev pub IsGranted : Start → Terms → ℕ → Ongoing → ℕ → Request → Granted → Type 0
-IsGranted first terms life d caller (requests.Ask task ops) (granted.Job answer) = answer_to first terms life d task ops ≡ told answer
+IsGranted first terms life d caller (requests.Ask kind task ops) (granted.Job answer) =
+    (answer_to first terms life d kind task ops ≡ told answer) × TellsJobs kind ops answer
 IsGranted first terms life d caller requests.Slot (granted.Slot reply) = IsSlotReply first terms d caller reply
 IsGranted first terms life d caller _ _ = ⊥
 
@@ -47,10 +57,10 @@ IsGranted first terms life d caller _ _ = ⊥
 abbrev pub MayHaveStopped : (N : Type 0) → Start → Ongoing → LifeStop → Type 0
 MayHaveStopped N first d stop = (parts : OngoingParts N) × StandsAs first d parts × HasStopped parts stop
 
-abbrev pub RefusesAsk : (N : Type 0) → Start → Terms → ℕ → Ongoing → ℕ → List Op → AskStop → Type 0
-RefusesAsk N first terms life d task ops (asks.Ended stop) = MayHaveStopped N first d stop
-RefusesAsk N first terms life d task ops (asks.Plan refusal) = answer_to first terms life d task ops ≡ rules.Refused refusal
-RefusesAsk N first terms life d task ops asks.WaitsAlready = answer_to first terms life d task ops ≡ rules.WaitsAlready
+abbrev pub RefusesAsk : (N : Type 0) → Start → Terms → ℕ → Ongoing → AskKind → ℕ → List Op → AskStop → Type 0
+RefusesAsk N first terms life d kind task ops (asks.Ended stop) = MayHaveStopped N first d stop
+RefusesAsk N first terms life d kind task ops (asks.Plan refusal) = answer_to first terms life d kind task ops ≡ rules.Refused refusal
+RefusesAsk N first terms life d kind task ops asks.WaitsAlready = answer_to first terms life d kind task ops ≡ rules.WaitsAlready
 
 abbrev pub RefusesSlot : (N : Type 0) → Start → Ongoing → SlotStop → Type 0
 RefusesSlot N first d (slots.Ended stop) = MayHaveStopped N first d stop
@@ -58,7 +68,7 @@ RefusesSlot N first d slots.DeviceFault = Unit {0}
 
 -- where this stands, the die refuses the request for this
 abbrev pub IsRefused : (N : Type 0) → Start → Terms → ℕ → Ongoing → Request → Refused → Type 0
-IsRefused N first terms life d (requests.Ask task ops) (refused.Ask stop) = RefusesAsk N first terms life d task ops stop
+IsRefused N first terms life d (requests.Ask kind task ops) (refused.Ask stop) = RefusesAsk N first terms life d kind task ops stop
 IsRefused N first terms life d requests.Slot (refused.Slot stop) = RefusesSlot N first d stop
 IsRefused N first terms life d _ _ = ⊥
 

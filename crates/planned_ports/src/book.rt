@@ -6,10 +6,10 @@ ghost use Rattle.planned_ports.specs.Calls.{calls_after};
 ghost use Rattle.planned_ports.specs.Replies.{MayReply};
 ghost use Rattle.planned_ports.specs.Shared.{IsSharedDie};
 
-use crate::calls::{Granted, Refused, Request};
+use crate::calls::{AskHead, Granted, Refused, Request};
 use crate::history::History;
 use flash_die::Nand;
-use ongoing_die::OngoingDie;
+use ongoing_die::{AskKind, OngoingDie};
 use slot_types::{Op, TaskNo};
 use std::alloc::Global;
 use std::marker::Model;
@@ -80,20 +80,26 @@ impl<N: Nand> PlannedBook<N> {
         Box::into_inner(self.die)
     }
 
-    /// Asks for a job of the task.
-    fn ask_for(&mut self, caller: u32, task: TaskNo, ops: &[Op]) -> Result<Granted, Refused>
+    /// Asks for a job or a burst of the task.
+    fn ask_for(
+        &mut self,
+        caller: u32,
+        kind: AskKind,
+        task: TaskNo,
+        ops: &[Op],
+    ) -> Result<Granted, Refused>
         ensures opened { self.new.opened ≡ self.old.opened }
-        ensures replied { MayReply self.old.opened self.old.calls caller (Request.Ask task ops.now) result }
+        ensures replied { MayReply self.old.opened self.old.calls caller (Request.Ask kind task ops.now) result }
         ensures calls { self.new.calls
-            ≡ calls_after self.old.calls caller (Request.Ask task ops.now) result }
+            ≡ calls_after self.old.calls caller (Request.Ask kind task ops.now) result }
     {
         if self.count >= MOST {
             return Err(Refused::LockFull);
         }
-        match self.die.ask(self.alloc, caller, task, ops) {
+        match self.die.ask_as(self.alloc, caller, kind, task, ops) {
             Ok(taken) => {
                 let answer = Ok(Granted::Job(taken));
-                self.history = self.history.with_ask(caller, task, ops, &answer);
+                self.history = self.history.with_ask(caller, kind, task, ops, &answer);
                 self.count += 1;
                 answer
             }
@@ -151,7 +157,7 @@ impl<N: Nand> Book for PlannedBook<N> {
 
     fn apply(&mut self, caller: u32, event: Request) -> Result<Granted, Refused> {
         match event {
-            Request::Ask { task, ops } => self.ask_for(caller, task, ops.as_slice()),
+            Request::Ask { kind, task, ops } => self.ask_for(caller, kind, task, ops.as_slice()),
             Request::Slot => self.carry_slot(caller),
         }
     }
@@ -178,13 +184,13 @@ impl<'a, N: Nand> NotingBook<&'a [Op]> for PlannedBook<N> {
 
     type Note = Result<Granted, Refused>;
 
-    type Head = TaskNo;
+    type Head = AskHead;
 
     ghost noted = { λ answer. answer };
 
-    ghost whole = { λ task ops. requests.Ask task ops.now };
+    ghost whole = { λ head ops. requests.Ask head.kind head.task ops.now };
 
-    fn note(&mut self, caller: u32, head: TaskNo, parts: &&'a [Op]) -> Result<Granted, Refused> {
-        self.ask_for(caller, head, *parts)
+    fn note(&mut self, caller: u32, head: AskHead, parts: &&'a [Op]) -> Result<Granted, Refused> {
+        self.ask_for(caller, head.kind, head.task, *parts)
     }
 }

@@ -6,6 +6,7 @@ ghost use Rattle.turn_lock.specs.Log.{entry};
 ghost use Rattle.planned_ports.specs.Calls.{PortCall};
 
 use crate::calls::{Granted, Refused, Request};
+use ongoing_die::AskKind;
 use slot_types::{Op, TaskNo};
 use std::marker::Model;
 
@@ -42,14 +43,15 @@ impl History {
     pub(crate) fn with_ask(
         &self,
         caller: u32,
+        kind: AskKind,
         task: TaskNo,
         ops: &[Op],
         answer: &Result<Granted, Refused>,
     ) -> History
         ensures { result.calls
-            ≡ self.now.calls ++ entry caller (Request.Ask task ops.now) answer.now ∷ [] }
+            ≡ self.now.calls ++ entry caller (Request.Ask kind task ops.now) answer.now ∷ [] }
     {
-        beside_ask(self, caller, task, ops, answer)
+        beside_ask(self, caller, kind, task, ops, answer)
     }
 
     /// With a slot more.
@@ -64,6 +66,7 @@ impl History {
 fn beside_ask(
     _before: &History,
     _caller: u32,
+    _kind: AskKind,
     _task: TaskNo,
     _ops: &[Op],
     _answer: &Result<Granted, Refused>,

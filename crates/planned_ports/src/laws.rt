@@ -4,6 +4,7 @@
 ghost use Rattle.std.specs.Prelude.{◌≡◌, ℕ, List};
 ghost use Rattle.slot_types.specs.declared.events.Op.{Op};
 ghost use Rattle.die_log.specs.Model.Start.{Start};
+ghost use Rattle.planned_log.specs.declared.ask_kinds.AskKind.{AskKind};
 ghost use Rattle.planned_log.specs.Ongoing.{Ongoing, IsOngoing, answer_to};
 ghost use Rattle.ongoing_die.specs.Standing.{OngoingParts};
 ghost use Rattle.planned_ports.specs.Calls.{PortCall, after_calls};
@@ -39,9 +40,9 @@ pub fn tasks_are_answered_for_their_own_asks<N: Nand>()
         → answers_in task calls ≡ answers_in task others }
     ensures next { (task : ℕ) (opened again : OngoingParts N) (first other : Start) (one two : Ongoing)
         (calls others : List PortCall) → SeesTheSame task opened again first other one two calls others →
-        (ops : List Op) → let terms = opened.die.terms in let life = opened.die.life in
-        answer_to first terms life (after_calls first terms life one calls) task ops
-        ≡ answer_to other terms life (after_calls other terms life two others) task ops }
+        (kind : AskKind) (ops : List Op) → let terms = opened.die.terms in let life = opened.die.life in
+        answer_to first terms life (after_calls first terms life one calls) kind task ops
+        ≡ answer_to other terms life (after_calls other terms life two others) kind task ops }
 {
     ongoing_tasks_are_answered_for_their_own_asks();
 }

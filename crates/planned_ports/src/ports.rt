@@ -7,11 +7,11 @@ ghost use Rattle.turn_lock.specs.Views.{IsSamePass};
 ghost use Rattle.planned_ports.specs.Ports.{AddsEntry, AddsNone, IsSamePort, IsSameClock, HasOwnAsks, HasOwnSlots, IsClock, RefusesTask, RefusesClock};
 
 use crate::book::{PlannedBook, Query};
-use crate::calls::{Granted, Refused, Request};
+use crate::calls::{AskHead, Granted, Refused, Request};
 use crate::pages::{PageRange, first_foreign};
 use crate::refusals::{AskRefused, SlotRefused};
 use flash_die::Nand;
-use ongoing_die::Taken;
+use ongoing_die::{AskKind, Taken};
 use slot_types::{Op, SlotReply, TaskNo};
 use std::marker::Model;
 use std::sync::Wait;
@@ -32,22 +32,23 @@ impl<N: Nand> Model for SharedPlannedDie<N> {
 }
 
 impl<N: Nand> SharedPlannedDie<N> {
-    /// Asks for a job of the task.
+    /// Asks for a job or a burst of the task.
     fn ask_for<R: Wait>(
         &self,
         rt: &R,
         pass: &mut Pass<PlannedBook<N>>,
+        kind: AskKind,
         task: TaskNo,
         ops: &[Op],
     ) -> Result<Granted, Refused>
         requires { pass.old.lock ≡ self.now }
         ensures same { IsSamePass pass.old pass.new }
         ensures added { IfOk result (λ answer.
-            AddsEntry pass.old.view (Request.Ask task ops.now) answer pass.new.view) }
+            AddsEntry pass.old.view (Request.Ask kind task ops.now) answer pass.new.view) }
         ensures refused { IfErr result (λ refusal.
-            AddsNone pass.old.view (Request.Ask task ops.now) refusal pass.new.view) }
+            AddsNone pass.old.view (Request.Ask kind task ops.now) refusal pass.new.view) }
     {
-        self.turned.note(rt, pass, task, &ops)
+        self.turned.note(rt, pass, AskHead { kind, task }, &ops)
     }
 
     /// Carries the present slot out.
@@ -67,7 +68,7 @@ impl<N: Nand> SharedPlannedDie<N> {
     }
 }
 
-/// A task's port: the only value that asks for jobs of this task, and it asks for no other task's. There is one for each
+/// A task's port: the only value that asks for jobs and bursts of this task, and it asks for no other task's. There is one for each
 /// task of the plan. It goes to any thread, and isn't copied.
 #[derive(Drop)]
 pub struct TaskPort<N: Nand> {
@@ -170,15 +171,57 @@ impl<N: Nand> TaskPort<N> {
         ensures same { IsSamePort self.old self.new }
         ensures own { HasOwnAsks self.new }
         ensures granted { IfOk result (λ answer.
-            AddsEntry self.old.view (Request.Ask self.old.task ops.now) (Granted.Job answer) self.new.view) }
+            AddsEntry self.old.view (Request.Ask AskKind.Job self.old.task ops.now) (Granted.Job answer) self.new.view) }
         ensures pages { IfOk result (λ _. foreign_page self.old.pages ops.now ≡ None) }
-        ensures refused { IfErr result (λ refusal. RefusesTask self.old ops.now refusal self.new) }
+        ensures refused { IfErr result (λ refusal. RefusesTask AskKind.Job self.old ops.now refusal self.new) }
+    {
+        self.ask_as(rt, die, AskKind::Job, ops)
+    }
+
+    /// Asks for a burst of the port's task, as [`OngoingDie::ask_all`](ongoing_die::OngoingDie::ask_all) does: all its jobs
+    /// are released in the slot that stands when the port has its turn, or all wait for the next life, or the whole burst
+    /// is refused. May wait for the turn, and for nothing else.
+    ///
+    /// The refusals are those of [`ask`](TaskPort::ask), and nothing changes: `ForeignPage`, where one of its operations is
+    /// on a page that isn't the port's; `LockFull`; `Die`, as the die lists the causes of a burst. It takes no memory.
+    pub fn ask_all<R: Wait>(
+        &mut self,
+        rt: &R,
+        die: &SharedPlannedDie<N>,
+        ops: &[Op],
+    ) -> Result<Taken, AskRefused>
+        requires { self.old.lock ≡ die.now }
+        ensures same { IsSamePort self.old self.new }
+        ensures own { HasOwnAsks self.new }
+        ensures granted { IfOk result (λ answer.
+            AddsEntry self.old.view (Request.Ask AskKind.Burst self.old.task ops.now) (Granted.Job answer) self.new.view) }
+        ensures pages { IfOk result (λ _. foreign_page self.old.pages ops.now ≡ None) }
+        ensures refused { IfErr result (λ refusal. RefusesTask AskKind.Burst self.old ops.now refusal self.new) }
+    {
+        self.ask_as(rt, die, AskKind::Burst, ops)
+    }
+
+    /// Asks for a job or for a burst.
+    fn ask_as<R: Wait>(
+        &mut self,
+        rt: &R,
+        die: &SharedPlannedDie<N>,
+        kind: AskKind,
+        ops: &[Op],
+    ) -> Result<Taken, AskRefused>
+        requires { self.old.lock ≡ die.now }
+        ensures same { IsSamePort self.old self.new }
+        ensures own { HasOwnAsks self.new }
+        ensures granted { IfOk result (λ answer.
+            AddsEntry self.old.view (Request.Ask kind self.old.task ops.now) (Granted.Job answer) self.new.view) }
+        ensures pages { IfOk result (λ _. foreign_page self.old.pages ops.now ≡ None) }
+        ensures refused { IfErr result (λ refusal. RefusesTask kind self.old ops.now refusal self.new) }
     {
         match first_foreign(self.pages, ops) {
             Some(page) => return Err(AskRefused::ForeignPage { page }),
             None => {}
         }
-        match die.ask_for(rt, &mut self.pass, self.task, ops) {
+        match die.ask_for(rt, &mut self.pass, kind, self.task, ops) {
             Ok(granted) => Ok(job_of(granted)),
             Err(refused) => Err(ask_refusal(refused)),
         }

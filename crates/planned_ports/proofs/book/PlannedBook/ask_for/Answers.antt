@@ -14,43 +14,43 @@ use Rattle.planned_ports.proofs.book.PlannedBook.ask_for.Goals as goal
 pub invariant_of-self : goal.invariant_of-self
 invariant_of-self g c =
     let shared : SharedDie g.row.N.Denot = record { opened = c.self.inside.opened.value; calls = c.self.inside.history.calls; die = box_value c.self.inside.die } in
-    let request = requests.Ask c.args.task c.args.ops.now in
+    let request = requests.Ask c.args.kind c.args.task c.args.ops.now in
     let answer = granted.Job c.in-Ok.taken in
-    let h = subst (λ (p : OngoingParts g.row.N.Denot). Answers c.args.caller request (Ok answer) p c.ask.new.self) c.deref_mut.ensures.value
-    (ask_answers c.args.caller c.deref_mut.result.now c.ask.new.self c.in-Ok.ensures.plan c.args.task c.args.ops.now (Ok c.in-Ok.taken) c.in-Ok.ensures.ask) in
+    let h = subst (λ (p : OngoingParts g.row.N.Denot). Answers c.args.caller request (Ok answer) p c.ask_as.new.self) c.deref_mut.ensures.value
+    (ask_answers c.args.caller c.deref_mut.result.now c.ask_as.new.self c.in-Ok.ensures.plan c.args.kind c.args.task c.args.ops.now (Ok c.in-Ok.taken) c.in-Ok.ensures.ask) in
     let room : length shared.calls < 4294967295 = omega (arith, c.if-self-ge-MOST.false, c.self.invariant.0) in
     let more = length_push shared.calls (entry c.args.caller request (Ok answer)) in
     rw c.with_ask-self-inside.ensures (
       omega (arith, c.self.invariant.0, more),
-      with_entry shared c.self.invariant.1 c.args.caller request c.ask.new.self answer h room,
+      with_entry shared c.self.invariant.1 c.args.caller request c.ask_as.new.self answer h room,
     )
 
 pub invariant_of-self-in-Err : goal.invariant_of-self-in-Err
 invariant_of-self-in-Err g c =
     let shared : SharedDie g.row.N.Denot = record { opened = c.self.inside.opened.value; calls = c.self.inside.history.calls; die = box_value c.self.inside.die } in
-    let request = requests.Ask c.args.task c.args.ops.now in
+    let request = requests.Ask c.args.kind c.args.task c.args.ops.now in
     let stop = refused.Ask c.in-Err.stop in
-    let h = subst (λ (p : OngoingParts g.row.N.Denot). Answers c.args.caller request (Err stop) p c.ask.new.self) c.deref_mut.ensures.value
-    (ask_answers c.args.caller c.deref_mut.result.now c.ask.new.self c.in-Err.ensures.plan c.args.task c.args.ops.now (Err c.in-Err.stop) c.in-Err.ensures.ask) in
-    (c.self.invariant.0, without_entry shared c.self.invariant.1 c.args.caller request c.ask.new.self stop h)
+    let h = subst (λ (p : OngoingParts g.row.N.Denot). Answers c.args.caller request (Err stop) p c.ask_as.new.self) c.deref_mut.ensures.value
+    (ask_answers c.args.caller c.deref_mut.result.now c.ask_as.new.self c.in-Err.ensures.plan c.args.kind c.args.task c.args.ops.now (Err c.in-Err.stop) c.in-Err.ensures.ask) in
+    (c.self.invariant.0, without_entry shared c.self.invariant.1 c.args.caller request c.ask_as.new.self stop h)
 
 pub returns-in-Ok-clause-replied : goal.returns-in-Ok-clause-replied
 returns-in-Ok-clause-replied g c =
     let shared : SharedDie g.row.N.Denot = record { opened = c.self.inside.opened.value; calls = c.self.inside.history.calls; die = box_value c.self.inside.die } in
-    let request = requests.Ask c.args.task c.args.ops.now in
+    let request = requests.Ask c.args.kind c.args.task c.args.ops.now in
     let answer = granted.Job c.in-Ok.taken in
-    let h = subst (λ (p : OngoingParts g.row.N.Denot). Answers c.args.caller request (Ok answer) p c.ask.new.self) c.deref_mut.ensures.value
-    (ask_answers c.args.caller c.deref_mut.result.now c.ask.new.self c.in-Ok.ensures.plan c.args.task c.args.ops.now (Ok c.in-Ok.taken) c.in-Ok.ensures.ask) in
+    let h = subst (λ (p : OngoingParts g.row.N.Denot). Answers c.args.caller request (Ok answer) p c.ask_as.new.self) c.deref_mut.ensures.value
+    (ask_answers c.args.caller c.deref_mut.result.now c.ask_as.new.self c.in-Ok.ensures.plan c.args.kind c.args.task c.args.ops.now (Ok c.in-Ok.taken) c.in-Ok.ensures.ask) in
     let room : length shared.calls < 4294967295 = omega (arith, c.if-self-ge-MOST.false, c.self.invariant.0) in
     subst (λ (s : SharedDie g.row.N.Denot). MayReply s.opened s.calls c.args.caller request (Ok answer)) c.self.view_is
-    (room, replied shared c.self.invariant.1 c.args.caller request c.ask.new.self (Ok answer) h)
+    (room, replied shared c.self.invariant.1 c.args.caller request c.ask_as.new.self (Ok answer) h)
 
 pub returns-in-Err-clause-replied : goal.returns-in-Err-clause-replied
 returns-in-Err-clause-replied g c =
     let shared : SharedDie g.row.N.Denot = record { opened = c.self.inside.opened.value; calls = c.self.inside.history.calls; die = box_value c.self.inside.die } in
-    let request = requests.Ask c.args.task c.args.ops.now in
+    let request = requests.Ask c.args.kind c.args.task c.args.ops.now in
     let stop = refused.Ask c.in-Err.stop in
-    let h = subst (λ (p : OngoingParts g.row.N.Denot). Answers c.args.caller request (Err stop) p c.ask.new.self) c.deref_mut.ensures.value
-    (ask_answers c.args.caller c.deref_mut.result.now c.ask.new.self c.in-Err.ensures.plan c.args.task c.args.ops.now (Err c.in-Err.stop) c.in-Err.ensures.ask) in
+    let h = subst (λ (p : OngoingParts g.row.N.Denot). Answers c.args.caller request (Err stop) p c.ask_as.new.self) c.deref_mut.ensures.value
+    (ask_answers c.args.caller c.deref_mut.result.now c.ask_as.new.self c.in-Err.ensures.plan c.args.kind c.args.task c.args.ops.now (Err c.in-Err.stop) c.in-Err.ensures.ask) in
     let room : length shared.calls < 4294967295 = omega (arith, c.if-self-ge-MOST.false, c.self.invariant.0) in
-    rw (← c.self.view_is) (room, replied shared c.self.invariant.1 c.args.caller request c.ask.new.self (Err stop) h)
+    rw (← c.self.view_is) (room, replied shared c.self.invariant.1 c.args.caller request c.ask_as.new.self (Err stop) h)

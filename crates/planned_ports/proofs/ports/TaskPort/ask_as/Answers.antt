@@ -1,23 +1,23 @@
 use Rattle.std.proofs.Common.{refl, sym, ◌∙◌}
 use Rattle.planned_ports.specs.Ports.{TaskParts}
 use Rattle.planned_ports.proofs.Passing.{is_job, refuses_asks, own_asks, same_asks}
-use Rattle.planned_ports.proofs.ports.TaskPort.ask.Goals.{in-Ok, in-Err}
-use Rattle.planned_ports.proofs.ports.TaskPort.ask.Goals as goal
+use Rattle.planned_ports.proofs.ports.TaskPort.ask_as.Goals.{in-Ok, in-Err}
+use Rattle.planned_ports.proofs.ports.TaskPort.ask_as.Goals as goal
 
 pub job_of-requires : goal.job_of-requires
-job_of-requires g c = is_job _ _ _ c.in-Ok.granted _ c.in-Ok.ensures.added
+job_of-requires g c = is_job _ _ _ _ c.in-Ok.granted _ c.in-Ok.ensures.added
 
 pub ask_refusal-requires : goal.ask_refusal-requires
-ask_refusal-requires g c = refuses_asks _ _ _ c.in-Err.refused _ c.in-Err.ensures.refused
+ask_refusal-requires g c = refuses_asks _ _ _ _ c.in-Err.refused _ c.in-Err.ensures.refused
 
 pub invariant_of-self : goal.invariant_of-self
 invariant_of-self g c =
     let p : TaskParts g.row.N.Denot = record { lock = c.self.inside.pass.lock; view = c.self.inside.pass.view; task = c.self.inside.task; pages = c.self.inside.pages } in
     let q : TaskParts g.row.N.Denot = record { lock = c.ask_for.new.pass.lock; view = c.ask_for.new.pass.view; task = c.self.inside.task; pages = c.self.inside.pages } in
     elim c.match-ask_for.branch [
-      | in-Ok w ↦ own_asks p q c.args.ops.now w.in-Ok.granted c.self.invariant (sym c.first_foreign.ensures ∙ c.in-None.is) refl refl
+      | in-Ok w ↦ own_asks c.args.kind p q c.args.ops.now w.in-Ok.granted c.self.invariant (sym c.first_foreign.ensures ∙ c.in-None.is) refl refl
           c.ask_for.ensures.same.1 w.in-Ok.ensures.added
-      | in-Err w ↦ same_asks p q c.args.ops.now w.in-Err.refused c.self.invariant refl refl c.ask_for.ensures.same.1 w.in-Err.ensures.refused
+      | in-Err w ↦ same_asks c.args.kind p q c.args.ops.now w.in-Err.refused c.self.invariant refl refl c.ask_for.ensures.same.1 w.in-Err.ensures.refused
     ]
 
 pub returns-clause-own : goal.returns-clause-own
@@ -25,7 +25,7 @@ returns-clause-own g c =
     let p : TaskParts g.row.N.Denot = record { lock = c.self.inside.pass.lock; view = c.self.inside.pass.view; task = c.self.inside.task; pages = c.self.inside.pages } in
     let q : TaskParts g.row.N.Denot = record { lock = c.ask_for.new.pass.lock; view = c.ask_for.new.pass.view; task = c.self.inside.task; pages = c.self.inside.pages } in
     elim c.match-ask_for.branch [
-      | in-Ok w ↦ own_asks p q c.args.ops.now w.in-Ok.granted c.self.invariant (sym c.first_foreign.ensures ∙ c.in-None.is) refl refl
+      | in-Ok w ↦ own_asks c.args.kind p q c.args.ops.now w.in-Ok.granted c.self.invariant (sym c.first_foreign.ensures ∙ c.in-None.is) refl refl
           c.ask_for.ensures.same.1 w.in-Ok.ensures.added
-      | in-Err w ↦ same_asks p q c.args.ops.now w.in-Err.refused c.self.invariant refl refl c.ask_for.ensures.same.1 w.in-Err.ensures.refused
+      | in-Err w ↦ same_asks c.args.kind p q c.args.ops.now w.in-Err.refused c.self.invariant refl refl c.ask_for.ensures.same.1 w.in-Err.ensures.refused
     ]
