@@ -2,7 +2,7 @@
 use Rattle.std.specs.Prelude.{ℕ, ◌&&◌, ◌||◌, ◌==◌, Bool, not, List, codes, Option, Some, None, is_some, if◌then◌else◌}
 use Rattle.std.specs.Str.{bytes_eq}
 use Rattle.clap.specs.Words.{Row, Text, all_of, first_of}
-use Rattle.tool_command_words.specs.RequestTexts.{CommandText, Explain, Fit, Arrivals, Keeps, Wear, Report, Draw, Demand, Compare, Run, RequestText, Listed}
+use Rattle.tool_command_words.specs.RequestTexts.{CommandText, Explain, Fit, Design, Arrivals, Keeps, Wear, Report, Draw, Demand, Compare, Run, RequestText, Listed}
 use Rattle.tool_command_words.specs.Together.{asked_together}
 use Rattle.tool_command_words.specs.Values.{◌>>=◌, fail_of, number_upto}
 use Rattle.tool_command_words.specs.declared.asked.ListCommand.{ListCommand}
@@ -17,6 +17,11 @@ abbrev pub fit_of : List Row → Option CommandText
 fit_of rows = do
   sheet ← first_of (codes "DATASHEET") rows
   Some (Fit sheet)
+
+abbrev pub design_of : List Row → Option CommandText
+design_of rows = do
+  sheet ← first_of (codes "DATASHEET") rows
+  Some (Design sheet)
 
 abbrev pub arrivals_of : List Row → Option CommandText
 arrivals_of rows = do
@@ -140,6 +145,7 @@ abbrev pub command_named : Text → List Row → Option CommandText
 command_named name rows =
     if bytes_eq name (codes "explain") then explain_of rows
     else if bytes_eq name (codes "fit") then fit_of rows
+    else if bytes_eq name (codes "design") then design_of rows
     else if bytes_eq name (codes "arrivals") then arrivals_of rows
     else if bytes_eq name (codes "keeps") then keeps_of rows
     else if bytes_eq name (codes "wear") then wear_of rows

@@ -14,6 +14,7 @@ use Rattle.tool_command_words.specs.declared.asked.Request.TheVariants as reques
 pub data CommandText : Type 0 where
   Explain : (plan : Text) (from : Option Text) → CommandText
   Fit : (sheet : Text) → CommandText
+  Design : (sheet : Text) → CommandText
   Arrivals : (plan : Text) (slots seed : ℕ) (fills phases : Bool) (jitter load : ℕ) → CommandText
   Keeps : (plan script : Text) (slots : ℕ) → CommandText
   Wear : (plan script : Text) (slots : ℕ) → CommandText
@@ -35,6 +36,7 @@ name_of name = option_map (λ (s : Bor Text). s.now) name
 abbrev pub text_of_command : Command → CommandText
 text_of_command (command.Explain plan from) = Explain plan.now (name_of from)
 text_of_command (command.Fit sheet) = Fit sheet.now
+text_of_command (command.Design sheet) = Design sheet.now
 text_of_command (command.Arrivals plan slots seed fills phases jitter load) = Arrivals plan.now slots seed fills phases jitter load
 text_of_command (command.Keeps plan script slots) = Keeps plan.now script.now slots
 text_of_command (command.Wear plan script slots) = Wear plan.now script.now slots

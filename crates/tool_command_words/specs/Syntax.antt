@@ -68,6 +68,9 @@ explain_app = with_rule (with_rule (new_app (codes "explain")) (required_rule (c
 abbrev pub fit_app : App
 fit_app = with_rule (new_app (codes "fit")) (required_rule (codes "DATASHEET"))
 
+abbrev pub design_app : App
+design_app = with_rule (new_app (codes "design")) (required_rule (codes "DATASHEET"))
+
 abbrev pub arrivals_run_app : App
 arrivals_run_app = with_rule (with_rule (new_app (codes "arrivals")) (required_rule (codes "PLAN"))) slots_rule
 
@@ -147,8 +150,8 @@ named_app = let app = new_app (codes "flashplan") in record app { top = record a
 
 -- the program's command line
 abbrev pub flashplan_app : App
-flashplan_app = with_command (with_command (with_command (with_command (with_command (with_command (with_command (with_command (with_command (with_command (with_command
-    named_app explain_app) fit_app) arrivals_app) keeps_app) wear_app) report_app) draw_app) compare_app) import_app) run_app) audit_app
+flashplan_app = with_command (with_command (with_command (with_command (with_command (with_command (with_command (with_command (with_command (with_command (with_command (with_command
+    named_app explain_app) fit_app) design_app) arrivals_app) keeps_app) wear_app) report_app) draw_app) compare_app) import_app) run_app) audit_app
 
 -- whether a command has an argument that is global
 abbrev pub has_globals : Command → Bool

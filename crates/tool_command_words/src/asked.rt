@@ -22,6 +22,10 @@ pub enum Command<'a> {
     Fit {
         sheet: &'a str,
     },
+    /// Write a page of the plan that is found for a datasheet.
+    Design {
+        sheet: &'a str,
+    },
     /// Write the script of a plan's arrivals.
     Arrivals {
         plan: &'a str,

@@ -3,8 +3,8 @@
 ghost use Rattle.std.specs.Prelude.{◌≡◌, ◌≤◌, ℕ, IfOk, IfSome, Option, option_and_then, option_map};
 ghost use Rattle.clap.specs.Words.{Text, found_of, rows_of};
 ghost use Rattle.tool_command_words.specs.RequestTexts.{CommandText, FitsRun, RequestFits, text_of_command, text_of_request};
-ghost use Rattle.tool_command_words.specs.Commands.{arrivals_of, audit_of, command_named, compare_of, demand_of, draw_of, draw_run_of, explain_of, fit_of, import_in, import_of};
-ghost use Rattle.tool_command_words.specs.Commands.{keeps_of, names_form, names_run, names_script, names_window, on_script, report_of, request_named, run_of, wear_of};
+ghost use Rattle.tool_command_words.specs.Commands.{arrivals_of, audit_of, command_named, compare_of, demand_of, design_of, draw_of, draw_run_of, explain_of, fit_of};
+ghost use Rattle.tool_command_words.specs.Commands.{import_in, import_of, keeps_of, names_form, names_run, names_script, names_window, on_script, report_of, request_named, run_of, wear_of};
 
 use crate::asked::{Command, ListCommand, Request};
 use crate::together::goes_together;
@@ -30,6 +30,15 @@ fn fit<'a>(met: &ArgMatches<'a>) -> Option<Command<'a>>
 {
     let sheet = value(met, "DATASHEET")?;
     Some(Command::Fit { sheet })
+}
+
+/// The command `design` that was met.
+fn design<'a>(met: &ArgMatches<'a>) -> Option<Command<'a>>
+    ensures design { option_map text_of_command result ≡ design_of (rows_of (found_of met.now)) }
+    ensures fits { IfSome result FitsRun }
+{
+    let sheet = value(met, "DATASHEET")?;
+    Some(Command::Design { sheet })
 }
 
 /// The command `arrivals` that was met.
@@ -304,6 +313,8 @@ fn command_named<'a>(name: &str, met: &ArgMatches<'a>) -> Option<Command<'a>>
         explain(met)
     } else if name == "fit" {
         fit(met)
+    } else if name == "design" {
+        design(met)
     } else if name == "arrivals" {
         arrivals(met)
     } else if name == "keeps" {

@@ -8,6 +8,7 @@ ghost use Rattle.tool_command_words.specs.Syntax.{IsCommand, flashplan_app, name
 mod arrivals;
 mod audit;
 mod compare;
+mod design;
 mod draw;
 mod explain;
 mod fit;
@@ -24,6 +25,7 @@ use audit::audit_words;
 use clap::{Arg, Command};
 use command_arguments::{VERSION, flag};
 use compare::compare_words;
+use design::design_words;
 use draw::draw_words;
 use explain::explain_words;
 use fit::fit_words;
@@ -107,7 +109,8 @@ pub fn program_words<'a>(alloc: Global) -> Result<Command<'a>, AllocError>
 {
     let explaining = with_command(alloc, Ok(name(alloc)), explain_words(alloc));
     let fitting = with_command(alloc, explaining, fit_words(alloc));
-    let arriving = with_command(alloc, fitting, arrivals_words(alloc));
+    let designing = with_command(alloc, fitting, design_words(alloc));
+    let arriving = with_command(alloc, designing, arrivals_words(alloc));
     let keeping = with_command(alloc, arriving, keeps_words(alloc));
     let wearing = with_command(alloc, keeping, wear_words(alloc));
     let reporting = with_command(alloc, wearing, report_words(alloc));

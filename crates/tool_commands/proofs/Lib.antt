@@ -1,4 +1,5 @@
 mod Audits
+mod DesignedSo
 mod EndedSo
 mod PlansRead
 mod Verdicts

@@ -45,6 +45,7 @@ use Rattle.tool_command_words.specs.declared.asked.FailingDie.{FailingDie}
 use Rattle.tool_command_words.specs.declared.asked.Command.{Command}
 use Rattle.tool_command_words.specs.declared.asked.Command.TheVariants as command
 use Rattle.tool_commands.specs.PlanKinds.{ByKind, ReadsStore}
+use Rattle.tool_commands.specs.Designing.{PrintsDesign}
 pub use Rattle.tool_commands.specs.PlanKinds.{IsReadOf}
 
 -- what is said of the text of a plan without terms, and whether it is accepted
@@ -298,6 +299,11 @@ abbrev pub EndsFit : {W : Type 0} → (W → Option (List ℕ)) → (W → Optio
 EndsFit contents has_failed sheet old new status =
     Ends contents has_failed (PrintsPlanFor sheet) old new status ⊎ ((new ≡ old) × (status ≡ 3))
 
+-- the page of a plan that passes is printed, or refused; or no plan was found, and nothing written
+abbrev pub EndsDesign : {W : Type 0} → (W → Option (List ℕ)) → (W → Option Bool) → Option (List ℕ) → W → W → ℕ → Type 0
+EndsDesign contents has_failed sheet old new status =
+    Ends contents has_failed (PrintsDesign sheet) old new status ⊎ ((new ≡ old) × (status ≡ 3))
+
 -- the status of a run whose report is printed: where a checkpoint of its end is wanted, that may fail, or none may be taken
 abbrev pub IsRunStatus : Bool → ℕ → Type 0
 IsRunStatus alone status = (status ≡ 0) ⊎ ((alone ≡ false) × ((status ≡ 1) ⊎ (status ≡ 3)))
@@ -316,6 +322,7 @@ EndsSo contents has_failed (command.Explain plan None) text rows old new status 
 EndsSo contents has_failed (command.Explain plan (Some from)) text rows old new status =
     EndsSaying contents has_failed (ExplainsMore text) accepted_status old new status
 EndsSo contents has_failed (command.Fit sheet) text rows old new status = EndsFit contents has_failed text old new status
+EndsSo contents has_failed (command.Design sheet) text rows old new status = EndsDesign contents has_failed text old new status
 EndsSo contents has_failed (command.Arrivals plan slots seed fills phases jitter load) text rows old new status =
     Ends contents has_failed (PrintsArrivals text slots) old new status
 EndsSo contents has_failed (command.Keeps plan script slots) text rows old new status =

@@ -9,6 +9,7 @@ use Rattle.tool_commands.specs.Acts.{EndsSo}
 abbrev pub plan_name : Command → List ℕ
 plan_name (command.Explain plan from) = plan.now
 plan_name (command.Fit sheet) = sheet.now
+plan_name (command.Design sheet) = sheet.now
 plan_name (command.Arrivals plan slots seed fills phases jitter load) = plan.now
 plan_name (command.Keeps plan script slots) = plan.now
 plan_name (command.Wear plan script slots) = plan.now

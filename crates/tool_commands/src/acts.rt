@@ -8,6 +8,7 @@ use crate::arriving::act_arrivals;
 use crate::checkpoint_acts::{Kept, act_failing, act_run};
 use crate::comparing::act_compare;
 use crate::demanding::act_demand;
+use crate::designing::act_design;
 use crate::explaining::{act_explain, act_explain_from};
 use crate::fitting::act_fit;
 use crate::keeping::act_keeps;
@@ -67,7 +68,8 @@ fn begun<C: Drop>(from: Option<C>, begins_fresh: bool) -> Option<C>
 /// `explain` prints what [`explain`](tool_plan_design::explain) says of the plan, or
 /// [`explain_terms`](tool_terms_design::explain_terms) of one with terms, whole; the status is 0 where the plan is
 /// accepted, and 1 where it isn't. `fit` prints the plan that [`fit`](tool_plan_fit::fit) finds for a datasheet, or
-/// tells why it found none (status 3). `arrivals` prints the script of what the plan's tasks ask for, as
+/// tells why it found none (status 3); `design` prints the page of that plan, as [`design`](tool_design_pages::design) makes it,
+/// or tells the same. `arrivals` prints the script of what the plan's tasks ask for, as
 /// [`arrivals`](tool_plan_arrivals::arrivals) makes it: its rows keep the plan of each die, so that a run of it refuses
 /// none and is never late. A plan with neither times nor terms that pass their test is reported as `error 3 BadPlan`;
 /// then, where an option says nothing of a plan with terms, and where more slots are asked for than a script may have,
@@ -104,6 +106,7 @@ pub fn act<P: Read + Drop, S: Read + Drop, C: Read + Drop, K: Shelf, W: Output, 
         Command::Explain { from: None, .. } => act_explain(alloc, plan, out, err),
         Command::Explain { .. } => act_explain_from(alloc, plan, kept.from, out, err),
         Command::Fit { .. } => act_fit(alloc, plan, out, err),
+        Command::Design { .. } => act_design(alloc, plan, out, err),
         Command::Arrivals {
             slots,
             seed,

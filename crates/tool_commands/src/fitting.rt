@@ -13,7 +13,7 @@ use text_base::{FlaggedReader, Output, write_whole};
 use tool_plan_fit::{FitFault, fit};
 
 /// What is read of a datasheet.
-fn read_sheet<R: Read + Drop>(alloc: Global, sheet: R) -> Result<Vec<u8>, Refusal>
+pub(crate) fn read_sheet<R: Read + Drop>(alloc: Global, sheet: R) -> Result<Vec<u8>, Refusal>
     ensures { IfOk result (λ text. IsReadOf (R.remaining sheet) text.items) }
 {
     plan_text(alloc, &mut FlaggedReader::new(sheet))
@@ -49,7 +49,7 @@ fn print_fit<R: Read + Drop, W: Output>(
 }
 
 /// Reports why no plan was found, and answers the status. A writer that fails is passed over.
-fn end_fit<E: Write>(err: &mut E, fitted: Result<(), FitFault>) -> u8
+pub(crate) fn end_fit<E: Write>(err: &mut E, fitted: Result<(), FitFault>) -> u8
     ensures { result ≡ fit_status fitted }
 {
     match fitted {

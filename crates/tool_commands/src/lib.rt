@@ -6,6 +6,7 @@ pub mod arriving;
 pub mod checkpoint_acts;
 pub mod comparing;
 pub mod demanding;
+pub mod designing;
 pub mod endings;
 pub mod explaining;
 pub mod fitting;

@@ -27,6 +27,7 @@ fn files_of<'a>(command: Command<'a>) -> (&'a str, Option<&'a str>, Option<&'a s
     match command {
         Command::Explain { plan, from } => (plan, None, from),
         Command::Fit { sheet: plan }
+        | Command::Design { sheet: plan }
         | Command::Arrivals { plan, .. }
         | Command::Demand { plan, .. } => (plan, None, None),
         Command::Keeps { plan, script, .. }
@@ -87,7 +88,7 @@ pub fn texts_of<'a>(asked: &'a Asked<'a>) -> Texts<'a> {
 /// The files of a request that are read, by what they have.
 fn files_read<'a>(request: &'a Request<'a>) -> Texts<'a> {
     match request {
-        Request::One(Command::Fit { sheet }) => Texts {
+        Request::One(Command::Fit { sheet } | Command::Design { sheet }) => Texts {
             sheet: Some(*sheet),
             ..Texts::NONE
         },

@@ -39,6 +39,8 @@ pub struct Part {
     pub transfer_us: u32,
     /// What is left free of each slot, for what the driver does in it and for how late it may begin.
     pub margin_us: u32,
+    /// How often a block may be erased. No plan rests on it.
+    pub endurance: Option<u32>,
     pub blocks: u32,
     pub pages: u32,
     /// How many logical pages the die is to hold.

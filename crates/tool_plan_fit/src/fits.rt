@@ -1,7 +1,7 @@
 //! From a datasheet to the text of a plan.
 
-ghost use Rattle.std.specs.Prelude.{ℕ, IfOk, IsTrue, List};
-ghost use Rattle.tool_plan_fit.specs.Fits.{IsPlanFor, IsTextOfPlan, IsTextOfTerms};
+ghost use Rattle.std.specs.Prelude.{◌≡◌, ◌++◌, ℕ, IfOk, IsTrue, List};
+ghost use Rattle.tool_plan_fit.specs.Fits.{IsPlanFor, IsTextOfPlan, IsTextOfTerms, slot_line};
 ghost use Rattle.tool_plan_fit.specs.Sheets.{IsSheetOf};
 
 use crate::advices::advice_of;
@@ -50,7 +50,8 @@ fn is_text_of_terms(
 
 /// The text of a plan that was found. It is read again, since what is promised is promised of the text.
 fn checked_text(alloc: Global, sheet: &Sheet, found: &Found) -> Result<Vec<u8>, Refusal>
-    ensures { IfOk result (λ text. (bytes : List ℕ) → IsSheetOf bytes sheet.now → IsPlanFor bytes text.items) }
+    ensures plan { IfOk result (λ text. (bytes : List ℕ) → IsSheetOf bytes sheet.now → IsPlanFor bytes text.items) }
+    ensures slot { IfOk result (λ text. (rest : List ℕ) × (text.items ≡ slot_line found.now.slot_us ++ rest)) }
 {
     let text = text_of(alloc, &sheet.part, found)?;
     if is_text_of_plan(alloc, sheet, found.slot_us, &text)? {
@@ -62,7 +63,8 @@ fn checked_text(alloc: Global, sheet: &Sheet, found: &Found) -> Result<Vec<u8>, 
 
 /// The text of a plan with terms that was found, which is read again, too.
 fn checked_terms(alloc: Global, sheet: &Sheet, found: &FoundTerms) -> Result<Vec<u8>, Refusal>
-    ensures { IfOk result (λ text. (bytes : List ℕ) → IsSheetOf bytes sheet.now → IsPlanFor bytes text.items) }
+    ensures plan { IfOk result (λ text. (bytes : List ℕ) → IsSheetOf bytes sheet.now → IsPlanFor bytes text.items) }
+    ensures slot { IfOk result (λ text. (rest : List ℕ) × (text.items ≡ slot_line found.now.slot_us ++ rest)) }
 {
     let text = terms_text_of(alloc, &sheet.part, found)?;
     if is_text_of_terms(alloc, sheet, found.slot_us, &text)? {
@@ -81,26 +83,80 @@ fn unfound(alloc: Global, sheet: &Sheet, reason: Reason) -> Result<Unfound, Refu
     })
 }
 
+/// The text of a plan, and how long its slots are, in microseconds.
+#[derive(Drop)]
+struct Text {
+    bytes: Vec<u8>,
+    slot_us: u32,
+}
+
 /// The text of a plan with times for a datasheet.
-fn fit_times(alloc: Global, sheet: &Sheet) -> Result<Vec<u8>, FitFault>
-    ensures { IfOk result (λ text. (bytes : List ℕ) → IsSheetOf bytes sheet.now → IsPlanFor bytes text.items) }
+fn fit_times(alloc: Global, sheet: &Sheet) -> Result<Text, FitFault>
+    ensures plan { IfOk result (λ text. (bytes : List ℕ) → IsSheetOf bytes sheet.now → IsPlanFor bytes text.bytes.items) }
+    ensures slot { IfOk result (λ text. (rest : List ℕ) × (text.bytes.items ≡ slot_line text.slot_us ++ rest)) }
 {
     let searched = search(alloc, sheet, Aim::Best)?;
     match &searched.found {
-        Some(found) => Ok(checked_text(alloc, sheet, found)?),
+        Some(found) => Ok(Text {
+            bytes: checked_text(alloc, sheet, found)?,
+            slot_us: found.slot_us,
+        }),
         None => Err(FitFault::NotFound(unfound(alloc, sheet, searched.reason)?)),
     }
 }
 
 /// The text of a plan with terms for a datasheet.
-fn fit_terms(alloc: Global, sheet: &Sheet) -> Result<Vec<u8>, FitFault>
-    ensures { IfOk result (λ text. (bytes : List ℕ) → IsSheetOf bytes sheet.now → IsPlanFor bytes text.items) }
+fn fit_terms(alloc: Global, sheet: &Sheet) -> Result<Text, FitFault>
+    ensures plan { IfOk result (λ text. (bytes : List ℕ) → IsSheetOf bytes sheet.now → IsPlanFor bytes text.bytes.items) }
+    ensures slot { IfOk result (λ text. (rest : List ℕ) × (text.bytes.items ≡ slot_line text.slot_us ++ rest)) }
 {
     let searched = search_terms(alloc, sheet, Aim::Best)?;
     match &searched.found {
-        Some(found) => Ok(checked_terms(alloc, sheet, found)?),
+        Some(found) => Ok(Text {
+            bytes: checked_terms(alloc, sheet, found)?,
+            slot_us: found.slot_us,
+        }),
         None => Err(FitFault::NotFound(unfound(alloc, sheet, searched.reason)?)),
     }
+}
+
+/// The text of a plan for what a datasheet says.
+fn fit_read(alloc: Global, sheet: &Sheet) -> Result<Text, FitFault>
+    ensures plan { IfOk result (λ text. (bytes : List ℕ) → IsSheetOf bytes sheet.now → IsPlanFor bytes text.bytes.items) }
+    ensures slot { IfOk result (λ text. (rest : List ℕ) × (text.bytes.items ≡ slot_line text.slot_us ++ rest)) }
+{
+    if sheet.is_plain() {
+        fit_times(alloc, sheet)
+    } else {
+        fit_terms(alloc, sheet)
+    }
+}
+
+/// A plan that was found, and for what.
+#[derive(Drop)]
+pub struct Fitted {
+    /// The plan's text.
+    pub text: Vec<u8>,
+    /// How long its slots are, in microseconds.
+    pub slot_us: u32,
+    /// What the datasheet says.
+    pub sheet: Sheet,
+}
+
+/// A plan for a datasheet, as [`fit`] finds it, with the length of its slots, and what the datasheet says. It is refused as
+/// `fit` refuses it.
+pub fn fit_sheet(alloc: Global, sheet: &[u8]) -> Result<Fitted, FitFault>
+    ensures plan { IfOk result (λ fitted. IsPlanFor sheet.now fitted.text.items) }
+    ensures slot { IfOk result (λ fitted. (rest : List ℕ) × (fitted.text.items ≡ slot_line fitted.slot_us ++ rest)) }
+    ensures sheet { IfOk result (λ fitted. IsSheetOf sheet.now fitted.sheet) }
+{
+    let read = read_sheet(alloc, sheet)?;
+    let Text { bytes, slot_us } = fit_read(alloc, &read)?;
+    Ok(Fitted {
+        text: bytes,
+        slot_us,
+        sheet: read,
+    })
 }
 
 /// The text of a plan for a datasheet, which is a TOML text: a plan of one die that is a plan of the datasheet, meets its
@@ -111,10 +167,10 @@ fn fit_terms(alloc: Global, sheet: &Sheet) -> Result<Vec<u8>, FitFault>
 pub fn fit(alloc: Global, sheet: &[u8]) -> Result<Vec<u8>, FitFault>
     ensures { IfOk result (λ text. IsPlanFor sheet.now text.items) }
 {
-    let read = read_sheet(alloc, sheet)?;
-    if read.is_plain() {
-        fit_times(alloc, &read)
-    } else {
-        fit_terms(alloc, &read)
-    }
+    let Fitted {
+        text,
+        slot_us: _,
+        sheet: _,
+    } = fit_sheet(alloc, sheet)?;
+    Ok(text)
 }

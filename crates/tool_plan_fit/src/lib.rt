@@ -21,5 +21,5 @@ mod terms_searches;
 pub use datasheets::{Asked, InSlots, Need, Needs, Part, Sheet, Suspends};
 pub use decimals::Decimal;
 pub use faults::{Advice, FitFault, LongerTime, Reason, Unfound, WholeErase};
-pub use fits::fit;
+pub use fits::{Fitted, fit, fit_sheet};
 pub use sheet_faults::{Level, Position, SheetFault, Wrong};

@@ -24,6 +24,9 @@ use toml::{Table, Value};
 /// The longest time, in microseconds.
 const MAX_US: u32 = 100_000_000;
 
+/// The most erases of a block.
+const MAX_ERASES: u32 = 100_000_000;
+
 /// What is added before a number is cut to a whole one.
 const HALF: f64 = 0.5;
 
@@ -42,7 +45,7 @@ const UNIT: u32 = 1_000_000;
 const MAX_PARTS: u32 = 4_294 * UNIT;
 
 /// The keys on top.
-const TOP_KEYS: [&str; 13] = [
+const TOP_KEYS: [&str; 14] = [
     "read_us",
     "program_us",
     "program_typical_us",
@@ -52,6 +55,7 @@ const TOP_KEYS: [&str; 13] = [
     "resume_us",
     "transfer_us",
     "margin_us",
+    "endurance",
     "blocks",
     "pages",
     "logical",
@@ -379,6 +383,13 @@ fn typical_in(table: &Table, program_us: u32) -> Result<Option<u32>, Wrong>
     parts_or_none(table, Timed::on_top("program_typical_us", 1, program_us))
 }
 
+/// How often a block may be erased.
+fn endurance_in(table: &Table) -> Result<Option<u32>, Wrong>
+    ensures { IfOk result (PartsOrNone (table_view table.now) (codes "endurance") 1) }
+{
+    parts_or_none(table, Timed::on_top("endurance", 1, MAX_ERASES))
+}
+
 /// What the top table says of the part.
 fn part_of(table: &Table) -> Result<Part, Wrong>
     ensures { IfOk result (IsPartOf (table_view table.now)) }
@@ -396,6 +407,7 @@ fn part_of(table: &Table) -> Result<Part, Wrong>
         resume_us: turn_in(table, "resume_us", suspends)?,
         transfer_us: time_or_zero(table, "transfer_us")?,
         margin_us: time_or_zero(table, "margin_us")?,
+        endurance: endurance_in(table)?,
         blocks: count_in(table, "blocks", MIN_BLOCKS, MAX_BLOCKS)?,
         pages: count_in(table, "pages", MIN_PAGES, MAX_PAGES)?,
         logical: count_in(table, "logical", 1, MAX_BLOCKS * MAX_PAGES)?,

@@ -5,7 +5,7 @@ ghost use Rattle.tool_plan_arrivals.specs.PlannedScripts.{IsOwnFault};
 
 use demand_rules::TaskTerms;
 use slot_types::{MAX_JOBS, MAX_OPS, MAX_SLOT};
-use terms_texts::{DieTerms, StoreTerms};
+use terms_texts::StoreTerms;
 use tool_plan_arrivals::Fault;
 
 /// How many multiples of a period lie below so many slots, with so many slots left until 1,048,576.
@@ -19,32 +19,65 @@ fn multiples(period: u32, deadline: u32, slots: u32) -> u64 {
     u64::from(last / period.max(1)).saturating_add(1)
 }
 
-/// How many jobs and collections of a task come in so many slots.
-fn of_task(own: &TaskTerms, slots: u32) -> u64 {
-    let bursts = multiples(own.period, own.deadline, slots);
-    let jobs = bursts.saturating_mul(u64::from(own.work.div_ceil(MAX_OPS)));
-    jobs.saturating_add(multiples(own.collect_period, own.collect_deadline, slots))
+/// How much comes of a task, or of a die, in some slots.
+#[derive(Clone, Copy, PartialEq, Eq, Debug, Drop)]
+pub struct Comes {
+    pub jobs: u64,
+    pub collections: u64,
+    /// Of all jobs.
+    pub operations: u64,
 }
 
-/// Whether a die gets no more of them than it accepts.
-fn is_few(made: &DieTerms, slots: u32) -> bool {
-    let mut count: u64 = 0;
-    for own in made.terms.tasks.as_slice() {
-        count = count.saturating_add(of_task(own, slots));
+impl Comes {
+    /// How many jobs and collections.
+    fn both(&self) -> u64 {
+        self.jobs.saturating_add(self.collections)
     }
-    count <= u64::from(MAX_JOBS)
 }
 
-/// The most slots, 1,048,576 at most, in which a die gets no more of them than it accepts. In more slots it never gets fewer.
-fn life_of(made: &DieTerms) -> u32 {
-    if is_few(made, MAX_SLOT) {
+/// How much comes of a task in so many slots.
+fn of_task(own: &TaskTerms, slots: u32) -> Comes {
+    let bursts = multiples(own.period, own.deadline, slots);
+    Comes {
+        jobs: bursts.saturating_mul(u64::from(own.work.div_ceil(MAX_OPS))),
+        collections: multiples(own.collect_period, own.collect_deadline, slots),
+        operations: bursts.saturating_mul(u64::from(own.work)),
+    }
+}
+
+/// How much comes of tasks with these terms in so many slots, where they ask for all that they may, all at once in slot 0
+/// and from then on as often as they may; what would be due after slot 1,048,576 doesn't come.
+pub fn comes_in(tasks: &[TaskTerms], slots: u32) -> Comes {
+    let mut comes = Comes {
+        jobs: 0,
+        collections: 0,
+        operations: 0,
+    };
+    for own in tasks {
+        let more = of_task(own, slots);
+        comes.jobs = comes.jobs.saturating_add(more.jobs);
+        comes.collections = comes.collections.saturating_add(more.collections);
+        comes.operations = comes.operations.saturating_add(more.operations);
+    }
+    comes
+}
+
+/// Whether a die gets no more jobs and collections than it accepts.
+fn is_few(tasks: &[TaskTerms], slots: u32) -> bool {
+    comes_in(tasks, slots).both() <= u64::from(MAX_JOBS)
+}
+
+/// The most slots, 1,048,576 at most, in which a die gets no more than 65,536 jobs and collections of tasks with these terms. In
+/// more slots it never gets fewer. A die then goes on by a renewal.
+pub fn life_of(tasks: &[TaskTerms]) -> u32 {
+    if is_few(tasks, MAX_SLOT) {
         return MAX_SLOT;
     }
     let (mut few, mut many) = (0u32, MAX_SLOT);
     // 2^20 slots are halved until the two are neighbors.
     for _ in 0..20 {
         let middle = few.saturating_add(many.saturating_sub(few) / 2);
-        if is_few(made, middle) {
+        if is_few(tasks, middle) {
             few = middle;
         } else {
             many = middle;
@@ -59,7 +92,7 @@ pub(crate) fn check_lives(store: &StoreTerms, slots: u32) -> Result<(), Fault>
 {
     let (mut most, mut shortest, mut die) = (MAX_SLOT, 0u32, 0u32);
     for made in store.as_slice() {
-        let life = life_of(made);
+        let life = life_of(made.terms.tasks.as_slice());
         if life < most {
             most = life;
             shortest = die;

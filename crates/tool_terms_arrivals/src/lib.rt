@@ -8,4 +8,5 @@ mod counts;
 mod makers;
 mod scripts;
 
+pub use counts::{Comes, comes_in, life_of};
 pub use scripts::arrivals;

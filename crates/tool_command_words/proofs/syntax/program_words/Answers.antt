@@ -4,7 +4,8 @@ pub returns : goal.returns
 returns c =
     let explaining = c.with_command-explaining.ensures _ _ c.name.ensures c.explain_words.ensures in
     let fitting = c.with_command-fitting.ensures _ _ explaining c.fit_words.ensures in
-    let arriving = c.with_command-arriving.ensures _ _ fitting c.arrivals_words.ensures in
+    let designing = c.with_command-designing.ensures _ _ fitting c.design_words.ensures in
+    let arriving = c.with_command-arriving.ensures _ _ designing c.arrivals_words.ensures in
     let keeping = c.with_command-keeping.ensures _ _ arriving c.keeps_words.ensures in
     let wearing = c.with_command-wearing.ensures _ _ keeping c.wear_words.ensures in
     let reporting = c.with_command-reporting.ensures _ _ wearing c.report_words.ensures in
