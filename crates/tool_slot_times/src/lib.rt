@@ -4,7 +4,9 @@
 mod comments;
 mod rates;
 mod times;
+mod units;
 
 pub use comments::{put_slot, slot_in};
 pub use rates::{Rate, Share};
 pub use times::{Slots, Time};
+pub use units::Units;

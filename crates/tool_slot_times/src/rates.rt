@@ -3,7 +3,7 @@
 ghost use Rattle.std.specs.Prelude.{◌*◌, Some};
 ghost use Rattle.tool_slot_times.specs.Rates.{rate_text, share_text};
 
-use crate::times::Units;
+use crate::times::Parts;
 use std::fmt;
 use std::fmt::{Display, Formatter, Write};
 
@@ -24,7 +24,7 @@ impl Display for Rate {
     fn fmt<W: Write>(&self, f: &mut Formatter<W>) -> fmt::Result {
         let bytes = u64::from(self.pages) * u64::from(self.page_bytes);
         let us = u64::from(self.slots) * u64::from(self.slot_us);
-        let parts = Units {
+        let parts = Parts {
             parts: u128::from(bytes),
             unit: us,
         };
@@ -43,7 +43,7 @@ impl Display for Share {
     ghost output = { λ share. Some (share_text share.part share.whole) };
 
     fn fmt<W: Write>(&self, f: &mut Formatter<W>) -> fmt::Result {
-        let parts = Units {
+        let parts = Parts {
             parts: u128::from(self.part) * 100,
             unit: self.whole,
         };

@@ -34,14 +34,14 @@ impl Display for Thousandths {
     }
 }
 
-/// So many parts, of which a unit has so many, and at least one: in units, rounded down to the thousandth.
+/// So many parts of a unit, of which a unit has so many, and at least one: in units, rounded down to the thousandth.
 #[derive(Clone, Copy, Drop)]
-pub(crate) struct Units {
+pub(crate) struct Parts {
     pub(crate) parts: u128,
     pub(crate) unit: u64,
 }
 
-impl Display for Units {
+impl Display for Parts {
     ghost output = { λ u. Some (units_text u.parts (max u.unit 1)) };
 
     fn fmt<W: Write>(&self, f: &mut Formatter<W>) -> fmt::Result {
@@ -67,19 +67,19 @@ impl Display for Time {
         if us < 1_000 {
             write!(f, "{us} us")
         } else if us < 10_000_000 {
-            let parts = Units { parts: us, unit: MS };
+            let parts = Parts { parts: us, unit: MS };
             write!(f, "{parts} ms")
         } else if us < 600_000_000 {
-            let parts = Units { parts: us, unit: S };
+            let parts = Parts { parts: us, unit: S };
             write!(f, "{parts} s")
         } else if us < 36_000_000_000 {
-            let parts = Units {
+            let parts = Parts {
                 parts: us,
                 unit: MIN,
             };
             write!(f, "{parts} min")
         } else {
-            let parts = Units { parts: us, unit: H };
+            let parts = Parts { parts: us, unit: H };
             write!(f, "{parts} h")
         }
     }
