@@ -120,7 +120,7 @@ key_text (number.CollectPeriod task) = codes "collect_period"
 key_text (number.Work task) = codes "work"
 key_text (number.Writes task) = codes "writes"
 
--- which numbers are of slots: behind them stand their times
+-- which numbers are of slots, so that their times follow them
 abbrev pub unit_of : Option ℕ → Number → Option ℕ
 unit_of us number.Common = us
 unit_of us (number.Period task) = us

@@ -25,7 +25,8 @@ pub record AreFound (plan : PlanNumbers) (is_accepted : Bool) (findings : List F
   pub rows_so : All (IsRow plan) rows
   pub ranked : MatchBool is_accepted (changes ≡ []) (AreRanked plan findings changes)
 
--- how it is said, of the changes at most ten; behind a number of slots stands its time, where it is known how many us a slot takes
+-- how it is said, of the changes at most ten; a number of slots is followed by its time, where it is known how many us a
+-- slot takes
 abbrev pub found_text : Option ℕ → List Finding → List AlphaRow → List Change → List ℕ
 found_text us findings rows changes = findings_text us findings ++ rows_text us rows ++ changes_text us (take 10 changes)
 

@@ -41,7 +41,7 @@ IsSo plan (finding.Common found) = FindsLeast (AllDo number.Common plan) 1 MAX_S
 IsSo plan (finding.Alpha a) = IsAlpha plan a
 IsSo plan (finding.Task t) = IsOfTask plan t
 
--- In these texts stands behind each number of slots its time, where it is known how many us a slot takes.
+-- In these texts each number of slots is followed by its time, where it is known how many us a slot takes.
 
 -- a task, by its place in the text, its die and its number there
 abbrev pub name_text : TaskName → List ℕ
@@ -67,8 +67,11 @@ abbrev pub work_text : Option ℕ → OwnWork → List ℕ
 work_text us w = own_text us (own.Cap w.cap) ++ codes ", " ++ own_text us (own.Work w.work) ++ codes ", " ++ own_text us (own.Writes w.writes)
 
 -- and what all of them could be
+abbrev pub numbers_text : Option ℕ → OwnPeriods → OwnWork → List ℕ
+numbers_text us p w = periods_text us p ++ codes ", " ++ work_text us w
+
 abbrev pub task_text : Option ℕ → TaskFinding → List ℕ
-task_text us t = name_text t.name ++ codes ": one at a time, these would do: " ++ periods_text us t.periods ++ codes ", " ++ work_text us t.work ++ codes "."
+task_text us t = name_text t.name ++ codes ": one at a time, these would do: " ++ numbers_text us t.periods t.work ++ codes "."
 
 -- an alpha, and what is then taken of a die
 abbrev pub taken_text : Option ℕ → Taken → List ℕ

@@ -1,6 +1,6 @@
 //! What another alpha comes to, with the caps and the collect periods that go with it, by die.
 
-ghost use Rattle.std.specs.Prelude.{◌≡◌, ◌↔◌, ◌≤◌, All, IfOk, IfSome, IsSomeAnd, IsTrue, Some, map};
+ghost use Rattle.std.specs.Prelude.{◌≡◌, ◌↔◌, ◌≤◌, All, IfOk, IfSome, IsSomeAnd, IsTrue, OnOk, Some, map};
 ghost use Rattle.std.specs.List.{AllZip};
 ghost use Rattle.slot_types.specs.Refusal.{FailsForMemory};
 ghost use Rattle.plan_rules.specs.Times.{PassesItsTimes, demand};
@@ -191,6 +191,34 @@ fn row_with(
     }
 }
 
+/// Adds a row of a plan. The only refusal is NoMemory.
+fn add_row(rows: &mut Vec<AlphaRow>, plan: &PlanNumbers, row: AlphaRow) -> Result<(), Refusal>
+    requires so { All (IsRow plan.now) rows.old.items }
+    requires row { IsRow plan.now row }
+    ensures so { OnOk result (All (IsRow plan.now) rows.new.items) }
+    ensures refused { FailsForMemory result }
+{
+    rows.push(row)?;
+    Ok(())
+}
+
+/// Adds a row of a plan, if there is one. The only refusal is NoMemory.
+fn note_row(
+    rows: &mut Vec<AlphaRow>,
+    plan: &PlanNumbers,
+    found: Option<AlphaRow>,
+) -> Result<(), Refusal>
+    requires so { All (IsRow plan.now) rows.old.items }
+    requires row { IfSome found (IsRow plan.now) }
+    ensures so { OnOk result (All (IsRow plan.now) rows.new.items) }
+    ensures refused { FailsForMemory result }
+{
+    match found {
+        Some(row) => add_row(rows, plan, row),
+        None => Ok(()),
+    }
+}
+
 /// What each alpha comes to, from 1 to the pages of a block, by die, with the caps and the collect periods that go with it,
 /// where the die passes the test of its times so. A plan without times has none of it. The only refusal is NoMemory.
 pub fn alpha_rows(alloc: Global, plan: &PlanNumbers) -> Result<Vec<AlphaRow>, Refusal>
@@ -205,9 +233,7 @@ pub fn alpha_rows(alloc: Global, plan: &PlanNumbers) -> Result<Vec<AlphaRow>, Re
     for before in 0..plan.top.pages {
         for die in 0..plan.top.dies {
             let found = row_with(alloc, plan, &divisors, common, die, before + 1)?;
-            if let Some(row) = found {
-                rows.push(row)?;
-            }
+            note_row(&mut rows, plan, found)?;
         }
     }
     Ok(rows)

@@ -217,8 +217,8 @@ fn put_said(
 /// met. After these stand by die the figures of its bound, and for a plan with times the margins and the demand, by task
 /// and in sum, and how long the die lives. Then comes with which numbers, one at a time, each die would do, bound and test:
 /// each is the extreme one; what each alpha comes to with the caps and collect periods that go with it, by die; and last, of
-/// a plan that is refused, which of these numbers to change, the cheapest change first, at most ten. Behind each number of
-/// slots stands its time, where it is known how long a slot is. The only refusal is NoMemory.
+/// a plan that is refused, which of these numbers to change, the cheapest change first, at most ten. Each number of slots
+/// is followed by its time, where it is known how long a slot is. The only refusal is NoMemory.
 pub fn explain(alloc: Global, plan: &[u8], units: Units) -> Result<Explained, Refusal>
     ensures accepted { IfOk result (λ explained. IsTrue explained.is_accepted ↔ IsAccepted plan.now) }
     ensures said { IfOk result (λ explained. IsExplanation units.slot_us plan.now explained.text.items) }

@@ -1,14 +1,14 @@
 //! What was found of a plan: with which numbers it would do, one at a time.
 
 ghost use Rattle.std.specs.Prelude.{Some};
-ghost use Rattle.tool_plan_design.specs.Findings.{alpha_text, finding_text, own_text, periods_text, taken_text, task_text, work_text};
+ghost use Rattle.tool_plan_design.specs.Findings.{alpha_text, finding_text, numbers_text, own_text, periods_text, taken_text, task_text, work_text};
 
 use crate::subjects::TaskName;
 use std::fmt;
 use std::fmt::{Display, Formatter, Write};
 use tool_slot_times::Slots;
 
-/// Something with the length of a slot in us, if that is known: behind each of its numbers of slots stands its time.
+/// Something with the length of a slot in us, if that is known: each of its numbers of slots is followed by its time.
 #[derive(Clone, Copy, Drop)]
 pub(crate) struct Timed<T> {
     pub(crate) of: T,
@@ -137,24 +137,33 @@ impl Display for Timed<OwnWork> {
     }
 }
 
+impl Display for Timed<(OwnPeriods, OwnWork)> {
+    ghost output = { λ own. Some (numbers_text own.slot_us own.of.0 own.of.1) };
+
+    fn fmt<W: Write>(&self, f: &mut Formatter<W>) -> fmt::Result {
+        let slot_us = self.slot_us;
+        let periods = Timed {
+            of: self.of.0,
+            slot_us,
+        };
+        let work = Timed {
+            of: self.of.1,
+            slot_us,
+        };
+        write!(f, "{periods}, {work}")
+    }
+}
+
 impl Display for Timed<TaskFinding> {
     ghost output = { λ found. Some (task_text found.slot_us found.of) };
 
     fn fmt<W: Write>(&self, f: &mut Formatter<W>) -> fmt::Result {
-        let slot_us = self.slot_us;
         let name = self.of.name;
-        let periods = Timed {
-            of: self.of.periods,
-            slot_us,
+        let numbers = Timed {
+            of: (self.of.periods, self.of.work),
+            slot_us: self.slot_us,
         };
-        let work = Timed {
-            of: self.of.work,
-            slot_us,
-        };
-        write!(
-            f,
-            "{name}: one at a time, these would do: {periods}, {work}."
-        )
+        write!(f, "{name}: one at a time, these would do: {numbers}.")
     }
 }
 

@@ -1,6 +1,6 @@
 //! All that was found of a plan, and its lines.
 
-ghost use Rattle.std.specs.Prelude.{◌≡◌, ◌++◌, [], IfOk, OnOk};
+ghost use Rattle.std.specs.Prelude.{◌≡◌, ◌++◌, [], IfOk, OnOk, take};
 ghost use Rattle.slot_types.specs.Refusal.{FailsForMemory};
 ghost use Rattle.tool_plan_design.specs.Explanations.{AreFound, found_text};
 
@@ -69,6 +69,17 @@ pub fn found_of(
     })
 }
 
+/// The first ten changes, or all where there are fewer.
+fn first_changes(changes: &[Change]) -> &[Change]
+    ensures { result.now ≡ take 10 changes.entry.now }
+{
+    if changes.len() < MOST_CHANGES {
+        changes
+    } else {
+        &changes[..MOST_CHANGES]
+    }
+}
+
 /// Adds what was found to a text, a line each; of the changes at most ten.
 pub fn put_found(text: &mut Vec<u8>, found: &Found, slot_us: Option<u32>) -> io::Result<()>
     ensures { OnOk result (text.new.items ≡ text.old.items
@@ -76,6 +87,5 @@ pub fn put_found(text: &mut Vec<u8>, found: &Found, slot_us: Option<u32>) -> io:
 {
     put_findings(text, &found.findings, slot_us)?;
     put_rows(text, &found.rows, slot_us)?;
-    let most = found.changes.len().min(MOST_CHANGES);
-    put_ranked(text, &found.changes[..most], slot_us)
+    put_ranked(text, first_changes(&found.changes), slot_us)
 }

@@ -22,7 +22,7 @@ time_text us =
     else if nat_lt us 36000000000 then units_text us 60000000 ++ codes " min"
     else units_text us 3600000000 ++ codes " h"
 
--- so many slots; and behind them in brackets how long they take, where it is known how many us one takes
+-- so many slots; and then in brackets how long they take, where it is known how many us one takes
 abbrev pub slots_text : Option ℕ → ℕ → List ℕ
 slots_text None n = decimal n
 slots_text (Some us) n = decimal n ++ codes " (" ++ time_text (n * us) ++ codes ")"

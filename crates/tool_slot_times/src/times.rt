@@ -85,7 +85,7 @@ impl Display for Time {
     }
 }
 
-/// So many slots, and, where it is known how many us one takes, behind them in brackets how long they take.
+/// So many slots, and, where it is known how many us one takes, then in brackets how long they take.
 #[derive(Clone, Copy, PartialEq, Eq, Debug, Drop)]
 pub struct Slots {
     pub count: u64,
