@@ -58,17 +58,16 @@ abbrev pub IsSlotFor : Option ℕ → List ℕ → Option ℕ → Type 0
 IsSlotFor (Some us) plan found = found ≡ Some us
 IsSlotFor None plan found = IsSlotOf plan found
 
--- what is said of the text of a plan without terms, with that length of a slot, and whether it is accepted
-pub record ExplainsPlan (asked : Option ℕ) (plan : List ℕ) (is_accepted : Bool) (said : List ℕ) : Type 0 where
-  pub accepted : IsTrue is_accepted ↔ IsAccepted plan
+-- what is said of the text of a plan without terms, with a length of a slot, and whether it is accepted
+abbrev pub ExplainsPlan : Option ℕ → List ℕ → Bool → List ℕ → Type 0
+ExplainsPlan slot_us plan is_accepted said = (IsTrue is_accepted ↔ IsAccepted plan) × IsExplanation slot_us plan said
+
+-- what is said of a plan's text, with that length of a slot, and whether it is accepted: of one with terms, what its tests
+-- answer
+pub record SaysText (asked : Option ℕ) (plan : List ℕ) (is_accepted : Bool) (said : List ℕ) : Type 0 where
   pub slot_us : Option ℕ
   pub slot : IsSlotFor asked plan slot_us
-  pub explained : IsExplanation slot_us plan said
-
--- what is said of a plan's text, and whether it is accepted: of one with terms, what its tests answer
-abbrev pub SaysText : Option ℕ → List ℕ → Bool → List ℕ → Type 0
-SaysText asked plan is_accepted said =
-    MatchBool (is_terms_text plan) (ExplainsTerms plan is_accepted said) (ExplainsPlan asked plan is_accepted said)
+  pub explained : MatchBool (is_terms_text plan) (ExplainsTerms slot_us plan is_accepted said) (ExplainsPlan slot_us plan is_accepted said)
 
 -- of as much of a plan's text as is read, where the text is known: a longer one is too long
 abbrev pub SaysOf : Option ℕ → Option (List ℕ) → Bool → List ℕ → Type 0

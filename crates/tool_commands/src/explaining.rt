@@ -3,11 +3,12 @@
 ghost use Rattle.std.specs.Prelude.{◌≡◌, ◌++◌, ℕ, IfErr, IfOk, List, OnErr};
 ghost use Rattle.slot_types.specs.Refusal.{FailsForMemory};
 ghost use Rattle.text_base.specs.Writing.{IsNotWhole};
-ghost use Rattle.tool_commands.specs.Acts.{EndsSaying, Explains, ExplainsMore, IsHostFault, IsSlotFor, Says, SaysOf, SaysText};
+ghost use Rattle.tool_commands.specs.Acts.{EndsSaying, Explains, ExplainsMore, IsHostFault, Says, SaysOf, SaysText};
 ghost use Rattle.tool_commands.specs.Acts.{accepted_status, explained_status};
 
 use crate::checkpoint_acts::{end_unrun, saved_in};
 use crate::endings::end_refused;
+use crate::slot_lengths::slot_for;
 use plan_texts::{plan_text, read_plan};
 use slot_types::{Refusal, StorePlan};
 use std::alloc::Global;
@@ -16,19 +17,8 @@ use terms_texts::read_terms;
 use text_base::{FlaggedReader, Output, write_whole};
 use tool_checkpoint_runs::{RunFault, explain as explain_checkpoint};
 use tool_plan_design::{Explained, explain};
-use tool_slot_times::{Units, slot_in};
+use tool_slot_times::Units;
 use tool_terms_design::{explain_terms, is_terms_text};
-
-/// How long a slot of a plan takes: as asked for, or as its text begins, if it does. The only refusal is NoMemory.
-fn slot_for(alloc: Global, plan: &[u8], asked: Option<u32>) -> Result<Option<u32>, Refusal>
-    ensures slot { IfOk result (IsSlotFor asked plan.now) }
-    ensures refused { FailsForMemory result }
-{
-    match asked {
-        Some(slot_us) => Ok(Some(slot_us)),
-        None => slot_in(alloc, plan),
-    }
-}
 
 /// What is said of the text of a plan, with terms or without. The only refusal is NoMemory.
 fn said_of(alloc: Global, plan: &[u8], asked: Units) -> Result<Explained, Refusal>
@@ -36,14 +26,17 @@ fn said_of(alloc: Global, plan: &[u8], asked: Units) -> Result<Explained, Refusa
         SaysText asked.slot_us plan.now explained.is_accepted explained.text.items) }
     ensures refused { FailsForMemory result }
 {
+    let slot_us = slot_for(alloc, plan, asked.slot_us)?;
     if is_terms_text(alloc, plan)? {
-        return explain_terms(alloc, plan);
+        explain_terms(alloc, plan, slot_us)
+    } else {
+        let page_bytes = asked.page_bytes;
+        let units = Units {
+            slot_us,
+            page_bytes,
+        };
+        explain(alloc, plan, units)
     }
-    let units = Units {
-        slot_us: slot_for(alloc, plan, asked.slot_us)?,
-        page_bytes: asked.page_bytes,
-    };
-    explain(alloc, plan, units)
 }
 
 /// What is said of a plan.

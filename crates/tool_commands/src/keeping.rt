@@ -7,7 +7,7 @@ ghost use Rattle.text_base.specs.Writing.{IsNotWhole};
 ghost use Rattle.tool_commands.specs.Acts.{EndsSaying, PrintsKept, Says, SaysKept, SaysTermsKept, SaysTimesKept, kept_status, verdict_status};
 
 use crate::plan_faults::end_unread;
-use crate::stores::{PlanRead, Timed, Unread, timed_plan_in};
+use crate::stores::{PlanRead, Unread, timed_plan_in};
 use slot_types::{MAX_SLOT, Refusal, StorePlan};
 use std::alloc::Global;
 use std::io::{Read, Write};
@@ -103,11 +103,11 @@ fn kept_of<P: Read + Drop, S: Read + Drop>(
     ensures said { IfOk result (λ kept.
         SaysKept (P.remaining plan) (S.remaining script) slots kept.keeps) }
 {
-    let Timed { plan, slot_us } = timed_plan_in(alloc, plan, slot_us)?;
+    let read = timed_plan_in(alloc, plan, slot_us)?;
     let text = script_text(alloc, script)?;
-    let kept = match &plan {
-        PlanRead::Plain(store) => keeps_times(alloc, store, &text, slots, slot_us)?,
-        PlanRead::WithTerms(store) => keeps_terms(alloc, store, &text, slots, slot_us)?,
+    let kept = match &read.plan {
+        PlanRead::Plain(store) => keeps_times(alloc, store, &text, slots, read.slot_us)?,
+        PlanRead::WithTerms(store) => keeps_terms(alloc, store, &text, slots, read.slot_us)?,
     };
     Ok(kept)
 }

@@ -10,7 +10,7 @@ ghost use Rattle.tool_terms_design.specs.DieTexts.{collection_line, gain_line, g
 ghost use Rattle.tool_terms_design.specs.DieTexts.{passing_text, stock_line, stock_text, supply_line, supply_lines};
 ghost use Rattle.tool_terms_design.specs.DieTexts.{tightest_line, tightest_text};
 
-use crate::numbers::{cap_of, put_die, put_numbers, put_task};
+use crate::numbers::{cap_of, put_die, put_numbers, put_task, slots};
 use demand_rules::{DemandLoad, TaskTerms};
 use slot_types::DiePlan;
 use std::io;
@@ -18,12 +18,18 @@ use std::io::Write;
 use terms_texts::DieTerms;
 
 /// Adds the most slots of a collection.
-fn put_collection(text: &mut Vec<u8>, die: usize, plan: &DiePlan) -> io::Result<()>
+fn put_collection(
+    text: &mut Vec<u8>,
+    die: usize,
+    plan: &DiePlan,
+    slot_us: Option<u32>,
+) -> io::Result<()>
     requires { MeetsBound plan.now }
-    ensures { OnOk result (text.new.items ≡ text.old.items ++ collection_line die plan.now) }
+    ensures { OnOk result (text.new.items ≡ text.old.items ++ collection_line slot_us die plan.now) }
 {
     put_die(text, die)?;
-    let slots = 2 * (plan.shape.pages - plan.alpha) + plan.shape.erase_slots;
+    let work = 2 * (plan.shape.pages - plan.alpha) + plan.shape.erase_slots;
+    let slots = slots(work, slot_us);
     writeln!(text, "a collection takes at most {slots} slots.")
 }
 
@@ -46,23 +52,36 @@ fn put_die_load(text: &mut Vec<u8>, die: usize, found: &DemandLoad) -> io::Resul
 }
 
 /// Adds the tightest interval.
-fn put_tightest(text: &mut Vec<u8>, slots: u32, demand: u32, slack: u32) -> io::Result<()>
-    ensures { OnOk result (text.new.items ≡ text.old.items ++ tightest_text slots demand slack) }
+fn put_tightest(
+    text: &mut Vec<u8>,
+    tightest: u32,
+    demand: u32,
+    slack: u32,
+    slot_us: Option<u32>,
+) -> io::Result<()>
+    ensures { OnOk result (text.new.items ≡ text.old.items ++ tightest_text slot_us tightest demand slack) }
 {
+    let interval = slots(tightest, slot_us);
+    let (demand, slack) = (slots(demand, slot_us), slots(slack, slot_us));
     writeln!(
         text,
-        "the tightest interval has {slots} slots, of which {demand} may be asked for: {slack} to spare."
+        "the tightest interval has {interval} slots, of which {demand} may be asked for: {slack} to spare."
     )
 }
 
 /// Adds that of a die.
-fn put_die_tightest(text: &mut Vec<u8>, die: usize, found: &DemandLoad) -> io::Result<()>
+fn put_die_tightest(
+    text: &mut Vec<u8>,
+    die: usize,
+    found: &DemandLoad,
+    slot_us: Option<u32>,
+) -> io::Result<()>
     requires { found.now.slack ≤ found.now.tightest }
-    ensures { OnOk result (text.new.items ≡ text.old.items ++ tightest_line die found.now) }
+    ensures { OnOk result (text.new.items ≡ text.old.items ++ tightest_line slot_us die found.now) }
 {
     put_die(text, die)?;
-    let (slots, slack) = (found.tightest, found.slack);
-    put_tightest(text, slots, slots - slack, slack)
+    let (tightest, slack) = (found.tightest, found.slack);
+    put_tightest(text, tightest, tightest - slack, slack, slot_us)
 }
 
 /// The least cap that would do. Within their limits its numbers stay below 2^60.
@@ -160,14 +179,15 @@ pub fn put_passing(
     die: usize,
     made: &DieTerms,
     found: &DemandLoad,
+    slot_us: Option<u32>,
 ) -> io::Result<()>
     requires usable { IsUsable made.now }
     requires tested { IsDemandLoad made.now.plan made.now.terms found.now }
-    ensures { OnOk result (text.new.items ≡ text.old.items ++ passing_text die made.now found.now) }
+    ensures { OnOk result (text.new.items ≡ text.old.items ++ passing_text slot_us die made.now found.now) }
 {
-    put_numbers(text, die, made)?;
-    put_collection(text, die, &made.plan)?;
+    put_numbers(text, die, made, slot_us)?;
+    put_collection(text, die, &made.plan, slot_us)?;
     put_die_load(text, die, found)?;
-    put_die_tightest(text, die, found)?;
+    put_die_tightest(text, die, found, slot_us)?;
     put_supplies(text, die, &made.plan, made.terms.tasks.as_slice())
 }

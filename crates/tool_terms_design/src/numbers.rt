@@ -9,6 +9,7 @@ use slot_types::DiePlan;
 use std::io;
 use std::io::Write;
 use terms_texts::DieTerms;
+use tool_slot_times::Slots;
 
 /// Adds what a sentence on a die begins with.
 pub fn put_die(text: &mut Vec<u8>, die: usize) -> io::Result<()>
@@ -22,6 +23,16 @@ pub fn put_task(text: &mut Vec<u8>, die: usize, task: usize) -> io::Result<()>
     ensures { OnOk result (text.new.items ≡ text.old.items ++ of_task die task) }
 {
     write!(text, "die {die} task {task}: ")
+}
+
+/// So many slots.
+pub fn slots(count: u32, slot_us: Option<u32>) -> Slots
+    ensures { result ≡ record { count = count; slot_us = slot_us } }
+{
+    Slots {
+        count: u64::from(count),
+        slot_us,
+    }
 }
 
 /// The cap of a task; 0 where there is none.
@@ -56,10 +67,18 @@ fn put_die_line(text: &mut Vec<u8>, die: usize, plan: &DiePlan) -> io::Result<()
 }
 
 /// Adds what a task's jobs ask for.
-fn put_jobs(text: &mut Vec<u8>, cap: u32, task: &TaskTerms) -> io::Result<()>
-    ensures { OnOk result (text.new.items ≡ text.old.items ++ jobs_line cap task.now) }
+fn put_jobs(
+    text: &mut Vec<u8>,
+    cap: u32,
+    task: &TaskTerms,
+    slot_us: Option<u32>,
+) -> io::Result<()>
+    ensures { OnOk result (text.new.items ≡ text.old.items ++ jobs_line slot_us cap task.now) }
 {
-    let (period, deadline, held, work) = (task.period, task.deadline, task.held, task.work);
+    let period = slots(task.period, slot_us);
+    let deadline = slots(task.deadline, slot_us);
+    let held = slots(task.held, slot_us);
+    let work = task.work;
     write!(
         text,
         "cap {cap}, period {period}, deadline {deadline}, held {held}, work {work}"
@@ -67,10 +86,16 @@ fn put_jobs(text: &mut Vec<u8>, cap: u32, task: &TaskTerms) -> io::Result<()>
 }
 
 /// Adds what a task's jobs write, and its collections.
-fn put_collections(text: &mut Vec<u8>, task: &TaskTerms) -> io::Result<()>
-    ensures { OnOk result (text.new.items ≡ text.old.items ++ collections_line task.now) }
+fn put_collections(
+    text: &mut Vec<u8>,
+    task: &TaskTerms,
+    slot_us: Option<u32>,
+) -> io::Result<()>
+    ensures { OnOk result (text.new.items ≡ text.old.items ++ collections_line slot_us task.now) }
 {
-    let (writes, every, within) = (task.writes, task.collect_period, task.collect_deadline);
+    let writes = task.writes;
+    let every = slots(task.collect_period, slot_us);
+    let within = slots(task.collect_deadline, slot_us);
     writeln!(
         text,
         ", writes {writes}, collect_period {every}, collect_deadline {within}."
@@ -84,12 +109,13 @@ fn put_task_line(
     task: usize,
     cap: u32,
     terms: &TaskTerms,
+    slot_us: Option<u32>,
 ) -> io::Result<()>
-    ensures { OnOk result (text.new.items ≡ text.old.items ++ task_line die task cap terms.now) }
+    ensures { OnOk result (text.new.items ≡ text.old.items ++ task_line slot_us die task cap terms.now) }
 {
     put_task(text, die, task)?;
-    put_jobs(text, cap, terms)?;
-    put_collections(text, terms)
+    put_jobs(text, cap, terms, slot_us)?;
+    put_collections(text, terms, slot_us)
 }
 
 /// Adds the numbers of a die's tasks.
@@ -98,18 +124,24 @@ fn put_task_lines(
     die: usize,
     caps: &[u32],
     tasks: &[TaskTerms],
+    slot_us: Option<u32>,
 ) -> io::Result<()>
-    ensures { OnOk result (text.new.items ≡ text.old.items ++ task_lines die caps.now tasks.now) }
+    ensures { OnOk result (text.new.items ≡ text.old.items ++ task_lines slot_us die caps.now tasks.now) }
 {
     for task in 0..tasks.len() {
-        put_task_line(text, die, task, cap_of(caps, task), &tasks[task])?;
+        put_task_line(text, die, task, cap_of(caps, task), &tasks[task], slot_us)?;
     }
     Ok(())
 }
 
 /// Adds the numbers of a die and of its tasks.
-pub fn put_numbers(text: &mut Vec<u8>, die: usize, made: &DieTerms) -> io::Result<()>
-    ensures { OnOk result (text.new.items ≡ text.old.items ++ numbers_text die made.now) }
+pub fn put_numbers(
+    text: &mut Vec<u8>,
+    die: usize,
+    made: &DieTerms,
+    slot_us: Option<u32>,
+) -> io::Result<()>
+    ensures { OnOk result (text.new.items ≡ text.old.items ++ numbers_text slot_us die made.now) }
 {
     put_die_line(text, die, &made.plan)?;
     put_task_lines(
@@ -117,5 +149,6 @@ pub fn put_numbers(text: &mut Vec<u8>, die: usize, made: &DieTerms) -> io::Resul
         die,
         made.plan.caps.as_slice(),
         made.terms.tasks.as_slice(),
+        slot_us,
     )
 }
