@@ -7,12 +7,7 @@ use std::io::Write;
 use tool_slot_times::Slots;
 
 /// Tells which row it is.
-pub fn put_row(
-    text: &mut Vec<u8>,
-    die: u32,
-    line: &Line,
-    slot_us: Option<u32>,
-) -> io::Result<()> {
+pub fn put_row(text: &mut Vec<u8>, die: u32, line: &Line, slot_us: Option<u32>) -> io::Result<()> {
     let (record, task) = (line.record, line.task);
     let at = Slots {
         count: u64::from(line.at),

@@ -30,13 +30,24 @@ abbrev pub die_line : ℕ → DiePlan → List ℕ
 die_line die plan = of_die die ++ plan_line plan
 
 -- a task's numbers: what its jobs ask for, and its collections
+abbrev pub coming_text : Option ℕ → ℕ → TaskTerms → List ℕ
+coming_text us cap t = codes "cap " ++ decimal cap ++ codes ", period " ++ slots_text us t.period
+
+abbrev pub due_text : Option ℕ → TaskTerms → List ℕ
+due_text us t = codes ", deadline " ++ slots_text us t.deadline ++ codes ", held " ++ slots_text us t.held
+
+abbrev pub work_text : TaskTerms → List ℕ
+work_text t = codes ", work " ++ decimal t.work
+
+abbrev pub collections_text : Option ℕ → TaskTerms → List ℕ
+collections_text us t = codes ", writes " ++ decimal t.writes ++ codes ", collect_period " ++ slots_text us t.collect_period
+    ++ codes ", collect_deadline " ++ slots_text us t.collect_deadline
+
 abbrev pub jobs_line : Option ℕ → ℕ → TaskTerms → List ℕ
-jobs_line us cap t = codes "cap " ++ decimal cap ++ codes ", period " ++ slots_text us t.period ++ codes ", deadline " ++ slots_text us t.deadline
-    ++ codes ", held " ++ slots_text us t.held ++ codes ", work " ++ decimal t.work
+jobs_line us cap t = coming_text us cap t ++ due_text us t ++ work_text t
 
 abbrev pub collections_line : Option ℕ → TaskTerms → List ℕ
-collections_line us t = codes ", writes " ++ decimal t.writes ++ codes ", collect_period " ++ slots_text us t.collect_period
-    ++ codes ", collect_deadline " ++ slots_text us t.collect_deadline ++ full_stop
+collections_line us t = collections_text us t ++ full_stop
 
 abbrev pub task_line : Option ℕ → (die task cap : ℕ) → TaskTerms → List ℕ
 task_line us die task cap t = of_task die task ++ jobs_line us cap t ++ collections_line us t
@@ -57,9 +68,17 @@ abbrev pub load_line : ℕ → DemandLoad → List ℕ
 load_line die found = of_die die ++ load_text found.load
 
 -- and of the tightest interval
+abbrev pub interval_text : Option ℕ → ℕ → List ℕ
+interval_text us slots = codes "the tightest interval has " ++ slots_text us slots ++ codes " slots"
+
+abbrev pub asked_text : Option ℕ → ℕ → List ℕ
+asked_text us demand = codes ", of which " ++ slots_text us demand ++ codes " may be asked for"
+
+abbrev pub spare_text : Option ℕ → ℕ → List ℕ
+spare_text us slack = codes ": " ++ slots_text us slack ++ codes " to spare" ++ full_stop
+
 abbrev pub tightest_text : Option ℕ → (slots demand slack : ℕ) → List ℕ
-tightest_text us slots demand slack = codes "the tightest interval has " ++ slots_text us slots ++ codes " slots, of which " ++ slots_text us demand
-    ++ codes " may be asked for: " ++ slots_text us slack ++ codes " to spare" ++ full_stop
+tightest_text us slots demand slack = (interval_text us slots ++ asked_text us demand) ++ spare_text us slack
 
 abbrev pub tightest_line : Option ℕ → ℕ → DemandLoad → List ℕ
 tightest_line us die found = of_die die ++ tightest_text us found.tightest (found.tightest - found.slack) found.slack

@@ -56,11 +56,7 @@ fn put_die(
 }
 
 /// Adds what is said of dies that pass theirs. The only refusal is NoMemory.
-fn put_dies(
-    text: &mut Vec<u8>,
-    dies: &[DieTerms],
-    slot_us: Option<u32>,
-) -> Result<(), Refusal>
+fn put_dies(text: &mut Vec<u8>, dies: &[DieTerms], slot_us: Option<u32>) -> Result<(), Refusal>
     requires { All IsUsable dies.now }
     ensures said { IfOk result (λ _. (said : List ℕ) × ExplainsDies slot_us 0 dies.now said
         × (text.new.items ≡ text.old.items ++ said)) }
@@ -268,11 +264,7 @@ fn refused(
 /// numbers of the first die that doesn't meet its bound, has a number out of its limits or doesn't pass its tests, why, and
 /// what would do. Periods, deadlines, a collection's slots and the tightest interval are followed by their times, where it
 /// is known how many us a slot takes. The only refusal is NoMemory.
-pub fn explain_terms(
-    alloc: Global,
-    plan: &[u8],
-    slot_us: Option<u32>,
-) -> Result<Explained, Refusal>
+pub fn explain_terms(alloc: Global, plan: &[u8], slot_us: Option<u32>) -> Result<Explained, Refusal>
     ensures said { IfOk result (λ explained.
         ExplainsTerms slot_us plan.now explained.is_accepted explained.text.items) }
     ensures refused { FailsForMemory result }

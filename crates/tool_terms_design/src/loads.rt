@@ -8,14 +8,15 @@ ghost use Rattle.demand_rules.specs.Faults.{IsDemandLoad};
 ghost use Rattle.terms_texts.specs.Stores.{IsUsable};
 ghost use Rattle.tool_terms_design.specs.DieTexts.{collection_line, gain_line, gain_text, least_cap, load_line, load_text};
 ghost use Rattle.tool_terms_design.specs.DieTexts.{passing_text, stock_line, stock_text, supply_line, supply_lines};
-ghost use Rattle.tool_terms_design.specs.DieTexts.{tightest_line, tightest_text};
+ghost use Rattle.tool_terms_design.specs.DieTexts.{asked_text, interval_text, spare_text, tightest_line, tightest_text};
 
-use crate::numbers::{cap_of, put_die, put_numbers, put_task, slots};
+use crate::numbers::{cap_of, put_die, put_numbers, put_task};
 use demand_rules::{DemandLoad, TaskTerms};
 use slot_types::DiePlan;
 use std::io;
 use std::io::Write;
 use terms_texts::DieTerms;
+use tool_slot_times::Slots;
 
 /// Adds the most slots of a collection.
 fn put_collection(
@@ -29,7 +30,10 @@ fn put_collection(
 {
     put_die(text, die)?;
     let work = 2 * (plan.shape.pages - plan.alpha) + plan.shape.erase_slots;
-    let slots = slots(work, slot_us);
+    let slots = Slots {
+        count: u64::from(work),
+        slot_us,
+    };
     writeln!(text, "a collection takes at most {slots} slots.")
 }
 
@@ -51,6 +55,53 @@ fn put_die_load(text: &mut Vec<u8>, die: usize, found: &DemandLoad) -> io::Resul
     put_load(text, found.load)
 }
 
+/// Adds how long an interval is.
+fn put_interval(text: &mut Vec<u8>, slots: u32, slot_us: Option<u32>) -> io::Result<()>
+    ensures { OnOk result (text.new.items ≡ text.old.items ++ interval_text slot_us slots) }
+{
+    let slots = Slots {
+        count: u64::from(slots),
+        slot_us,
+    };
+    write!(text, "the tightest interval has {slots} slots")
+}
+
+/// Adds what may be asked of it.
+fn put_asked(text: &mut Vec<u8>, demand: u32, slot_us: Option<u32>) -> io::Result<()>
+    ensures { OnOk result (text.new.items ≡ text.old.items ++ asked_text slot_us demand) }
+{
+    let demand = Slots {
+        count: u64::from(demand),
+        slot_us,
+    };
+    write!(text, ", of which {demand} may be asked for")
+}
+
+/// Adds both.
+fn put_asked_interval(
+    text: &mut Vec<u8>,
+    slots: u32,
+    demand: u32,
+    slot_us: Option<u32>,
+) -> io::Result<()>
+    ensures { OnOk result (text.new.items
+        ≡ text.old.items ++ (interval_text slot_us slots ++ asked_text slot_us demand)) }
+{
+    put_interval(text, slots, slot_us)?;
+    put_asked(text, demand, slot_us)
+}
+
+/// Adds what is to spare of it.
+fn put_spare(text: &mut Vec<u8>, slack: u32, slot_us: Option<u32>) -> io::Result<()>
+    ensures { OnOk result (text.new.items ≡ text.old.items ++ spare_text slot_us slack) }
+{
+    let spare = Slots {
+        count: u64::from(slack),
+        slot_us,
+    };
+    writeln!(text, ": {spare} to spare.")
+}
+
 /// Adds the tightest interval.
 fn put_tightest(
     text: &mut Vec<u8>,
@@ -61,12 +112,8 @@ fn put_tightest(
 ) -> io::Result<()>
     ensures { OnOk result (text.new.items ≡ text.old.items ++ tightest_text slot_us tightest demand slack) }
 {
-    let interval = slots(tightest, slot_us);
-    let (demand, slack) = (slots(demand, slot_us), slots(slack, slot_us));
-    writeln!(
-        text,
-        "the tightest interval has {interval} slots, of which {demand} may be asked for: {slack} to spare."
-    )
+    put_asked_interval(text, tightest, demand, slot_us)?;
+    put_spare(text, slack, slot_us)
 }
 
 /// Adds that of a die.

@@ -2,14 +2,14 @@
 
 ghost use Rattle.std.specs.Prelude.{◌≡◌, ◌++◌, OnOk, slice_index_or};
 ghost use Rattle.tool_terms_design.specs.DieTexts.{collections_line, die_line, jobs_line, numbers_text, of_die, of_task};
-ghost use Rattle.tool_terms_design.specs.DieTexts.{plan_line, task_line, task_lines};
+ghost use Rattle.tool_terms_design.specs.DieTexts.{plan_line, task_line, task_lines, work_text};
 
+use crate::timed::{Collections, ComingJobs, DueJobs};
 use demand_rules::TaskTerms;
 use slot_types::DiePlan;
 use std::io;
 use std::io::Write;
 use terms_texts::DieTerms;
-use tool_slot_times::Slots;
 
 /// Adds what a sentence on a die begins with.
 pub fn put_die(text: &mut Vec<u8>, die: usize) -> io::Result<()>
@@ -23,16 +23,6 @@ pub fn put_task(text: &mut Vec<u8>, die: usize, task: usize) -> io::Result<()>
     ensures { OnOk result (text.new.items ≡ text.old.items ++ of_task die task) }
 {
     write!(text, "die {die} task {task}: ")
-}
-
-/// So many slots.
-pub fn slots(count: u32, slot_us: Option<u32>) -> Slots
-    ensures { result ≡ record { count = count; slot_us = slot_us } }
-{
-    Slots {
-        count: u64::from(count),
-        slot_us,
-    }
 }
 
 /// The cap of a task; 0 where there is none.
@@ -66,40 +56,36 @@ fn put_die_line(text: &mut Vec<u8>, die: usize, plan: &DiePlan) -> io::Result<()
     put_plan(text, plan)
 }
 
+/// Adds how many operations may be released in a period.
+fn put_work(text: &mut Vec<u8>, task: TaskTerms) -> io::Result<()>
+    ensures { OnOk result (text.new.items ≡ text.old.items ++ work_text task) }
+{
+    let work = task.work;
+    write!(text, ", work {work}")
+}
+
 /// Adds what a task's jobs ask for.
-fn put_jobs(
-    text: &mut Vec<u8>,
-    cap: u32,
-    task: &TaskTerms,
-    slot_us: Option<u32>,
-) -> io::Result<()>
+fn put_jobs(text: &mut Vec<u8>, cap: u32, task: &TaskTerms, slot_us: Option<u32>) -> io::Result<()>
     ensures { OnOk result (text.new.items ≡ text.old.items ++ jobs_line slot_us cap task.now) }
 {
-    let period = slots(task.period, slot_us);
-    let deadline = slots(task.deadline, slot_us);
-    let held = slots(task.held, slot_us);
-    let work = task.work;
-    write!(
-        text,
-        "cap {cap}, period {period}, deadline {deadline}, held {held}, work {work}"
-    )
+    let terms = *task;
+    let coming = ComingJobs {
+        cap,
+        terms,
+        slot_us,
+    };
+    let due = DueJobs { terms, slot_us };
+    write!(text, "{coming}{due}")?;
+    put_work(text, terms)
 }
 
 /// Adds what a task's jobs write, and its collections.
-fn put_collections(
-    text: &mut Vec<u8>,
-    task: &TaskTerms,
-    slot_us: Option<u32>,
-) -> io::Result<()>
+fn put_collections(text: &mut Vec<u8>, task: &TaskTerms, slot_us: Option<u32>) -> io::Result<()>
     ensures { OnOk result (text.new.items ≡ text.old.items ++ collections_line slot_us task.now) }
 {
-    let writes = task.writes;
-    let every = slots(task.collect_period, slot_us);
-    let within = slots(task.collect_deadline, slot_us);
-    writeln!(
-        text,
-        ", writes {writes}, collect_period {every}, collect_deadline {within}."
-    )
+    let terms = *task;
+    let collections = Collections { terms, slot_us };
+    writeln!(text, "{collections}.")
 }
 
 /// Adds the numbers of a task.
