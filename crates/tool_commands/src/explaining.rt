@@ -40,11 +40,7 @@ fn said_of(alloc: Global, plan: &[u8], asked: Units) -> Result<Explained, Refusa
 }
 
 /// What is said of a plan.
-fn explained_of<R: Read + Drop>(
-    alloc: Global,
-    plan: R,
-    asked: Units,
-) -> Result<Explained, Refusal>
+fn explained_of<R: Read + Drop>(alloc: Global, plan: R, asked: Units) -> Result<Explained, Refusal>
     ensures said { IfOk result (λ explained.
         SaysOf asked.slot_us (R.remaining plan) explained.is_accepted explained.text.items) }
     ensures refused { IfErr result IsHostFault }

@@ -9,7 +9,11 @@ use std::alloc::Global;
 use tool_slot_times::slot_in;
 
 /// How long a slot of a plan takes: as asked for, or as its text begins, if it does. The only refusal is NoMemory.
-pub(crate) fn slot_for(alloc: Global, plan: &[u8], asked: Option<u32>) -> Result<Option<u32>, Refusal>
+pub(crate) fn slot_for(
+    alloc: Global,
+    plan: &[u8],
+    asked: Option<u32>,
+) -> Result<Option<u32>, Refusal>
     ensures slot { IfOk result (IsSlotFor asked plan.now) }
     ensures refused { FailsForMemory result }
 {
