@@ -96,13 +96,14 @@ names_window rows = do
   end ← first_of (codes "to") rows >>= number_upto
   Some (not (first == 0 && end == 1048576))
 
--- whether it is said how the picture of a run is drawn
+-- whether it is said how the picture of a run is drawn, or that the run is strict
 abbrev pub names_form : List Row → Option Bool
 names_form rows = do
   worst ← first_of (codes "worst") rows
   as_text ← first_of (codes "text") rows
   all ← first_of (codes "all") rows
-  Some (bytes_eq worst (codes "true") || (bytes_eq as_text (codes "true") || bytes_eq all (codes "true")))
+  strict ← first_of (codes "strict") rows
+  Some (bytes_eq worst (codes "true") || (bytes_eq as_text (codes "true") || (bytes_eq all (codes "true") || bytes_eq strict (codes "true"))))
 
 -- whether an option is given that says something of the picture of a run alone
 abbrev pub names_run : List Row → Option Bool

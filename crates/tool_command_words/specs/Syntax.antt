@@ -93,7 +93,7 @@ abbrev pub wear_files_app : App
 wear_files_app = on_files (new_app (codes "wear"))
 
 abbrev pub wear_app : App
-wear_app = with_rule wear_files_app slots_rule
+wear_app = with_rule (with_rule wear_files_app slots_rule) strict_rule
 
 abbrev pub keeps_files_app : App
 keeps_files_app = on_files (new_app (codes "keeps"))
@@ -107,8 +107,11 @@ report_files_app = on_files (new_app (codes "report"))
 abbrev pub report_run_app : App
 report_run_app = with_rule (with_rule report_files_app slots_rule) (flag_rule (codes "csv"))
 
+abbrev pub report_timed_app : App
+report_timed_app = with_rule (with_rule report_run_app (count_rule (codes "endurance"))) (count_rule (codes "slot-us"))
+
 abbrev pub report_app : App
-report_app = with_rule (with_rule (with_rule report_run_app (count_rule (codes "endurance"))) (count_rule (codes "slot-us"))) fail_rule
+report_app = with_rule (with_rule report_timed_app fail_rule) strict_rule
 
 -- without a script and its slots, which are of a run
 abbrev pub draw_files_app : App
@@ -123,8 +126,11 @@ draw_window_app = with_rule (with_rule draw_run_app from_rule) to_rule
 abbrev pub draw_forms_app : App
 draw_forms_app = with_rule (with_rule draw_window_app (flag_rule (codes "worst"))) (flag_rule (codes "text"))
 
+abbrev pub draw_failing_app : App
+draw_failing_app = with_rule (with_rule draw_forms_app (flag_rule (codes "all"))) fail_rule
+
 abbrev pub draw_app : App
-draw_app = with_rule (with_rule (with_rule draw_forms_app (flag_rule (codes "all"))) fail_rule) (flag_rule (codes "demand"))
+draw_app = with_rule (with_rule draw_failing_app (flag_rule (codes "demand"))) strict_rule
 
 abbrev pub compare_files_app : App
 compare_files_app = on_files (new_app (codes "compare"))
@@ -136,7 +142,7 @@ abbrev pub compare_forms_app : App
 compare_forms_app = with_rule (with_rule compare_run_app (flag_rule (codes "csv"))) (flag_rule (codes "draw"))
 
 abbrev pub compare_app : App
-compare_app = with_rule (with_rule compare_forms_app die_rule) (count_rule (codes "task"))
+compare_app = with_rule (with_rule (with_rule compare_forms_app die_rule) (count_rule (codes "task"))) strict_rule
 
 abbrev pub run_files_app : App
 run_files_app = on_files (new_app (codes "run"))

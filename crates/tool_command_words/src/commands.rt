@@ -153,14 +153,15 @@ fn names_window(met: &ArgMatches<'_>) -> Option<bool>
     Some(!(from == 0 && to == MAX_SLOT))
 }
 
-/// Whether it is said how the picture of a run is drawn.
+/// Whether it is said how the picture of a run is drawn, or that the run is strict.
 fn names_form(met: &ArgMatches<'_>) -> Option<bool>
     ensures { result ≡ names_form (rows_of (found_of met.now)) }
 {
     let worst = value(met, "worst")? == "true";
     let as_text = value(met, "text")? == "true";
     let all = value(met, "all")? == "true";
-    Some(worst || (as_text || all))
+    let strict = value(met, "strict")? == "true";
+    Some(worst || (as_text || (all || strict)))
 }
 
 /// Whether an option is given that says something of the picture of a run alone.

@@ -78,7 +78,7 @@ fn between<'a>(
 /// The options of `draw` that say something of a run alone, those with a value first.
 const OF_RUNS: [&str; 4] = ["--slots", "--from", "--to", "--fail-at"];
 
-const OF_RUNS_ALONE: [&str; 3] = ["--worst", "--text", "--all"];
+const OF_RUNS_ALONE: [&str; 4] = ["--worst", "--text", "--all", "--strict"];
 
 /// An option of `draw` that stands beside `--demand`, and says nothing there.
 fn beside_demand(words: &[String]) -> Option<Conflict<'_>> {

@@ -7,6 +7,7 @@ use slot_types::Refusal;
 use std::alloc::Global;
 use std::fmt::{Display, Formatter};
 use std::{fmt, str};
+use text_base::number;
 use tool_command_words::{Command, ListCommand, Request};
 
 /// The status where that isn't so.
@@ -19,6 +20,8 @@ pub enum Amiss {
     Refused,
     /// So many jobs and collections weren't done by their deadline.
     Late(u32),
+    /// So many jobs weren't done by their deadlines.
+    LateJobs(u32),
     /// The worst of a die is late.
     WorstLate,
     /// A certificate is refused.
@@ -36,6 +39,8 @@ impl Display for Amiss {
                     "{count} jobs and collections weren't done by their deadlines"
                 )
             }
+            Amiss::LateJobs(1) => f.write_str("1 job wasn't done by its deadline"),
+            Amiss::LateJobs(count) => write!(f, "{count} jobs weren't done by their deadlines"),
             Amiss::WorstLate => f.write_str("the worst job of a die is late"),
             Amiss::Certificate => f.write_str("a certificate is refused"),
         }
@@ -98,6 +103,42 @@ fn amiss_in_audit(lines: &[u8]) -> Option<Amiss> {
     }
 }
 
+/// How many jobs a line of the table of `report` counts as late, of all tasks of a die, as `jobs late    2    1    1`.
+fn late_in_line(line: &str) -> Option<u32> {
+    let count = line.strip_prefix("jobs late")?;
+    number(count.split_ascii_whitespace().next()?.as_bytes())
+}
+
+/// How many jobs a record of `report` counts as late, of all tasks of a die: `die,task,done,waiting,refused,late,..`, where
+/// the task is empty.
+fn late_in_record(record: &str) -> Option<u32> {
+    let mut fields = record.split(',');
+    let _die = fields.next()?;
+    if !fields.next()?.is_empty() {
+        return None;
+    }
+    number(fields.nth(3)?.as_bytes())
+}
+
+/// What isn't as it is wanted in the figures of `report`.
+fn amiss_in_figures(figures: &[u8], as_csv: bool) -> Option<Amiss> {
+    let lines = str::from_utf8(figures).ok()?.lines();
+    let mut late: u32 = 0;
+    for line in lines {
+        let count = if as_csv {
+            late_in_record(line)
+        } else {
+            late_in_line(line)
+        };
+        late = late.saturating_add(count.unwrap_or(0));
+    }
+    if late > 0 {
+        Some(Amiss::LateJobs(late))
+    } else {
+        None
+    }
+}
+
 /// What isn't as it is wanted of a request that ended with 0, by what it printed and what it reported.
 pub fn amiss_of(
     alloc: Global,
@@ -110,6 +151,7 @@ pub fn amiss_of(
     }
     match request {
         Request::One(Command::Run { slots, .. }) => amiss_in_report(alloc, printed, *slots),
+        Request::One(Command::Report { as_csv, .. }) => Ok(amiss_in_figures(printed, *as_csv)),
         Request::Listed(ListCommand::Audit, _) => Ok(amiss_in_audit(printed)),
         _ => Ok(None),
     }

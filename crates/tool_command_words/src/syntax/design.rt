@@ -20,7 +20,8 @@ Example: flashplan design part.toml -o part.html";
 pub(crate) fn design_words<'a>(alloc: Global) -> Result<Command<'a>, AllocError>
     ensures { IfOk result (λ c. IsCommand c design_app) }
 {
-    let about = "Write a page of the plan that is found for a part and its tasks, and of a run of it";
+    let about =
+        "Write a page of the plan that is found for a part and its tasks, and of a run of it";
     let sheet = required(
         alloc,
         "DATASHEET",

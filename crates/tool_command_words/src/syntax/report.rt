@@ -2,10 +2,10 @@
 
 ghost use Rattle.std.specs.Prelude.{◌≡◌, false, codes, IfOk};
 ghost use Rattle.clap.specs.Words.{rule_of};
-ghost use Rattle.tool_command_words.specs.Syntax.{IsCommand, count_rule, report_app, report_files_app, report_run_app};
+ghost use Rattle.tool_command_words.specs.Syntax.{IsCommand, count_rule, report_app, report_files_app, report_run_app, report_timed_app};
 
 use crate::syntax::parts::{command, on_files, with_arg};
-use crate::syntax::shared::{csv, fail_at};
+use crate::syntax::shared::{csv, fail_at, strict};
 use clap::{Arg, Command};
 use command_arguments::{defaulted, slots};
 use std::alloc::{AllocError, Global};
@@ -56,11 +56,18 @@ fn report_run<'a>(alloc: Global) -> Result<Command<'a>, AllocError>
     with_arg(long, csv(alloc))
 }
 
+/// The command `report`, with what years come of.
+fn report_timed<'a>(alloc: Global) -> Result<Command<'a>, AllocError>
+    ensures { IfOk result (λ c. IsCommand c report_timed_app) }
+{
+    let worn = with_arg(report_run(alloc), endurance(alloc));
+    with_arg(worn, slot_us(alloc))
+}
+
 /// The command `report`.
 pub(crate) fn report_words<'a>(alloc: Global) -> Result<Command<'a>, AllocError>
     ensures { IfOk result (λ c. IsCommand c report_app) }
 {
-    let worn = with_arg(report_run(alloc), endurance(alloc));
-    let timed = with_arg(worn, slot_us(alloc));
-    with_arg(timed, fail_at(alloc))
+    let failing = with_arg(report_timed(alloc), fail_at(alloc));
+    with_arg(failing, strict(alloc))
 }

@@ -4,6 +4,7 @@ ghost use Rattle.std.specs.Prelude.{IfOk};
 ghost use Rattle.tool_command_words.specs.Syntax.{IsCommand, wear_app, wear_files_app};
 
 use crate::syntax::parts::{command, on_files, with_arg};
+use crate::syntax::shared::strict;
 use clap::Command;
 use command_arguments::slots;
 use std::alloc::{AllocError, Global};
@@ -21,5 +22,6 @@ fn wear_files<'a>(alloc: Global) -> Result<Command<'a>, AllocError>
 pub(crate) fn wear_words<'a>(alloc: Global) -> Result<Command<'a>, AllocError>
     ensures { IfOk result (λ c. IsCommand c wear_app) }
 {
-    with_arg(wear_files(alloc), slots(alloc))
+    let long = with_arg(wear_files(alloc), slots(alloc));
+    with_arg(long, strict(alloc))
 }

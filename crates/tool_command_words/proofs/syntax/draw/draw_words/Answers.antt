@@ -2,6 +2,5 @@ use Rattle.tool_command_words.proofs.syntax.draw.draw_words.Goals as goal
 
 pub returns : goal.returns
 returns c =
-    let told = c.with_arg-told.ensures _ _ c.draw_forms.ensures c.all.ensures.rule in
-    let failing = c.with_arg-failing.ensures _ _ told c.fail_at.ensures.rule in
-    c.with_arg.ensures _ _ failing c.demand.ensures.rule
+    let asked = c.with_arg-asked.ensures _ _ c.draw_failing.ensures c.demand.ensures.rule in
+    c.with_arg.ensures _ _ asked c.strict.ensures.rule

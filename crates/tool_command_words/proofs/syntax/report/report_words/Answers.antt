@@ -2,6 +2,5 @@ use Rattle.tool_command_words.proofs.syntax.report.report_words.Goals as goal
 
 pub returns : goal.returns
 returns c =
-    let worn = c.with_arg-worn.ensures _ _ c.report_run.ensures c.endurance.ensures.rule in
-    let timed = c.with_arg-timed.ensures _ _ worn c.slot_us.ensures.rule in
-    c.with_arg.ensures _ _ timed c.fail_at.ensures.rule
+    let failing = c.with_arg-failing.ensures _ _ c.report_timed.ensures c.fail_at.ensures.rule in
+    c.with_arg.ensures _ _ failing c.strict.ensures.rule
