@@ -20,6 +20,7 @@ use Rattle.die_log.specs.Model.Answers.{after_call, answer, refusal_of, run, wit
 use Rattle.die_log.proofs.Legality.{accepted_answer, refused_answer}
 use Rattle.slot_core.specs.Core.{Core}
 use Rattle.planned_log.specs.declared.refusals.AskRefusal.{AskRefusal}
+use Rattle.planned_log.specs.declared.ask_kinds.AskKind.TheVariants as kinds
 use Rattle.planned_log.specs.Asks.{asked_job}
 use Rattle.planned_log.specs.KeptLogs.{collections_at, comes_at}
 use Rattle.planned_log.specs.Moves.{Ask, Move, Slot, after_ask, after_move, after_own}
@@ -136,8 +137,8 @@ module _ {N : Type 0} (before after : Planned N) (k : RunsInFirstLife before) (t
       → row_refusal (kept_of before) row ≡ (if b then Some rows.OtherTimes else option_map rows.Ask refusal)
   refused_by b e = ap (λ (c : Bool). if c then Some rows.OtherTimes else option_map rows.Ask refusal) e
 
-  moves_by : (b : Bool) → other ≡ b → row_moves before.terms (now before.core.log) row ≡ (if b then [] else Ask 0 task ops ∷ [])
-  moves_by b e = ap (λ (c : Bool). if c then [] else Ask 0 task ops ∷ []) e
+  moves_by : (b : Bool) → other ≡ b → row_moves before.terms (now before.core.log) row ≡ (if b then [] else Ask kinds.Job 0 task ops ∷ [])
+  moves_by b e = ap (λ (c : Bool). if c then [] else Ask kinds.Job 0 task ops ∷ []) e
 
   -- one with other times
   pub other_refused : other ≡ true → Some rows.OtherTimes ≡ row_refusal (kept_of before) row
@@ -152,11 +153,11 @@ module _ {N : Type 0} (before after : Planned N) (k : RunsInFirstLife before) (t
     pub asked_unrefused : None ≡ row_refusal (kept_of before) row
     asked_unrefused = sym (refused_by false times ∙ ap (λ (o : Option AskRefusal). option_map rows.Ask o) h.unrefused)
 
-    asked_log : after.core.log ≡ after_ask before.core.start before.terms before.core.log 0 task ops refusal
+    asked_log : after.core.log ≡ after_ask before.core.start before.terms before.core.log kinds.Job 0 task ops refusal
     asked_log =
         ap (λ (c : Core N). c.log) h.entered.logged
         ∙ (ap (λ (r : Reply). with_answer 0 (asked_job before.terms before.core.log task ops) r before.core.log) (sym h.entered.answered)
-        ∙ ap (λ (o : Option AskRefusal). after_ask before.core.start before.terms before.core.log 0 task ops o) (sym h.unrefused))
+        ∙ ap (λ (o : Option AskRefusal). after_ask before.core.start before.terms before.core.log kinds.Job 0 task ops o) (sym h.unrefused))
 
     pub asked_moved : HasMoved (row_moves before.terms (now before.core.log) row) (kept_of before) (kept_of after)
     asked_moved = subst (λ (moves : List Move). HasMoved moves (kept_of before) (kept_of after)) (sym (moves_by false times)) (record {
@@ -190,7 +191,7 @@ module _ {N : Type 0} (before after : Planned N) (k : RunsInFirstLife before) (t
     plan_moved = subst (λ (p : Planned N). HasMoved (row_moves before.terms (now before.core.log) row) (kept_of before) (kept_of p)) (sym same)
         (subst (λ (moves : List Move). HasMoved moves (kept_of before) (kept_of before)) (sym (moves_by false times)) (record {
           begun_stays = refl;
-          moved = sym (ap (λ (o : Option AskRefusal). after_ask before.core.start before.terms before.core.log 0 task ops o) is);
+          moved = sym (ap (λ (o : Option AskRefusal). after_ask before.core.start before.terms before.core.log kinds.Job 0 task ops o) is);
         }))
 
     pub plan_runs : RunsInFirstLife after

@@ -6,6 +6,7 @@ use Rattle.slot_types.specs.declared.events.Event.TheVariants as events
 use Rattle.demand_rules.specs.declared.terms.Terms.{Terms}
 use Rattle.demand_rules.specs.Demand.{terms_of}
 use Rattle.die_log.specs.Model.Log.{now}
+use Rattle.planned_log.specs.declared.ask_kinds.AskKind.TheVariants as kinds
 use Rattle.planned_log.specs.Asks.{ask_refusal}
 use Rattle.planned_log.specs.Moves.{Move, Ask, Slot}
 use Rattle.script_texts.specs.declared.script_rows.ScriptItem.{ScriptItem}
@@ -30,7 +31,7 @@ row_refusal die _ = None
 -- what a row moves in a slot: a job with the times of the plan is an ask of its task, and there is no other move
 abbrev pub row_moves : Terms → ℕ → Event → List Move
 row_moves terms slot (events.Submit task release due ops) =
-    if has_other_times terms slot task release due then [] else Ask 0 task ops ∷ []
+    if has_other_times terms slot task release due then [] else Ask kinds.Job 0 task ops ∷ []
 row_moves terms slot _ = []
 
 -- so many slots
