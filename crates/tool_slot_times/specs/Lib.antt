@@ -1,0 +1,3 @@
+pub mod Times
+pub mod Rates
+pub mod Comments
