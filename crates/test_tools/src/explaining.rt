@@ -4,6 +4,7 @@ use example_texts::{PLAN, TIMED};
 use std::alloc::Global;
 use std::test::Fail;
 use tool_plan_design::explain;
+use tool_slot_times::Units;
 
 /// What stands in a plan, what comes in its place, whether the plan is then accepted, and what is said.
 type Said = (&'static str, &'static str, bool, &'static str);
@@ -36,6 +37,8 @@ die 0: the closed blocks that no collection works on are then at least 2.
 die 0: if none of these were worth collecting, at least 6 pages would be valid.
 plan: with its other numbers as they are, the least blocks that would do is 7.
 plan: with its other numbers as they are, the greatest logical that would do is 5.
+change: plan: logical from 12 to 5.
+change: plan: blocks from 4 to 7.
 ",
     ),
     (
@@ -49,6 +52,7 @@ die 0: with its other numbers as they are, it meets the bound with no logical.
 die 0: while fewer than alpha pages are spare, up to 7 may be free.
 plan: with its other numbers as they are, the least blocks that would do is 7.
 plan: with its other numbers as they are, no logical would do.
+change: plan: blocks from 2 to 7.
 ",
     ),
     (
@@ -64,6 +68,7 @@ die 0: the closed blocks that no collection works on are then at least 6.
 die 0: if none of these were worth collecting, at least 18 pages would be valid.
 plan: with its other numbers as they are, no blocks would do.
 plan: with its other numbers as they are, the greatest logical that would do is 17.
+change: plan: logical from 100000 to 17.
 ",
     ),
     (
@@ -150,6 +155,8 @@ plan: with its other numbers as they are, the greatest logical that would do is 
 plan: with its other numbers as they are, the least common that would do is 20.
 [[task]] 1 (die 0 task 0): one at a time, these would do: least period 10, greatest collect_period 20, least cap 6, greatest work 6, greatest writes 1.
 die 0: with its other numbers as they are, alpha 2 would do: of each 20 slots 11 are taken.
+die 0: with alpha 2, caps 6 and collect_periods 20, of each 20 slots 11 are taken, and the greatest logical is 2: it would do.
+die 0: with alpha 3, caps 8 and collect_periods 20, of each 20 slots 9 are taken, and the greatest logical is 1, which is less than it has.
 ",
     ),
     (
@@ -170,6 +177,10 @@ plan: with its other numbers as they are, no blocks would do.
 plan: with its other numbers as they are, no logical would do.
 plan: with its other numbers as they are, the least common that would do is 20.
 [[task]] 1 (die 0 task 0): one at a time, these would do: no period, greatest collect_period 10, no cap, no work, no writes.
+die 0: with alpha 2, caps 6 and collect_periods 10, of each 10 slots 9 are taken, and the greatest logical is 2: it would do.
+die 0: with alpha 3, caps 8 and collect_periods 10, of each 10 slots 7 are taken, and the greatest logical is 1, which is less than it has.
+change: [[task]] 1 (die 0 task 0): collect_period from 20 to 10.
+change: plan: common from 10 to 20.
 ",
     ),
 ];
@@ -198,6 +209,9 @@ plan: with its other numbers as they are, the least common that would do is 20.
 [[task]] 1 (die 0 task 0): one at a time, these would do: least period 10, greatest collect_period 20, least cap 6, greatest work 6, greatest writes 1.
 die 0: with its other numbers as they are, alpha 1 would do: of each 20 slots 20 are taken.
 die 0: with its other numbers as they are, alpha 2 would do: of each 20 slots 16 are taken.
+die 0: with alpha 1, caps 4 and collect_periods 20, of each 20 slots 11 are taken, and the greatest logical is 7: it would do.
+die 0: with alpha 2, caps 6 and collect_periods 20, of each 20 slots 9 are taken, and the greatest logical is 2: it would do.
+die 0: with alpha 3, caps 8 and collect_periods 20, of each 20 slots 7 are taken, and the greatest logical is 1, which is less than it has.
 ",
     ),
     (
@@ -221,6 +235,9 @@ plan: with its other numbers as they are, the least common that would do is 2000
 [[task]] 1 (die 0 task 0): one at a time, these would do: least period 2, greatest collect_period 200000, least cap 4, greatest work 1, greatest writes 0.
 die 0: with its other numbers as they are, alpha 1 would do: of each 200000 slots 100009 are taken.
 die 0: with its other numbers as they are, alpha 2 would do: of each 200000 slots 100007 are taken.
+die 0: with alpha 1, caps 2 and collect_periods 200000, of each 200000 slots 100009 are taken, and the greatest logical is 7: it would do.
+die 0: with alpha 2, caps 4 and collect_periods 200000, of each 200000 slots 100007 are taken, and the greatest logical is 5: it would do.
+die 0: with alpha 3, caps 6 and collect_periods 200000, of each 200000 slots 100005 are taken, and the greatest logical is 1, which is less than it has.
 ",
     ),
 ];
@@ -244,6 +261,10 @@ plan: with its other numbers as they are, no blocks would do.
 plan: with its other numbers as they are, no logical would do.
 plan: with its other numbers as they are, no common would do.
 [[task]] 1 (die 0 task 0): one at a time, these would do: no period, no collect_period, least cap 6, no work, greatest writes 0.
+die 0: with alpha 2, caps 6 and collect_periods 20, of each 20 slots 11 are taken, and the greatest logical is 2: it would do.
+die 0: with alpha 3, caps 8 and collect_periods 20, of each 20 slots 9 are taken, and the greatest logical is 1, which is less than it has.
+change: [[task]] 1 (die 0 task 0): cap from 5 to 6.
+change: [[task]] 1 (die 0 task 0): writes from 1 to 0.
 ",
 );
 
@@ -266,6 +287,9 @@ plan: with its other numbers as they are, no blocks would do.
 plan: with its other numbers as they are, no logical would do.
 plan: with its other numbers as they are, no common would do.
 [[task]] 1 (die 0 task 0): one at a time, these would do: least period 20, no collect_period, no cap, greatest work 6, no writes.
+die 0: with alpha 3, caps 8 and collect_periods 20, of each 20 slots 19 are taken, and the greatest logical is 1, which is less than it has.
+change: [[task]] 1 (die 0 task 0): work from 7 to 6.
+change: [[task]] 1 (die 0 task 0): period from 10 to 20.
 ",
 );
 
@@ -311,6 +335,8 @@ plan: with its other numbers as they are, no blocks would do.
 plan: with its other numbers as they are, no logical would do.
 plan: with its other numbers as they are, no common would do.
 [[task]] 1 (die 0 task 0): one at a time, these would do: no period, no collect_period, no cap, no work, greatest writes 1.
+die 0: with alpha 2, caps 8 and collect_periods 10, of each 20 slots 18 are taken, and the greatest logical is 2: it would do.
+change: [[task]] 1 (die 0 task 0): writes from 2 to 1.
 ",
 );
 
@@ -351,6 +377,11 @@ plan: with its other numbers as they are, the least common that would do is 60.
 [[task]] 1 (die 1 task 0): one at a time, these would do: least period 30, greatest collect_period 60, least cap 6, greatest work 53, greatest writes 1.
 die 0: with its other numbers as they are, alpha 2 would do: of each 60 slots 33 are taken.
 die 1: with its other numbers as they are, alpha 2 would do: of each 60 slots 9 are taken.
+die 1: with alpha 1, caps 4 and collect_periods 60, of each 60 slots 11 are taken, and the greatest logical is 7: it would do.
+die 0: with alpha 2, caps 6 and collect_periods 20, of each 60 slots 33 are taken, and the greatest logical is 2: it would do.
+die 1: with alpha 2, caps 6 and collect_periods 60, of each 60 slots 9 are taken, and the greatest logical is 2: it would do.
+die 0: with alpha 3, caps 8 and collect_periods 30, of each 60 slots 22 are taken, and the greatest logical is 1, which is less than it has.
+die 1: with alpha 3, caps 8 and collect_periods 60, of each 60 slots 7 are taken, and the greatest logical is 1, which is less than it has.
 ",
     ),
     (
@@ -382,6 +413,13 @@ plan: with its other numbers as they are, no blocks would do.
 plan: with its other numbers as they are, no logical would do.
 plan: with its other numbers as they are, no common would do.
 [[task]] 1 (die 1 task 0): one at a time, these would do: no period, no collect_period, least cap 6, no work, greatest writes 0.
+die 1: with alpha 1, caps 4 and collect_periods 60, of each 60 slots 11 are taken, and the greatest logical is 7: it would do.
+die 0: with alpha 2, caps 6 and collect_periods 20, of each 60 slots 33 are taken, and the greatest logical is 2: it would do.
+die 1: with alpha 2, caps 6 and collect_periods 60, of each 60 slots 9 are taken, and the greatest logical is 2: it would do.
+die 0: with alpha 3, caps 8 and collect_periods 30, of each 60 slots 22 are taken, and the greatest logical is 1, which is less than it has.
+die 1: with alpha 3, caps 8 and collect_periods 60, of each 60 slots 7 are taken, and the greatest logical is 1, which is less than it has.
+change: [[task]] 1 (die 1 task 0): cap from 5 to 6.
+change: [[task]] 1 (die 1 task 0): writes from 1 to 0.
 ",
     ),
 ];
@@ -401,7 +439,7 @@ const TIMES: [Said; 1] = [(
 fn is_said(alloc: Global, plan: &str, said: Said) -> Result<bool, Fail> {
     let (old, new, is_accepted, text) = said;
     let plan = plan.replace(alloc, old, new)?;
-    let explained = explain(alloc, plan.as_bytes())?;
+    let explained = explain(alloc, plan.as_bytes(), Units::NONE)?;
     Ok(explained.is_accepted == is_accepted && explained.text.as_slice() == text.as_bytes())
 }
 

@@ -114,7 +114,7 @@ fn said_of(alloc: Global, plan: &StorePlan, script: &[u8], slots: u32) -> Result
 {
     match keep(alloc, script, plan, slots)? {
         Verdict::Kept => Ok(Vec::new(alloc)),
-        Verdict::Broken(broken) => Ok(sentence(alloc, script, plan, slots, broken)?),
+        Verdict::Broken(broken) => Ok(sentence(alloc, script, plan, slots, broken, None)?),
     }
 }
 

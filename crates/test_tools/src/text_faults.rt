@@ -5,6 +5,7 @@ use std::alloc::Global;
 use std::process::Abort;
 use std::test::Fail;
 use tool_plan_design::explain;
+use tool_slot_times::Units;
 
 /// What follows where a key is at fault.
 const KEYS: &str = "
@@ -191,7 +192,7 @@ fn assert_said(
     fault: &str,
     more: &str,
 ) -> Result<(), Fail> {
-    let explained = explain(alloc, plan)?;
+    let explained = explain(alloc, plan, Units::NONE)?;
     let want = format!(in alloc; "The plan is refused: PlanText {cause}.\nplan: {fault}{more}\n")?;
     let got = std::str::from_utf8(&explained.text).unwrap_or("bytes that aren't UTF-8");
     assert_eq!(rt; got, want.as_str());

@@ -11,7 +11,9 @@ use Rattle.tool_command_words.specs.declared.asked.ListCommand.TheVariants as li
 abbrev pub explain_of : List Row → Option CommandText
 explain_of rows = do
   plan ← first_of (codes "PLAN") rows
-  Some (Explain plan (first_of (codes "from") rows))
+  slot_us ← first_of (codes "slot-us") rows >>= number_upto
+  page_bytes ← first_of (codes "page-bytes") rows >>= number_upto
+  Some (Explain plan (first_of (codes "from") rows) slot_us page_bytes)
 
 abbrev pub fit_of : List Row → Option CommandText
 fit_of rows = do
@@ -37,11 +39,13 @@ on_script rows next = do
   slots ← first_of (codes "slots") rows >>= number_upto
   next plan script slots
 
-abbrev pub keeps_from : Text → Text → ℕ → Option CommandText
-keeps_from plan script slots = Some (Keeps plan script slots)
+abbrev pub keeps_from : List Row → Text → Text → ℕ → Option CommandText
+keeps_from rows plan script slots = do
+  slot_us ← first_of (codes "slot-us") rows >>= number_upto
+  Some (Keeps plan script slots slot_us)
 
 abbrev pub keeps_of : List Row → Option CommandText
-keeps_of rows = on_script rows keeps_from
+keeps_of rows = on_script rows (keeps_from rows)
 
 abbrev pub wear_from : Text → Text → ℕ → Option CommandText
 wear_from plan script slots = Some (Wear plan script slots)

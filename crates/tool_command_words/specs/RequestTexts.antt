@@ -12,10 +12,10 @@ use Rattle.tool_command_words.specs.declared.asked.Request.TheVariants as reques
 
 -- a command, with the names of its files as texts
 pub data CommandText : Type 0 where
-  Explain : (plan : Text) (from : Option Text) → CommandText
+  Explain : (plan : Text) (from : Option Text) (slot_us page_bytes : ℕ) → CommandText
   Fit : (sheet : Text) → CommandText
   Arrivals : (plan : Text) (slots seed : ℕ) (fills phases : Bool) (jitter load : ℕ) → CommandText
-  Keeps : (plan script : Text) (slots : ℕ) → CommandText
+  Keeps : (plan script : Text) (slots slot_us : ℕ) → CommandText
   Wear : (plan script : Text) (slots : ℕ) → CommandText
   Report : (plan script : Text) (slots endurance slot_us : ℕ) (as_csv : Bool) (fail : Option FailingDie) → CommandText
   Draw : (plan script : Text) (slots die first end : ℕ) (worst as_text all : Bool) (fail : Option FailingDie) → CommandText
@@ -33,10 +33,10 @@ abbrev pub name_of : Option (Bor Text) → Option Text
 name_of name = option_map (λ (s : Bor Text). s.now) name
 
 abbrev pub text_of_command : Command → CommandText
-text_of_command (command.Explain plan from) = Explain plan.now (name_of from)
+text_of_command (command.Explain plan from slot_us page_bytes) = Explain plan.now (name_of from) slot_us page_bytes
 text_of_command (command.Fit sheet) = Fit sheet.now
 text_of_command (command.Arrivals plan slots seed fills phases jitter load) = Arrivals plan.now slots seed fills phases jitter load
-text_of_command (command.Keeps plan script slots) = Keeps plan.now script.now slots
+text_of_command (command.Keeps plan script slots slot_us) = Keeps plan.now script.now slots slot_us
 text_of_command (command.Wear plan script slots) = Wear plan.now script.now slots
 text_of_command (command.Report plan script slots endurance slot_us as_csv fail) = Report plan.now script.now slots endurance slot_us as_csv fail
 text_of_command (command.Draw plan script slots die first end worst as_text all fail) =
@@ -53,7 +53,7 @@ text_of_request (request.Listed command files) = Listed command (map (λ (s : Bo
 -- a run has at most 1,048,576 slots
 abbrev pub FitsRun : Command → Type 0
 FitsRun (command.Arrivals plan slots seed fills phases jitter load) = slots ≤ 1048576
-FitsRun (command.Keeps plan script slots) = slots ≤ 1048576
+FitsRun (command.Keeps plan script slots slot_us) = slots ≤ 1048576
 FitsRun (command.Wear plan script slots) = slots ≤ 1048576
 FitsRun (command.Report plan script slots endurance slot_us as_csv fail) = slots ≤ 1048576
 FitsRun (command.Draw plan script slots die first end worst as_text all fail) = slots ≤ 1048576

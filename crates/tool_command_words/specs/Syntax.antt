@@ -62,8 +62,11 @@ strict_rule = flag_rule (codes "strict")
 abbrev pub on_files : App → App
 on_files command = with_rule (with_rule command (required_rule (codes "PLAN"))) (required_rule (codes "SCRIPT"))
 
+abbrev pub explain_files_app : App
+explain_files_app = with_rule (with_rule (new_app (codes "explain")) (required_rule (codes "PLAN"))) (option_rule (codes "from"))
+
 abbrev pub explain_app : App
-explain_app = with_rule (with_rule (new_app (codes "explain")) (required_rule (codes "PLAN"))) (option_rule (codes "from"))
+explain_app = with_rule (with_rule explain_files_app (count_rule (codes "slot-us"))) (count_rule (codes "page-bytes"))
 
 abbrev pub fit_app : App
 fit_app = with_rule (new_app (codes "fit")) (required_rule (codes "DATASHEET"))
@@ -93,7 +96,7 @@ abbrev pub keeps_files_app : App
 keeps_files_app = on_files (new_app (codes "keeps"))
 
 abbrev pub keeps_app : App
-keeps_app = with_rule keeps_files_app slots_rule
+keeps_app = with_rule (with_rule keeps_files_app slots_rule) (count_rule (codes "slot-us"))
 
 abbrev pub report_files_app : App
 report_files_app = on_files (new_app (codes "report"))

@@ -17,6 +17,9 @@ pub enum Command<'a> {
         plan: &'a str,
         /// The checkpoint from which its dies go on.
         from: Option<&'a str>,
+        /// How many microseconds a slot takes, and how many bytes a page has for a job; 0 where it isn't said.
+        slot_us: u32,
+        page_bytes: u32,
     },
     /// Find a plan for a datasheet.
     Fit {
@@ -43,6 +46,8 @@ pub enum Command<'a> {
         script: &'a str,
         /// How many slots each die runs, from 0 to 1,048,576.
         slots: u32,
+        /// How many microseconds a slot takes; 0 where it isn't said.
+        slot_us: u32,
     },
     /// Run a script, and tell what it wore.
     Wear {

@@ -20,7 +20,14 @@ fn explain<'a>(met: &ArgMatches<'a>) -> Option<Command<'a>>
 {
     let plan = value(met, "PLAN")?;
     let from = value(met, "from");
-    Some(Command::Explain { plan, from })
+    let slot_us = number_at(met, "slot-us")?;
+    let page_bytes = number_at(met, "page-bytes")?;
+    Some(Command::Explain {
+        plan,
+        from,
+        slot_us,
+        page_bytes,
+    })
 }
 
 /// The command `fit` that was met.
@@ -75,10 +82,12 @@ fn keeps<'a>(met: &ArgMatches<'a>) -> Option<Command<'a>>
     ensures fits { IfSome result FitsRun }
 {
     let (plan, script, slots) = scripted(met)?;
+    let slot_us = number_at(met, "slot-us")?;
     Some(Command::Keeps {
         plan,
         script,
         slots,
+        slot_us,
     })
 }
 

@@ -4,7 +4,7 @@ use crate::values::number_in;
 use command_arguments::value_at;
 
 /// The options that have a number from 0 to 1,048,576. The last two are files of `run` and of `explain`.
-const NUMBERS: [&str; 12] = [
+const NUMBERS: [&str; 13] = [
     "--slots",
     "--seed",
     "--jitter",
@@ -14,13 +14,14 @@ const NUMBERS: [&str; 12] = [
     "--task",
     "--endurance",
     "--slot-us",
+    "--page-bytes",
     "--due",
     "--from",
     "--to",
 ];
 
 /// How many of these never name a file.
-const NEVER_FILES: usize = 10;
+const NEVER_FILES: usize = 11;
 
 /// The options that have a number in these words.
 fn numbers_in(words: &[String]) -> &'static [&'static str] {

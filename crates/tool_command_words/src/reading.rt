@@ -80,8 +80,8 @@ fn parsed<'a>(
 /// What the words ask for, the first of them being the program's name. Each command takes `-o FILE`, which is `-` if
 /// left out, and `--quiet`; `run` and `audit` take `--strict`.
 ///
-/// The words are `explain PLAN --from CHECKPOINT`, `fit DATASHEET`, `arrivals PLAN --slots N --seed S --fill --phases
-/// --jitter J --load L`, where S and J are 0 and L is 100 if left out, `keeps PLAN SCRIPT --slots N`, `wear PLAN SCRIPT
+/// The words are `explain PLAN --from CHECKPOINT --slot-us U --page-bytes B`, `fit DATASHEET`, `arrivals PLAN --slots N --seed S --fill --phases
+/// --jitter J --load L`, where S and J are 0 and L is 100 if left out, `keeps PLAN SCRIPT --slots N --slot-us U`, `wear PLAN SCRIPT
 /// --slots N`, `report PLAN SCRIPT --slots N --endurance E --slot-us U --csv --fail-at DIE:K`, where E and U are 0 if
 /// left out, `draw PLAN SCRIPT --slots N --die D --from A --to B --worst --text --fail-at DIE:K`, where D, A and B may
 /// be left out: the picture is then of die 0, begins with slot 0, or ends with the run; `draw PLAN --demand --die D`,

@@ -47,11 +47,11 @@ pub found_for : (sheet : Option (List ℕ)) (text plan : List ℕ) → IsReadOf 
 found_for sheet text plan read found = record { text = text; read = read; found = found }
 
 -- what is said of the text that was read is said of the plan's text
-pub says_of : (text : Option (List ℕ)) (read shown : List ℕ) (said : Result Explained Refusal)
+pub says_of : (asked : Option ℕ) (text : Option (List ℕ)) (read shown : List ℕ) (said : Result Explained Refusal)
     → IfSome text (λ bytes. read ≡ take 1048577 bytes) → shown ≡ read
-    → IfOk said (λ (e : Explained). SaysText shown e.is_accepted e.text.items)
-    → IfOk said (λ (e : Explained). SaysOf text e.is_accepted e.text.items)
-says_of None read shown (Ok e) is same says = tt
-says_of (Some bytes) read shown (Ok e) is same says =
-    subst (λ (l : List ℕ). SaysText l e.is_accepted e.text.items) (same ∙ is) says
-says_of text read shown (Err r) is same says = tt
+    → IfOk said (λ (e : Explained). SaysText asked shown e.is_accepted e.text.items)
+    → IfOk said (λ (e : Explained). SaysOf asked text e.is_accepted e.text.items)
+says_of asked None read shown (Ok e) is same says = tt
+says_of asked (Some bytes) read shown (Ok e) is same says =
+    subst (λ (l : List ℕ). SaysText asked l e.is_accepted e.text.items) (same ∙ is) says
+says_of asked text read shown (Err r) is same says = tt

@@ -1,5 +1,5 @@
 -- What a command prints, and its status; and what it leaves where it is refused.
-use Rattle.std.specs.Prelude.{◌≡◌, ◌==◌, ◌↔◌, ◌⊎◌, List, [], ◌∷◌, ◌++◌, ℕ, map, take, ⊤}
+use Rattle.std.specs.Prelude.{◌≡◌, ◌==◌, ◌↔◌, ◌⊎◌, List, [], ◌∷◌, ◌++◌, ℕ, zero, suc, map, take, ⊤}
 use Rattle.std.specs.Prelude.{Option, Some, None, Result, Ok, Err, IfSome, is_none, is_some, option_map, IsTrue, MatchBool, Bool, true, false}
 use Rattle.std.specs.Borrow.{Bor}
 use Rattle.std.specs.Prelude.{if◌then◌else◌}
@@ -13,7 +13,8 @@ use Rattle.text_base.specs.Writing.{IsNotWhole}
 use Rattle.tool_watched_runs.specs.WearText.{IsWearText}
 use Rattle.tool_plan_arrivals.specs.PlannedScripts.{IsPlannedScript}
 use Rattle.tool_plan_design.specs.AcceptedPlans.{IsAccepted}
-use Rattle.tool_plan_design.specs.Findings.{IsExplanation}
+use Rattle.tool_plan_design.specs.Explanations.{IsExplanation}
+use Rattle.tool_slot_times.specs.Comments.{IsSlotOf}
 use Rattle.tool_plan_fit.specs.Fits.{IsPlanFor}
 use Rattle.tool_terms_design.specs.Explaining.{ExplainsTerms}
 use Rattle.tool_terms_design.specs.Kinds.{is_terms_text}
@@ -47,17 +48,30 @@ use Rattle.tool_command_words.specs.declared.asked.Command.TheVariants as comman
 use Rattle.tool_commands.specs.PlanKinds.{ByKind, ReadsStore}
 pub use Rattle.tool_commands.specs.PlanKinds.{IsReadOf}
 
--- what is said of the text of a plan without terms, and whether it is accepted
-abbrev pub ExplainsPlan : List ℕ → Bool → List ℕ → Type 0
-ExplainsPlan plan is_accepted said = (IsTrue is_accepted ↔ IsAccepted plan) × IsExplanation plan said
+-- a number that is asked for, unless it is 0
+abbrev pub unless_zero : ℕ → Option ℕ
+unless_zero zero = None
+unless_zero (suc n) = Some (suc n)
 
--- what is said of a plan's text, and whether it is accepted: of one with terms, what its tests answer
-abbrev pub SaysText : List ℕ → Bool → List ℕ → Type 0
-SaysText plan is_accepted said = MatchBool (is_terms_text plan) (ExplainsTerms plan is_accepted said) (ExplainsPlan plan is_accepted said)
+-- how many us a slot takes: as asked for, or as a plan's text begins, if it does
+abbrev pub IsSlotFor : Option ℕ → List ℕ → Option ℕ → Type 0
+IsSlotFor (Some us) plan found = found ≡ Some us
+IsSlotFor None plan found = IsSlotOf plan found
+
+-- what is said of the text of a plan without terms, with a length of a slot, and whether it is accepted
+abbrev pub ExplainsPlan : Option ℕ → List ℕ → Bool → List ℕ → Type 0
+ExplainsPlan slot_us plan is_accepted said = (IsTrue is_accepted ↔ IsAccepted plan) × IsExplanation slot_us plan said
+
+-- what is said of a plan's text, with that length of a slot, and whether it is accepted: of one with terms, what its tests
+-- answer
+pub record SaysText (asked : Option ℕ) (plan : List ℕ) (is_accepted : Bool) (said : List ℕ) : Type 0 where
+  pub slot_us : Option ℕ
+  pub slot : IsSlotFor asked plan slot_us
+  pub explained : MatchBool (is_terms_text plan) (ExplainsTerms slot_us plan is_accepted said) (ExplainsPlan slot_us plan is_accepted said)
 
 -- of as much of a plan's text as is read, where the text is known: a longer one is too long
-abbrev pub SaysOf : Option (List ℕ) → Bool → List ℕ → Type 0
-SaysOf text is_accepted said = IfSome text (λ bytes. SaysText (take 1048577 bytes) is_accepted said)
+abbrev pub SaysOf : Option ℕ → Option (List ℕ) → Bool → List ℕ → Type 0
+SaysOf asked text is_accepted said = IfSome text (λ bytes. SaysText asked (take 1048577 bytes) is_accepted said)
 
 -- memory ran out, or a reader or a writer failed
 abbrev pub IsHostFault : Refusal → Type 0
@@ -68,12 +82,13 @@ abbrev pub PrintsText : Option (List ℕ) → Option (List ℕ) → Type 0
 PrintsText old new = (text : List ℕ) × Appends old new text
 
 -- what is said of a plan is printed, and whether it is accepted
-abbrev pub Explains : Option (List ℕ) → Bool → Option (List ℕ) → Option (List ℕ) → Type 0
-Explains plan is_accepted old new = (said : List ℕ) × SaysOf plan is_accepted said × Appends old new said
+abbrev pub Explains : Option ℕ → Option (List ℕ) → Bool → Option (List ℕ) → Option (List ℕ) → Type 0
+Explains asked plan is_accepted old new = (said : List ℕ) × SaysOf asked plan is_accepted said × Appends old new said
 
 -- and more after it
-abbrev pub ExplainsMore : Option (List ℕ) → Bool → Option (List ℕ) → Option (List ℕ) → Type 0
-ExplainsMore plan is_accepted old new = (said more : List ℕ) × SaysOf plan is_accepted said × Appends old new (said ++ more)
+abbrev pub ExplainsMore : Option ℕ → Option (List ℕ) → Bool → Option (List ℕ) → Option (List ℕ) → Type 0
+ExplainsMore asked plan is_accepted old new =
+    (said more : List ℕ) × SaysOf asked plan is_accepted said × Appends old new (said ++ more)
 
 -- the script of the arrivals of a plan with times: its rows keep the plans of the store that was read, with times that
 -- pass their test, so that its runs go as planned
@@ -311,14 +326,14 @@ EndsRun contents has_failed prints alone old new status =
 -- how a command ends
 abbrev pub EndsSo : {W : Type 0} → (W → Option (List ℕ)) → (W → Option Bool) → Command → Option (List ℕ) → Option (List ℕ) → W → W → ℕ
     → Type 0
-EndsSo contents has_failed (command.Explain plan None) text rows old new status =
-    EndsSaying contents has_failed (Explains text) accepted_status old new status
-EndsSo contents has_failed (command.Explain plan (Some from)) text rows old new status =
-    EndsSaying contents has_failed (ExplainsMore text) accepted_status old new status
+EndsSo contents has_failed (command.Explain plan None slot_us page_bytes) text rows old new status =
+    EndsSaying contents has_failed (Explains (unless_zero slot_us) text) accepted_status old new status
+EndsSo contents has_failed (command.Explain plan (Some from) slot_us page_bytes) text rows old new status =
+    EndsSaying contents has_failed (ExplainsMore (unless_zero slot_us) text) accepted_status old new status
 EndsSo contents has_failed (command.Fit sheet) text rows old new status = EndsFit contents has_failed text old new status
 EndsSo contents has_failed (command.Arrivals plan slots seed fills phases jitter load) text rows old new status =
     Ends contents has_failed (PrintsArrivals text slots) old new status
-EndsSo contents has_failed (command.Keeps plan script slots) text rows old new status =
+EndsSo contents has_failed (command.Keeps plan script slots slot_us) text rows old new status =
     EndsSaying contents has_failed (PrintsKept text rows slots) verdict_status old new status
 EndsSo contents has_failed (command.Wear plan script slots) text rows old new status =
     Ends contents has_failed (PrintsWear text rows slots) old new status

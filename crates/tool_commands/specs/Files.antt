@@ -7,10 +7,10 @@ use Rattle.tool_commands.specs.Acts.{EndsSo}
 
 -- the name of the file of a command's plan, or of its datasheet
 abbrev pub plan_name : Command → List ℕ
-plan_name (command.Explain plan from) = plan.now
+plan_name (command.Explain plan from slot_us page_bytes) = plan.now
 plan_name (command.Fit sheet) = sheet.now
 plan_name (command.Arrivals plan slots seed fills phases jitter load) = plan.now
-plan_name (command.Keeps plan script slots) = plan.now
+plan_name (command.Keeps plan script slots slot_us) = plan.now
 plan_name (command.Wear plan script slots) = plan.now
 plan_name (command.Report plan script slots endurance slot_us as_csv fail) = plan.now
 plan_name (command.Draw plan script slots die first end worst as_text all fail) = plan.now
@@ -20,7 +20,7 @@ plan_name (command.Run plan script slots from to fail) = plan.now
 
 -- that of its script, if it has one
 abbrev pub script_name : Command → Option (List ℕ)
-script_name (command.Keeps plan script slots) = Some script.now
+script_name (command.Keeps plan script slots slot_us) = Some script.now
 script_name (command.Wear plan script slots) = Some script.now
 script_name (command.Report plan script slots endurance slot_us as_csv fail) = Some script.now
 script_name (command.Draw plan script slots die first end worst as_text all fail) = Some script.now

@@ -2,7 +2,7 @@
 
 ghost use Rattle.tool_command_words.specs.RequestTexts.{FitsRun};
 ghost use Rattle.std.specs.Prelude.{◌≡◌, is_none, true};
-ghost use Rattle.tool_commands.specs.Acts.{EndsSo, failing, failing_in};
+ghost use Rattle.tool_commands.specs.Acts.{EndsSo, failing, failing_in, unless_zero};
 
 use crate::arriving::act_arrivals;
 use crate::checkpoint_acts::{Kept, act_failing, act_run};
@@ -20,6 +20,7 @@ use tool_command_words::{Command, FailingDie};
 use tool_plain_layers::Marks;
 use tool_plan_arrivals::Manner;
 use tool_run_figures::Life;
+use tool_slot_times::Units;
 use tool_store_compare::{Form, Measure};
 use tool_watched_runs::{FailAt, Shown};
 
@@ -54,6 +55,23 @@ fn failing_in(fail: Option<FailingDie>) -> Option<FailAt>
     Some(failing(fail?))
 }
 
+/// A number, unless it is 0.
+fn unless_zero(n: u32) -> Option<u32>
+    ensures { result ≡ unless_zero n }
+{
+    if n == 0 { None } else { Some(n) }
+}
+
+/// What is asked for of a slot and of a page; 0 is nothing.
+fn units_of(slot_us: u32, page_bytes: u32) -> Units
+    ensures { result.slot_us ≡ unless_zero slot_us }
+{
+    Units {
+        slot_us: unless_zero(slot_us),
+        page_bytes: unless_zero(page_bytes),
+    }
+}
+
 /// The checkpoint from which dies go on, where one was asked for.
 fn begun<C: Drop>(from: Option<C>, begins_fresh: bool) -> Option<C>
     ensures { begins_fresh ≡ true → is_none result ≡ true }
@@ -66,7 +84,8 @@ fn begun<C: Drop>(from: Option<C>, begins_fresh: bool) -> Option<C>
 ///
 /// `explain` prints what [`explain`](tool_plan_design::explain) says of the plan, or
 /// [`explain_terms`](tool_terms_design::explain_terms) of one with terms, whole; the status is 0 where the plan is
-/// accepted, and 1 where it isn't. `fit` prints the plan that [`fit`](tool_plan_fit::fit) finds for a datasheet, or
+/// accepted, and 1 where it isn't; with the length of a slot that is asked for, or that the plan's first line says.
+/// `fit` prints the plan that [`fit`](tool_plan_fit::fit) finds for a datasheet, or
 /// tells why it found none (status 3). `arrivals` prints the script of what the plan's tasks ask for, as
 /// [`arrivals`](tool_plan_arrivals::arrivals) makes it: its rows keep the plan of each die, so that a run of it refuses
 /// none and is never late. A plan with neither times nor terms that pass their test is reported as `error 3 BadPlan`;
@@ -101,8 +120,20 @@ pub fn act<P: Read + Drop, S: Read + Drop, C: Read + Drop, K: Shelf, W: Output, 
         result }
 {
     match command {
-        Command::Explain { from: None, .. } => act_explain(alloc, plan, out, err),
-        Command::Explain { .. } => act_explain_from(alloc, plan, kept.from, out, err),
+        Command::Explain {
+            from: None,
+            slot_us,
+            page_bytes,
+            ..
+        } => act_explain(alloc, plan, units_of(slot_us, page_bytes), out, err),
+        Command::Explain {
+            slot_us,
+            page_bytes,
+            ..
+        } => {
+            let asked = units_of(slot_us, page_bytes);
+            act_explain_from(alloc, plan, kept.from, asked, out, err)
+        }
         Command::Fit { .. } => act_fit(alloc, plan, out, err),
         Command::Arrivals {
             slots,
@@ -122,7 +153,9 @@ pub fn act<P: Read + Drop, S: Read + Drop, C: Read + Drop, K: Shelf, W: Output, 
             };
             act_arrivals(alloc, plan, slots, manner, out, err)
         }
-        Command::Keeps { slots, .. } => act_keeps(alloc, plan, script, slots, out, err),
+        Command::Keeps { slots, slot_us, .. } => {
+            act_keeps(alloc, plan, script, slots, unless_zero(slot_us), out, err)
+        }
         Command::Wear { slots, .. } => act_wear(alloc, plan, script, slots, out, err),
         Command::Report {
             slots,

@@ -8,6 +8,7 @@ ghost use Rattle.tool_commands.specs.Acts.{accepted_status, explained_status};
 
 use crate::checkpoint_acts::{end_unrun, saved_in};
 use crate::endings::end_refused;
+use crate::slot_lengths::slot_for;
 use plan_texts::{plan_text, read_plan};
 use slot_types::{Refusal, StorePlan};
 use std::alloc::Global;
@@ -16,44 +17,52 @@ use terms_texts::read_terms;
 use text_base::{FlaggedReader, Output, write_whole};
 use tool_checkpoint_runs::{RunFault, explain as explain_checkpoint};
 use tool_plan_design::{Explained, explain};
+use tool_slot_times::Units;
 use tool_terms_design::{explain_terms, is_terms_text};
 
 /// What is said of the text of a plan, with terms or without. The only refusal is NoMemory.
-fn said_of(alloc: Global, plan: &[u8]) -> Result<Explained, Refusal>
+fn said_of(alloc: Global, plan: &[u8], asked: Units) -> Result<Explained, Refusal>
     ensures said { IfOk result (λ explained.
-        SaysText plan.now explained.is_accepted explained.text.items) }
+        SaysText asked.slot_us plan.now explained.is_accepted explained.text.items) }
     ensures refused { FailsForMemory result }
 {
+    let slot_us = slot_for(alloc, plan, asked.slot_us)?;
     if is_terms_text(alloc, plan)? {
-        explain_terms(alloc, plan)
+        explain_terms(alloc, plan, slot_us)
     } else {
-        explain(alloc, plan)
+        let page_bytes = asked.page_bytes;
+        let units = Units {
+            slot_us,
+            page_bytes,
+        };
+        explain(alloc, plan, units)
     }
 }
 
 /// What is said of a plan.
-fn explained_of<R: Read + Drop>(alloc: Global, plan: R) -> Result<Explained, Refusal>
+fn explained_of<R: Read + Drop>(alloc: Global, plan: R, asked: Units) -> Result<Explained, Refusal>
     ensures said { IfOk result (λ explained.
-        SaysOf (R.remaining plan) explained.is_accepted explained.text.items) }
+        SaysOf asked.slot_us (R.remaining plan) explained.is_accepted explained.text.items) }
     ensures refused { IfErr result IsHostFault }
 {
     let text = plan_text(alloc, &mut FlaggedReader::new(plan))?;
-    said_of(alloc, &text)
+    said_of(alloc, &text, asked)
 }
 
 /// Prints what is said of a plan, and says whether it is accepted.
 fn print_explained<R: Read + Drop, W: Output>(
     alloc: Global,
     plan: R,
+    asked: Units,
     out: &mut W,
 ) -> Result<bool, Refusal>
     ensures printed { IfOk result (λ is_accepted.
-        Explains (R.remaining plan) is_accepted (W.contents out.old) (W.contents out.new)) }
+        Explains asked.slot_us (R.remaining plan) is_accepted (W.contents out.old) (W.contents out.new)) }
     ensures part { OnErr result
-        (IsNotWhole W.contents W.has_failed (Says (Explains (R.remaining plan))) out.old out.new) }
+        (IsNotWhole W.contents W.has_failed (Says (Explains asked.slot_us (R.remaining plan))) out.old out.new) }
     ensures refused { IfErr result IsHostFault }
 {
-    let explained = explained_of(alloc, plan)?;
+    let explained = explained_of(alloc, plan, asked)?;
     write_whole(out, &explained.text)?;
     Ok(explained.is_accepted)
 }
@@ -108,13 +117,14 @@ fn explained_from<P: Read + Drop, C: Read + Drop>(
     alloc: Global,
     plan: P,
     from: Option<C>,
+    asked: Units,
 ) -> Result<Explained, RunFault>
     ensures said { IfOk result (λ explained. (said more : List ℕ)
-        × SaysOf (P.remaining plan) explained.is_accepted said
+        × SaysOf asked.slot_us (P.remaining plan) explained.is_accepted said
         × (explained.text.items ≡ said ++ more)) }
 {
     let text = plan_text(alloc, &mut FlaggedReader::new(plan))?;
-    let explained = said_of(alloc, &text)?;
+    let explained = said_of(alloc, &text, asked)?;
     let more = more_of(alloc, &text, from, explained.is_accepted)?;
     Ok(with_more(explained, &more)?)
 }
@@ -124,14 +134,15 @@ fn print_explained_from<P: Read + Drop, C: Read + Drop, W: Output>(
     alloc: Global,
     plan: P,
     from: Option<C>,
+    asked: Units,
     out: &mut W,
 ) -> Result<bool, RunFault>
     ensures printed { IfOk result (λ is_accepted.
-        ExplainsMore (P.remaining plan) is_accepted (W.contents out.old) (W.contents out.new)) }
+        ExplainsMore asked.slot_us (P.remaining plan) is_accepted (W.contents out.old) (W.contents out.new)) }
     ensures part { OnErr result
-        (IsNotWhole W.contents W.has_failed (Says (ExplainsMore (P.remaining plan))) out.old out.new) }
+        (IsNotWhole W.contents W.has_failed (Says (ExplainsMore asked.slot_us (P.remaining plan))) out.old out.new) }
 {
-    let explained = explained_from(alloc, plan, from)?;
+    let explained = explained_from(alloc, plan, from, asked)?;
     write_whole(out, &explained.text)?;
     Ok(explained.is_accepted)
 }
@@ -165,14 +176,15 @@ fn end_explained<E: Write>(err: &mut E, explained: Result<bool, RunFault>) -> u8
 pub fn act_explain<P: Read + Drop, W: Output, E: Write>(
     alloc: Global,
     plan: P,
+    asked: Units,
     out: &mut W,
     err: &mut E,
 ) -> u8
-    ensures { EndsSaying W.contents W.has_failed (Explains (P.remaining plan)) accepted_status
+    ensures { EndsSaying W.contents W.has_failed (Explains asked.slot_us (P.remaining plan)) accepted_status
         out.old out.new
         result }
 {
-    let said = print_explained(alloc, plan, out);
+    let said = print_explained(alloc, plan, asked, out);
     end_said(err, said)
 }
 
@@ -183,13 +195,14 @@ pub fn act_explain_from<P: Read + Drop, C: Read + Drop, W: Output, E: Write>(
     alloc: Global,
     plan: P,
     from: Option<C>,
+    asked: Units,
     out: &mut W,
     err: &mut E,
 ) -> u8
-    ensures { EndsSaying W.contents W.has_failed (ExplainsMore (P.remaining plan)) accepted_status
+    ensures { EndsSaying W.contents W.has_failed (ExplainsMore asked.slot_us (P.remaining plan)) accepted_status
         out.old out.new
         result }
 {
-    let explained = print_explained_from(alloc, plan, from, out);
+    let explained = print_explained_from(alloc, plan, from, asked, out);
     end_explained(err, explained)
 }

@@ -7,7 +7,7 @@ ghost use Rattle.text_base.specs.Writing.{IsNotWhole};
 ghost use Rattle.tool_commands.specs.Acts.{EndsSaying, PrintsKept, Says, SaysKept, SaysTermsKept, SaysTimesKept, kept_status, verdict_status};
 
 use crate::plan_faults::end_unread;
-use crate::stores::{PlanRead, Unread, plan_in};
+use crate::stores::{PlanRead, Unread, timed_plan_in};
 use slot_types::{MAX_SLOT, Refusal, StorePlan};
 use std::alloc::Global;
 use std::io::{Read, Write};
@@ -48,7 +48,13 @@ fn broken(text: Vec<u8>) -> Kept
 }
 
 /// Whether a script keeps plans with times, with a condition that doesn't hold where it doesn't.
-fn keeps_times(alloc: Global, store: &StorePlan, text: &[u8], slots: u32) -> Result<Kept, Refusal>
+fn keeps_times(
+    alloc: Global,
+    store: &StorePlan,
+    text: &[u8],
+    slots: u32,
+    slot_us: Option<u32>,
+) -> Result<Kept, Refusal>
     requires some { 1 ≤ length store.now }
     requires few { length store.now ≤ 8 }
     requires bound { All MeetsBound store.now }
@@ -57,14 +63,20 @@ fn keeps_times(alloc: Global, store: &StorePlan, text: &[u8], slots: u32) -> Res
     match keep(alloc, text, store, slots)? {
         Verdict::Kept => kept_whole(alloc),
         Verdict::Broken(breach) => {
-            let said = sentence(alloc, text, store, slots, breach)?;
+            let said = sentence(alloc, text, store, slots, breach, slot_us)?;
             Ok(broken(said))
         }
     }
 }
 
 /// Whether a script keeps plans with terms, with a condition that doesn't hold where it doesn't.
-fn keeps_terms(alloc: Global, store: &StoreTerms, text: &[u8], slots: u32) -> Result<Kept, Refusal>
+fn keeps_terms(
+    alloc: Global,
+    store: &StoreTerms,
+    text: &[u8],
+    slots: u32,
+    slot_us: Option<u32>,
+) -> Result<Kept, Refusal>
     requires some { 1 ≤ length store.now }
     requires few { length store.now ≤ 8 }
     requires usable { All IsUsable store.now }
@@ -73,7 +85,7 @@ fn keeps_terms(alloc: Global, store: &StoreTerms, text: &[u8], slots: u32) -> Re
     match keep_terms(alloc, text, store, slots)? {
         TermsVerdict::Kept => kept_whole(alloc),
         TermsVerdict::Broken(breach) => {
-            let said = terms_sentence(alloc, text, store, slots, breach)?;
+            let said = terms_sentence(alloc, text, store, slots, breach, slot_us)?;
             Ok(broken(said))
         }
     }
@@ -85,16 +97,17 @@ fn kept_of<P: Read + Drop, S: Read + Drop>(
     plan: P,
     script: S,
     slots: u32,
+    slot_us: Option<u32>,
 ) -> Result<Kept, Unread>
     requires slots { slots ≤ MAX_SLOT }
     ensures said { IfOk result (λ kept.
         SaysKept (P.remaining plan) (S.remaining script) slots kept.keeps) }
 {
-    let plan = plan_in(alloc, plan)?;
+    let read = timed_plan_in(alloc, plan, slot_us)?;
     let text = script_text(alloc, script)?;
-    let kept = match &plan {
-        PlanRead::Plain(store) => keeps_times(alloc, store, &text, slots)?,
-        PlanRead::WithTerms(store) => keeps_terms(alloc, store, &text, slots)?,
+    let kept = match &read.plan {
+        PlanRead::Plain(store) => keeps_times(alloc, store, &text, slots, read.slot_us)?,
+        PlanRead::WithTerms(store) => keeps_terms(alloc, store, &text, slots, read.slot_us)?,
     };
     Ok(kept)
 }
@@ -105,6 +118,7 @@ fn print_kept<P: Read + Drop, S: Read + Drop, W: Output>(
     plan: P,
     script: S,
     slots: u32,
+    slot_us: Option<u32>,
     out: &mut W,
 ) -> Result<bool, Unread>
     requires slots { slots ≤ MAX_SLOT }
@@ -115,7 +129,7 @@ fn print_kept<P: Read + Drop, S: Read + Drop, W: Output>(
         (IsNotWhole W.contents W.has_failed
         (Says (PrintsKept (P.remaining plan) (S.remaining script) slots)) out.old out.new) }
 {
-    let kept = kept_of(alloc, plan, script, slots)?;
+    let kept = kept_of(alloc, plan, script, slots, slot_us)?;
     write_whole(out, &kept.text)?;
     Ok(kept.keeps)
 }
@@ -146,6 +160,7 @@ pub fn act_keeps<P: Read + Drop, S: Read + Drop, W: Output, E: Write>(
     plan: P,
     script: S,
     slots: u32,
+    slot_us: Option<u32>,
     out: &mut W,
     err: &mut E,
 ) -> u8
@@ -154,6 +169,6 @@ pub fn act_keeps<P: Read + Drop, S: Read + Drop, W: Output, E: Write>(
         (PrintsKept (P.remaining plan) (S.remaining script) slots)
         verdict_status out.old out.new result }
 {
-    let kept = print_kept(alloc, plan, script, slots, out);
+    let kept = print_kept(alloc, plan, script, slots, slot_us, out);
     end_kept(err, kept)
 }

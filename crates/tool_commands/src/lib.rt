@@ -16,6 +16,7 @@ pub mod plan_faults;
 mod requests;
 pub mod runs;
 pub mod shelves;
+mod slot_lengths;
 pub mod stores;
 pub mod strict;
 

@@ -25,7 +25,7 @@ fn files_of<'a>(command: Command<'a>) -> (&'a str, Option<&'a str>, Option<&'a s
     ensures script { name_of result.1 ≡ script_name command.entry }
 {
     match command {
-        Command::Explain { plan, from } => (plan, None, from),
+        Command::Explain { plan, from, .. } => (plan, None, from),
         Command::Fit { sheet: plan }
         | Command::Arrivals { plan, .. }
         | Command::Demand { plan, .. } => (plan, None, None),

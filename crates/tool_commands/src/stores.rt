@@ -4,6 +4,7 @@ ghost use Rattle.std.specs.Prelude.{◌≤◌, All, IfOk, length};
 ghost use Rattle.plan_rules.specs.Bound.{MeetsBound};
 ghost use Rattle.tool_commands.specs.PlanKinds.{ReadsPlan, ReadsStore};
 
+use crate::slot_lengths::slot_for;
 use plan_texts::{plan_text, read_plan};
 use slot_types::{Refusal, StorePlan};
 use std::alloc::Global;
@@ -60,20 +61,46 @@ pub enum PlanRead {
     WithTerms(StoreTerms),
 }
 
+/// A plan as it was read, and how many us a slot takes, where that is known.
+#[derive(Drop)]
+pub struct TimedPlan {
+    pub plan: PlanRead,
+    pub slot_us: Option<u32>,
+}
+
 /// Reads a plan, with terms or without: of each kind as [`read_terms`] and [`read_plan`] do, no more of it than 1,048,577
-/// bytes. Which kind it is, [`is_terms_text`] tells. ReadFault comes where the reader fails, and NoMemory where memory is
-/// refused.
+/// bytes. Which kind it is, [`is_terms_text`] tells. A slot is as long as is asked for, or as the plan's text begins.
+/// ReadFault comes where the reader fails, and NoMemory where memory is refused.
+pub fn timed_plan_in<R: Read + Drop>(
+    alloc: Global,
+    plan: R,
+    asked: Option<u32>,
+) -> Result<TimedPlan, Unread>
+    ensures { IfOk result (λ timed. ReadsPlan (R.remaining plan) timed.plan) }
+{
+    let text = plan_text(alloc, &mut FlaggedReader::new(plan))?;
+    let slot_us = slot_for(alloc, &text, asked)?;
+    if is_terms_text(alloc, &text)? {
+        let store = read_terms(alloc, &text)?;
+        Ok(TimedPlan {
+            plan: PlanRead::WithTerms(store),
+            slot_us,
+        })
+    } else {
+        let store = read_plan(alloc, &text)?;
+        Ok(TimedPlan {
+            plan: PlanRead::Plain(store),
+            slot_us,
+        })
+    }
+}
+
+/// Reads a plan as [`timed_plan_in`] does, whatever the length of a slot.
 pub fn plan_in<R: Read + Drop>(alloc: Global, plan: R) -> Result<PlanRead, Unread>
     ensures { IfOk result (ReadsPlan (R.remaining plan)) }
 {
-    let text = plan_text(alloc, &mut FlaggedReader::new(plan))?;
-    if is_terms_text(alloc, &text)? {
-        let store = read_terms(alloc, &text)?;
-        Ok(PlanRead::WithTerms(store))
-    } else {
-        let store = read_plan(alloc, &text)?;
-        Ok(PlanRead::Plain(store))
-    }
+    let timed = timed_plan_in(alloc, plan, None)?;
+    Ok(timed.plan)
 }
 
 /// Reads the plans of a store's dies, of a plan with terms or without, as [`plan_in`] does: of one with terms, which has

@@ -5,3 +5,4 @@ mod Multiples
 mod Quotients
 mod Scaling
 mod Tries
+mod Slowing

@@ -4,7 +4,7 @@ use Rattle.std.proofs.Math.Nat.{div-mul_cancel, mul-div_assoc, le_of_mul-le-mul_
 use Rattle.std.proofs.lemmas.Nat.Gcd.{dvd_of_mod-eq-zero}
 use Rattle.std.proofs.lemmas.List.Sums.{sum_by-cons}
 use Rattle.std.specs.List.{AllZip}
-use Rattle.std.specs.Prelude.{IfSome, option_map, sum_by}
+use Rattle.std.specs.Prelude.{IfSome, IsSomeAnd, option_map, sum_by}
 use Rattle.slot_types.specs.declared.limits.TheConstants.{MAX_SLOT}
 use Rattle.slot_types.specs.declared.plans.DiePlan.{DiePlan}
 use Rattle.slot_types.specs.declared.plans.Shape.{Shape}
@@ -79,6 +79,15 @@ fewer_logical d n m some less does = record {
   bound = bound_by d.shape n m d.alpha d.caps d.times d.times some less does.bound;
   passes = if_some (Passes (record d { logical = n })) (Passes (record d { logical = m })) d.times (logical_passes d n m) does.passes;
 }
+
+-- how many logical pages there are doesn't matter to the test of times
+pub any_logical_passes : (d : DiePlan) (n m : ℕ) → IfSome d.times (Passes (record d { logical = n })) → IfSome d.times (Passes (record d { logical = m }))
+any_logical_passes d n m passes = if_some (Passes (record d { logical = n })) (Passes (record d { logical = m })) d.times (logical_passes d n m) passes
+
+-- what holds of a value that is there holds of it if it is there
+pub if_there : {A : Type 0} (P : A → Type 0) (o : Option A) → IsSomeAnd o P → IfSome o P
+if_there P None h = tt
+if_there P (Some a) h = h
 
 -- how often a period comes in a multiple of a common multiple
 quotient : (n m p : ℕ) → n % m ≡ 0 → m % p ≡ 0 → n / p ≡ (n / m) * (m / p)

@@ -1,13 +1,10 @@
 -- What was found of a plan, and how it is said.
-use Rattle.std.specs.Prelude.{◌≡◌, ◌⊎◌, ℕ, List, ◌∷◌, [], ◌++◌, All, codes, decimal, flat_map, IsSomeAnd, IfOk, Some, None}
+use Rattle.std.specs.Prelude.{◌≡◌, ℕ, List, ◌∷◌, [], ◌++◌, codes, decimal, flat_map, IsSomeAnd, Option, Some, None}
 use Rattle.slot_types.specs.declared.limits.TheConstants.{MAX_BLOCKS, MAX_OPS, MAX_SLOT, MIN_BLOCKS}
-use Rattle.slot_types.specs.Texts.{refusal_text}
-use Rattle.slot_types.specs.declared.refusals.Refusal.{Refusal}
 use Rattle.plan_rules.specs.Times.{demand}
-use Rattle.plan_texts.specs.PlanText.{plan_of}
-use Rattle.plan_texts.specs.Stores.{RefusesPlan, die_of}
+use Rattle.plan_texts.specs.Stores.{die_of}
 use Rattle.plan_texts.specs.declared.numbers.PlanNumbers.{PlanNumbers}
-use Rattle.tool_plan_design.specs.AcceptedPlans.{IsAccepted}
+use Rattle.tool_slot_times.specs.Times.{slots_text}
 use Rattle.tool_plan_design.specs.Numbers.{FindsGreatest, FindsLeast, with_number}
 use Rattle.tool_plan_design.specs.Plans.{AllDo, OneDoes}
 use Rattle.tool_plan_design.specs.declared.numbers.Number.TheVariants as number
@@ -44,70 +41,57 @@ IsSo plan (finding.Common found) = FindsLeast (AllDo number.Common plan) 1 MAX_S
 IsSo plan (finding.Alpha a) = IsAlpha plan a
 IsSo plan (finding.Task t) = IsOfTask plan t
 
+-- In these texts each number of slots is followed by its time, where it is known how many us a slot takes.
+
 -- a task, by its place in the text, its die and its number there
 abbrev pub name_text : TaskName → List ℕ
 name_text name = codes "[[task]] " ++ decimal name.nth ++ codes " (die " ++ decimal name.die ++ codes " task " ++ decimal name.task ++ codes ")"
 
 -- what a number of a task could be, beside others
-abbrev pub own_text : OwnNumber → List ℕ
-own_text (own.Period (Some n)) = codes "least period " ++ decimal n
-own_text (own.Period None) = codes "no period"
-own_text (own.CollectPeriod (Some n)) = codes "greatest collect_period " ++ decimal n
-own_text (own.CollectPeriod None) = codes "no collect_period"
-own_text (own.Cap (Some n)) = codes "least cap " ++ decimal n
-own_text (own.Cap None) = codes "no cap"
-own_text (own.Work (Some n)) = codes "greatest work " ++ decimal n
-own_text (own.Work None) = codes "no work"
-own_text (own.Writes (Some n)) = codes "greatest writes " ++ decimal n
-own_text (own.Writes None) = codes "no writes"
+abbrev pub own_text : Option ℕ → OwnNumber → List ℕ
+own_text us (own.Period (Some n)) = codes "least period " ++ slots_text us n
+own_text us (own.Period None) = codes "no period"
+own_text us (own.CollectPeriod (Some n)) = codes "greatest collect_period " ++ slots_text us n
+own_text us (own.CollectPeriod None) = codes "no collect_period"
+own_text us (own.Cap (Some n)) = codes "least cap " ++ decimal n
+own_text us (own.Cap None) = codes "no cap"
+own_text us (own.Work (Some n)) = codes "greatest work " ++ decimal n
+own_text us (own.Work None) = codes "no work"
+own_text us (own.Writes (Some n)) = codes "greatest writes " ++ decimal n
+own_text us (own.Writes None) = codes "no writes"
 
-abbrev pub periods_text : OwnPeriods → List ℕ
-periods_text p = own_text (own.Period p.period) ++ codes ", " ++ own_text (own.CollectPeriod p.collect_period)
+abbrev pub periods_text : Option ℕ → OwnPeriods → List ℕ
+periods_text us p = own_text us (own.Period p.period) ++ codes ", " ++ own_text us (own.CollectPeriod p.collect_period)
 
-abbrev pub work_text : OwnWork → List ℕ
-work_text w = own_text (own.Cap w.cap) ++ codes ", " ++ own_text (own.Work w.work) ++ codes ", " ++ own_text (own.Writes w.writes)
+abbrev pub work_text : Option ℕ → OwnWork → List ℕ
+work_text us w = own_text us (own.Cap w.cap) ++ codes ", " ++ own_text us (own.Work w.work) ++ codes ", " ++ own_text us (own.Writes w.writes)
 
 -- and what all of them could be
-abbrev pub task_text : TaskFinding → List ℕ
-task_text t = name_text t.name ++ codes ": one at a time, these would do: " ++ periods_text t.periods ++ codes ", " ++ work_text t.work ++ codes "."
+abbrev pub numbers_text : Option ℕ → OwnPeriods → OwnWork → List ℕ
+numbers_text us p w = periods_text us p ++ codes ", " ++ work_text us w
+
+abbrev pub task_text : Option ℕ → TaskFinding → List ℕ
+task_text us t = name_text t.name ++ codes ": one at a time, these would do: " ++ numbers_text us t.periods t.work ++ codes "."
 
 -- an alpha, and what is then taken of a die
-abbrev pub taken_text : Taken → List ℕ
-taken_text taken = codes "of each " ++ decimal taken.common ++ codes " slots " ++ decimal taken.demand ++ codes " are taken"
+abbrev pub taken_text : Option ℕ → Taken → List ℕ
+taken_text us taken = codes "of each " ++ slots_text us taken.common ++ codes " slots " ++ slots_text us taken.demand ++ codes " are taken"
 
-abbrev pub alpha_text : AlphaFinding → List ℕ
-alpha_text a = codes "die " ++ decimal a.die ++ codes ": with its other numbers as they are, alpha " ++ decimal a.alpha
-    ++ codes " would do: " ++ taken_text a.taken ++ codes "."
+abbrev pub alpha_text : Option ℕ → AlphaFinding → List ℕ
+alpha_text us a = codes "die " ++ decimal a.die ++ codes ": with its other numbers as they are, alpha " ++ decimal a.alpha
+    ++ codes " would do: " ++ taken_text us a.taken ++ codes "."
 
 -- how it is said
-abbrev pub finding_text : Finding → List ℕ
-finding_text (finding.Blocks (Some n)) = codes "plan: with its other numbers as they are, the least blocks that would do is " ++ decimal n ++ codes "."
-finding_text (finding.Blocks None) = codes "plan: with its other numbers as they are, no blocks would do."
-finding_text (finding.Logical (Some n)) = codes "plan: with its other numbers as they are, the greatest logical that would do is " ++ decimal n ++ codes "."
-finding_text (finding.Logical None) = codes "plan: with its other numbers as they are, no logical would do."
-finding_text (finding.Common (Some n)) = codes "plan: with its other numbers as they are, the least common that would do is " ++ decimal n ++ codes "."
-finding_text (finding.Common None) = codes "plan: with its other numbers as they are, no common would do."
-finding_text (finding.Alpha a) = alpha_text a
-finding_text (finding.Task t) = task_text t
+abbrev pub finding_text : Option ℕ → Finding → List ℕ
+finding_text us (finding.Blocks (Some n)) = codes "plan: with its other numbers as they are, the least blocks that would do is " ++ decimal n ++ codes "."
+finding_text us (finding.Blocks None) = codes "plan: with its other numbers as they are, no blocks would do."
+finding_text us (finding.Logical (Some n)) = codes "plan: with its other numbers as they are, the greatest logical that would do is " ++ decimal n ++ codes "."
+finding_text us (finding.Logical None) = codes "plan: with its other numbers as they are, no logical would do."
+finding_text us (finding.Common (Some n)) = codes "plan: with its other numbers as they are, the least common that would do is " ++ slots_text us n ++ codes "."
+finding_text us (finding.Common None) = codes "plan: with its other numbers as they are, no common would do."
+finding_text us (finding.Alpha a) = alpha_text us a
+finding_text us (finding.Task t) = task_text us t
 
 -- all of it, a line each
-abbrev pub findings_text : List Finding → List ℕ
-findings_text findings = flat_map (λ (f : Finding). finding_text f ++ 10 ∷ []) findings
-
--- what is said first: that the plan is accepted, or as what it is refused
-abbrev pub IsVerdict : List ℕ → List ℕ → Type 0
-IsVerdict plan line = (IsAccepted plan × (line ≡ codes "The plan is accepted.\n"))
-    ⊎ ((refusal : Refusal) × (RefusesPlan (plan_of plan) refusal × (line ≡ codes "The plan is refused: " ++ refusal_text refusal ++ codes ".\n")))
-
--- what was found holds of the plan of a text; a text without one has no findings that matter
-abbrev pub AreSo : List ℕ → List Finding → Type 0
-AreSo plan findings = IfOk (plan_of plan) (λ numbers. All (IsSo numbers) findings)
-
--- a text says first whether the plan is accepted, and last what was found of it; and all that was found holds
-pub record IsExplanation (plan text : List ℕ) : Type 0 where
-  pub verdict : List ℕ
-  pub judged : IsVerdict plan verdict
-  pub figures : List ℕ
-  pub findings : List Finding
-  pub said : text ≡ (verdict ++ figures) ++ findings_text findings
-  pub so : AreSo plan findings
+abbrev pub findings_text : Option ℕ → List Finding → List ℕ
+findings_text us findings = flat_map (λ (f : Finding). finding_text us f ++ 10 ∷ []) findings

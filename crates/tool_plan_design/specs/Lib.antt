@@ -4,3 +4,7 @@ pub mod Commons
 pub mod Numbers
 pub mod Plans
 pub mod Findings
+pub mod Divisors
+pub mod Alphas
+pub mod Changes
+pub mod Explanations

@@ -1,18 +1,18 @@
 //! Why a plan is accepted or not, in sentences.
 
-ghost use Rattle.std.specs.Prelude.{◌≡◌, ◌↔◌, ◌++◌, ℕ, List, All, IsTrue, IfOk, OnOk};
+ghost use Rattle.std.specs.Prelude.{◌≡◌, ◌↔◌, ◌++◌, ℕ, List, IsTrue, IfOk, OnOk};
 ghost use Rattle.slot_types.specs.Refusal.{FailsForMemory};
 ghost use Rattle.tool_plan_design.specs.AcceptedPlans.{IsAccepted};
-ghost use Rattle.tool_plan_design.specs.Findings.{AreSo, IsExplanation, IsSo, IsVerdict, findings_text};
+ghost use Rattle.plan_texts.specs.PlanText.{plan_of};
+ghost use Rattle.tool_plan_design.specs.Explanations.{AreFound, IsExplanation, IsVerdict, found_text};
 
 use crate::bounds::put_bound;
 use crate::causes::put_cause;
-use crate::findings::Finding;
+use crate::found::{Found, found_of, nothing, put_found};
 use crate::lifetimes::put_life;
 use crate::limits::{put_die_limits, put_shape, put_strays};
 use crate::loads::put_load;
-use crate::sayings::{Sayings, put_findings};
-use crate::solves::findings_of;
+use crate::sayings::Sayings;
 use crate::subjects::TaskName;
 use crate::wholes::are_named;
 use plan_texts::{PlanNumbers, TaskNumbers, die_plan, plan_numbers, read_plan};
@@ -20,6 +20,7 @@ use slot_types::{DiePlan, MAX_DIES, Refusal};
 use std::alloc::Global;
 use std::io;
 use std::io::Write;
+use tool_slot_times::Units;
 
 /// What is said of a plan.
 #[derive(Drop)]
@@ -148,35 +149,43 @@ fn put_numbers(alloc: Global, said: &mut Sayings, plan: &PlanNumbers) -> Result<
     Ok(are_within)
 }
 
-/// Writes what the numbers of a plan come to, and gives with which it would do, where all are within their limits. The only
+/// Writes what the numbers of a plan come to, and gives what was found of it, where all are within their limits. The only
 /// refusal is NoMemory.
 fn explain_numbers(
     alloc: Global,
     said: &mut Sayings,
     plan: &PlanNumbers,
-) -> Result<Vec<Finding>, Refusal>
-    ensures so { IfOk result (λ findings. All (IsSo plan.now) findings.items) }
+    is_accepted: bool,
+) -> Result<Found, Refusal>
+    ensures found { IfOk result (λ found. AreFound plan.now is_accepted
+        found.findings.items found.rows.items found.changes.items) }
     ensures refused { FailsForMemory result }
 {
     if put_numbers(alloc, said, plan)? {
         let names = names_of_all(alloc, plan)?;
-        findings_of(alloc, plan, &names)
+        found_of(alloc, plan, &names, is_accepted)
     } else {
-        Ok(Vec::new(alloc))
+        Ok(nothing(alloc))
     }
 }
 
 /// Writes what a text's plan comes to, or the fault of the text; and gives what was found of the plan. The only refusal is
 /// NoMemory.
-fn explain_text(alloc: Global, said: &mut Sayings, text: &[u8]) -> Result<Vec<Finding>, Refusal>
-    ensures so { IfOk result (λ findings. AreSo text.now findings.items) }
+fn explain_text(
+    alloc: Global,
+    said: &mut Sayings,
+    text: &[u8],
+    is_accepted: bool,
+) -> Result<Found, Refusal>
+    ensures found { IfOk result (λ found. IfOk (plan_of text.now) (λ plan.
+        AreFound plan is_accepted found.findings.items found.rows.items found.changes.items)) }
     ensures refused { FailsForMemory result }
 {
     match plan_numbers(alloc, text) {
-        Ok(numbers) => explain_numbers(alloc, said, &numbers),
+        Ok(numbers) => explain_numbers(alloc, said, &numbers, is_accepted),
         Err(Refusal::PlanText { cause }) => {
             match put_cause(alloc, &mut said.faults, text, cause) {
-                Ok(()) => Ok(Vec::new(alloc)),
+                Ok(()) => Ok(nothing(alloc)),
                 Err(_) => Err(Refusal::NoMemory),
             }
         }
@@ -185,12 +194,18 @@ fn explain_text(alloc: Global, said: &mut Sayings, text: &[u8]) -> Result<Vec<Fi
 }
 
 /// Adds what is said, and what was found, to a text. The only refusal is NoMemory.
-fn put_said(text: &mut Vec<u8>, said: &Sayings, findings: &[Finding]) -> Result<(), Refusal>
+fn put_said(
+    text: &mut Vec<u8>,
+    said: &Sayings,
+    found: &Found,
+    slot_us: Option<u32>,
+) -> Result<(), Refusal>
     ensures said { OnOk result ((more : List ℕ) ×
-        (text.new.items ≡ (text.old.items ++ more) ++ findings_text findings.now)) }
+        (text.new.items ≡ (text.old.items ++ more) ++ found_text slot_us
+        found.now.findings.items found.now.rows.items found.now.changes.items)) }
     ensures refused { FailsForMemory result }
 {
-    if said.put(text).is_err() || put_findings(text, findings).is_err() {
+    if said.put(text).is_err() || put_found(text, found, slot_us).is_err() {
         return Err(Refusal::NoMemory);
     }
     Ok(())
@@ -200,17 +215,19 @@ fn put_said(text: &mut Vec<u8>, said: &Sayings, findings: &[Finding]) -> Result<
 /// [`read_plan`](plan_texts::read_plan) judges it. If it isn't, its faults follow: the first of the text, or each
 /// number that is out of its limits or doesn't go with the others, and with which blocks or logical pages the bound would be
 /// met. After these stand by die the figures of its bound, and for a plan with times the margins and the demand, by task
-/// and in sum, and how long the die lives. Last comes with which numbers, one at a time, each die would do, bound and test:
-/// each is the extreme one. The only refusal is NoMemory.
-pub fn explain(alloc: Global, plan: &[u8]) -> Result<Explained, Refusal>
+/// and in sum, and how long the die lives. Then comes with which numbers, one at a time, each die would do, bound and test:
+/// each is the extreme one; what each alpha comes to with the caps and collect periods that go with it, by die; and last, of
+/// a plan that is refused, which of these numbers to change, the cheapest change first, at most ten. Each number of slots
+/// is followed by its time, where it is known how long a slot is. The only refusal is NoMemory.
+pub fn explain(alloc: Global, plan: &[u8], units: Units) -> Result<Explained, Refusal>
     ensures accepted { IfOk result (λ explained. IsTrue explained.is_accepted ↔ IsAccepted plan.now) }
-    ensures said { IfOk result (λ explained. IsExplanation plan.now explained.text.items) }
+    ensures said { IfOk result (λ explained. IsExplanation units.slot_us plan.now explained.text.items) }
     ensures refused { FailsForMemory result }
 {
     let mut text = Vec::new(alloc);
     let is_accepted = put_verdict(alloc, &mut text, plan)?;
-    let mut said = Sayings::new(alloc);
-    let findings = explain_text(alloc, &mut said, plan)?;
-    put_said(&mut text, &said, &findings)?;
+    let mut said = Sayings::new(alloc, units);
+    let found = explain_text(alloc, &mut said, plan, is_accepted)?;
+    put_said(&mut text, &said, &found, units.slot_us)?;
     Ok(Explained { text, is_accepted })
 }

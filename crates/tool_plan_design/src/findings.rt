@@ -1,11 +1,19 @@
 //! What was found of a plan: with which numbers it would do, one at a time.
 
 ghost use Rattle.std.specs.Prelude.{Some};
-ghost use Rattle.tool_plan_design.specs.Findings.{alpha_text, finding_text, own_text, periods_text, taken_text, task_text, work_text};
+ghost use Rattle.tool_plan_design.specs.Findings.{alpha_text, finding_text, numbers_text, own_text, periods_text, taken_text, task_text, work_text};
 
 use crate::subjects::TaskName;
 use std::fmt;
 use std::fmt::{Display, Formatter, Write};
+use tool_slot_times::Slots;
+
+/// Something with the length of a slot in us, if that is known: each of its numbers of slots is followed by its time.
+#[derive(Clone, Copy, Drop)]
+pub(crate) struct Timed<T> {
+    pub(crate) of: T,
+    pub(crate) slot_us: Option<u32>,
+}
 
 /// What each number of a task could be; none where no number would do.
 #[derive(Clone, Copy, PartialEq, Eq, Debug, Drop)]
@@ -48,14 +56,23 @@ pub enum OwnNumber {
     Writes(Option<u32>),
 }
 
-impl Display for OwnNumber {
-    ghost output = { λ number. Some (own_text number) };
+impl Display for Timed<OwnNumber> {
+    ghost output = { λ number. Some (own_text number.slot_us number.of) };
 
     fn fmt<W: Write>(&self, f: &mut Formatter<W>) -> fmt::Result {
-        match self {
-            OwnNumber::Period(Some(n)) => write!(f, "least period {n}"),
+        let slot_us = self.slot_us;
+        match self.of {
+            OwnNumber::Period(Some(n)) => {
+                let count = u64::from(n);
+                let slots = Slots { count, slot_us };
+                write!(f, "least period {slots}")
+            }
             OwnNumber::Period(None) => f.write_str("no period"),
-            OwnNumber::CollectPeriod(Some(n)) => write!(f, "greatest collect_period {n}"),
+            OwnNumber::CollectPeriod(Some(n)) => {
+                let count = u64::from(n);
+                let slots = Slots { count, slot_us };
+                write!(f, "greatest collect_period {slots}")
+            }
             OwnNumber::CollectPeriod(None) => f.write_str("no collect_period"),
             OwnNumber::Cap(Some(n)) => write!(f, "least cap {n}"),
             OwnNumber::Cap(None) => f.write_str("no cap"),
@@ -74,12 +91,19 @@ pub struct OwnPeriods {
     pub collect_period: Option<u32>,
 }
 
-impl Display for OwnPeriods {
-    ghost output = { λ own. Some (periods_text own) };
+impl Display for Timed<OwnPeriods> {
+    ghost output = { λ own. Some (periods_text own.slot_us own.of) };
 
     fn fmt<W: Write>(&self, f: &mut Formatter<W>) -> fmt::Result {
-        let period = OwnNumber::Period(self.period);
-        let collect_period = OwnNumber::CollectPeriod(self.collect_period);
+        let slot_us = self.slot_us;
+        let period = Timed {
+            of: OwnNumber::Period(self.of.period),
+            slot_us,
+        };
+        let collect_period = Timed {
+            of: OwnNumber::CollectPeriod(self.of.collect_period),
+            slot_us,
+        };
         write!(f, "{period}, {collect_period}")
     }
 }
@@ -92,23 +116,54 @@ pub struct OwnWork {
     pub writes: Option<u32>,
 }
 
-impl Display for OwnWork {
-    ghost output = { λ own. Some (work_text own) };
+impl Display for Timed<OwnWork> {
+    ghost output = { λ own. Some (work_text own.slot_us own.of) };
 
     fn fmt<W: Write>(&self, f: &mut Formatter<W>) -> fmt::Result {
-        let cap = OwnNumber::Cap(self.cap);
-        let work = OwnNumber::Work(self.work);
-        let writes = OwnNumber::Writes(self.writes);
+        let slot_us = self.slot_us;
+        let cap = Timed {
+            of: OwnNumber::Cap(self.of.cap),
+            slot_us,
+        };
+        let work = Timed {
+            of: OwnNumber::Work(self.of.work),
+            slot_us,
+        };
+        let writes = Timed {
+            of: OwnNumber::Writes(self.of.writes),
+            slot_us,
+        };
         write!(f, "{cap}, {work}, {writes}")
     }
 }
 
-impl Display for TaskFinding {
-    ghost output = { λ found. Some (task_text found) };
+impl Display for Timed<(OwnPeriods, OwnWork)> {
+    ghost output = { λ own. Some (numbers_text own.slot_us own.of.0 own.of.1) };
 
     fn fmt<W: Write>(&self, f: &mut Formatter<W>) -> fmt::Result {
-        let (of, periods, work) = (self.name, self.periods, self.work);
-        write!(f, "{of}: one at a time, these would do: {periods}, {work}.")
+        let slot_us = self.slot_us;
+        let periods = Timed {
+            of: self.of.0,
+            slot_us,
+        };
+        let work = Timed {
+            of: self.of.1,
+            slot_us,
+        };
+        write!(f, "{periods}, {work}")
+    }
+}
+
+impl Display for Timed<TaskFinding> {
+    ghost output = { λ found. Some (task_text found.slot_us found.of) };
+
+    fn fmt<W: Write>(&self, f: &mut Formatter<W>) -> fmt::Result {
+        let name = self.of.name;
+        let numbers = Timed {
+            of: (self.of.periods, self.of.work),
+            slot_us: self.slot_us,
+        };
+        write!(f, "{name}: one at a time, these would do: {numbers}.")
     }
 }
 
@@ -119,20 +174,32 @@ pub struct Taken {
     pub common: u32,
 }
 
-impl Display for Taken {
-    ghost output = { λ taken. Some (taken_text taken) };
+impl Display for Timed<Taken> {
+    ghost output = { λ taken. Some (taken_text taken.slot_us taken.of) };
 
     fn fmt<W: Write>(&self, f: &mut Formatter<W>) -> fmt::Result {
-        let (demand, common) = (self.demand, self.common);
+        let slot_us = self.slot_us;
+        let common = Slots {
+            count: u64::from(self.of.common),
+            slot_us,
+        };
+        let demand = Slots {
+            count: self.of.demand,
+            slot_us,
+        };
         write!(f, "of each {common} slots {demand} are taken")
     }
 }
 
-impl Display for AlphaFinding {
-    ghost output = { λ found. Some (alpha_text found) };
+impl Display for Timed<AlphaFinding> {
+    ghost output = { λ found. Some (alpha_text found.slot_us found.of) };
 
     fn fmt<W: Write>(&self, f: &mut Formatter<W>) -> fmt::Result {
-        let (die, alpha, taken) = (self.die, self.alpha, self.taken);
+        let (die, alpha) = (self.of.die, self.of.alpha);
+        let taken = Timed {
+            of: self.of.taken,
+            slot_us: self.slot_us,
+        };
         write!(
             f,
             "die {die}: with its other numbers as they are, alpha {alpha} would do: {taken}."
@@ -140,11 +207,12 @@ impl Display for AlphaFinding {
     }
 }
 
-impl Display for Finding {
-    ghost output = { λ finding. Some (finding_text finding) };
+impl Display for Timed<Finding> {
+    ghost output = { λ finding. Some (finding_text finding.slot_us finding.of) };
 
     fn fmt<W: Write>(&self, f: &mut Formatter<W>) -> fmt::Result {
-        match self {
+        let slot_us = self.slot_us;
+        match self.of {
             Finding::Blocks(Some(n)) => write!(
                 f,
                 "plan: with its other numbers as they are, the least blocks that would do is {n}."
@@ -159,15 +227,25 @@ impl Display for Finding {
             Finding::Logical(None) => {
                 f.write_str("plan: with its other numbers as they are, no logical would do.")
             }
-            Finding::Common(Some(n)) => write!(
-                f,
-                "plan: with its other numbers as they are, the least common that would do is {n}."
-            ),
+            Finding::Common(Some(n)) => {
+                let count = u64::from(n);
+                let slots = Slots { count, slot_us };
+                write!(
+                    f,
+                    "plan: with its other numbers as they are, the least common that would do is {slots}."
+                )
+            }
             Finding::Common(None) => {
                 f.write_str("plan: with its other numbers as they are, no common would do.")
             }
-            Finding::Alpha(found) => write!(f, "{found}"),
-            Finding::Task(found) => write!(f, "{found}"),
+            Finding::Alpha(of) => {
+                let found = Timed { of, slot_us };
+                write!(f, "{found}")
+            }
+            Finding::Task(of) => {
+                let found = Timed { of, slot_us };
+                write!(f, "{found}")
+            }
         }
     }
 }

@@ -1,15 +1,21 @@
 //! A designer's tools: why a plan is accepted or not, and what would mend it.
 #![tactic(auto)]
 
+mod all_divisors;
+mod alpha_texts;
+mod alphas;
 mod attempts;
 mod bounds;
 mod causes;
+mod change_texts;
+mod changes;
 mod commons;
 mod divisors;
 mod explained;
 mod faults;
 mod findings;
 mod first_faults;
+mod found;
 mod lifetimes;
 mod limits;
 mod loads;
@@ -23,6 +29,8 @@ mod subjects;
 mod trials;
 mod wholes;
 
+pub use alphas::{AlphaRow, alpha_rows};
+pub use changes::{Change, ranked_changes};
 pub use commons::{Periods, are_divisors, least_common};
 pub use divisors::{greatest_collect_period, least_period};
 pub use explained::{Explained, explain};

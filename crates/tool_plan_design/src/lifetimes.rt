@@ -7,6 +7,7 @@ use slot_types::{MAX_JOBS, MAX_SLOT, TaskTimes, Times};
 use std::io;
 use std::io::Write;
 use tool_plan_lives::{are_tasks, life_of};
+use tool_slot_times::Units;
 
 /// Reports for how many slots a die lives, how it then goes on, and, of a plan without a fault so far, where a life may
 /// end so that its periods do.
@@ -16,25 +17,27 @@ pub fn put_life(said: &mut Sayings, die: u32, names: &[TaskName], times: &Times)
         return Ok(());
     }
     let life = life_of(tasks);
-    put_length(&mut said.figures, die, life)?;
+    let units = said.units;
+    put_length(&mut said.figures, die, life, units)?;
     if said.faults.is_empty() {
-        put_ends(&mut said.figures, die, names, tasks, life)?;
+        put_ends(&mut said.figures, die, names, tasks, life, units)?;
     }
     Ok(())
 }
 
 /// Reports for how many slots a die lives.
-fn put_length(text: &mut Vec<u8>, die: u32, life: u32) -> io::Result<()> {
+fn put_length(text: &mut Vec<u8>, die: u32, life: u32, units: Units) -> io::Result<()> {
     let of = Subject::Die(die);
+    let slots = units.slots(u64::from(life));
     if life < MAX_SLOT {
         writeln!(
             text,
-            "{of}: its {MAX_JOBS} numbers for jobs and collections last for {life} slots; `renew` begins the next life."
+            "{of}: its {MAX_JOBS} numbers for jobs and collections last for {slots} slots; `renew` begins the next life."
         )
     } else {
         writeln!(
             text,
-            "{of}: its {MAX_SLOT} slots end before its {MAX_JOBS} numbers do; `renew` begins the next life."
+            "{of}: its {slots} slots end before its {MAX_JOBS} numbers do; `renew` begins the next life."
         )
     }
 }
@@ -46,23 +49,29 @@ fn put_ends(
     names: &[TaskName],
     tasks: &[TaskTimes],
     life: u32,
+    units: Units,
 ) -> io::Result<()> {
     let of = Subject::Die(die);
+    let most = units.slots(u64::from(MAX_SLOT));
     match least_common(Periods::Collect, tasks) {
         None => writeln!(
             text,
-            "{of}: its periods end in no life: no number of slots up to {MAX_SLOT} is a multiple of each collect_period."
+            "{of}: its periods end in no life: no number of slots up to {most} is a multiple of each collect_period."
         ),
-        Some(end) if life < end => writeln!(
-            text,
-            "{of}: its periods end in no life: the least multiple of each collect_period is {end}."
-        ),
-        Some(end) => {
+        Some(end) if life < end => {
+            let end = units.slots(u64::from(end));
             writeln!(
                 text,
-                "{of}: its periods end at each multiple of {end} slots by which the deadlines of its jobs have come."
+                "{of}: its periods end in no life: the least multiple of each collect_period is {end}."
+            )
+        }
+        Some(end) => {
+            let slots = units.slots(u64::from(end));
+            writeln!(
+                text,
+                "{of}: its periods end at each multiple of {slots} slots by which the deadlines of its jobs have come."
             )?;
-            put_gaps(text, names, tasks, end)
+            put_gaps(text, names, tasks, end, units)
         }
     }
 }
@@ -73,19 +82,20 @@ fn put_gaps(
     names: &[TaskName],
     tasks: &[TaskTimes],
     end: u32,
+    units: Units,
 ) -> io::Result<()> {
     for task in 0..tasks.len().min(names.len()) {
         let (of, period) = (Subject::Task(names[task]), tasks[task].period);
         if period > 1 {
-            put_gap(text, of, period, end)?;
+            put_gap(text, of, period, end, units)?;
         }
     }
     Ok(())
 }
 
 /// Reports it of one task, whose jobs come at least this period apart, each due a period after it came.
-fn put_gap(text: &mut Vec<u8>, of: Subject, period: u32, end: u32) -> io::Result<()> {
-    let gap = period.saturating_sub(1);
+fn put_gap(text: &mut Vec<u8>, of: Subject, period: u32, end: u32, units: Units) -> io::Result<()> {
+    let gap = units.slots(u64::from(period.saturating_sub(1)));
     let at_multiples = if period != 0 && end % period == 0 {
         "none does"
     } else {

@@ -6,6 +6,7 @@ use crate::subjects::{Subject, TaskName};
 use slot_types::{DiePlan, MAX_SLOT, TaskTimes, Times};
 use std::io;
 use std::io::Write;
+use tool_slot_times::{Rate, Share, Units};
 
 /// How many slots something that takes `work` slots once in each `period` takes of `common` ones.
 fn taken(work: u64, period: u32, common: u32) -> u64 {
@@ -22,7 +23,7 @@ fn collection_work(plan: &DiePlan) -> u64 {
 
 /// Writes how many slots a task's jobs and collections take, and gives their sum.
 fn put_taken(
-    text: &mut Vec<u8>,
+    said: &mut Sayings,
     of: Subject,
     plan: &DiePlan,
     common: u32,
@@ -30,16 +31,23 @@ fn put_taken(
 ) -> io::Result<u64> {
     let jobs = taken(u64::from(task.work), task.period, common);
     let collections = taken(collection_work(plan), task.collect_period, common);
+    let sum = jobs.saturating_add(collections);
+    let units = said.units;
+    let (common, jobs, collections) = (
+        units.slots(u64::from(common)),
+        units.slots(jobs),
+        units.slots(collections),
+    );
     writeln!(
-        text,
+        said.figures,
         "{of}: of each {common} slots its jobs take at most {jobs}, its collections {collections}."
     )?;
-    Ok(jobs.saturating_add(collections))
+    Ok(sum)
 }
 
 /// Writes a period that doesn't divide the hyperperiod.
 fn put_divides(
-    text: &mut Vec<u8>,
+    said: &mut Sayings,
     of: Subject,
     name: &str,
     period: u32,
@@ -48,8 +56,13 @@ fn put_divides(
     if common % period.max(1) == 0 {
         return Ok(());
     }
+    let units = said.units;
+    let (period, common) = (
+        units.slots(u64::from(period)),
+        units.slots(u64::from(common)),
+    );
     writeln!(
-        text,
+        said.faults,
         "{of}: {name} is {period}, and has to divide common, which is {common}."
     )
 }
@@ -123,24 +136,38 @@ fn put_margins(
 /// Writes the demand of all tasks.
 fn put_sum(said: &mut Sayings, of: Subject, demand: u64, common: u32) -> io::Result<()> {
     let common = u64::from(common);
+    let units = said.units;
+    let (all, asked) = (units.slots(common), units.slots(demand));
     if demand <= common {
-        let left = common - demand;
+        let left = units.slots(common - demand);
         writeln!(
             said.figures,
-            "{of}: of each {common} slots all tasks take at most {demand}: {left} to spare."
+            "{of}: of each {all} slots all tasks take at most {asked}: {left} to spare."
         )
     } else {
-        let missing = demand - common;
+        let missing = units.slots(demand - common);
         writeln!(
             said.faults,
-            "{of}: of each {common} slots all tasks may take {demand}: {missing} missing."
+            "{of}: of each {all} slots all tasks may take {asked}: {missing} missing."
         )
     }
 }
 
+/// Writes which part of a die's slots is taken, where the length of a slot is known.
+fn put_share(said: &mut Sayings, of: Subject, demand: u64, common: u32) -> io::Result<()> {
+    if said.units.slot_us.is_none() {
+        return Ok(());
+    }
+    let share = Share {
+        part: demand,
+        whole: u64::from(common),
+    };
+    writeln!(said.figures, "{of}: that is {share} of its slots.")
+}
+
 /// Writes the periods that don't divide the hyperperiod, and the least one that all of them divide.
 fn put_undivided(
-    text: &mut Vec<u8>,
+    said: &mut Sayings,
     die: u32,
     names: &[TaskName],
     times: &Times,
@@ -148,20 +175,63 @@ fn put_undivided(
     let tasks = times.tasks.as_slice();
     for task in 0..tasks.len().min(names.len()) {
         let (of, own) = (Subject::Task(names[task]), tasks[task]);
-        put_divides(text, of, "period", own.period, times.common)?;
-        put_divides(text, of, "collect_period", own.collect_period, times.common)?;
+        put_divides(said, of, "period", own.period, times.common)?;
+        put_divides(said, of, "collect_period", own.collect_period, times.common)?;
     }
     let of = Subject::Die(die);
     match least_common(Periods::All, tasks) {
-        Some(least) => writeln!(
-            text,
-            "{of}: the least common that all its periods divide is {least}."
-        ),
-        None => writeln!(
-            text,
-            "{of}: all its periods divide no common up to {MAX_SLOT}."
-        ),
+        Some(least) => {
+            let least = said.units.slots(u64::from(least));
+            writeln!(
+                said.faults,
+                "{of}: the least common that all its periods divide is {least}."
+            )
+        }
+        None => {
+            let most = said.units.slots(u64::from(MAX_SLOT));
+            writeln!(
+                said.faults,
+                "{of}: all its periods divide no common up to {most}."
+            )
+        }
     }
+}
+
+/// Writes it of one task.
+fn put_rate(said: &mut Sayings, of: Subject, task: &TaskTimes) -> io::Result<()> {
+    let Units {
+        slot_us: Some(slot_us),
+        page_bytes: Some(page_bytes),
+    } = said.units
+    else {
+        return Ok(());
+    };
+    let slots = task.period;
+    let written = Rate {
+        pages: task.writes,
+        page_bytes,
+        slots,
+        slot_us,
+    };
+    let other = Rate {
+        pages: task.work.saturating_sub(task.writes),
+        page_bytes,
+        slots,
+        slot_us,
+    };
+    writeln!(
+        said.figures,
+        "{of}: its jobs write at most {written}, and read at most {other} beside."
+    )
+}
+
+/// Writes what each task writes, and reads or trims, in MB/s, where the length of a slot and the bytes of a page are known.
+fn put_rates(said: &mut Sayings, names: &[TaskName], times: &Times) -> io::Result<()> {
+    let tasks = times.tasks.as_slice();
+    for task in 0..tasks.len().min(names.len()) {
+        put_rate(said, Subject::Task(names[task]), &tasks[task])?;
+    }
+    Ok(())
 }
 
 /// Writes the demand of each task and of all of them, where all periods divide the hyperperiod.
@@ -176,10 +246,12 @@ fn put_divided(
     let tasks = times.tasks.as_slice();
     for task in 0..tasks.len().min(names.len()) {
         let of = Subject::Task(names[task]);
-        let taken = put_taken(&mut said.figures, of, plan, times.common, &tasks[task])?;
+        let taken = put_taken(said, of, plan, times.common, &tasks[task])?;
         demand = demand.saturating_add(taken);
     }
-    put_sum(said, Subject::Die(die), demand, times.common)
+    put_sum(said, Subject::Die(die), demand, times.common)?;
+    put_share(said, Subject::Die(die), demand, times.common)?;
+    put_rates(said, names, times)
 }
 
 /// Writes the margins of each task.
@@ -210,6 +282,6 @@ pub fn put_load(
     if are_divisors(Periods::All, times.tasks.as_slice(), times.common) {
         put_divided(said, die, names, plan, times)
     } else {
-        put_undivided(&mut said.faults, die, names, times)
+        put_undivided(said, die, names, times)
     }
 }

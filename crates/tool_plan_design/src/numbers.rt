@@ -47,7 +47,7 @@ fn with_own(tasks: TimesList, task: u32, own: TaskTimes) -> TimesList
 }
 
 /// The times of a task; a task that the plan doesn't have asks for nothing.
-fn task_times(times: &Times, task: u32) -> TaskTimes
+pub(crate) fn task_times(times: &Times, task: u32) -> TaskTimes
     ensures { result ≡ times_of times.now task }
 {
     match times.tasks.get(task as usize) {

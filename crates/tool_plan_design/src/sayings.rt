@@ -3,24 +3,28 @@
 ghost use Rattle.std.specs.Prelude.{◌≡◌, ◌++◌, ℕ, List, OnOk};
 ghost use Rattle.tool_plan_design.specs.Findings.{findings_text};
 
-use crate::findings::Finding;
+use crate::findings::{Finding, Timed};
 use std::alloc::Global;
 use std::io;
 use std::io::Write;
+use tool_slot_times::Units;
 
 /// What is said of a plan: first its faults, with what would mend them, and then what its numbers come to.
 #[derive(Drop)]
 pub struct Sayings {
     pub faults: Vec<u8>,
     pub figures: Vec<u8>,
+    /// What is known of a slot and of a page.
+    pub units: Units,
 }
 
 impl Sayings {
     /// Nothing. It takes no memory.
-    pub fn new(alloc: Global) -> Sayings {
+    pub fn new(alloc: Global, units: Units) -> Sayings {
         Sayings {
             faults: Vec::new(alloc),
             figures: Vec::new(alloc),
+            units,
         }
     }
 
@@ -35,10 +39,16 @@ impl Sayings {
 }
 
 /// Adds what was found of a plan to a text, a line each.
-pub fn put_findings(text: &mut Vec<u8>, findings: &[Finding]) -> io::Result<()>
-    ensures { OnOk result (text.new.items ≡ text.old.items ++ findings_text findings.now) }
+pub fn put_findings(
+    text: &mut Vec<u8>,
+    findings: &[Finding],
+    slot_us: Option<u32>,
+) -> io::Result<()>
+    ensures { OnOk result (text.new.items
+        ≡ text.old.items ++ findings_text slot_us findings.now) }
 {
-    for finding in findings {
+    for of in findings {
+        let finding = Timed { of: *of, slot_us };
         writeln!(text, "{finding}")?;
     }
     Ok(())

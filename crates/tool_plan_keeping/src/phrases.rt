@@ -4,10 +4,15 @@ use crate::die_rows::Line;
 use slot_types::{DiePlan, MAX_SLOT};
 use std::io;
 use std::io::Write;
+use tool_slot_times::Slots;
 
 /// Tells which row it is.
-pub fn put_row(text: &mut Vec<u8>, die: u32, line: &Line) -> io::Result<()> {
-    let (record, at, task) = (line.record, line.at, line.task);
+pub fn put_row(text: &mut Vec<u8>, die: u32, line: &Line, slot_us: Option<u32>) -> io::Result<()> {
+    let (record, task) = (line.record, line.task);
+    let at = Slots {
+        count: u64::from(line.at),
+        slot_us,
+    };
     write!(
         text,
         "die {die} record {record} slot {at} task {task} breaks its plan: "
@@ -71,7 +76,12 @@ pub fn put_missing(
     task: u32,
     slot: u32,
     period: u32,
+    slot_us: Option<u32>,
 ) -> io::Result<()> {
+    let slot = Slots {
+        count: u64::from(slot),
+        slot_us,
+    };
     writeln!(
         text,
         "die {die} slot {slot} task {task} breaks its plan: no collection comes, and one has to at each multiple of {period}"

@@ -85,6 +85,7 @@ struct Reported<'a> {
     plan: &'a DiePlan,
     lines: &'a [Line],
     slots: u32,
+    slot_us: Option<u32>,
 }
 
 impl Reported<'_> {
@@ -105,16 +106,19 @@ impl Reported<'_> {
     fn put_came(&self, text: &mut Vec<u8>, task: u32, slot: u32, came: usize) -> io::Result<()> {
         match second_of(self.lines, task, slot) {
             Some(line) => {
-                put_row(text, self.die, &line)?;
+                put_row(text, self.die, &line, self.slot_us)?;
                 writeln!(text, "{came} collections come in this slot, and 1 may")
             }
-            None => put_missing(text, self.die, task, slot, self.own(task).collect_period),
+            None => {
+                let period = self.own(task).collect_period;
+                put_missing(text, self.die, task, slot, period, self.slot_us)
+            }
         }
     }
 
     /// Tells what breaks the plan at a row.
     fn put_at(&self, text: &mut Vec<u8>, line: &Line, breach: Breach) -> io::Result<()> {
-        put_row(text, self.die, line)?;
+        put_row(text, self.die, line, self.slot_us)?;
         let own = self.own(line.task);
         match breach {
             Breach::Job { rule, .. } => put_job(text, self.plan, own, line, rule),
@@ -152,13 +156,14 @@ impl Reported<'_> {
 }
 
 /// What breaks the plan of a die, in a sentence: the record, its slot and its task, what is asked, and what the plan
-/// allows.
+/// allows. The slot is followed by its time, where it is known how many us one takes.
 pub fn sentence(
     alloc: Global,
     text: &[u8],
     plan: &StorePlan,
     slots: u32,
     broken: Broken,
+    slot_us: Option<u32>,
 ) -> Result<Vec<u8>, Refusal> {
     let mut said = Vec::new(alloc);
     let lines = die_lines(alloc, text, plan, slots, broken.die)?;
@@ -170,6 +175,7 @@ pub fn sentence(
         plan: own,
         lines: &lines,
         slots,
+        slot_us,
     };
     match reported.put(&mut said, broken.breach) {
         Ok(()) => Ok(said),

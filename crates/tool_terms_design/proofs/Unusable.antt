@@ -1,5 +1,5 @@
 -- What is said of a die that may not be used.
-use Rattle.std.proofs.Common.{◌≡◌, ◌∙◌, ℕ, List, ◌++◌, Result, Ok, Err, IfOk, refl, append_assoc}
+use Rattle.std.proofs.Common.{◌≡◌, ◌∙◌, ℕ, List, ◌++◌, Option, Result, Ok, Err, IfOk, refl, append_assoc}
 use Rattle.terms_texts.specs.Stores.{die_of}
 use Rattle.terms_texts.specs.declared.faults.DieFault.{DieFault}
 use Rattle.terms_texts.specs.declared.faults.TermsRefusal.{TermsRefusal}
@@ -15,18 +15,18 @@ if_ok (Ok x) holds then = then x holds
 if_ok (Err e) holds then = holds
 
 -- its numbers were added, and then why
-pub numbers-and-fault : (die : ℕ) (made : DieTerms) (fault : DieFault) (start middle end : List ℕ) → middle ≡ start ++ numbers_text die made
+pub numbers-and-fault : (us : Option ℕ) (die : ℕ) (made : DieTerms) (fault : DieFault) (start middle end : List ℕ) → middle ≡ start ++ numbers_text us die made
     → (why : List ℕ) × ExplainsDieFault die made fault why × (end ≡ middle ++ why)
-    → (said : List ℕ) × ExplainsUnusable die made fault said × (end ≡ start ++ said)
-numbers-and-fault die made fault start middle end numbers (why, explained, put) = (
-  numbers_text die made ++ why,
+    → (said : List ℕ) × ExplainsUnusable us die made fault said × (end ≡ start ++ said)
+numbers-and-fault us die made fault start middle end numbers (why, explained, put) = (
+  numbers_text us die made ++ why,
   record { why = why; explained = explained; is = refl },
-  put ∙ rw numbers (append_assoc start (numbers_text die made) why),
+  put ∙ rw numbers (append_assoc start (numbers_text us die made) why),
 )
 
 -- that of the first such die of a text
-pub refusal-of-die : (read : Result TermsNumbers TermsRefusal) (numbers : TermsNumbers) (die : ℕ) (fault : DieFault) (start end : List ℕ)
+pub refusal-of-die : (us : Option ℕ) (read : Result TermsNumbers TermsRefusal) (numbers : TermsNumbers) (die : ℕ) (fault : DieFault) (start end : List ℕ)
     → read ≡ Ok numbers
-    → (said : List ℕ) × ExplainsUnusable die (die_of numbers die) fault said × (end ≡ start ++ said)
-    → (said : List ℕ) × ExplainsRefusal read (Die die fault) said × (end ≡ start ++ said)
-refusal-of-die read numbers die fault start end is (said, explained, put) = (said, rw is explained, put)
+    → (said : List ℕ) × ExplainsUnusable us die (die_of numbers die) fault said × (end ≡ start ++ said)
+    → (said : List ℕ) × ExplainsRefusal us read (Die die fault) said × (end ≡ start ++ said)
+refusal-of-die us read numbers die fault start end is (said, explained, put) = (said, rw is explained, put)

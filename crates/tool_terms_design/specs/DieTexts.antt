@@ -1,11 +1,14 @@
 -- What is said of a die with terms: its numbers, and what its tests answer, in sentences of a line each.
-use Rattle.std.specs.Prelude.{ℕ, ◌+◌, ◌-◌, ◌*◌, ◌/◌, List, [], ◌∷◌, ◌++◌, flat_map, codes, decimal, slice_index_or}
+use Rattle.std.specs.Prelude.{ℕ, ◌+◌, ◌-◌, ◌*◌, ◌/◌, List, [], ◌∷◌, ◌++◌, flat_map, codes, decimal, Option, slice_index_or}
 use Rattle.std.specs.List.{enumerate_from}
 use Rattle.plan_rules.specs.Times.{collection_work}
 use Rattle.slot_types.specs.declared.plans.DiePlan.{DiePlan}
 use Rattle.demand_rules.specs.declared.demands.DemandLoad.{DemandLoad}
 use Rattle.demand_rules.specs.declared.terms.TaskTerms.{TaskTerms}
 use Rattle.terms_texts.specs.declared.stores.DieTerms.{DieTerms}
+use Rattle.tool_slot_times.specs.Times.{slots_text}
+
+-- In these texts a number of slots is followed by its time, where it is known how many us a slot takes.
 
 -- the end of a sentence, and of its line
 abbrev pub full_stop : List ℕ
@@ -27,24 +30,35 @@ abbrev pub die_line : ℕ → DiePlan → List ℕ
 die_line die plan = of_die die ++ plan_line plan
 
 -- a task's numbers: what its jobs ask for, and its collections
-abbrev pub jobs_line : ℕ → TaskTerms → List ℕ
-jobs_line cap t = codes "cap " ++ decimal cap ++ codes ", period " ++ decimal t.period ++ codes ", deadline " ++ decimal t.deadline
-    ++ codes ", held " ++ decimal t.held ++ codes ", work " ++ decimal t.work
+abbrev pub coming_text : Option ℕ → ℕ → TaskTerms → List ℕ
+coming_text us cap t = codes "cap " ++ decimal cap ++ codes ", period " ++ slots_text us t.period
 
-abbrev pub collections_line : TaskTerms → List ℕ
-collections_line t = codes ", writes " ++ decimal t.writes ++ codes ", collect_period " ++ decimal t.collect_period
-    ++ codes ", collect_deadline " ++ decimal t.collect_deadline ++ full_stop
+abbrev pub due_text : Option ℕ → TaskTerms → List ℕ
+due_text us t = codes ", deadline " ++ slots_text us t.deadline ++ codes ", held " ++ slots_text us t.held
 
-abbrev pub task_line : (die task cap : ℕ) → TaskTerms → List ℕ
-task_line die task cap t = of_task die task ++ jobs_line cap t ++ collections_line t
+abbrev pub work_text : TaskTerms → List ℕ
+work_text t = codes ", work " ++ decimal t.work
+
+abbrev pub collections_text : Option ℕ → TaskTerms → List ℕ
+collections_text us t = codes ", writes " ++ decimal t.writes ++ codes ", collect_period " ++ slots_text us t.collect_period
+    ++ codes ", collect_deadline " ++ slots_text us t.collect_deadline
+
+abbrev pub jobs_line : Option ℕ → ℕ → TaskTerms → List ℕ
+jobs_line us cap t = coming_text us cap t ++ due_text us t ++ work_text t
+
+abbrev pub collections_line : Option ℕ → TaskTerms → List ℕ
+collections_line us t = collections_text us t ++ full_stop
+
+abbrev pub task_line : Option ℕ → (die task cap : ℕ) → TaskTerms → List ℕ
+task_line us die task cap t = of_task die task ++ jobs_line us cap t ++ collections_line us t
 
 -- those of all tasks
-abbrev pub task_lines : ℕ → List ℕ → List TaskTerms → List ℕ
-task_lines die caps tasks = flat_map (λ (p : ℕ × TaskTerms). task_line die p.0 (slice_index_or caps p.0 0) p.1) (enumerate_from 0 tasks)
+abbrev pub task_lines : Option ℕ → ℕ → List ℕ → List TaskTerms → List ℕ
+task_lines us die caps tasks = flat_map (λ (p : ℕ × TaskTerms). task_line us die p.0 (slice_index_or caps p.0 0) p.1) (enumerate_from 0 tasks)
 
 -- the numbers of a die and of its tasks
-abbrev pub numbers_text : ℕ → DieTerms → List ℕ
-numbers_text die made = die_line die made.plan ++ task_lines die made.plan.caps made.terms.tasks
+abbrev pub numbers_text : Option ℕ → ℕ → DieTerms → List ℕ
+numbers_text us die made = die_line die made.plan ++ task_lines us die made.plan.caps made.terms.tasks
 
 -- what all tasks ask for in the long run, of a million slots
 abbrev pub load_text : ℕ → List ℕ
@@ -54,16 +68,24 @@ abbrev pub load_line : ℕ → DemandLoad → List ℕ
 load_line die found = of_die die ++ load_text found.load
 
 -- and of the tightest interval
-abbrev pub tightest_text : (slots demand slack : ℕ) → List ℕ
-tightest_text slots demand slack = codes "the tightest interval has " ++ decimal slots ++ codes " slots, of which " ++ decimal demand
-    ++ codes " may be asked for: " ++ decimal slack ++ codes " to spare" ++ full_stop
+abbrev pub interval_text : Option ℕ → ℕ → List ℕ
+interval_text us slots = codes "the tightest interval has " ++ slots_text us slots ++ codes " slots"
 
-abbrev pub tightest_line : ℕ → DemandLoad → List ℕ
-tightest_line die found = of_die die ++ tightest_text found.tightest (found.tightest - found.slack) found.slack
+abbrev pub asked_text : Option ℕ → ℕ → List ℕ
+asked_text us demand = codes ", of which " ++ slots_text us demand ++ codes " may be asked for"
 
-abbrev pub collection_line : ℕ → DiePlan → List ℕ
-collection_line die plan =
-    of_die die ++ (codes "a collection takes at most " ++ decimal (collection_work plan) ++ codes " slots" ++ full_stop)
+abbrev pub spare_text : Option ℕ → ℕ → List ℕ
+spare_text us slack = codes ": " ++ slots_text us slack ++ codes " to spare" ++ full_stop
+
+abbrev pub tightest_text : Option ℕ → (slots demand slack : ℕ) → List ℕ
+tightest_text us slots demand slack = (interval_text us slots ++ asked_text us demand) ++ spare_text us slack
+
+abbrev pub tightest_line : Option ℕ → ℕ → DemandLoad → List ℕ
+tightest_line us die found = of_die die ++ tightest_text us found.tightest (found.tightest - found.slack) found.slack
+
+abbrev pub collection_line : Option ℕ → ℕ → DiePlan → List ℕ
+collection_line us die plan =
+    of_die die ++ (codes "a collection takes at most " ++ slots_text us (collection_work plan) ++ codes " slots" ++ full_stop)
 
 -- what a task's cap has to cover: what it may write in a period and in as many slots as a job may be held, and two
 -- collections; rounded up
@@ -95,7 +117,7 @@ supply_lines die plan tasks =
     flat_map (λ (p : ℕ × TaskTerms). supply_line die p.0 plan (slice_index_or plan.caps p.0 0) p.1) (enumerate_from 0 tasks)
 
 -- what is said of a die that passes its tests
-abbrev pub passing_text : ℕ → DieTerms → DemandLoad → List ℕ
-passing_text die made found =
-    numbers_text die made ++ collection_line die made.plan ++ load_line die found ++ tightest_line die found
+abbrev pub passing_text : Option ℕ → ℕ → DieTerms → DemandLoad → List ℕ
+passing_text us die made found =
+    numbers_text us die made ++ collection_line us die made.plan ++ load_line die found ++ tightest_line us die found
     ++ supply_lines die made.plan made.terms.tasks

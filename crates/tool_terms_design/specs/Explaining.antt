@@ -18,16 +18,16 @@ use Rattle.tool_terms_design.specs.DieTexts.{full_stop, numbers_text, passing_te
 use Rattle.tool_terms_design.specs.FaultTexts.{bound_text, shape_text, stray_text, terms_text, text_fault}
 
 -- the numbers of a die that passes, with what the demand test answers
-pub record ExplainsDie (die : ℕ) (made : DieTerms) (said : List ℕ) : Type 0 where
+pub record ExplainsDie (us : Option ℕ) (die : ℕ) (made : DieTerms) (said : List ℕ) : Type 0 where
   pub found : DemandLoad
   pub tested : IsDemandLoad made.plan made.terms found
-  pub is : said ≡ passing_text die made found
+  pub is : said ≡ passing_text us die made found
 
 -- those of dies, the first of which has this number
-abbrev pub ExplainsDies : ℕ → List DieTerms → List ℕ → Type 0
-ExplainsDies die [] said = said ≡ []
-ExplainsDies die (made ∷ more) said =
-    (first rest : List ℕ) × (said ≡ first ++ rest) × ExplainsDie die made first × ExplainsDies (die + 1) more rest
+abbrev pub ExplainsDies : Option ℕ → ℕ → List DieTerms → List ℕ → Type 0
+ExplainsDies us die [] said = said ≡ []
+ExplainsDies us die (made ∷ more) said =
+    (first rest : List ℕ) × (said ≡ first ++ rest) × ExplainsDie us die made first × ExplainsDies us (die + 1) more rest
 
 -- how far the logical pages, the blocks and the caps of a die may change by its bound, and the terms of its tasks
 pub record SaysChanges (made : DieTerms) (die : ℕ) (said : List ℕ) : Type 0 where
@@ -51,11 +51,11 @@ SaysAllMargins plan (suc die) said =
     (first last : List ℕ) × SaysAllMargins plan die first × SaysDieMargins plan die last × (said ≡ first ++ last)
 
 -- the plan makes a store, of whose dies this is said
-pub record ExplainsStore (plan : TermsNumbers) (text : List ℕ) : Type 0 where
+pub record ExplainsStore (us : Option ℕ) (plan : TermsNumbers) (text : List ℕ) : Type 0 where
   pub store : List DieTerms
   pub made : IsStore plan store
   pub said : List ℕ
-  pub dies : ExplainsDies 0 store said
+  pub dies : ExplainsDies us 0 store said
   pub more : List ℕ
   pub margins : SaysAllMargins plan plan.top.dies more
   pub is : text ≡ (codes "The plan is accepted" ++ full_stop) ++ said ++ more
@@ -69,28 +69,28 @@ ExplainsDieFault die made (die_fault.Terms fault) said = (margins : List ℕ) ×
     × (said ≡ terms_text die fault ++ margins)
 
 -- the numbers of a die that may not be used, and why
-pub record ExplainsUnusable (die : ℕ) (made : DieTerms) (fault : DieFault) (said : List ℕ) : Type 0 where
+pub record ExplainsUnusable (us : Option ℕ) (die : ℕ) (made : DieTerms) (fault : DieFault) (said : List ℕ) : Type 0 where
   pub why : List ℕ
   pub explained : ExplainsDieFault die made fault why
-  pub is : said ≡ numbers_text die made ++ why
+  pub is : said ≡ numbers_text us die made ++ why
 
 -- why the text makes no store
-abbrev pub ExplainsRefusal : Result TermsNumbers TermsRefusal → TermsRefusal → List ℕ → Type 0
-ExplainsRefusal read (Text cause place) said = said ≡ text_fault cause place
-ExplainsRefusal read BadShape said = said ≡ shape_text
-ExplainsRefusal read (NoDie task) said = said ≡ stray_text task
-ExplainsRefusal read (Die die fault) said = IfOk read (λ plan. ExplainsUnusable die (die_of plan die) fault said)
-ExplainsRefusal read (Outside refusal) said = ⊥
+abbrev pub ExplainsRefusal : Option ℕ → Result TermsNumbers TermsRefusal → TermsRefusal → List ℕ → Type 0
+ExplainsRefusal us read (Text cause place) said = said ≡ text_fault cause place
+ExplainsRefusal us read BadShape said = said ≡ shape_text
+ExplainsRefusal us read (NoDie task) said = said ≡ stray_text task
+ExplainsRefusal us read (Die die fault) said = IfOk read (λ plan. ExplainsUnusable us die (die_of plan die) fault said)
+ExplainsRefusal us read (Outside refusal) said = ⊥
 
 -- the text makes no store: its refusal by name, and why
-pub record ExplainsRefused (read : Result TermsNumbers TermsRefusal) (text : List ℕ) : Type 0 where
+pub record ExplainsRefused (us : Option ℕ) (read : Result TermsNumbers TermsRefusal) (text : List ℕ) : Type 0 where
   pub refusal : TermsRefusal
   pub refuses : RefusesText read refusal
   pub said : List ℕ
-  pub why : ExplainsRefusal read refusal said
+  pub why : ExplainsRefusal us read refusal said
   pub is : text ≡ (codes "The plan is refused: " ++ refusal_text (refusal_of refusal) ++ full_stop) ++ said
 
--- what is said of a plan's text: whether it makes a store whose dies pass their tests
-abbrev pub ExplainsTerms : List ℕ → Bool → List ℕ → Type 0
-ExplainsTerms plan true text = (numbers : TermsNumbers) × (read_numbers plan ≡ Ok numbers) × ExplainsStore numbers text
-ExplainsTerms plan false text = ExplainsRefused (read_numbers plan) text
+-- what is said of a plan's text, where a slot takes so many us if that is known: whether it makes a store whose dies pass their tests
+abbrev pub ExplainsTerms : Option ℕ → List ℕ → Bool → List ℕ → Type 0
+ExplainsTerms us plan true text = (numbers : TermsNumbers) × (read_numbers plan ≡ Ok numbers) × ExplainsStore us numbers text
+ExplainsTerms us plan false text = ExplainsRefused us (read_numbers plan) text

@@ -38,27 +38,32 @@ fn written(put: io::Result<()>) -> Result<(), Refusal>
 }
 
 /// Adds what is said of a die that passes its tests. The only refusal is NoMemory.
-fn put_die(text: &mut Vec<u8>, die: usize, made: &DieTerms) -> Result<(), Refusal>
+fn put_die(
+    text: &mut Vec<u8>,
+    die: usize,
+    made: &DieTerms,
+    slot_us: Option<u32>,
+) -> Result<(), Refusal>
     requires { IsUsable made.now }
-    ensures said { IfOk result (λ _. (said : List ℕ) × ExplainsDie die made.now said
+    ensures said { IfOk result (λ _. (said : List ℕ) × ExplainsDie slot_us die made.now said
         × (text.new.items ≡ text.old.items ++ said)) }
     ensures refused { FailsForMemory result }
 {
     let Ok(found) = terms_test(&made.plan, &made.terms) else {
         return Err(Refusal::NoMemory);
     };
-    written(put_passing(text, die, made, &found))
+    written(put_passing(text, die, made, &found, slot_us))
 }
 
 /// Adds what is said of dies that pass theirs. The only refusal is NoMemory.
-fn put_dies(text: &mut Vec<u8>, dies: &[DieTerms]) -> Result<(), Refusal>
+fn put_dies(text: &mut Vec<u8>, dies: &[DieTerms], slot_us: Option<u32>) -> Result<(), Refusal>
     requires { All IsUsable dies.now }
-    ensures said { IfOk result (λ _. (said : List ℕ) × ExplainsDies 0 dies.now said
+    ensures said { IfOk result (λ _. (said : List ℕ) × ExplainsDies slot_us 0 dies.now said
         × (text.new.items ≡ text.old.items ++ said)) }
     ensures refused { FailsForMemory result }
 {
     for die in 0..dies.len() {
-        put_die(text, die, &dies[die])?;
+        put_die(text, die, &dies[die], slot_us)?;
     }
     Ok(())
 }
@@ -104,9 +109,14 @@ fn put_all_changes(alloc: Global, text: &mut Vec<u8>, numbers: &TermsNumbers) ->
 }
 
 /// What is said of a store whose dies pass their tests. The only refusal is NoMemory.
-fn accepted(alloc: Global, plan: &[u8], dies: &[DieTerms]) -> Result<Vec<u8>, Refusal>
+fn accepted(
+    alloc: Global,
+    plan: &[u8],
+    dies: &[DieTerms],
+    slot_us: Option<u32>,
+) -> Result<Vec<u8>, Refusal>
     requires { All IsUsable dies.now }
-    ensures said { IfOk result (λ text. (said : List ℕ) × ExplainsDies 0 dies.now said
+    ensures said { IfOk result (λ text. (said : List ℕ) × ExplainsDies slot_us 0 dies.now said
         × (numbers : TermsNumbers) × (read_numbers plan.now ≡ Ok numbers)
         × (more : List ℕ) × SaysAllMargins numbers numbers.top.dies more
         × (text.items ≡ (codes "The plan is accepted" ++ full_stop) ++ said ++ more)) }
@@ -117,7 +127,7 @@ fn accepted(alloc: Global, plan: &[u8], dies: &[DieTerms]) -> Result<Vec<u8>, Re
     };
     let mut text = Vec::new(alloc);
     written(writeln!(text, "The plan is accepted."))?;
-    put_dies(&mut text, dies)?;
+    put_dies(&mut text, dies, slot_us)?;
     put_all_changes(alloc, &mut text, &numbers)?;
     Ok(text)
 }
@@ -154,11 +164,17 @@ fn put_die_fault(text: &mut Vec<u8>, die: usize, made: DieTerms, fault: DieFault
 }
 
 /// Adds the numbers of a die that may not be used, and why.
-fn put_unusable(text: &mut Vec<u8>, die: usize, made: DieTerms, fault: DieFault) -> io::Result<()>
-    ensures { OnOk result ((said : List ℕ) × ExplainsUnusable die made fault said
+fn put_unusable(
+    text: &mut Vec<u8>,
+    die: usize,
+    made: DieTerms,
+    fault: DieFault,
+    slot_us: Option<u32>,
+) -> io::Result<()>
+    ensures { OnOk result ((said : List ℕ) × ExplainsUnusable slot_us die made fault said
         × (text.new.items ≡ text.old.items ++ said)) }
 {
-    put_numbers(text, die, &made)?;
+    put_numbers(text, die, &made, slot_us)?;
     put_die_fault(text, die, made, fault)
 }
 
@@ -169,14 +185,15 @@ fn put_planned(
     numbers: &TermsNumbers,
     die: u32,
     fault: DieFault,
+    slot_us: Option<u32>,
 ) -> Result<(), Refusal>
     ensures said { IfOk result (λ _. (said : List ℕ)
-        × ExplainsUnusable die (die_of numbers.now die) fault said
+        × ExplainsUnusable slot_us die (die_of numbers.now die) fault said
         × (text.new.items ≡ text.old.items ++ said)) }
     ensures refused { FailsForMemory result }
 {
     let made = die_terms(alloc, numbers, die)?;
-    written(put_unusable(text, die as usize, made, fault))
+    written(put_unusable(text, die as usize, made, fault, slot_us))
 }
 
 /// Adds those of a die of a text that is read. The only refusal is NoMemory.
@@ -186,16 +203,17 @@ fn put_first(
     plan: &[u8],
     die: u32,
     fault: DieFault,
+    slot_us: Option<u32>,
 ) -> Result<(), Refusal>
     ensures said { IfOk result (λ _. (said : List ℕ)
-        × ExplainsRefusal (read_numbers plan.now) (TermsRefusal.Die die fault) said
+        × ExplainsRefusal slot_us (read_numbers plan.now) (TermsRefusal.Die die fault) said
         × (text.new.items ≡ text.old.items ++ said)) }
     ensures refused { FailsForMemory result }
 {
     let Ok(numbers) = terms_numbers(alloc, plan) else {
         return Err(Refusal::NoMemory);
     };
-    put_planned(alloc, text, &numbers, die, fault)
+    put_planned(alloc, text, &numbers, die, fault, slot_us)
 }
 
 /// Adds why a text makes no store. The only refusal is NoMemory.
@@ -204,8 +222,9 @@ fn put_refusal(
     text: &mut Vec<u8>,
     plan: &[u8],
     refusal: TermsRefusal,
+    slot_us: Option<u32>,
 ) -> Result<(), Refusal>
-    ensures said { IfOk result (λ _. (said : List ℕ) × ExplainsRefusal (read_numbers plan.now) refusal said
+    ensures said { IfOk result (λ _. (said : List ℕ) × ExplainsRefusal slot_us (read_numbers plan.now) refusal said
         × (text.new.items ≡ text.old.items ++ said)) }
     ensures refused { FailsForMemory result }
 {
@@ -214,13 +233,18 @@ fn put_refusal(
         TermsRefusal::Text { cause, place } => written(put_text_fault(text, cause, place)),
         TermsRefusal::BadShape => written(put_shape(text)),
         TermsRefusal::NoDie { task } => written(put_stray(text, task)),
-        TermsRefusal::Die { die, fault } => put_first(alloc, text, plan, die, fault),
+        TermsRefusal::Die { die, fault } => put_first(alloc, text, plan, die, fault, slot_us),
     }
 }
 
 /// What is said of a text that makes no store. The only refusal is NoMemory.
-fn refused(alloc: Global, plan: &[u8], refusal: TermsRefusal) -> Result<Vec<u8>, Refusal>
-    ensures said { IfOk result (λ text. (said : List ℕ) × ExplainsRefusal (read_numbers plan.now) refusal said
+fn refused(
+    alloc: Global,
+    plan: &[u8],
+    refusal: TermsRefusal,
+    slot_us: Option<u32>,
+) -> Result<Vec<u8>, Refusal>
+    ensures said { IfOk result (λ text. (said : List ℕ) × ExplainsRefusal slot_us (read_numbers plan.now) refusal said
         × (text.items
         ≡ (codes "The plan is refused: " ++ refusal_text (refusal_of refusal) ++ full_stop) ++ said)) }
     ensures refused { FailsForMemory result }
@@ -228,7 +252,7 @@ fn refused(alloc: Global, plan: &[u8], refusal: TermsRefusal) -> Result<Vec<u8>,
     let mut text = Vec::new(alloc);
     let name = refusal.refusal();
     written(writeln!(text, "The plan is refused: {name}."))?;
-    put_refusal(alloc, &mut text, plan, refusal)?;
+    put_refusal(alloc, &mut text, plan, refusal, slot_us)?;
     Ok(text)
 }
 
@@ -238,19 +262,20 @@ fn refused(alloc: Global, plan: &[u8], refusal: TermsRefusal) -> Result<Vec<u8>,
 /// spare, and by task what its collections give and what its cap has to cover; and then by die how far its logical pages,
 /// its blocks and its caps may change by its bound, and by task how far its terms may, one at a time. If it isn't, what is wrong first: the fault of the text and where it lies; or the
 /// numbers of the first die that doesn't meet its bound, has a number out of its limits or doesn't pass its tests, why, and
-/// what would do. The only refusal is NoMemory.
-pub fn explain_terms(alloc: Global, plan: &[u8]) -> Result<Explained, Refusal>
+/// what would do. Periods, deadlines, a collection's slots and the tightest interval are followed by their times, where it
+/// is known how many us a slot takes. The only refusal is NoMemory.
+pub fn explain_terms(alloc: Global, plan: &[u8], slot_us: Option<u32>) -> Result<Explained, Refusal>
     ensures said { IfOk result (λ explained.
-        ExplainsTerms plan.now explained.is_accepted explained.text.items) }
+        ExplainsTerms slot_us plan.now explained.is_accepted explained.text.items) }
     ensures refused { FailsForMemory result }
 {
     match read_terms(alloc, plan) {
         Ok(store) => Ok(Explained {
-            text: accepted(alloc, plan, store.as_slice())?,
+            text: accepted(alloc, plan, store.as_slice(), slot_us)?,
             is_accepted: true,
         }),
         Err(refusal) => Ok(Explained {
-            text: refused(alloc, plan, refusal)?,
+            text: refused(alloc, plan, refusal, slot_us)?,
             is_accepted: false,
         }),
     }

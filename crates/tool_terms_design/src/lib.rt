@@ -7,6 +7,7 @@ mod kinds;
 mod laws;
 mod loads;
 mod numbers;
+mod timed;
 
 pub use explained::explain_terms;
 pub use kinds::is_terms_text;

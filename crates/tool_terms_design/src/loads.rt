@@ -8,7 +8,7 @@ ghost use Rattle.demand_rules.specs.Faults.{IsDemandLoad};
 ghost use Rattle.terms_texts.specs.Stores.{IsUsable};
 ghost use Rattle.tool_terms_design.specs.DieTexts.{collection_line, gain_line, gain_text, least_cap, load_line, load_text};
 ghost use Rattle.tool_terms_design.specs.DieTexts.{passing_text, stock_line, stock_text, supply_line, supply_lines};
-ghost use Rattle.tool_terms_design.specs.DieTexts.{tightest_line, tightest_text};
+ghost use Rattle.tool_terms_design.specs.DieTexts.{asked_text, interval_text, spare_text, tightest_line, tightest_text};
 
 use crate::numbers::{cap_of, put_die, put_numbers, put_task};
 use demand_rules::{DemandLoad, TaskTerms};
@@ -16,14 +16,24 @@ use slot_types::DiePlan;
 use std::io;
 use std::io::Write;
 use terms_texts::DieTerms;
+use tool_slot_times::Slots;
 
 /// Adds the most slots of a collection.
-fn put_collection(text: &mut Vec<u8>, die: usize, plan: &DiePlan) -> io::Result<()>
+fn put_collection(
+    text: &mut Vec<u8>,
+    die: usize,
+    plan: &DiePlan,
+    slot_us: Option<u32>,
+) -> io::Result<()>
     requires { MeetsBound plan.now }
-    ensures { OnOk result (text.new.items ≡ text.old.items ++ collection_line die plan.now) }
+    ensures { OnOk result (text.new.items ≡ text.old.items ++ collection_line slot_us die plan.now) }
 {
     put_die(text, die)?;
-    let slots = 2 * (plan.shape.pages - plan.alpha) + plan.shape.erase_slots;
+    let work = 2 * (plan.shape.pages - plan.alpha) + plan.shape.erase_slots;
+    let slots = Slots {
+        count: u64::from(work),
+        slot_us,
+    };
     writeln!(text, "a collection takes at most {slots} slots.")
 }
 
@@ -45,24 +55,80 @@ fn put_die_load(text: &mut Vec<u8>, die: usize, found: &DemandLoad) -> io::Resul
     put_load(text, found.load)
 }
 
-/// Adds the tightest interval.
-fn put_tightest(text: &mut Vec<u8>, slots: u32, demand: u32, slack: u32) -> io::Result<()>
-    ensures { OnOk result (text.new.items ≡ text.old.items ++ tightest_text slots demand slack) }
+/// Adds how long an interval is.
+fn put_interval(text: &mut Vec<u8>, slots: u32, slot_us: Option<u32>) -> io::Result<()>
+    ensures { OnOk result (text.new.items ≡ text.old.items ++ interval_text slot_us slots) }
 {
-    writeln!(
-        text,
-        "the tightest interval has {slots} slots, of which {demand} may be asked for: {slack} to spare."
-    )
+    let slots = Slots {
+        count: u64::from(slots),
+        slot_us,
+    };
+    write!(text, "the tightest interval has {slots} slots")
+}
+
+/// Adds what may be asked of it.
+fn put_asked(text: &mut Vec<u8>, demand: u32, slot_us: Option<u32>) -> io::Result<()>
+    ensures { OnOk result (text.new.items ≡ text.old.items ++ asked_text slot_us demand) }
+{
+    let demand = Slots {
+        count: u64::from(demand),
+        slot_us,
+    };
+    write!(text, ", of which {demand} may be asked for")
+}
+
+/// Adds both.
+fn put_asked_interval(
+    text: &mut Vec<u8>,
+    slots: u32,
+    demand: u32,
+    slot_us: Option<u32>,
+) -> io::Result<()>
+    ensures { OnOk result (text.new.items
+        ≡ text.old.items ++ (interval_text slot_us slots ++ asked_text slot_us demand)) }
+{
+    put_interval(text, slots, slot_us)?;
+    put_asked(text, demand, slot_us)
+}
+
+/// Adds what is to spare of it.
+fn put_spare(text: &mut Vec<u8>, slack: u32, slot_us: Option<u32>) -> io::Result<()>
+    ensures { OnOk result (text.new.items ≡ text.old.items ++ spare_text slot_us slack) }
+{
+    let spare = Slots {
+        count: u64::from(slack),
+        slot_us,
+    };
+    writeln!(text, ": {spare} to spare.")
+}
+
+/// Adds the tightest interval.
+fn put_tightest(
+    text: &mut Vec<u8>,
+    tightest: u32,
+    demand: u32,
+    slack: u32,
+    slot_us: Option<u32>,
+) -> io::Result<()>
+    ensures { OnOk result (text.new.items ≡ text.old.items ++ tightest_text slot_us tightest demand slack) }
+{
+    put_asked_interval(text, tightest, demand, slot_us)?;
+    put_spare(text, slack, slot_us)
 }
 
 /// Adds that of a die.
-fn put_die_tightest(text: &mut Vec<u8>, die: usize, found: &DemandLoad) -> io::Result<()>
+fn put_die_tightest(
+    text: &mut Vec<u8>,
+    die: usize,
+    found: &DemandLoad,
+    slot_us: Option<u32>,
+) -> io::Result<()>
     requires { found.now.slack ≤ found.now.tightest }
-    ensures { OnOk result (text.new.items ≡ text.old.items ++ tightest_line die found.now) }
+    ensures { OnOk result (text.new.items ≡ text.old.items ++ tightest_line slot_us die found.now) }
 {
     put_die(text, die)?;
-    let (slots, slack) = (found.tightest, found.slack);
-    put_tightest(text, slots, slots - slack, slack)
+    let (tightest, slack) = (found.tightest, found.slack);
+    put_tightest(text, tightest, tightest - slack, slack, slot_us)
 }
 
 /// The least cap that would do. Within their limits its numbers stay below 2^60.
@@ -160,14 +226,15 @@ pub fn put_passing(
     die: usize,
     made: &DieTerms,
     found: &DemandLoad,
+    slot_us: Option<u32>,
 ) -> io::Result<()>
     requires usable { IsUsable made.now }
     requires tested { IsDemandLoad made.now.plan made.now.terms found.now }
-    ensures { OnOk result (text.new.items ≡ text.old.items ++ passing_text die made.now found.now) }
+    ensures { OnOk result (text.new.items ≡ text.old.items ++ passing_text slot_us die made.now found.now) }
 {
-    put_numbers(text, die, made)?;
-    put_collection(text, die, &made.plan)?;
+    put_numbers(text, die, made, slot_us)?;
+    put_collection(text, die, &made.plan, slot_us)?;
     put_die_load(text, die, found)?;
-    put_die_tightest(text, die, found)?;
+    put_die_tightest(text, die, found, slot_us)?;
     put_supplies(text, die, &made.plan, made.terms.tasks.as_slice())
 }

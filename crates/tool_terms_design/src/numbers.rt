@@ -2,8 +2,9 @@
 
 ghost use Rattle.std.specs.Prelude.{◌≡◌, ◌++◌, OnOk, slice_index_or};
 ghost use Rattle.tool_terms_design.specs.DieTexts.{collections_line, die_line, jobs_line, numbers_text, of_die, of_task};
-ghost use Rattle.tool_terms_design.specs.DieTexts.{plan_line, task_line, task_lines};
+ghost use Rattle.tool_terms_design.specs.DieTexts.{plan_line, task_line, task_lines, work_text};
 
+use crate::timed::{Collections, ComingJobs, DueJobs};
 use demand_rules::TaskTerms;
 use slot_types::DiePlan;
 use std::io;
@@ -55,26 +56,36 @@ fn put_die_line(text: &mut Vec<u8>, die: usize, plan: &DiePlan) -> io::Result<()
     put_plan(text, plan)
 }
 
-/// Adds what a task's jobs ask for.
-fn put_jobs(text: &mut Vec<u8>, cap: u32, task: &TaskTerms) -> io::Result<()>
-    ensures { OnOk result (text.new.items ≡ text.old.items ++ jobs_line cap task.now) }
+/// Adds how many operations may be released in a period.
+fn put_work(text: &mut Vec<u8>, task: TaskTerms) -> io::Result<()>
+    ensures { OnOk result (text.new.items ≡ text.old.items ++ work_text task) }
 {
-    let (period, deadline, held, work) = (task.period, task.deadline, task.held, task.work);
-    write!(
-        text,
-        "cap {cap}, period {period}, deadline {deadline}, held {held}, work {work}"
-    )
+    let work = task.work;
+    write!(text, ", work {work}")
+}
+
+/// Adds what a task's jobs ask for.
+fn put_jobs(text: &mut Vec<u8>, cap: u32, task: &TaskTerms, slot_us: Option<u32>) -> io::Result<()>
+    ensures { OnOk result (text.new.items ≡ text.old.items ++ jobs_line slot_us cap task.now) }
+{
+    let terms = *task;
+    let coming = ComingJobs {
+        cap,
+        terms,
+        slot_us,
+    };
+    let due = DueJobs { terms, slot_us };
+    write!(text, "{coming}{due}")?;
+    put_work(text, terms)
 }
 
 /// Adds what a task's jobs write, and its collections.
-fn put_collections(text: &mut Vec<u8>, task: &TaskTerms) -> io::Result<()>
-    ensures { OnOk result (text.new.items ≡ text.old.items ++ collections_line task.now) }
+fn put_collections(text: &mut Vec<u8>, task: &TaskTerms, slot_us: Option<u32>) -> io::Result<()>
+    ensures { OnOk result (text.new.items ≡ text.old.items ++ collections_line slot_us task.now) }
 {
-    let (writes, every, within) = (task.writes, task.collect_period, task.collect_deadline);
-    writeln!(
-        text,
-        ", writes {writes}, collect_period {every}, collect_deadline {within}."
-    )
+    let terms = *task;
+    let collections = Collections { terms, slot_us };
+    writeln!(text, "{collections}.")
 }
 
 /// Adds the numbers of a task.
@@ -84,12 +95,13 @@ fn put_task_line(
     task: usize,
     cap: u32,
     terms: &TaskTerms,
+    slot_us: Option<u32>,
 ) -> io::Result<()>
-    ensures { OnOk result (text.new.items ≡ text.old.items ++ task_line die task cap terms.now) }
+    ensures { OnOk result (text.new.items ≡ text.old.items ++ task_line slot_us die task cap terms.now) }
 {
     put_task(text, die, task)?;
-    put_jobs(text, cap, terms)?;
-    put_collections(text, terms)
+    put_jobs(text, cap, terms, slot_us)?;
+    put_collections(text, terms, slot_us)
 }
 
 /// Adds the numbers of a die's tasks.
@@ -98,18 +110,24 @@ fn put_task_lines(
     die: usize,
     caps: &[u32],
     tasks: &[TaskTerms],
+    slot_us: Option<u32>,
 ) -> io::Result<()>
-    ensures { OnOk result (text.new.items ≡ text.old.items ++ task_lines die caps.now tasks.now) }
+    ensures { OnOk result (text.new.items ≡ text.old.items ++ task_lines slot_us die caps.now tasks.now) }
 {
     for task in 0..tasks.len() {
-        put_task_line(text, die, task, cap_of(caps, task), &tasks[task])?;
+        put_task_line(text, die, task, cap_of(caps, task), &tasks[task], slot_us)?;
     }
     Ok(())
 }
 
 /// Adds the numbers of a die and of its tasks.
-pub fn put_numbers(text: &mut Vec<u8>, die: usize, made: &DieTerms) -> io::Result<()>
-    ensures { OnOk result (text.new.items ≡ text.old.items ++ numbers_text die made.now) }
+pub fn put_numbers(
+    text: &mut Vec<u8>,
+    die: usize,
+    made: &DieTerms,
+    slot_us: Option<u32>,
+) -> io::Result<()>
+    ensures { OnOk result (text.new.items ≡ text.old.items ++ numbers_text slot_us die made.now) }
 {
     put_die_line(text, die, &made.plan)?;
     put_task_lines(
@@ -117,5 +135,6 @@ pub fn put_numbers(text: &mut Vec<u8>, die: usize, made: &DieTerms) -> io::Resul
         die,
         made.plan.caps.as_slice(),
         made.terms.tasks.as_slice(),
+        slot_us,
     )
 }

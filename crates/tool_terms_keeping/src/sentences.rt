@@ -147,6 +147,7 @@ struct Reported<'a> {
     made: &'a DieTerms,
     lines: &'a [Line],
     slots: u32,
+    slot_us: Option<u32>,
 }
 
 impl Reported<'_> {
@@ -171,7 +172,7 @@ impl Reported<'_> {
         let Some(line) = row_of(self.lines, index) else {
             return Ok(());
         };
-        put_row(text, self.die, &line)?;
+        put_row(text, self.die, &line, self.slot_us)?;
         put_job(text, self.made, &self.own(line.task), &line, rule)
     }
 
@@ -185,7 +186,7 @@ impl Reported<'_> {
         let Some(line) = row_of(self.lines, index) else {
             return Ok(());
         };
-        put_row(text, self.die, &line)?;
+        put_row(text, self.die, &line, self.slot_us)?;
         let own = self.own(line.task);
         put_collection(text, self.made, &own, &line, self.slots, rule)
     }
@@ -207,7 +208,7 @@ impl Reported<'_> {
         let window = Window { task, start, end };
         match window.excess(count, limit, self.lines) {
             Some(Excess { line, counted }) => {
-                put_row(text, self.die, &line)?;
+                put_row(text, self.die, &line, self.slot_us)?;
                 put_excess(text, count, counted, &window, limit)
             }
             None => Ok(()),
@@ -218,11 +219,14 @@ impl Reported<'_> {
     fn put_came(&self, text: &mut Vec<u8>, task: u32, slot: u32) -> io::Result<()> {
         match second_of(self.lines, task, slot) {
             Some(line) => {
-                put_row(text, self.die, &line)?;
+                put_row(text, self.die, &line, self.slot_us)?;
                 let came = came(self.lines, task, slot);
                 writeln!(text, "{came} collections come in this slot, and 1 may")
             }
-            None => put_missing(text, self.die, task, slot, self.own(task).collect_period),
+            None => {
+                let period = self.own(task).collect_period;
+                put_missing(text, self.die, task, slot, period, self.slot_us)
+            }
         }
     }
 
@@ -230,7 +234,7 @@ impl Reported<'_> {
     fn put_many(&self, text: &mut Vec<u8>) -> io::Result<()> {
         match self.lines.get(MAX_JOBS as usize) {
             Some(line) => {
-                put_row(text, self.die, line)?;
+                put_row(text, self.die, line, self.slot_us)?;
                 writeln!(
                     text,
                     "{MAX_JOBS} jobs and collections come before it, and no more may"
@@ -262,13 +266,14 @@ impl Reported<'_> {
 }
 
 /// What breaks the plan of a die, in a sentence: the record, its slot and its task, what is asked, and what the plan
-/// allows. It refuses what the reader of scripts refuses, and NoMemory.
+/// allows. The slot is followed by its time, where it is known how many us one takes. It refuses what the reader of scripts refuses, and NoMemory.
 pub fn sentence(
     alloc: Global,
     text: &[u8],
     store: &StoreTerms,
     slots: u32,
     broken: Broken,
+    slot_us: Option<u32>,
 ) -> Result<Vec<u8>, Refusal> {
     let mut said = Vec::new(alloc);
     let plans = plans_of(alloc, store)?;
@@ -281,6 +286,7 @@ pub fn sentence(
         made,
         lines: &lines,
         slots,
+        slot_us,
     };
     match reported.put(&mut said, broken.breach) {
         Ok(()) => Ok(said),

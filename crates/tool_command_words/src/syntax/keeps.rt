@@ -4,6 +4,7 @@ ghost use Rattle.std.specs.Prelude.{IfOk};
 ghost use Rattle.tool_command_words.specs.Syntax.{IsCommand, keeps_app, keeps_files_app};
 
 use crate::syntax::parts::{command, on_files, with_arg};
+use crate::syntax::shared::slot_us;
 use clap::Command;
 use command_arguments::slots;
 use std::alloc::{AllocError, Global};
@@ -26,5 +27,6 @@ fn keeps_files<'a>(alloc: Global) -> Result<Command<'a>, AllocError>
 pub(crate) fn keeps_words<'a>(alloc: Global) -> Result<Command<'a>, AllocError>
     ensures { IfOk result (λ c. IsCommand c keeps_app) }
 {
-    with_arg(keeps_files(alloc), slots(alloc))
+    let long = with_arg(keeps_files(alloc), slots(alloc));
+    with_arg(long, slot_us(alloc))
 }

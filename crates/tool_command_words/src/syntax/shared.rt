@@ -3,7 +3,7 @@
 ghost use Rattle.std.specs.Prelude.{◌≡◌, false, codes};
 ghost use Rattle.clap.specs.Words.{rule_of};
 ghost use Rattle.command_arguments.specs.Arguments.{flag_rule, option_rule};
-ghost use Rattle.tool_command_words.specs.Syntax.{die_rule, list_rule};
+ghost use Rattle.tool_command_words.specs.Syntax.{count_rule, die_rule, list_rule};
 
 use clap::{Arg, ArgAction};
 use command_arguments::{defaulted, flag, option, required};
@@ -35,6 +35,20 @@ pub(crate) fn begun_from<'a>(alloc: Global) -> Arg<'a>
         "from",
         "CHECKPOINT",
         "The checkpoint from which the dies go on, a CSV file; - is standard input",
+    )
+}
+
+/// How long a slot of a plan takes.
+pub(crate) fn slot_us<'a>(alloc: Global) -> Arg<'a>
+    ensures rule { rule_of result ≡ count_rule (codes "slot-us") }
+    ensures local { result.global ≡ false }
+{
+    defaulted(
+        alloc,
+        "slot-us",
+        "U",
+        "0",
+        "How many microseconds a slot takes, from 0 to 1048576; 0 is as the plan's first line says, if it does",
     )
 }
 

@@ -5,5 +5,5 @@ use Rattle.tool_commands.proofs.explaining.explained_of.Goals as goal
 pub returns-clause-said : goal.returns-clause-said
 returns-clause-said g c =
     let read : IfSome (g.R.Read.remaining c.args.plan) (λ bytes. c.in_ok-text.text.items ≡ take 1048577 bytes) = search rules in
-    says_of (g.R.Read.remaining c.args.plan) c.in_ok-text.text.items c.deref.result.now c.said_of.result read c.deref.ensures.value
+    says_of c.args.asked.slot_us (g.R.Read.remaining c.args.plan) c.in_ok-text.text.items c.deref.result.now c.said_of.result read c.deref.ensures.value
     c.said_of.ensures.said

@@ -11,11 +11,11 @@ loop-die-preserved c =
     let d = c.index-dies-die.result in
     let before = c.loop-die.invariant in
     let added = c.in_ok-put_die.ensures.said in
-    let explained : ExplainsDie die (get_or dies die d) added.0 = rw (← c.index-dies-die.is) added.1 in (
+    let explained : ExplainsDie c.args.slot_us die (get_or dies die d) added.0 = rw (← c.index-dies-die.is) added.1 in (
       before.0 ++ added.0,
       added.2 ∙ rw before.1 (append_assoc c.args.text.now.items before.0 added.0),
       λ rest more. rw (append_assoc before.0 added.0 rest)
-          (before.2 (added.0 ++ rest) (dies-from dies die d added.0 rest c.loop-die-test.true explained more)),
+          (before.2 (added.0 ++ rest) (dies-from c.args.slot_us dies die d added.0 rest c.loop-die-test.true explained more)),
     )
 
 pub returns-clause-said : goal.returns-clause-said

@@ -7,5 +7,5 @@ use Rattle.tool_terms_design.proofs.numbers.put_task_lines.Given as goal
 
 abbrev pub invariant-loop-task : goal.invariant-loop-task
 invariant-loop-task l =
-    l.text.items ++ flat_map (λ (p : ℕ × TaskTerms). task_line l.die p.0 (slice_index_or l.caps p.0 0) p.1) (enumerate_from l.task (drop l.task l.tasks))
-    ≡ l.initial.text.items ++ task_lines l.die l.caps l.tasks
+    l.text.items ++ flat_map (λ (p : ℕ × TaskTerms). task_line l.slot_us l.die p.0 (slice_index_or l.caps p.0 0) p.1) (enumerate_from l.task (drop l.task l.tasks))
+    ≡ l.initial.text.items ++ task_lines l.slot_us l.die l.caps l.tasks

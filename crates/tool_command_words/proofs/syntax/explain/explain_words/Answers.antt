@@ -2,5 +2,5 @@ use Rattle.tool_command_words.proofs.syntax.explain.explain_words.Goals as goal
 
 pub returns : goal.returns
 returns c =
-    let planned = c.with_arg-planned.ensures _ _ c.command-command.ensures c.plan_file.ensures.rule in
-    c.with_arg.ensures _ _ planned c.begun_from.ensures.rule
+    let timed = c.with_arg-timed.ensures _ _ c.explain_files.ensures c.slot_us.ensures.rule in
+    c.with_arg.ensures _ _ timed c.page_bytes.ensures.rule
