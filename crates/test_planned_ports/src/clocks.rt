@@ -1,0 +1,48 @@
+//! The clock, which carries each slot out once the careful task had its turn to ask in it.
+
+ghost use Rattle.std.specs.Prelude.{◌≡◌};
+
+use flash_die::Nand;
+use planned_ports::{ClockPort, SharedPlannedDie};
+use std::sync::{Barrier, Wait};
+
+/// Carries so many slots out, each between two arrivals at the gate. It answers how many were.
+pub(crate) fn tick<N: Nand, R: Wait>(
+    rt: &R,
+    die: &SharedPlannedDie<N>,
+    clock: ClockPort<N>,
+    slots: u32,
+    gate: &Barrier,
+) -> (ClockPort<N>, u32)
+    requires { clock.lock ≡ die.now }
+    ensures { result.0.lock ≡ die.now }
+{
+    let (mut clock, mut carried) = (clock, 0u32);
+    for _ in 0..slots {
+        gate.wait(rt);
+        if clock.slot(rt, die).is_ok() {
+            carried = carried.saturating_add(1);
+        }
+        gate.wait(rt);
+    }
+    (clock, carried)
+}
+
+/// Carries so many slots out, at once. It answers how many were.
+pub(crate) fn carry<N: Nand, R: Wait>(
+    rt: &R,
+    die: &SharedPlannedDie<N>,
+    clock: &mut ClockPort<N>,
+    slots: u32,
+) -> u32
+    requires { clock.old.lock ≡ die.now }
+    ensures { clock.new.lock ≡ die.now }
+{
+    let mut carried = 0u32;
+    for _ in 0..slots {
+        if clock.slot(rt, die).is_ok() {
+            carried = carried.saturating_add(1);
+        }
+    }
+    carried
+}
