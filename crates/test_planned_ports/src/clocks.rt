@@ -1,32 +1,10 @@
-//! The clock, which carries each slot out once the careful task had its turn to ask in it.
+//! The clock, which carries slots out.
 
 ghost use Rattle.std.specs.Prelude.{◌≡◌};
 
 use flash_die::Nand;
 use planned_ports::{ClockPort, SharedPlannedDie};
-use std::sync::{Barrier, Wait};
-
-/// Carries so many slots out, each between two arrivals at the gate. It answers how many were.
-pub(crate) fn tick<N: Nand, R: Wait>(
-    rt: &R,
-    die: &SharedPlannedDie<N>,
-    clock: ClockPort<N>,
-    slots: u32,
-    gate: &Barrier,
-) -> (ClockPort<N>, u32)
-    requires { clock.lock ≡ die.now }
-    ensures { result.0.lock ≡ die.now }
-{
-    let (mut clock, mut carried) = (clock, 0u32);
-    for _ in 0..slots {
-        gate.wait(rt);
-        if clock.slot(rt, die).is_ok() {
-            carried = carried.saturating_add(1);
-        }
-        gate.wait(rt);
-    }
-    (clock, carried)
-}
+use std::sync::Wait;
 
 /// Carries so many slots out, at once. It answers how many were.
 pub(crate) fn carry<N: Nand, R: Wait>(

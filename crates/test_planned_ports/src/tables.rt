@@ -93,7 +93,7 @@ fn done_in(alloc: Global, die: &OngoingDie<MemoryNand>, job: u32) -> u32 {
     }
 }
 
-/// The careful task asks in slot 75 of a life, before the die is closed; and after it was opened again.
+/// The first task asks in slot 75 of a life, before the die is closed; and after it was opened again.
 #[rattlefmt::skip]
 const BEFORE: &[Step] = &[
     Slots { count: 75 },
