@@ -19,6 +19,8 @@ mod faults;
 #[cfg(test)]
 mod going_on;
 #[cfg(test)]
+mod going_on_bursts;
+#[cfg(test)]
 mod lives;
 #[cfg(test)]
 mod loud_tasks;

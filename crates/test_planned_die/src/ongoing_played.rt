@@ -16,11 +16,23 @@ fn taken_as(taken: &Taken) -> Answer {
         Taken::Enters {
             release,
             due,
-            number,
+            first,
+            jobs: 1,
         } => Answer::Enters {
             release: *release,
             due: *due,
-            number: number.0,
+            number: first.0,
+        },
+        Taken::Enters {
+            release,
+            due,
+            first,
+            jobs,
+        } => Answer::EnterAll {
+            release: *release,
+            due: *due,
+            first: first.0,
+            jobs: *jobs,
         },
         Taken::Waits { release, due } => Answer::Waits {
             release: *release,
@@ -182,6 +194,10 @@ fn goes<N: Nand, R: Abort>(
         Turn::Asks { task, ops, want } => {
             said.same(&numbered(die.ask(alloc, *task, TaskNo(*task), *ops)), want)
         }
+        Turn::AsksAll { task, ops, want } => said.same(
+            &numbered(die.ask_all(alloc, *task, TaskNo(*task), *ops)),
+            want,
+        ),
         Turn::Carries { jobs } => carries(said, die, alloc, *jobs),
         Turn::Slots { count } => slots(said, die, alloc, *count),
         Turn::Babbles { slots } => babbles(said, die, alloc, *slots),

@@ -3,11 +3,26 @@
 use ongoing_die::{AskStop, SlotStop};
 use slot_types::Op;
 
-/// What an ask is answered that isn't refused, with the job's number in its life.
+/// What an ask is answered that isn't refused, with the numbers of its jobs in their life.
 #[derive(Clone, Copy, PartialEq, Eq, Debug, Drop)]
 pub(crate) enum Answer {
-    Enters { release: u64, due: u64, number: u32 },
-    Waits { release: u64, due: u64 },
+    /// One job.
+    Enters {
+        release: u64,
+        due: u64,
+        number: u32,
+    },
+    /// Several.
+    EnterAll {
+        release: u64,
+        due: u64,
+        first: u32,
+        jobs: u32,
+    },
+    Waits {
+        release: u64,
+        due: u64,
+    },
 }
 
 /// A step of a table. A `want` is the answer.
@@ -15,6 +30,12 @@ pub(crate) enum Answer {
 pub(crate) enum Turn<'a> {
     /// A task asks for a job.
     Asks {
+        task: u32,
+        ops: &'a [Op],
+        want: Result<Answer, AskStop>,
+    },
+    /// A task asks for a burst.
+    AsksAll {
         task: u32,
         ops: &'a [Op],
         want: Result<Answer, AskStop>,

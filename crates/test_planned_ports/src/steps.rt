@@ -1,0 +1,142 @@
+//! Plays a table at the ports of both tasks and the clock.
+
+ghost use Rattle.std.specs.Prelude.{◌≡◌};
+
+use crate::clocks::carry;
+use crate::heard::{Heard, as_heard};
+use crate::shared::{Ports, close_two, open_two};
+use crate::wrong::Wrong;
+use flash_die::Nand;
+use ongoing_die::OngoingDie;
+use planned_ports::{PageRange, SharedPlannedDie, TaskPort};
+use slot_types::Op;
+use std::alloc::Global;
+use std::sync::Wait;
+
+/// Which of the two tasks.
+#[derive(Clone, Copy, Drop)]
+pub(crate) enum Task {
+    First,
+    Second,
+}
+
+/// A step of a table. A `want` is what the port is answered.
+#[derive(Drop)]
+pub(crate) enum Step {
+    /// A task asks for a job.
+    Asks {
+        task: Task,
+        ops: &'static [Op],
+        want: Heard,
+    },
+    /// A task asks for a burst.
+    AsksAll {
+        task: Task,
+        ops: &'static [Op],
+        want: Heard,
+    },
+    /// So many slots are carried out.
+    Slots {
+        count: u32,
+    },
+}
+
+/// What this port is answered, to a job or to a burst.
+fn answered<N: Nand, R: Wait>(
+    rt: &R,
+    die: &SharedPlannedDie<N>,
+    port: &mut TaskPort<N>,
+    is_burst: bool,
+    ops: &[Op],
+) -> Heard
+    requires { port.old.lock ≡ die.now }
+    ensures { port.new.lock ≡ die.now }
+{
+    if is_burst {
+        as_heard(port.ask_all(rt, die, ops))
+    } else {
+        as_heard(port.ask(rt, die, ops))
+    }
+}
+
+/// What the port of this task is.
+fn hears<N: Nand, R: Wait>(
+    rt: &R,
+    die: &SharedPlannedDie<N>,
+    ports: &mut Ports<N>,
+    task: Task,
+    is_burst: bool,
+    ops: &[Op],
+) -> Heard
+    requires clock { ports.old.clock.lock ≡ die.now }
+    requires first { ports.old.first.lock ≡ die.now }
+    requires second { ports.old.second.lock ≡ die.now }
+    ensures clock { ports.new.clock.lock ≡ die.now }
+    ensures first { ports.new.first.lock ≡ die.now }
+    ensures second { ports.new.second.lock ≡ die.now }
+{
+    match task {
+        Task::First => answered(rt, die, &mut ports.first, is_burst, ops),
+        Task::Second => answered(rt, die, &mut ports.second, is_burst, ops),
+    }
+}
+
+/// Plays a step. It answers whether it went as it says.
+fn goes<N: Nand, R: Wait>(
+    rt: &R,
+    die: &SharedPlannedDie<N>,
+    ports: &mut Ports<N>,
+    step: &Step,
+) -> bool
+    requires clock { ports.old.clock.lock ≡ die.now }
+    requires first { ports.old.first.lock ≡ die.now }
+    requires second { ports.old.second.lock ≡ die.now }
+    ensures clock { ports.new.clock.lock ≡ die.now }
+    ensures first { ports.new.first.lock ≡ die.now }
+    ensures second { ports.new.second.lock ≡ die.now }
+{
+    match step {
+        Step::Asks { task, ops, want } => hears(rt, die, ports, *task, false, *ops) == *want,
+        Step::AsksAll { task, ops, want } => hears(rt, die, ports, *task, true, *ops) == *want,
+        Step::Slots { count } => carry(rt, die, &mut ports.clock, *count) == *count,
+    }
+}
+
+/// Plays all steps, up to the first that goes otherwise.
+fn play<N: Nand, R: Wait>(
+    rt: &R,
+    die: &SharedPlannedDie<N>,
+    ports: &mut Ports<N>,
+    steps: &[Step],
+) -> Result<(), Wrong>
+    requires clock { ports.old.clock.lock ≡ die.now }
+    requires first { ports.old.first.lock ≡ die.now }
+    requires second { ports.old.second.lock ≡ die.now }
+    ensures clock { ports.new.clock.lock ≡ die.now }
+    ensures first { ports.new.first.lock ≡ die.now }
+    ensures second { ports.new.second.lock ≡ die.now }
+{
+    let mut place = 0usize;
+    for step in steps {
+        place = place.saturating_add(1);
+        if !goes(rt, die, ports, step) {
+            return Err(Wrong::Step { step: place });
+        }
+    }
+    Ok(())
+}
+
+/// Opens a die, plays the steps at its ports, and closes it.
+pub(crate) fn plays<N: Nand, R: Wait>(
+    rt: &R,
+    alloc: Global,
+    die: Box<OngoingDie<N>>,
+    ranges: &[Option<PageRange>],
+    steps: &[Step],
+) -> Result<Box<OngoingDie<N>>, Wrong> {
+    let mut shared = open_two(rt, alloc, die, ranges)?;
+    let played = play(rt, &shared.die, &mut shared.ports, steps);
+    let closed = close_two(rt, alloc, shared);
+    played?;
+    closed
+}
