@@ -426,7 +426,8 @@ uint32_t mg_mount_place(mg_mount *mount, uint32_t page, struct mg_cell *place);
 uint32_t mg_mount_end(mg_mount *mount, const struct mg_name *names, size_t name_count, mg_die *die);
 
 /* What the label of the next program bears, of the one that has begun, too. It rises by one with each program that is ended: from
- * 1 on, or of a mounted die from the first serial that its mount left. A program that failed stops its die. */
+ * 1 on, or of a mounted die from the first serial that its mount left. A program that failed stops its die. So a driver with labels
+ * goes on by a mount after a shutdown, too, and not by mg_resume, whose die would number from 1 on again. */
 uint64_t mg_serial(const mg_die *die);
 
 /* The number that the part gives a block of the die: its last block's where a block stands aside in its place. */

@@ -117,7 +117,22 @@ fn writes(alloc: Global, die: &mut SteppedDie, chip: &Chip, aside: u32) -> Resul
     Ok(())
 }
 
-/// The die that begins where a mount ended has each page with its bytes, and may write at once.
+/// It reads each page with its bytes, and may write at once.
+fn goes_on(
+    alloc: Global,
+    sizes: Sizes,
+    die: &mut SteppedDie,
+    chip: &Chip,
+    held: &Held,
+    aside: u32,
+) -> Result<(), Wrong> {
+    for page in 0..sizes.logical {
+        reads(alloc, die, chip, held, page)?;
+    }
+    writes(alloc, die, chip, aside)
+}
+
+/// The die that begins where a mount ended goes on with the pages of the part.
 pub fn check_die(
     alloc: Global,
     sizes: Sizes,
@@ -128,12 +143,8 @@ pub fn check_die(
     let end = end_of(alloc, mount)?;
     let names = names(alloc, sizes, held)?;
     let plan = plan_of(alloc, sizes)?;
-    let mut die = match SteppedDie::mounted(alloc, plan, &end, names.as_slice()) {
-        Ok(die) => die,
-        Err(_) => return Err(Wrong::Die),
-    };
-    for page in 0..sizes.logical {
-        reads(alloc, &mut die, chip, held, page)?;
+    match SteppedDie::mounted(alloc, plan, &end, names.as_slice()) {
+        Ok(mut die) => goes_on(alloc, sizes, &mut die, chip, held, end.aside),
+        Err(_) => Err(Wrong::Die),
     }
-    writes(alloc, &mut die, chip, end.aside)
 }
