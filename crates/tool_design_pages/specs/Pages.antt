@@ -1,5 +1,5 @@
 -- A page of a design: what it holds.
-use Rattle.std.specs.Prelude.{◌≡◌, ◌==◌, ◌⊎◌, ℕ, true, if◌then◌else◌, List, [], ◌∷◌, ◌++◌, flat_map, codes, Option, None, Some, Ok}
+use Rattle.std.specs.Prelude.{◌≡◌, ◌==◌, ◌⊎◌, ℕ, true, if◌then◌else◌, List, [], ◌∷◌, ◌++◌, flat_map, codes, None, Some, Ok}
 use Rattle.slot_types.specs.declared.plans.DiePlan.{DiePlan}
 use Rattle.plan_texts.specs.PlanText.{plan_of}
 use Rattle.plan_texts.specs.Stores.{IsStore}
