@@ -1,5 +1,5 @@
 -- A page of a design: what it holds.
-use Rattle.std.specs.Prelude.{◌≡◌, ◌==◌, ◌⊎◌, ℕ, if◌then◌else◌, List, [], ◌∷◌, ◌++◌, flat_map, codes, Option, None, Some, Ok}
+use Rattle.std.specs.Prelude.{◌≡◌, ◌==◌, ◌⊎◌, ℕ, true, if◌then◌else◌, List, [], ◌∷◌, ◌++◌, flat_map, codes, None, Some, Ok}
 use Rattle.slot_types.specs.declared.plans.DiePlan.{DiePlan}
 use Rattle.plan_texts.specs.PlanText.{plan_of}
 use Rattle.plan_texts.specs.Stores.{IsStore}
@@ -13,7 +13,7 @@ use Rattle.tool_plan_arrivals.specs.PlannedScripts.{IsPlannedScript}
 use Rattle.tool_plan_fit.specs.Fits.{IsPlanFor}
 use Rattle.tool_terms_keeping.specs.Verdicts.{IsKeptScript}
 use Rattle.tool_watched_runs.specs.Runs.{IsReportOf}
-use Rattle.tool_watched_runs.specs.declared.failing.Failure.{Failure}
+use Rattle.tool_watched_runs.specs.declared.script_runs.Reported.{Reported}
 
 -- a byte of a text as it stands in a page: `&`, `<`, `>` and `"` have names
 abbrev pub escape : ℕ → List ℕ
@@ -42,25 +42,26 @@ pub record AsksOfTerms (plan : List ℕ) (store : List DiePlan) (slots : ℕ) (s
   pub plans : store ≡ plans_in dies
   pub kept : IsKeptScript dies slots script
 
--- fresh dies of these plans ran the script and so many slots, on devices that fail nowhere
-pub record HasRun (store : List DiePlan) (script : List ℕ) (slots : ℕ) : Type 0 where
-  pub failure : Option Failure
-  pub ran : IsReportOf store (Some script) slots None failure
+-- the figures, as CSV, of fresh dies of these plans that ran the script and so many slots, on devices that fail nowhere
+pub record AreFiguresOf (store : List DiePlan) (script : List ℕ) (slots : ℕ) (figures : List ℕ) : Type 0 where
+  pub said : Reported
+  pub ran : IsReportOf store (Some script) slots None true said
+  pub is : figures ≡ said.text.items
 
--- a run of what the tasks of a plan's text may ask for
-pub record IsRunFor (plan : List ℕ) (slots : ℕ) : Type 0 where
+-- the figures are those of a run of what the tasks of a plan's text may ask for
+pub record IsRunFor (plan : List ℕ) (slots : ℕ) (figures : List ℕ) : Type 0 where
   pub store : List DiePlan
   pub script : List ℕ
   pub asks : AsksOfTimes plan store slots script ⊎ AsksOfTerms plan store slots script
-  pub ran : HasRun store script slots
+  pub ran : AreFiguresOf store script slots figures
 
--- a page has the plan's text whole, and then the figures of a run of it
+-- a page has the plan's text whole, and after it the figures of a run of it
 pub record HoldsDesign (plan page : List ℕ) : Type 0 where
   pub slots : ℕ
-  pub run : IsRunFor plan slots
+  pub figures : List ℕ
+  pub run : IsRunFor plan slots figures
   pub front : List ℕ
   pub between : List ℕ
-  pub figures : List ℕ
   pub back : List ℕ
   pub is : page ≡ front ++ escaped plan ++ between ++ escaped figures ++ back
 

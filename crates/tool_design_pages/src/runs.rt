@@ -7,7 +7,7 @@ ghost use Rattle.terms_texts.specs.TermsText.{read_numbers};
 ghost use Rattle.terms_texts.specs.declared.numbers.TermsNumbers.{TermsNumbers};
 ghost use Rattle.tool_plan_arrivals.specs.PlannedScripts.{IsPlannedScript};
 ghost use Rattle.tool_terms_keeping.specs.Verdicts.{IsKeptScript};
-ghost use Rattle.tool_design_pages.specs.Pages.{HasRun, IsRunFor};
+ghost use Rattle.tool_design_pages.specs.Pages.{AreFiguresOf, IsRunFor};
 
 use demand_rules::TaskTerms;
 use plan_texts::read_plan;
@@ -82,7 +82,7 @@ fn figures_of(
 ) -> Result<Vec<u8>, Refusal>
     requires few { slots ≤ MAX_SLOT }
     requires bound { All MeetsBound store }
-    ensures { IfOk result (λ _. HasRun store script.now slots) }
+    ensures { IfOk result (λ figures. AreFiguresOf store script.now slots figures.items) }
 {
     let Reported {
         text,
@@ -131,7 +131,7 @@ fn ran(
     requires few { run.slots ≤ MAX_SLOT }
     requires bound { All MeetsBound store }
     requires bound_again { All MeetsBound again }
-    ensures { IfOk result (λ _. HasRun store script.now run.slots) }
+    ensures { IfOk result (λ ran. AreFiguresOf store script.now run.slots ran.figures.items) }
 {
     let figures = figures_of(alloc, store, script, run.slots, life)?;
     let picture = picture_of(alloc, again, script, run)?;
@@ -167,7 +167,7 @@ fn script_of_terms(alloc: Global, store: &StoreTerms, slots: u32) -> Result<Vec<
 /// A run of a plan with times.
 fn run_times(alloc: Global, plan: &[u8], run: RunSlots, life: Life) -> Result<Run, Refusal>
     requires { run.slots ≤ MAX_SLOT }
-    ensures { IfOk result (λ _. IsRunFor plan.now run.slots) }
+    ensures { IfOk result (λ ran. IsRunFor plan.now run.slots ran.figures.items) }
 {
     let store = read_plan(alloc, plan)?;
     let script = script_of_times(alloc, &store, run.slots)?;
@@ -192,7 +192,7 @@ fn store_of_terms(alloc: Global, plan: &[u8]) -> Result<StoreTerms, Refusal>
 /// A run of a plan with terms.
 fn run_terms(alloc: Global, plan: &[u8], run: RunSlots, life: Life) -> Result<Run, Refusal>
     requires { run.slots ≤ MAX_SLOT }
-    ensures { IfOk result (λ _. IsRunFor plan.now run.slots) }
+    ensures { IfOk result (λ ran. IsRunFor plan.now run.slots ran.figures.items) }
 {
     let store = store_of_terms(alloc, plan)?;
     let script = script_of_terms(alloc, &store, run.slots)?;
@@ -206,7 +206,7 @@ fn run_terms(alloc: Global, plan: &[u8], run: RunSlots, life: Life) -> Result<Ru
 /// refusal has never been seen.
 pub(crate) fn run_of(alloc: Global, fitted: &Fitted, run: RunSlots) -> Result<Run, Refusal>
     requires { run.slots ≤ MAX_SLOT }
-    ensures { IfOk result (λ _. IsRunFor fitted.now.text.items run.slots) }
+    ensures { IfOk result (λ ran. IsRunFor fitted.now.text.items run.slots ran.figures.items) }
 {
     let life = match fitted.sheet.part.endurance {
         Some(endurance) => Life {
