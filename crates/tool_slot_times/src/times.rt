@@ -8,8 +8,11 @@ use std::fmt::{Display, Formatter, Write};
 
 /// How many us a ms, a s, a min and an h have.
 const MS: u64 = 1_000;
+
 const S: u64 = 1_000_000;
+
 const MIN: u64 = 60_000_000;
+
 const H: u64 = 3_600_000_000;
 
 /// Thousandths of a unit, below 1,000.
@@ -67,7 +70,10 @@ impl Display for Time {
         if us < 1_000 {
             write!(f, "{us} us")
         } else if us < 10_000_000 {
-            let parts = Parts { parts: us, unit: MS };
+            let parts = Parts {
+                parts: us,
+                unit: MS,
+            };
             write!(f, "{parts} ms")
         } else if us < 600_000_000 {
             let parts = Parts { parts: us, unit: S };

@@ -15,10 +15,10 @@ pub returns-else-slot_us-gt0-clause-slot : goal.returns-else-slot_us-gt0-clause-
 returns-else-slot_us-gt0-clause-slot c = record {
   said = tt;
   whole = λ us some small says.
-    let same : us ≡ c.in-Some.slot_us = same_Some us c.in-Some.slot_us (sym (c.number_in.ensures us small says) ∙ c.in-Some.is) in
-    absurd (elim c.else-slot_us-gt0.branch [
-      | else-slot_us-gt0-via-then-slot_us-gt0+in_ok-says_slot+else-branch w ↦
-          false≢true (sym w.if-branch.false ∙ w.in_ok-says_slot.ensures.says.1 (subst (SaysSlot c.args.text.now) same says))
-      | else-slot_us-gt0-via-else-slot_us-gt0 w ↦ omega (arith, same, some, w.if-slot_us-gt0.false)
-    ]);
+      let same : us ≡ c.in-Some.slot_us = same_Some us c.in-Some.slot_us (sym (c.number_in.ensures us small says) ∙ c.in-Some.is) in
+      absurd (elim c.else-slot_us-gt0.branch [
+        | else-slot_us-gt0-via-then-slot_us-gt0+in_ok-says_slot+else-branch w ↦
+            false≢true (sym w.if-branch.false ∙ w.in_ok-says_slot.ensures.says.1 (subst (SaysSlot c.args.text.now) same says))
+        | else-slot_us-gt0-via-else-slot_us-gt0 w ↦ omega (arith, same, some, w.if-slot_us-gt0.false)
+      ]);
 }
