@@ -10,8 +10,6 @@ mod by_hand;
 #[cfg(test)]
 mod chips;
 #[cfg(test)]
-mod ends;
-#[cfg(test)]
 mod large;
 #[cfg(test)]
 mod mounts;
