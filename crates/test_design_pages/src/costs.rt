@@ -26,7 +26,10 @@ const LARGE: MemoryShape = MemoryShape {
     has_times: false,
 };
 
-const fn work(slots: u32, jobs: u32, operations: u32) -> LifeWork {
+/// Slots, jobs and collections, operations.
+type Work = (u32, u32, u32);
+
+fn work((slots, jobs, operations): Work) -> LifeWork {
     LifeWork {
         slots,
         jobs,
@@ -35,23 +38,13 @@ const fn work(slots: u32, jobs: u32, operations: u32) -> LifeWork {
 }
 
 /// By die and work: at its birth, and with all of that reserved.
-const RESERVED: [(MemoryShape, LifeWork, u64, u64); 6] = [
-    (SMALL, work(1_000, 100, 400), 50_357, 99_969),
-    (SMALL, work(30_000, 2_000, 8_000), 50_357, 1_282_369),
-    (
-        SMALL,
-        work(1_048_576, 65_536, 1_048_576),
-        50_357,
-        71_091_393,
-    ),
-    (LARGE, work(1_000, 100, 400), 1_505_069, 1_554_681),
-    (LARGE, work(30_000, 2_000, 8_000), 1_505_069, 2_737_081),
-    (
-        LARGE,
-        work(1_048_576, 65_536, 1_048_576),
-        1_505_069,
-        72_546_105,
-    ),
+const RESERVED: [(MemoryShape, Work, u64, u64); 6] = [
+    (SMALL, (1_000, 100, 400), 50_357, 99_969),
+    (SMALL, (30_000, 2_000, 8_000), 50_357, 1_282_369),
+    (SMALL, (1_048_576, 65_536, 1_048_576), 50_357, 71_091_393),
+    (LARGE, (1_000, 100, 400), 1_505_069, 1_554_681),
+    (LARGE, (30_000, 2_000, 8_000), 1_505_069, 2_737_081),
+    (LARGE, (1_048_576, 65_536, 1_048_576), 1_505_069, 72_546_105),
 ];
 
 /// By die: a whole life with nothing reserved, and until it is resumed.
@@ -62,16 +55,16 @@ const OTHERS: [(MemoryShape, u64, u64); 2] = [
 
 #[test]
 fn a_die_takes_as_many_bytes_as_the_bindings_say(rt: HostRuntime) -> Result<(), Fail> {
-    for (shape, work, birth, reserved) in &RESERVED {
+    for (shape, own, birth, reserved) in &RESERVED {
         let DieMemory {
             birth: own_birth,
             reserved: own_reserved,
             ..
-        } = memory_of(shape, work);
+        } = memory_of(shape, &work(*own));
         assert!(rt; (own_birth, own_reserved) == (*birth, *reserved));
     }
     for (shape, life, resume) in &OTHERS {
-        let said = memory_of(shape, &work(1_048_576, 65_536, 1_048_576));
+        let said = memory_of(shape, &work((1_048_576, 65_536, 1_048_576)));
         assert!(rt; (said.life, said.resume) == (*life, *resume));
     }
     Ok(())
@@ -87,9 +80,9 @@ fn times_take_sixteen_bytes_a_task(rt: HostRuntime) -> Result<(), Fail> {
         tasks: 3,
         has_times: false,
     };
-    assert!(rt; memory_of(&shape, &work(0, 0, 0)).birth == 4_991);
+    assert!(rt; memory_of(&shape, &work((0, 0, 0))).birth == 4_991);
     shape.has_times = true;
-    assert!(rt; memory_of(&shape, &work(0, 0, 0)).birth == 5_055);
+    assert!(rt; memory_of(&shape, &work((0, 0, 0))).birth == 5_055);
     Ok(())
 }
 
