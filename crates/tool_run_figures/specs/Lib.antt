@@ -1,2 +1,8 @@
+pub mod FigureTexts
+pub mod SlotCounts
+pub mod Levels
 pub mod Ends
-pub mod Counts
+pub mod Ranks
+pub mod Wearing
+pub mod Records
+pub mod Csv

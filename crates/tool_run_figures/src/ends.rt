@@ -1,11 +1,14 @@
 //! What became of the jobs and collections of a die.
 
-ghost use Rattle.std.specs.Prelude.{◌≡◌};
-ghost use Rattle.tool_run_figures.specs.Ends.{how_many, is_of};
+ghost use Rattle.std.specs.Prelude.{◌≡◌, IfOk};
+ghost use Rattle.slot_types.specs.Refusal.{FailsForMemory};
+ghost use Rattle.tool_run_figures.specs.Ends.{AreEndCounts, how_many, is_of, late_by, lateness_in};
+ghost use Rattle.tool_run_figures.specs.Ranks.{IsRising};
 
-use std::alloc::{AllocError, Global};
+use slot_types::Refusal;
+use std::alloc::Global;
 
-/// What became of a job or a collection.
+/// What became of a job or a collection that was asked for.
 #[derive(Clone, Copy, PartialEq, Eq, Debug, Drop)]
 pub enum Ended {
     Waiting {
@@ -16,9 +19,11 @@ pub enum Ended {
         lateness: i64,
     },
     Waived,
+    /// It wasn't accepted.
+    Refused,
 }
 
-/// A job or a collection of a task, and what became of it.
+/// A job or a collection that a task asked for, and what became of it.
 #[derive(Clone, Copy, PartialEq, Eq, Debug, Drop)]
 pub struct JobEnd {
     pub task: u32,
@@ -26,26 +31,34 @@ pub struct JobEnd {
     pub ended: Ended,
 }
 
-/// How many jobs and collections there were.
-#[derive(Clone, Copy, Drop)]
-pub(crate) struct EndCounts {
-    pub(crate) waiting: u32,
+/// How many jobs and collections came to what.
+#[derive(Clone, Copy, PartialEq, Eq, Debug, Drop)]
+pub struct EndCounts {
+    /// Jobs.
+    pub done: u32,
+    pub waiting: u32,
+    pub refused: u32,
     /// Jobs that were done late, or wait past their deadline.
-    pub(crate) late: u32,
-    pub(crate) collected: u32,
-    pub(crate) waived: u32,
-    pub(crate) collecting: u32,
+    pub late: u32,
+    /// Collections.
+    pub collected: u32,
+    pub waived: u32,
+    pub collecting: u32,
+    pub uncollected: u32,
 }
 
 /// What is counted of jobs and collections.
 #[derive(Clone, Copy, Drop)]
 enum Kind {
+    DoneJob,
     WaitingJob,
+    RefusedJob,
     /// Done after its deadline, or waiting past it.
     LateJob,
     DoneCollection,
     WaivedCollection,
     WaitingCollection,
+    RefusedCollection,
 }
 
 impl Kind {
@@ -56,12 +69,15 @@ impl Kind {
         ensures { result ≡ is_kind self end.now }
     {
         match (self, end.ended) {
+            (Kind::DoneJob, Ended::Done { .. }) => !end.collects,
+            (Kind::RefusedJob, Ended::Refused) => !end.collects,
             (Kind::WaitingJob, Ended::Waiting { .. }) => !end.collects,
             (Kind::LateJob, Ended::Waiting { late }) => !end.collects && late,
             (Kind::LateJob, Ended::Done { lateness }) => !end.collects && lateness > 0,
             (Kind::DoneCollection, Ended::Done { .. }) => end.collects,
             (Kind::WaivedCollection, Ended::Waived) => end.collects,
             (Kind::WaitingCollection, Ended::Waiting { .. }) => end.collects,
+            (Kind::RefusedCollection, Ended::Refused) => end.collects,
             _ => false,
         }
     }
@@ -90,38 +106,59 @@ fn how_many(ends: &[JobEnd], task: Option<u32>, kind: Kind) -> u32
     count
 }
 
-/// How many jobs and collections of a task there were, or of all tasks.
+/// How many jobs and collections of a task, or of all tasks, came to what.
 pub(crate) fn counts_of(ends: &[JobEnd], task: Option<u32>) -> EndCounts
-    ensures waiting { result.waiting ≡ how_many task Kind.WaitingJob ends.now }
-    ensures late { result.late ≡ how_many task Kind.LateJob ends.now }
-    ensures collected { result.collected ≡ how_many task Kind.DoneCollection ends.now }
-    ensures waived { result.waived ≡ how_many task Kind.WaivedCollection ends.now }
-    ensures collecting { result.collecting ≡ how_many task Kind.WaitingCollection ends.now }
+    ensures { AreEndCounts task ends.now result }
 {
     EndCounts {
+        done: how_many(ends, task, Kind::DoneJob),
         waiting: how_many(ends, task, Kind::WaitingJob),
+        refused: how_many(ends, task, Kind::RefusedJob),
         late: how_many(ends, task, Kind::LateJob),
         collected: how_many(ends, task, Kind::DoneCollection),
         waived: how_many(ends, task, Kind::WaivedCollection),
         collecting: how_many(ends, task, Kind::WaitingCollection),
+        uncollected: how_many(ends, task, Kind::RefusedCollection),
     }
 }
 
-/// How late the done jobs of a task were, or of all tasks: rising.
-pub(crate) fn lateness_of(
-    alloc: Global,
-    ends: &[JobEnd],
-    task: Option<u32>,
-) -> Result<Vec<i64>, AllocError> {
+/// How late a job of a task was done, or of any task; none of a collection, of a job that isn't done, or of another task.
+fn late_by(end: &JobEnd, task: Option<u32>) -> Option<i64>
+    ensures { result ≡ late_by task end.now }
+{
+    if end.collects || !is_of(end, task) {
+        return None;
+    }
+    match end.ended {
+        Ended::Done { lateness } => Some(lateness),
+        _ => None,
+    }
+}
+
+/// How late the done jobs of a task were, or of all tasks, in their order. The only refusal is NoMemory.
+fn lateness_in(alloc: Global, ends: &[JobEnd], task: Option<u32>) -> Result<Vec<i64>, Refusal>
+    ensures is { IfOk result (λ found. found.items ≡ lateness_in task ends.now) }
+    ensures refused { FailsForMemory result }
+{
     let mut found = Vec::new(alloc);
     for end in ends {
-        if end.collects || !is_of(end, task) {
-            continue;
-        }
-        if let Ended::Done { lateness } = end.ended {
+        if let Some(lateness) = late_by(end, task) {
             found.push(lateness)?;
         }
     }
-    found.as_mut_slice().sort(alloc)?;
+    Ok(found)
+}
+
+/// How late the done jobs of a task were, or of all tasks: rising. The only refusal is NoMemory.
+pub(crate) fn rising_of(
+    alloc: Global,
+    ends: &[JobEnd],
+    task: Option<u32>,
+) -> Result<Vec<i64>, Refusal>
+    ensures is { IfOk result (λ found. IsRising (lateness_in task ends.now) found.items) }
+    ensures refused { FailsForMemory result }
+{
+    let mut found = lateness_in(alloc, ends, task)?;
+    found.sort()?;
     Ok(found)
 }

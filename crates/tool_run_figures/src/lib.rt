@@ -1,20 +1,26 @@
 //! What a run of a die came to, by task and in all: its jobs and collections, how late the jobs were, what its slots carried, and
-//! how low its tokens and its spare pages fell; as a table for eyes, or as CSV. It is counted for show. Proved is how many ends of jobs
-//! and collections are of each kind, and which value is the least; of the other counts nothing is.
+//! how low its tokens and its spare pages fell; as a table for eyes, or as CSV.
 #![tactic(auto)]
 
+mod columns;
 mod counts;
+mod csv;
 mod ends;
 mod figures;
+mod levels;
 mod lives;
 mod ranks;
 mod records;
+mod slot_counts;
 mod tables;
 
-pub use counts::{DieCounts, Low, TaskCounts};
-pub use ends::{Ended, JobEnd};
+pub use counts::DieCounts;
+pub use csv::put_csv;
+pub use ends::{EndCounts, Ended, JobEnd};
 pub use figures::Figure;
+pub use levels::{Levels, Low, Tokens};
 pub use lives::{Life, Wearing};
 pub use ranks::{mean, nearest_rank};
-pub use records::{DieFigures, Record, records_of};
-pub use tables::{put_csv, put_header, put_table};
+pub use records::{DieFigures, Figures, Lateness, OwnFigures, Records, records_of};
+pub use slot_counts::SlotCounts;
+pub use tables::put_table;

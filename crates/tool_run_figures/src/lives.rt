@@ -1,5 +1,8 @@
 //! How long a part lives.
 
+ghost use Rattle.std.specs.Prelude.{◌≡◌};
+ghost use Rattle.tool_run_figures.specs.Wearing.{IsWearing, mean_erases};
+
 /// How often a block may be erased, and how long a slot takes.
 #[derive(Clone, Copy, PartialEq, Eq, Debug, Drop)]
 pub struct Life {
@@ -25,7 +28,9 @@ const HUNDREDTH: u64 = 315_576_000_000;
 
 impl Wearing {
     /// Of blocks that were erased so often in so many slots.
-    pub fn of(slots: u32, erases: &[u32]) -> Wearing {
+    pub fn of(slots: u32, erases: &[u32]) -> Wearing
+        ensures { IsWearing slots erases.now result }
+    {
         let mut wearing = Wearing {
             slots,
             erases: 0,
@@ -43,9 +48,13 @@ impl Wearing {
     }
 
     /// The mean erases of a block, in hundredths, rounded down.
-    pub fn mean(self) -> Option<i64> {
-        let hundredths = i64::from(self.erases).saturating_mul(100);
-        hundredths.checked_div_euclid(i64::from(self.blocks))
+    pub fn mean(self) -> Option<i64>
+        ensures { result ≡ mean_erases self }
+    {
+        if self.blocks == 0 {
+            return None;
+        }
+        Some((u64::from(self.erases) * 100 / u64::from(self.blocks)) as i64)
     }
 
     /// After how many hundredths of a year, rounded down, the block that was erased most is worn out, where it goes on like

@@ -1,110 +1,169 @@
 //! The figures of a die, and of each of its tasks.
 
-use crate::counts::{DieCounts, Low, TaskCounts};
-use crate::ends::{EndCounts, JobEnd, counts_of, lateness_of};
-use crate::figures::Figure;
+ghost use Rattle.std.specs.Prelude.{◌≤◌, length, IfOk};
+ghost use Rattle.slot_types.specs.Refusal.{FailsForMemory};
+ghost use Rattle.tool_run_figures.specs.Ends.{lateness_in};
+ghost use Rattle.tool_run_figures.specs.Ranks.{IsRanked};
+ghost use Rattle.tool_run_figures.specs.Records.{AreOfDie, AreOfTask, AreOfTasks, AreOwn, AreRecords};
+
+use crate::counts::DieCounts;
+use crate::ends::{EndCounts, JobEnd, counts_of, rising_of};
+use crate::levels::{Levels, Low};
 use crate::lives::{Life, Wearing};
 use crate::ranks::{mean, nearest_rank};
-use std::alloc::{AllocError, Global};
+use crate::slot_counts::SlotCounts;
+use slot_types::Refusal;
+use std::alloc::Global;
 
-/// How many figures a record has.
-pub(crate) const COLUMNS: usize = 27;
+/// How late jobs were done.
+#[derive(Clone, Copy, PartialEq, Eq, Debug, Drop)]
+pub struct Lateness {
+    /// The greatest.
+    pub worst: Option<i64>,
+    /// In hundredths, rounded down.
+    pub mean: Option<i64>,
+    /// The least that 99 % don't exceed.
+    pub p99: Option<i64>,
+}
+
+/// What a die has, and no task.
+#[derive(Clone, Copy, PartialEq, Eq, Debug, Drop)]
+pub struct OwnFigures {
+    /// Slots that carried nothing.
+    pub idle: u32,
+    /// The fewest spare pages.
+    pub least_spare: Low,
+    pub wearing: Wearing,
+    /// In hundredths, after how many years a block is worn out, if that is asked for.
+    pub years: Option<i64>,
+}
 
 /// The figures of a task, or of a die.
 #[derive(Clone, Copy, Debug, Drop)]
-pub struct Record {
-    /// The task, or none of the die's own record.
+pub struct Figures {
+    /// The task, or none of those of the die.
     pub task: Option<u32>,
-    pub figures: [Figure; COLUMNS],
+    pub ends: EndCounts,
+    pub lateness: Lateness,
+    pub slots: SlotCounts,
+    /// The fewest tokens of a task.
+    pub least_balance: Option<Low>,
+    pub own: Option<OwnFigures>,
+}
+
+/// The figures of a die, and of each of its tasks, by number.
+#[derive(Debug, Drop)]
+pub struct Records {
+    pub die: Figures,
+    pub tasks: Vec<Figures>,
 }
 
 /// What a die's figures are made of.
 #[derive(Clone, Copy)]
 pub struct DieFigures<'a> {
     pub counts: &'a DieCounts,
+    pub levels: &'a Levels,
     pub ends: &'a [JobEnd],
     pub wearing: Wearing,
     pub life: Life,
 }
 
-// The figures that a task has as the die has.
-fn own_figures(counts: &TaskCounts, ended: EndCounts, rising: &[i64]) -> [Figure; COLUMNS] {
-    let mut figures = [Figure::Nothing; COLUMNS];
-    let done = u32::try_from(rising.len()).unwrap_or(u32::MAX);
-    let first = [
-        Figure::count(done),
-        Figure::count(ended.waiting),
-        Figure::count(counts.refused),
-        Figure::count(ended.late),
-        Figure::whole(rising.last().copied()),
-        Figure::hundredths(mean(rising)),
-        Figure::whole(nearest_rank(rising, 990)),
-        Figure::count(ended.collected),
-        Figure::count(ended.waived),
-        Figure::count(ended.collecting),
-        Figure::count(counts.uncollected),
-        Figure::count(counts.job_slots),
-        Figure::count(counts.copy_slots),
-        Figure::count(counts.erase_slots),
-        Figure::Nothing,
-        Figure::count(counts.written),
-        Figure::count(counts.copied),
-        Figure::amplification(counts.written, counts.copied),
-    ];
-    for (figure, own) in figures.iter_mut().zip(first) {
-        *figure = own;
+/// How late the done jobs of a task were, or of all tasks. The only refusal is NoMemory.
+fn lateness_of(alloc: Global, ends: &[JobEnd], task: Option<u32>) -> Result<Lateness, Refusal>
+    ensures is { IfOk result (IsRanked (lateness_in task ends.now)) }
+    ensures refused { FailsForMemory result }
+{
+    let rising = rising_of(alloc, ends, task)?;
+    let rising = rising.as_slice();
+    Ok(Lateness {
+        worst: rising.last().copied(),
+        mean: mean(rising),
+        p99: nearest_rank(rising, 990),
+    })
+}
+
+/// What a die has, and no task.
+fn own_of(die: &DieFigures<'_>) -> OwnFigures
+    ensures { AreOwn die.now.counts.now.idle die.now.wearing result }
+{
+    let life = die.life;
+    let years = if life.endurance > 0 && life.slot_us > 0 {
+        die.wearing.years(life)
+    } else {
+        None
+    };
+    OwnFigures {
+        idle: die.counts.idle,
+        least_spare: die.levels.least_spare,
+        wearing: die.wearing,
+        years,
     }
-    figures
 }
 
-fn of_low(low: Low) -> [Figure; 2] {
-    [Figure::count(low.value), Figure::count(low.slot)]
-}
-
-fn task_record(
+/// The figures of a task of this number, whose slots carried this. The only refusal is NoMemory.
+fn task_figures(
     alloc: Global,
     die: &DieFigures<'_>,
-    task: u32,
-    counts: &TaskCounts,
-) -> Result<Record, AllocError> {
-    let rising = lateness_of(alloc, die.ends, Some(task))?;
-    let ended = counts_of(die.ends, Some(task));
-    let mut figures = own_figures(counts, ended, rising.as_slice());
-    [figures[18], figures[19]] = of_low(counts.least);
-    Ok(Record {
-        task: Some(task),
-        figures,
+    place: usize,
+    slots: SlotCounts,
+) -> Result<Figures, Refusal>
+    requires { place ≤ 4294967295 }
+    ensures is { IfOk result (AreOfTask place die.now.ends.now slots) }
+    ensures refused { FailsForMemory result }
+{
+    let task = Some(place as u32);
+    let lateness = lateness_of(alloc, die.ends, task)?;
+    Ok(Figures {
+        task,
+        ends: counts_of(die.ends, task),
+        lateness,
+        slots,
+        least_balance: die.levels.least_of(place),
+        own: None,
     })
 }
 
-fn die_record(alloc: Global, die: &DieFigures<'_>) -> Result<Record, AllocError> {
-    let rising = lateness_of(alloc, die.ends, None)?;
-    let ended = counts_of(die.ends, None);
-    let mut figures = own_figures(&die.counts.sum(), ended, rising.as_slice());
-    figures[14] = Figure::count(die.counts.idle);
-    [figures[20], figures[21]] = of_low(die.counts.least_spare);
-    let wearing = die.wearing;
-    figures[22] = Figure::count(wearing.erases);
-    figures[23] = Figure::count(wearing.least);
-    figures[24] = Figure::hundredths(wearing.mean());
-    figures[25] = Figure::count(wearing.greatest);
-    if die.life.endurance > 0 && die.life.slot_us > 0 {
-        figures[26] = Figure::hundredths(wearing.years(die.life));
-    }
-    Ok(Record {
+/// The figures of a die's own. The only refusal is NoMemory.
+fn die_figures(alloc: Global, die: &DieFigures<'_>) -> Result<Figures, Refusal>
+    ensures is { IfOk result (AreOfDie die.now.ends.now die.now.counts.now die.now.wearing) }
+    ensures refused { FailsForMemory result }
+{
+    let lateness = lateness_of(alloc, die.ends, None)?;
+    Ok(Figures {
         task: None,
-        figures,
+        ends: counts_of(die.ends, None),
+        lateness,
+        slots: die.counts.all,
+        least_balance: None,
+        own: Some(own_of(die)),
     })
 }
 
-/// The records of a die: its own, and then one of each of its tasks.
-pub fn records_of(alloc: Global, die: &DieFigures<'_>) -> Result<Vec<Record>, AllocError> {
-    let mut records = Vec::new(alloc);
-    records.push(die_record(alloc, die)?)?;
-    let mut task: u32 = 0;
-    for counts in die.counts.tasks.as_slice() {
-        records.push(task_record(alloc, die, task, counts)?)?;
-        task = task.saturating_add(1);
+/// The figures of each task of a die. The only refusal is NoMemory.
+fn tasks_of(alloc: Global, die: &DieFigures<'_>) -> Result<Vec<Figures>, Refusal>
+    requires { length die.now.counts.now.tasks.items ≤ 4294967295 }
+    ensures is { IfOk result (λ tasks.
+        AreOfTasks die.now.ends.now die.now.counts.now.tasks.items tasks.items) }
+    ensures refused { FailsForMemory result }
+{
+    let mut tasks = Vec::new(alloc);
+    for place in 0..die.counts.tasks.len() {
+        let figures = task_figures(alloc, die, place, die.counts.tasks[place])?;
+        tasks.push(figures)?;
     }
-    Ok(records)
+    Ok(tasks)
+}
+
+/// The figures of a die, and of each of its tasks. The only refusal is NoMemory.
+pub fn records_of(alloc: Global, die: &DieFigures<'_>) -> Result<Records, Refusal>
+    requires { length die.now.counts.now.tasks.items ≤ 4294967295 }
+    ensures is { IfOk result
+        (AreRecords die.now.ends.now die.now.counts.now die.now.wearing) }
+    ensures refused { FailsForMemory result }
+{
+    let figures = die_figures(alloc, die)?;
+    Ok(Records {
+        die: figures,
+        tasks: tasks_of(alloc, die)?,
+    })
 }

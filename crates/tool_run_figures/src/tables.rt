@@ -1,80 +1,81 @@
-//! Records as texts: a table for eyes, and CSV.
+//! Records as a table for eyes, with a column for each.
 
+use crate::columns::{end_columns, level_columns, slot_columns, wear_columns};
 use crate::figures::Figure;
-use crate::records::{COLUMNS, Record};
+use crate::records::{Figures, Records};
 use std::alloc::Global;
 use std::io;
 use std::io::Write;
 
-/// By figure its name in CSV, and in a table.
-const NAMES: [(&str, &str); COLUMNS] = [
-    ("done", "jobs done"),
-    ("waiting", "jobs waiting"),
-    ("refused", "jobs refused"),
-    ("late", "jobs late"),
-    ("worst", "lateness: worst"),
-    ("mean", "lateness: mean"),
-    ("p99", "lateness: 99 % at most"),
-    ("collected", "collections run"),
-    ("waived", "collections waived"),
-    ("collecting", "collections waiting"),
-    ("uncollected", "collections refused"),
-    ("job_slots", "slots of jobs"),
-    ("copy_slots", "slots of copies"),
-    ("erase_slots", "slots of erases"),
-    ("idle_slots", "slots idle"),
-    ("written", "pages written"),
-    ("copied", "pages copied"),
-    ("amplification", "amplification"),
-    ("least_balance", "least balance"),
-    ("balance_slot", "  in slot"),
-    ("least_spare", "least spare"),
-    ("spare_slot", "  in slot"),
-    ("erases", "erases"),
-    ("least_erases", "  of a block, least"),
-    ("mean_erases", "  mean"),
-    ("most_erases", "  greatest"),
-    ("years", "years until one wears out"),
+/// By figure its name.
+const NAMES: [&str; 27] = [
+    "jobs done",
+    "jobs waiting",
+    "jobs refused",
+    "jobs late",
+    "lateness: worst",
+    "lateness: mean",
+    "lateness: 99 % at most",
+    "collections run",
+    "collections waived",
+    "collections waiting",
+    "collections refused",
+    "slots of jobs",
+    "slots of copies",
+    "slots of erases",
+    "slots idle",
+    "pages written",
+    "pages copied",
+    "amplification",
+    "least balance",
+    "  in slot",
+    "least spare",
+    "  in slot",
+    "erases",
+    "  of a block, least",
+    "  mean",
+    "  greatest",
+    "years until one wears out",
 ];
 
-/// Adds the header of the CSV.
-pub fn put_header(text: &mut Vec<u8>) -> io::Result<()> {
-    text.write_all(b"die,task")?;
-    for (name, _) in NAMES {
-        write!(text, ",{name}")?;
-    }
-    text.write_all(b"\n")
+/// The figure of a name.
+fn figure_at(figures: &Figures, place: usize) -> Figure {
+    let ends = end_columns(figures);
+    let slots = slot_columns(figures);
+    let levels = level_columns(figures);
+    let worn = wear_columns(figures);
+    let all = ends.iter().chain(&slots).chain(&levels).chain(&worn);
+    all.copied().nth(place).unwrap_or(Figure::Nothing)
 }
 
-/// Adds the records of a die as CSV.
-pub fn put_csv(text: &mut Vec<u8>, die: u32, records: &[Record]) -> io::Result<()> {
-    for record in records {
-        let task = match record.task {
-            Some(task) => Figure::count(task),
-            None => Figure::Nothing,
-        };
-        write!(text, "{die},{task}")?;
-        for figure in record.figures {
-            write!(text, ",{figure}")?;
-        }
-        text.write_all(b"\n")?;
-    }
-    Ok(())
+/// Adds what a record has under a name.
+fn put_cell(alloc: Global, text: &mut Vec<u8>, figures: &Figures, place: usize) -> io::Result<()> {
+    let cell = figure_at(figures, place).to_string(alloc)?;
+    write!(text, "{cell:>11}")
 }
 
-// Adds a name, and in columns what each record has under it, where one has something.
+/// Adds a name, and in columns what each record has under it, where one has something.
 fn put_row(
     alloc: Global,
     text: &mut Vec<u8>,
     label: &str,
     place: usize,
-    records: &[Record],
+    records: &Records,
 ) -> io::Result<()> {
     write!(text, "{label:<25}")?;
-    for record in records {
-        let figure = record.figures.get(place).copied();
-        let cell = figure.unwrap_or(Figure::Nothing).to_string(alloc)?;
-        write!(text, "{cell:>11}")?;
+    put_cell(alloc, text, &records.die, place)?;
+    for figures in &records.tasks {
+        put_cell(alloc, text, figures, place)?;
+    }
+    text.write_all(b"\n")
+}
+
+/// Adds the names of the columns.
+fn put_heads(text: &mut Vec<u8>, die: usize, records: &Records) -> io::Result<()> {
+    write!(text, "die {die:<21}        all")?;
+    for figures in &records.tasks {
+        let task = figures.task.unwrap_or(0);
+        write!(text, "    task {task:>2}")?;
     }
     text.write_all(b"\n")
 }
@@ -83,19 +84,12 @@ fn put_row(
 pub fn put_table(
     alloc: Global,
     text: &mut Vec<u8>,
-    die: u32,
-    records: &[Record],
+    die: usize,
+    records: &Records,
 ) -> io::Result<()> {
-    write!(text, "die {die:<21}")?;
-    for record in records {
-        match record.task {
-            Some(task) => write!(text, "    task {task:>2}")?,
-            None => write!(text, "        all")?,
-        }
-    }
-    text.write_all(b"\n")?;
+    put_heads(text, die, records)?;
     let mut place: usize = 0;
-    for (_, label) in NAMES {
+    for label in NAMES {
         put_row(alloc, text, label, place, records)?;
         place = place.saturating_add(1);
     }

@@ -6,9 +6,8 @@ use Rattle.std.proofs.lemmas.Bool.Decides.{nat_tests}
 use Rattle.std.proofs.lemmas.List.{length-map}
 use Rattle.std.proofs.lemmas.Option.{IfSome_then, get_or_from_slice_get, slice_get_within}
 use Rattle.die_log.specs.Model.Start.{Start}
-use Rattle.script_texts.specs.declared.script_rows.ScriptItem.{ScriptItem}
 use Rattle.tool_script_runs.specs.RunningDies.{HasEmptyLog, IsCarriedTo, RunningDie, starts_of}
-use Rattle.tool_script_runs.specs.ScriptRuns.{HasRun, HaveRun, HaveRunBelow, TakesRow, rows_of_die}
+use Rattle.tool_script_runs.specs.ScriptRuns.{EndedRow, HasRun, HaveRun, HaveRunBelow, TakesRow, rows_of_die}
 use Rattle.tool_script_runs.proofs.DieRows.{none_ran, other_more, own_more, slots_more}
 
 -- what is so of each element, by its place, is so of each after one has changed
@@ -49,8 +48,8 @@ pub none_of_them_ran : (dies : List RunningDie) → All HasEmptyLog dies → Hav
 none_of_them_ran dies empty = each_of HasEmptyLog (HasRun [] 0) dies none_ran empty
 
 -- one die takes a row of its own
-pub one_took_row : {D : Type 0} (f : D → RunningDie) (xs : List D) (place : ℕ) (old new : D) (item : ScriptItem) → item.die ≡ place
-    → old ≡ get_or xs place old → TakesRow item (f old) (f new) → (items : List ScriptItem) → HaveRun (rows_of_die items) 0 (map f xs)
+pub one_took_row : {D : Type 0} (f : D → RunningDie) (xs : List D) (place : ℕ) (old new : D) (item : EndedRow) → item.item.die ≡ place
+    → old ≡ get_or xs place old → TakesRow item (f old) (f new) → (items : List EndedRow) → HaveRun (rows_of_die items) 0 (map f xs)
     → HaveRun (rows_of_die (items ++ item ∷ [])) 0 (map f (set xs place new))
 one_took_row f xs place old new item own is taken items h =
     each_set f (λ n. HasRun (rows_of_die items n) 0) (λ n. HasRun (rows_of_die (items ++ item ∷ []) n) 0) xs place old new
@@ -75,7 +74,7 @@ all_slots : (slots place n : ℕ) → n < place → slots_at slots place n ≡ s
 all_slots slots place n below = grind (arith, nat_tests)
 
 pub one_carried : {D : Type 0} (f : D → RunningDie) (xs : List D) (place slots : ℕ) (old new : D) → old ≡ get_or xs place old
-    → IsCarriedTo slots (f old) (f new) → (rows : ℕ → List ScriptItem) → HaveRunBelow place rows slots (map f xs)
+    → IsCarriedTo slots (f old) (f new) → (rows : ℕ → List EndedRow) → HaveRunBelow place rows slots (map f xs)
     → HaveRunBelow (place + 1) rows slots (map f (set xs place new))
 one_carried f xs place slots old new is carried rows h =
     each_set f (λ n. HasRun (rows n) (slots_at slots place n)) (λ n. HasRun (rows n) (slots_at slots (place + 1) n)) xs place old new
@@ -84,7 +83,7 @@ one_carried f xs place slots old new is carried rows h =
     (slots_more (rows place) slots (f old) (f new) (subst (λ (k : ℕ). HasRun (rows place) k (f old)) (no_slots_yet slots place) p) carried))
     is h
 
-pub all_carried : {D : Type 0} (f : D → RunningDie) (xs : List D) (slots place : ℕ) → length xs ≤ place → (rows : ℕ → List ScriptItem)
+pub all_carried : {D : Type 0} (f : D → RunningDie) (xs : List D) (slots place : ℕ) → length xs ≤ place → (rows : ℕ → List EndedRow)
     → HaveRunBelow place rows slots (map f xs) → HaveRun rows slots (map f xs)
 all_carried f xs slots place all rows h n = by (slice_get (map f xs) n) refl (h n)
   where

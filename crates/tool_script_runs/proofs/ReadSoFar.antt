@@ -5,8 +5,10 @@ use Rattle.std.proofs.lemmas.List.{append-nil}
 use Rattle.script_texts.specs.Script.{Script, Yields, with_front}
 use Rattle.script_texts.specs.declared.script_rows.ScriptItem.{ScriptItem}
 use Rattle.tool_script_runs.specs.RunningDies.{HasEmptyLog, IsCarriedTo, RunningDie}
-use Rattle.tool_script_runs.specs.ScriptRuns.{HasRun, HaveRun, RanAsDie, RanScript, rows_of_die}
-use Rattle.tool_script_runs.proofs.DieRows.{none_ran, slots_more}
+use Rattle.tool_script_runs.specs.ScriptRuns.{EndedRow, HasEnded, HaveEnded, HaveRun, RanAsDie, RanScript}
+use Rattle.tool_script_runs.specs.ScriptRuns.{items_of_die, rows_of_die}
+use Rattle.tool_script_runs.specs.declared.refused.RefusedRow.{RefusedRow}
+use Rattle.tool_script_runs.proofs.DieRows.{none_ended, none_ended_as, slots_more}
 use Rattle.tool_script_runs.proofs.EachDie.{none_of_them_ran}
 
 -- these items, and then what is left
@@ -47,66 +49,89 @@ read_all (Some all) (Some more) new items so_far step = so_far
 
 -- All dies
 
--- rows of a script were read, and each die ran those of its own
-pub record HasRead (whole left : Option Script) (dies : List RunningDie) : Type 0 where
+-- rows of a script were read, and each die ran those of its own, of which these were refused
+pub record HasRead (whole left : Option Script) (refused : List RefusedRow) (dies : List RunningDie) : Type 0 where
   pub items : List ScriptItem
   pub read : IsReadTo whole left items
-  pub ran : HaveRun (rows_of_die items) 0 dies
+  pub ended : HaveEnded items refused 0 dies
 
-pub reads_none : (whole : Option Script) (dies : List RunningDie) → All HasEmptyLog dies → HasRead whole whole dies
-reads_none whole dies empty = record { items = []; read = read_none whole; ran = none_of_them_ran dies empty }
+pub reads_none : (whole : Option Script) (refused : List RefusedRow) (dies : List RunningDie) → refused ≡ [] → All HasEmptyLog dies
+    → HasRead whole whole refused dies
+reads_none whole refused dies none empty = rw none (record {
+  items = [];
+  read = read_none whole;
+  ended = none_ended dies (none_of_them_ran dies empty);
+})
 
-pub reads_row : (whole left new : Option Script) (before after : List RunningDie) (item : ScriptItem) → HasRead whole left before
-    → Yields left new (Ok (Some item))
-    → ((items : List ScriptItem) → HaveRun (rows_of_die items) 0 before → HaveRun (rows_of_die (items ++ item ∷ [])) 0 after)
-    → HasRead whole new after
-reads_row whole left new before after item h step runs = record {
+pub reads_row : (whole left new : Option Script) (earlier refused : List RefusedRow) (before after : List RunningDie) (item : ScriptItem)
+    → HasRead whole left earlier before → Yields left new (Ok (Some item))
+    → ((items : List ScriptItem) → HaveEnded items earlier 0 before → HaveEnded (items ++ item ∷ []) refused 0 after)
+    → HasRead whole new refused after
+reads_row whole left new earlier refused before after item h step runs = record {
   items = h.items ++ item ∷ [];
   read = read_more whole left new h.items item h.read step;
-  ran = runs h.items h.ran;
+  ended = runs h.items h.ended;
 }
 
-pub reads_end : (whole left new : Option Script) (dies : List RunningDie) → HasRead whole left dies → Yields left new (Ok None)
-    → RanScript whole 0 dies
-reads_end whole left new dies h step = record { items = h.items; read = read_all whole left new h.items h.read step; ran = h.ran }
+pub reads_end : (whole left new : Option Script) (refused : List RefusedRow) (dies : List RunningDie) → HasRead whole left refused dies
+    → Yields left new (Ok None) → RanScript whole 0 refused dies
+reads_end whole left new refused dies h step =
+    record { items = h.items; read = read_all whole left new h.items h.read step; ended = h.ended }
 
 -- then slots are carried out
-pub then_slots : (script : Option Script) (slots : ℕ) (before after : List RunningDie) → RanScript script 0 before
-    → ((rows : ℕ → List ScriptItem) → HaveRun rows 0 before → HaveRun rows slots after) → RanScript script slots after
-then_slots script slots before after h carry = record { items = h.items; read = h.read; ran = carry (rows_of_die h.items) h.ran }
+pub then_slots : (script : Option Script) (slots : ℕ) (refused : List RefusedRow) (before after : List RunningDie)
+    → RanScript script 0 refused before → ((rows : ℕ → List EndedRow) → HaveRun rows 0 before → HaveRun rows slots after)
+    → RanScript script slots refused after
+then_slots script slots refused before after h carry = record {
+  items = h.items;
+  read = h.read;
+  ended = record {
+    rows = h.ended.rows;
+    items_are = h.ended.items_are;
+    ran = carry (rows_of_die h.ended.rows) h.ended.ran;
+    refused_are = h.ended.refused_are;
+  };
+}
 
 -- One die
 
-pub record HasReadAs (number : ℕ) (whole left : Option Script) (die : RunningDie) : Type 0 where
+pub record HasReadAs (number : ℕ) (whole left : Option Script) (refused : List RefusedRow) (die : RunningDie) : Type 0 where
   pub items : List ScriptItem
   pub read : IsReadTo whole left items
-  pub ran : HasRun (rows_of_die items number) 0 die
+  pub ended : HasEnded (items_of_die items number) refused 0 die
 
-pub reads_none_as : (number : ℕ) (whole : Option Script) (die : RunningDie) → HasEmptyLog die → HasReadAs number whole whole die
-reads_none_as number whole die empty = record { items = []; read = read_none whole; ran = none_ran die empty }
+pub reads_none_as : (number : ℕ) (whole : Option Script) (refused : List RefusedRow) (die : RunningDie) → refused ≡ [] → HasEmptyLog die
+    → HasReadAs number whole whole refused die
+reads_none_as number whole refused die none empty =
+    rw none (record { items = []; read = read_none whole; ended = none_ended_as die empty })
 
-pub reads_row_as : (number : ℕ) (whole left new : Option Script) (before after : RunningDie) (item : ScriptItem)
-    → HasReadAs number whole left before → Yields left new (Ok (Some item))
-    → ((items : List ScriptItem) → HasRun (rows_of_die items number) 0 before → HasRun (rows_of_die (items ++ item ∷ []) number) 0 after)
-    → HasReadAs number whole new after
-reads_row_as number whole left new before after item h step runs = record {
+pub reads_row_as : (number : ℕ) (whole left new : Option Script) (earlier refused : List RefusedRow) (before after : RunningDie)
+    (item : ScriptItem) → HasReadAs number whole left earlier before → Yields left new (Ok (Some item))
+    → ((items : List ScriptItem) → HasEnded (items_of_die items number) earlier 0 before
+    → HasEnded (items_of_die (items ++ item ∷ []) number) refused 0 after) → HasReadAs number whole new refused after
+reads_row_as number whole left new earlier refused before after item h step runs = record {
   items = h.items ++ item ∷ [];
   read = read_more whole left new h.items item h.read step;
-  ran = runs h.items h.ran;
+  ended = runs h.items h.ended;
 }
 
-pub reads_end_as : (number : ℕ) (whole left new : Option Script) (die : RunningDie) → HasReadAs number whole left die
-    → Yields left new (Ok None) → RanAsDie whole 0 number die
-reads_end_as number whole left new die h step = record {
+pub reads_end_as : (number : ℕ) (whole left new : Option Script) (refused : List RefusedRow) (die : RunningDie)
+    → HasReadAs number whole left refused die → Yields left new (Ok None) → RanAsDie whole 0 number refused die
+reads_end_as number whole left new refused die h step = record {
   items = h.items;
   read = read_all whole left new h.items h.read step;
-  ran = h.ran;
+  ended = h.ended;
 }
 
-pub then_slots_as : (script : Option Script) (slots number : ℕ) (before after : RunningDie) → RanAsDie script 0 number before
-    → IsCarriedTo slots before after → RanAsDie script slots number after
-then_slots_as script slots number before after h carried = record {
+pub then_slots_as : (script : Option Script) (slots number : ℕ) (refused : List RefusedRow) (before after : RunningDie)
+    → RanAsDie script 0 number refused before → IsCarriedTo slots before after → RanAsDie script slots number refused after
+then_slots_as script slots number refused before after h carried = record {
   items = h.items;
   read = h.read;
-  ran = slots_more (rows_of_die h.items number) slots before after h.ran carried;
+  ended = record {
+    rows = h.ended.rows;
+    items_are = h.ended.items_are;
+    ran = slots_more h.ended.rows slots before after h.ended.ran carried;
+    refused_are = h.ended.refused_are;
+  };
 }

@@ -6,6 +6,7 @@ use Rattle.std.proofs.lemmas.List.{length-map, map-append}
 use Rattle.die_log.specs.Model.Start.{Start}
 use Rattle.script_texts.specs.Script.{Script, script_of}
 use Rattle.tool_script_runs.specs.RunningDies.{HasEmptyLog, RunningDie, starts_of}
+use Rattle.tool_script_runs.specs.declared.refused.RefusedRow.{RefusedRow}
 use Rattle.tool_script_runs.specs.ScriptRuns.{IsRunAs, IsRunOf, RanAsDie, RanScript}
 
 -- two clauses of a result give a third one
@@ -32,20 +33,20 @@ empty_more f xs x all is = subst (All HasEmptyLog) (sym (map-append f xs (x ∷ 
     (All-append HasEmptyLog (map f xs) (f x ∷ []) all (All-cons HasEmptyLog (f x) [] is (All-nil HasEmptyLog)))
 
 -- a run of what a reader has left is one of its text
-pub run_of_text : (starts : List Start) (text : Option (List ℕ)) (slots count : ℕ) (left : Option Script) (dies : List RunningDie)
-    → length starts ≡ count → left ≡ option_map (script_of count slots) text → starts_of dies ≡ starts → RanScript left slots dies
-    → IsRunOf starts text slots dies
-run_of_text starts text slots count left dies many is begun ran = record {
+pub run_of_text : (starts : List Start) (text : Option (List ℕ)) (slots count : ℕ) (left : Option Script) (refused : List RefusedRow) (dies : List RunningDie)
+    → length starts ≡ count → left ≡ option_map (script_of count slots) text → starts_of dies ≡ starts → RanScript left slots refused dies
+    → IsRunOf starts text slots refused dies
+run_of_text starts text slots count left refused dies many is begun ran = record {
   starts_are = begun;
-  ran = subst (λ (o : Option Script). RanScript o slots dies)
+  ran = subst (λ (o : Option Script). RanScript o slots refused dies)
       (is ∙ ap (λ (n : ℕ). option_map (script_of n slots) text) (sym many)) ran;
 }
 
-pub run_as_text : (starts : List Start) (text : Option (List ℕ)) (slots count number : ℕ) (left : Option Script) (die : RunningDie)
+pub run_as_text : (starts : List Start) (text : Option (List ℕ)) (slots count number : ℕ) (left : Option Script) (refused : List RefusedRow) (die : RunningDie)
     → length starts ≡ count → left ≡ option_map (script_of count slots) text → slice_get starts number ≡ Some die.start
-    → RanAsDie left slots number die → IsRunAs starts text slots number die
-run_as_text starts text slots count number left die many is begun ran = record {
+    → RanAsDie left slots number refused die → IsRunAs starts text slots number refused die
+run_as_text starts text slots count number left refused die many is begun ran = record {
   start_is = begun;
-  ran = subst (λ (o : Option Script). RanAsDie o slots number die)
+  ran = subst (λ (o : Option Script). RanAsDie o slots number refused die)
       (is ∙ ap (λ (n : ℕ). option_map (script_of n slots) text) (sym many)) ran;
 }

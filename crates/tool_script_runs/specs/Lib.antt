@@ -1,2 +1,3 @@
 pub mod RunningDies
 pub mod ScriptRuns
+pub mod Counted

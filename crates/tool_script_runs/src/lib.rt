@@ -2,13 +2,15 @@
 #![tactic(auto)]
 
 mod boxes;
+mod counted;
 mod die_cores;
 mod refused;
 mod rows;
 mod script_dies;
 mod script_runs;
 
+pub use counted::RefusedRows;
 pub use die_cores::arrive;
-pub use refused::RefusedRows;
+pub use refused::{Asker, RefusedRow};
 pub use script_dies::ScriptDie;
 pub use script_runs::{run_die, run_dies};

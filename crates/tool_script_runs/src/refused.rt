@@ -1,37 +1,58 @@
 //! Rows that a run refused.
 
-use slot_types::Refusal;
+ghost use Rattle.std.specs.Prelude.{◌≡◌, ◌++◌, OnOk};
+ghost use Rattle.slot_types.specs.Refusal.{FailsForMemory};
+ghost use Rattle.tool_script_runs.specs.ScriptRuns.{asker_of, refused_by};
 
-/// One more than the greatest number of a refusal.
-const NUMBERS: usize = 25;
+use script_texts::ScriptItem;
+use slot_types::{Event, Refusal};
 
-/// How many rows were refused, and with what, and the first of them.
+/// Which row of a script asked, and for whom.
 #[derive(Clone, Copy, PartialEq, Eq, Debug, Drop)]
-pub struct RefusedRows {
-    pub count: u32,
-    /// The number of its record, the header being 1, and the number of its refusal.
-    pub first: Option<(u32, u8)>,
-    /// By the number of a refusal, how many rows it refused.
-    pub kinds: [u32; NUMBERS],
+pub struct Asker {
+    /// The number of its record, the header being 1.
+    pub line: u32,
+    pub die: u32,
+    pub task: u32,
+    /// Whether it asked for a collection.
+    pub collects: bool,
 }
 
-impl RefusedRows {
-    /// No row.
-    pub const NONE: RefusedRows = RefusedRows {
-        count: 0,
-        first: None,
-        kinds: [0; NUMBERS],
-    };
+/// A row that was refused.
+#[derive(Clone, Copy, PartialEq, Eq, Debug, Drop)]
+pub struct RefusedRow {
+    pub asker: Asker,
+    pub refusal: Refusal,
+}
 
-    /// Adds the row of a record, which stands after those that were added before.
-    pub fn add(&mut self, line: u32, refusal: Refusal) {
-        let number = refusal.number();
-        self.count = self.count.saturating_add(1);
-        if self.first.is_none() {
-            self.first = Some((line, number));
-        }
-        if let Some(kind) = self.kinds.get_mut(number as usize) {
-            *kind = kind.saturating_add(1);
-        }
+/// Which row it is, and for whom it asks.
+pub(crate) fn asker_of(item: &ScriptItem) -> Asker
+    ensures { result ≡ asker_of item.now }
+{
+    let (task, collects) = match &item.event {
+        Event::Submit { task, .. } => (task.0, false),
+        Event::Collect { task, .. } => (task.0, true),
+        Event::Slot => (0, false),
+    };
+    Asker {
+        line: item.line,
+        die: item.die,
+        task,
+        collects,
     }
+}
+
+/// Adds a row to those that were refused, if it was. The only refusal is NoMemory.
+pub(crate) fn note_refused(
+    rows: &mut Vec<RefusedRow>,
+    asker: Asker,
+    refusal: Option<Refusal>,
+) -> Result<(), Refusal>
+    ensures ok { OnOk result (rows.new.items ≡ rows.old.items ++ refused_by asker refusal) }
+    ensures refused { FailsForMemory result }
+{
+    if let Some(refusal) = refusal {
+        rows.push(RefusedRow { asker, refusal })?;
+    }
+    Ok(())
 }

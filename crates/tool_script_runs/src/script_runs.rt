@@ -1,13 +1,13 @@
 //! The rows of a script on the dies of a store, or on one of them, and then the slots that are left.
 
-ghost use Rattle.std.specs.Prelude.{◌≡◌, ◌≤◌, ◌++◌, ◌∷◌, [], All, List, length, map, OnOk};
+ghost use Rattle.std.specs.Prelude.{◌≡◌, ◌≤◌, ◌++◌, ◌∷◌, [], All, List, length, map, IfOk, OnOk};
 ghost use Rattle.slot_types.specs.Arrivals.{IsArrival};
 ghost use Rattle.script_texts.specs.ScriptLeft.{dies_of, script_left, slots_of};
 ghost use Rattle.tool_script_runs.specs.RunningDies.{HasEmptyLog, starts_of};
 ghost use Rattle.script_texts.specs.declared.script_rows.ScriptItem.{ScriptItem};
-ghost use Rattle.tool_script_runs.specs.ScriptRuns.{HasRun, RanAsDie, RanScript, rows_of_die};
+ghost use Rattle.tool_script_runs.specs.ScriptRuns.{HasEnded, RanAsDie, RanScript, items_of_die};
 
-use crate::refused::RefusedRows;
+use crate::refused::{RefusedRow, asker_of, note_refused};
 use crate::rows::{carry_all, run_row, take_row};
 use crate::script_dies::ScriptDie;
 use script_texts::{ScriptItem, ScriptReader};
@@ -31,17 +31,17 @@ fn read_rows<R: Read + Drop, D: ScriptDie>(
     alloc: Global,
     script: &mut ScriptReader<R>,
     dies: &mut Vec<D>,
-) -> Result<RefusedRows, Refusal>
+) -> Result<Vec<RefusedRow>, Refusal>
     requires few { slots_of script.old ≤ MAX_SLOT }
     requires dies { dies_of script.old ≡ length dies.old.items }
     requires empty { All HasEmptyLog (map D.running dies.old.items) }
-    ensures ran { OnOk result (RanScript (script_left R.remaining script.old) 0
-        (map D.running dies.new.items)) }
+    ensures ran { IfOk result (λ refused. RanScript (script_left R.remaining script.old) 0
+        refused.items (map D.running dies.new.items)) }
     ensures starts { starts_of (map D.running dies.new.items)
         ≡ starts_of (map D.running dies.old.items) }
     ensures count { length dies.new.items ≡ length dies.old.items }
 {
-    let mut refused = RefusedRows::NONE;
+    let mut refused = Vec::new(alloc);
     for _ in 0..LINE_PAST_ALL {
         let Some(item) = script.next()? else {
             return Ok(refused);
@@ -52,8 +52,8 @@ fn read_rows<R: Read + Drop, D: ScriptDie>(
 }
 
 /// Runs the rows that a reader has left on the dies of a store, and then so many slots: a row comes on its die once the
-/// slots before its `at` were carried out. One that its die refuses is no event, and is counted. A die whose device fails
-/// stays in that slot, and refuses the rows that are left.
+/// slots before its `at` were carried out. One that its die refuses is no event. A die whose device fails stays in that slot,
+/// and refuses the rows that are left. Answers the rows that were refused, in their order.
 ///
 /// Refused with the first fault of the script, as [`ScriptReader`] says it; or with ReadFault or NoMemory. Nothing is said
 /// of the logs of the dies then.
@@ -62,13 +62,13 @@ pub fn run_dies<R: Read + Drop, D: ScriptDie>(
     script: &mut ScriptReader<R>,
     dies: &mut Vec<D>,
     slots: u32,
-) -> Result<RefusedRows, Refusal>
+) -> Result<Vec<RefusedRow>, Refusal>
     requires few { slots ≤ MAX_SLOT }
     requires slots { slots_of script.old ≡ slots }
     requires dies { dies_of script.old ≡ length dies.old.items }
     requires empty { All HasEmptyLog (map D.running dies.old.items) }
-    ensures ran { OnOk result (RanScript (script_left R.remaining script.old) slots
-        (map D.running dies.new.items)) }
+    ensures ran { IfOk result (λ refused. RanScript (script_left R.remaining script.old) slots
+        refused.items (map D.running dies.new.items)) }
     ensures starts { starts_of (map D.running dies.new.items)
         ≡ starts_of (map D.running dies.old.items) }
     ensures count { length dies.new.items ≡ length dies.old.items }
@@ -83,20 +83,22 @@ fn run_own<D: ScriptDie>(
     alloc: Global,
     die: &mut D,
     number: u32,
-    refused: &mut RefusedRows,
+    refused: &mut Vec<RefusedRow>,
     item: ScriptItem,
 ) -> Result<(), Refusal>
     requires few { item.at ≤ MAX_SLOT }
     requires arrival { IsArrival item.event }
     ensures ran { OnOk result ((items : List ScriptItem) →
-        HasRun (rows_of_die items number) 0 (D.running die.old) →
-        HasRun (rows_of_die (items ++ item ∷ []) number) 0 (D.running die.new)) }
+        HasEnded (items_of_die items number) refused.old.items 0 (D.running die.old) →
+        HasEnded (items_of_die (items ++ item ∷ []) number) refused.new.items 0 (D.running die.new)) }
     ensures start { (D.running die.new).start ≡ (D.running die.old).start }
 {
     if item.die != number {
         return Ok(());
     }
-    take_row(alloc, die, refused, item)
+    let asker = asker_of(&item);
+    let refusal = take_row(alloc, die, item)?;
+    note_refused(refused, asker, refusal)
 }
 
 /// Runs the rows that a reader has left on the die of this number alone.
@@ -105,14 +107,14 @@ fn read_own<R: Read + Drop, D: ScriptDie>(
     script: &mut ScriptReader<R>,
     die: &mut D,
     number: u32,
-) -> Result<RefusedRows, Refusal>
+) -> Result<Vec<RefusedRow>, Refusal>
     requires few { slots_of script.old ≤ MAX_SLOT }
     requires empty { HasEmptyLog (D.running die.old) }
-    ensures ran { OnOk result (RanAsDie (script_left R.remaining script.old) 0 number
-        (D.running die.new)) }
+    ensures ran { IfOk result (λ refused. RanAsDie (script_left R.remaining script.old) 0 number
+        refused.items (D.running die.new)) }
     ensures start { (D.running die.new).start ≡ (D.running die.old).start }
 {
-    let mut refused = RefusedRows::NONE;
+    let mut refused = Vec::new(alloc);
     for _ in 0..LINE_PAST_ALL {
         let Some(item) = script.next()? else {
             return Ok(refused);
@@ -130,12 +132,12 @@ pub fn run_die<R: Read + Drop, D: ScriptDie>(
     die: &mut D,
     number: u32,
     slots: u32,
-) -> Result<RefusedRows, Refusal>
+) -> Result<Vec<RefusedRow>, Refusal>
     requires few { slots ≤ MAX_SLOT }
     requires slots { slots_of script.old ≡ slots }
     requires empty { HasEmptyLog (D.running die.old) }
-    ensures ran { OnOk result (RanAsDie (script_left R.remaining script.old) slots number
-        (D.running die.new)) }
+    ensures ran { IfOk result (λ refused. RanAsDie (script_left R.remaining script.old) slots number
+        refused.items (D.running die.new)) }
     ensures start { (D.running die.new).start ≡ (D.running die.old).start }
 {
     let refused = read_own(alloc, script, die, number)?;

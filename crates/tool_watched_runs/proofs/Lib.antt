@@ -1,4 +1,7 @@
 pub mod Slots
 pub mod Counting
+pub mod CountsSlots
+pub mod JobEnds
+pub mod FiguresSoFar
 mod WornDies
 mod RunsOf

@@ -1,5 +1,8 @@
 pub mod Briefs
+pub mod Ends
 pub mod Failing
+pub mod Figures
 pub mod Runs
+pub mod SlotsCarried
 pub mod Wear
 pub mod WearText

@@ -1,5 +1,5 @@
 -- Dies that run.
-use Rattle.std.specs.Prelude.{◌≡◌, ◌==◌, ℕ, List, Option, Some, None, box_value, if◌then◌else◌, map, option_map, slice_get}
+use Rattle.std.specs.Prelude.{◌≡◌, ◌==◌, Bool, true, ℕ, List, Option, Some, None, box_value, if◌then◌else◌, map, option_map, slice_get}
 use Rattle.std.specs.Global.{Box}
 use Rattle.slot_types.specs.declared.plans.DiePlan.{DiePlan}
 use Rattle.die_log.specs.Model.Start.{fresh}
@@ -8,11 +8,17 @@ use Rattle.flash_die.specs.Memory.{Memory}
 use Rattle.slot_core.specs.Core.{Core}
 use Rattle.tool_script_runs.specs.RunningDies.{RunningDie, running_of}
 use Rattle.tool_script_runs.specs.ScriptRuns.{IsRunAs, IsRunOf}
+use Rattle.tool_run_figures.specs.Csv.{csv_text}
+use Rattle.tool_run_figures.specs.declared.records.Records.{Records}
+use Rattle.tool_script_runs.specs.Counted.{CountsRows}
+use Rattle.tool_script_runs.specs.declared.refused.RefusedRow.{RefusedRow}
 use Rattle.tool_watched_runs.specs.Failing.{failure_in}
+use Rattle.tool_watched_runs.specs.Figures.{HaveFigures}
 use Rattle.tool_watched_runs.specs.Wear.{Worn}
 use Rattle.tool_watched_runs.specs.declared.die_runs.DieRun.{DieRun}
 use Rattle.tool_watched_runs.specs.declared.failing.FailAt.{FailAt}
 use Rattle.tool_watched_runs.specs.declared.failing.Failure.{Failure}
+use Rattle.tool_watched_runs.specs.declared.script_runs.Reported.{Reported}
 
 -- the die itself
 abbrev pub core_of : Box DieRun → Core (Fuse Memory)
@@ -36,17 +42,32 @@ abbrev pub failure_among : {N : Type 0} → Option FailAt → List (Core N) → 
 failure_among None dies = None
 failure_among (Some at) dies = option_map (failure_in at) (slice_get dies at.die)
 
--- fresh dies of these plans ran a script, where its text is known, and so many slots; and this became of the device of one
--- that was to fail
-pub record IsReportOf (plans : List DiePlan) (script : Option (List ℕ)) (slots : ℕ) (fail : Option FailAt) (failure : Option Failure)
-    : Type 0 where
+-- Fresh dies of these plans ran a script, where its text is known, and so many slots, and this became of the device of one
+-- that was to fail. So many of the script's rows were refused. The text, if it is CSV, is that of the dies' figures.
+pub record IsReportOf (plans : List DiePlan) (script : Option (List ℕ)) (slots : ℕ) (fail : Option FailAt) (as_csv : Bool)
+    (said : Reported) : Type 0 where
   pub dies : List (Core (Fuse Memory))
-  pub ran : IsRunOf (map fresh plans) script slots (map running_of dies)
-  pub failure_is : failure ≡ failure_among fail dies
+  pub refused : List RefusedRow
+  pub ran : IsRunOf (map fresh plans) script slots refused (map running_of dies)
+  pub counted : CountsRows refused said.refused
+  pub failure_is : said.failure ≡ failure_among fail dies
+  pub figures : List Records
+  pub figured : HaveFigures refused (map running_of dies) figures
+  pub text_is : as_csv ≡ true → said.text.items ≡ csv_text figures
 
--- the same of the die of this number alone
-pub record IsDrawingOf (plans : List DiePlan) (script : Option (List ℕ)) (slots number : ℕ) (fail : Option FailAt) (failure : Option Failure)
+-- what is told of dies that ran, which refused these rows
+pub record Tells (dies : List (Box DieRun)) (refused : List RefusedRow) (as_csv : Bool) (fail : Option FailAt) (said : Reported) : Type 0 where
+  pub counted : CountsRows refused said.refused
+  pub failure_is : said.failure ≡ failure_among fail (map core_of dies)
+  pub figures : List Records
+  pub figured : HaveFigures refused (map running dies) figures
+  pub text_is : as_csv ≡ true → said.text.items ≡ csv_text figures
+
+-- the die of this number ran alone, and this became of its device
+pub record IsDrawingOf (plans : List DiePlan) (script : Option (List ℕ)) (slots number : ℕ) (fail : Option FailAt) (said : Reported)
     : Type 0 where
   pub die : Core (Fuse Memory)
-  pub ran : IsRunAs (map fresh plans) script slots number (running_of die)
-  pub failure_is : failure ≡ failure_as number fail die
+  pub refused : List RefusedRow
+  pub ran : IsRunAs (map fresh plans) script slots number refused (running_of die)
+  pub counted : CountsRows refused said.refused
+  pub failure_is : said.failure ≡ failure_as number fail die

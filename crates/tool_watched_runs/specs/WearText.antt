@@ -1,10 +1,13 @@
 -- What dies wore, as a text.
 use Rattle.std.specs.Prelude.{◌≡◌, ◌==◌, ℕ, ◌+◌, ◌*◌, ◌/◌, ◌%◌, if◌then◌else◌}
-use Rattle.std.specs.Prelude.{Option, All, map, ◌++◌, List, [], ◌∷◌, flat_map, codes, decimal}
+use Rattle.std.specs.Prelude.{Option, All, false, map, ◌++◌, List, [], ◌∷◌, flat_map, codes, decimal}
 use Rattle.std.specs.List.{enumerate_from}
 use Rattle.slot_types.specs.declared.plans.DiePlan.{DiePlan}
 use Rattle.die_log.specs.Model.Start.{fresh}
+use Rattle.tool_script_runs.specs.Counted.{CountsRows}
 use Rattle.tool_script_runs.specs.ScriptRuns.{IsRunOf}
+use Rattle.tool_script_runs.specs.declared.counted.RefusedRows.{RefusedRows}
+use Rattle.tool_script_runs.specs.declared.refused.RefusedRow.{RefusedRow}
 use Rattle.tool_watched_runs.specs.Wear.{IsWorn, Worn}
 use Rattle.tool_watched_runs.specs.declared.tallies.Tally.{Tally}
 
@@ -43,9 +46,13 @@ header = codes "row,die,block,erases,written,copied,amplification" ++ 10 ∷ []
 abbrev pub wear_text : List Tally → List ℕ
 wear_text dies = header ++ flat_map (λ (p : ℕ × Tally). records_of p.0 p.1) (enumerate_from 0 dies)
 
--- the text of what dies wore that began fresh by these plans, and ran this script, where it is known, and so many slots
-pub record IsWearText (plans : List DiePlan) (script : Option (List ℕ)) (slots : ℕ) (text : List ℕ) : Type 0 where
+-- the text of what dies wore that began fresh by these plans, and ran this script, where it is known, and so many slots; no
+-- device failed, so all rows came, and all slots were carried out
+pub record IsWearText (plans : List DiePlan) (script : Option (List ℕ)) (slots : ℕ) (counts : RefusedRows) (text : List ℕ) : Type 0 where
   pub dies : List Worn
-  pub ran : IsRunOf (map fresh plans) script slots (map (λ (die : Worn). die.run) dies)
+  pub refused : List RefusedRow
+  pub ran : IsRunOf (map fresh plans) script slots refused (map (λ (die : Worn). die.run) dies)
+  pub counted : CountsRows refused counts
+  pub none_stopped : All (λ (die : Worn). die.run.stopped ≡ false) dies
   pub worn : All IsWorn dies
   pub is : text ≡ wear_text (map (λ (die : Worn). die.tally) dies)

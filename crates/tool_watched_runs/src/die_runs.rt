@@ -1,13 +1,14 @@
 //! A die that runs the rows of a script, and what is noted of it.
 
-ghost use Rattle.std.specs.Prelude.{◌≡◌, ◌<◌, [], IfOk};
+ghost use Rattle.std.specs.Prelude.{◌≡◌, ℕ, ◌<◌, ◌∷◌, [], length, option_map, IfOk};
 ghost use Rattle.std.specs.Box.{box_value};
 ghost use Rattle.slot_types.specs.Refusal.{FailsForMemory};
 ghost use Rattle.plan_rules.specs.Bound.{MeetsBound};
 ghost use Rattle.die_log.specs.Model.Start.{fresh};
-ghost use Rattle.die_log.specs.Model.Log.{now};
+ghost use Rattle.die_log.specs.Model.Log.{Log, job_at, now};
 ghost use Rattle.tool_script_runs.specs.RunningDies.{TakesSlot, running_of};
-ghost use Rattle.tool_watched_runs.specs.Wear.{IsWearOf};
+ghost use Rattle.tool_watched_runs.specs.SlotsCarried.{AreCountsOf};
+ghost use Rattle.tool_watched_runs.specs.Wear.{IsWearOf, slot_entry};
 
 use crate::failing::RunNand;
 use crate::{Level, Tally, Waiver, Whose, Window};
@@ -15,7 +16,7 @@ use flash_die::{FuseNand, MemoryNand};
 use slot_core::{DieCore, Stage};
 use slot_types::{DiePlan, Event, JobNo, MAX_SLOT, Op, Refusal, SlotReply};
 use std::alloc::Global;
-use tool_run_figures::DieCounts;
+use tool_run_figures::{DieCounts, Levels};
 use tool_script_runs::{ScriptDie, arrive};
 
 /// A die, what its slots wore, and what was done in a window of them.
@@ -27,8 +28,10 @@ pub struct DieRun {
     pub core: Box<DieCore<RunNand>>,
     pub tally: Tally,
     pub counts: DieCounts,
+    pub levels: Levels,
     pub window: Window,
     ghost worn: { IsWearOf (box_value core).start.plan.shape.blocks (box_value core).log tally },
+    ghost counted: { AreCountsOf (length (box_value core).start.plan.caps) (box_value core).log counts },
 }
 
 /// A job or a collection of a die.
@@ -64,25 +67,45 @@ fn note_slot(window: &mut Window, core: &DieCore<RunNand>, reply: &SlotReply) ->
     }
 }
 
-/// Counts what was done in a slot.
-fn count(counts: &mut DieCounts, core: &DieCore<RunNand>, reply: &SlotReply) {
+/// The task of a job or a collection of a die, if it is one.
+fn task_of(core: &DieCore<RunNand>, job: JobNo) -> Option<u32>
+    ensures { result ≡ option_map (λ j. j.task) (job_at core.now.log job) }
+{
+    match core.job_record(job) {
+        Some(record) => Some(record.task().0),
+        None => None,
+    }
+}
+
+/// Counts what a slot carried, which is the newest entry of the die's log.
+fn count(counts: &mut DieCounts, core: &DieCore<RunNand>, reply: &SlotReply)
+    ensures { (tasks : ℕ) (past : Log) → core.now.log ≡ slot_entry reply.now ∷ past
+        → AreCountsOf tasks past counts.old → AreCountsOf tasks core.now.log counts.new }
+{
+    match &reply.ran {
+        None => counts.note_idle(),
+        Some((job, act)) => counts.note_act(task_of(core, *job), act),
+    }
+}
+
+/// Notes what a slot does to the tokens and the spare pages.
+fn note_tokens(levels: &mut Levels, core: &DieCore<RunNand>, reply: &SlotReply) {
     for waived in reply.waived.as_slice() {
         let task = whose(core, waived.number).task;
-        counts.note_waived(task, waived.given, reply.slot);
+        levels.note_waived(task, waived.given, reply.slot);
     }
     let Some((job, act)) = &reply.ran else {
-        counts.note_idle();
         return;
     };
     let task = whose(core, *job).task;
-    counts.note_act(task, act);
+    levels.note_act(task, act);
     if let Some(given) = given_by(core, reply.finished) {
-        counts.note_collected(task, given);
+        levels.note_collected(task, given);
     }
 }
 
 /// Notes in a window how many pages are spare after a slot, and how many tokens each task has. The only refusal is NoMemory.
-fn note_levels(window: &mut Window, counts: &DieCounts, slot: u32) -> Result<(), Refusal>
+fn note_levels(window: &mut Window, levels: &Levels, slot: u32) -> Result<(), Refusal>
     ensures { FailsForMemory result }
 {
     if !window.has(slot) {
@@ -91,13 +114,13 @@ fn note_levels(window: &mut Window, counts: &DieCounts, slot: u32) -> Result<(),
     window.note_level(Level {
         slot,
         series: 0,
-        pages: counts.spare(),
+        pages: levels.spare(),
     })?;
-    for task in 0..counts.tasks.len() {
+    for task in 0..levels.task_count() {
         window.note_level(Level {
             slot,
             series: task.saturating_add(1),
-            pages: counts.balance(task).unwrap_or(0),
+            pages: levels.balance(task).unwrap_or(0),
         })?;
     }
     Ok(())
@@ -106,13 +129,13 @@ fn note_levels(window: &mut Window, counts: &DieCounts, slot: u32) -> Result<(),
 /// Notes in a window what was done in a slot, and the levels after it. The only refusal is NoMemory.
 fn note(
     window: &mut Window,
-    counts: &DieCounts,
+    levels: &Levels,
     core: &DieCore<RunNand>,
     reply: &SlotReply,
 ) -> Result<(), Refusal>
     ensures { FailsForMemory result }
 {
-    note_levels(window, counts, reply.slot)?;
+    note_levels(window, levels, reply.slot)?;
     note_slot(window, core, reply)
 }
 
@@ -125,8 +148,8 @@ fn given_by(core: &DieCore<RunNand>, finished: Option<JobNo>) -> Option<u32> {
     }
 }
 
-/// The task that a row asks for, how many pages it writes, and whether it collects.
-fn asked_of(event: &Event) -> (u32, u32, bool) {
+/// The task that a row asks for, and how many pages it writes.
+fn asked_of(event: &Event) -> (u32, u32) {
     match event {
         Event::Submit { task, ops, .. } => {
             let mut writes: u32 = 0;
@@ -135,10 +158,10 @@ fn asked_of(event: &Event) -> (u32, u32, bool) {
                     writes = writes.saturating_add(1);
                 }
             }
-            (task.0, writes, false)
+            (task.0, writes)
         }
-        Event::Collect { task, .. } => (task.0, 0, true),
-        Event::Slot => (0, 0, false),
+        Event::Collect { task, .. } => (task.0, 0),
+        Event::Slot => (0, 0),
     }
 }
 
@@ -185,13 +208,15 @@ impl DieRun {
         ensures refused { FailsForMemory result }
     {
         let tally = Tally::new(alloc, plan.shape.blocks)?;
-        let counts = DieCounts::new(alloc, &plan)?;
+        let counts = DieCounts::new(alloc, plan.caps.len())?;
+        let levels = Levels::new(alloc, &plan)?;
         let core = fresh_core(alloc, plan, calls)?;
         Ok(DieRun {
             die,
             core,
             tally,
             counts,
+            levels,
             window: Window::new(alloc, seen.0, seen.1),
         })
     }
@@ -221,7 +246,8 @@ impl DieRun {
         let reply = self.core.slot(alloc, 0)?;
         self.tally.note(&reply);
         count(&mut self.counts, &self.core, &reply);
-        note(&mut self.window, &self.counts, &self.core, &reply)
+        note_tokens(&mut self.levels, &self.core, &reply);
+        note(&mut self.window, &self.levels, &self.core, &reply)
     }
 }
 
@@ -243,16 +269,13 @@ impl ScriptDie for DieRun {
     }
 
     fn ask(&mut self, alloc: Global, event: Event) -> Result<Option<Refusal>, Refusal> {
-        let (asked, writes, collects) = asked_of(&event);
+        let (asked, writes) = asked_of(&event);
         match arrive(&mut self.core, alloc, event) {
             Ok(_) => {
-                self.counts.note_job(asked, writes, self.core.now());
+                self.levels.note_job(asked, writes, self.core.now());
                 Ok(None)
             }
-            Err(refusal) => {
-                self.counts.note_refused(asked, collects);
-                Ok(Some(refusal))
-            }
+            Err(refusal) => Ok(Some(refusal)),
         }
     }
 }

@@ -5,6 +5,7 @@ ghost use Rattle.slot_types.specs.Refusal.{FailsForMemory};
 ghost use Rattle.plan_rules.specs.Bound.{MeetsBound};
 ghost use Rattle.die_log.specs.Model.Start.{Start, fresh};
 ghost use Rattle.script_texts.specs.ScriptLeft.{script_left, slots_of};
+ghost use Rattle.tool_script_runs.specs.Counted.{CountsRows};
 ghost use Rattle.tool_script_runs.specs.ScriptRuns.{IsRunAs, RanAsDie};
 ghost use Rattle.tool_watched_runs.specs.Failing.{IsBeyond};
 ghost use Rattle.tool_watched_runs.specs.Runs.{IsDrawingOf, core_of, failure_as, running};
@@ -18,7 +19,7 @@ use slot_core::{DieCore, Job, Stage};
 use slot_types::{DiePlan, JobNo, MAX_JOBS, MAX_SLOT, Refusal, StorePlan};
 use std::alloc::Global;
 use std::io::Read;
-use tool_script_runs::{RefusedRows, run_die};
+use tool_script_runs::{RefusedRow, RefusedRows, run_die};
 
 /// The collections that were waived in a window, by number, each with the slot. The only refusal is NoMemory.
 fn waivers_of(alloc: Global, window: &Window) -> Result<Vec<(u32, u32)>, Refusal>
@@ -332,7 +333,7 @@ fn one_die(
 #[derive(Drop)]
 struct RanDie {
     die: Box<DieRun>,
-    refused: RefusedRows,
+    refused: Vec<RefusedRow>,
 }
 
 /// Runs a script on a die that was made. Where it wasn't, the refusal is the same. The script is lent, since a reader is
@@ -351,7 +352,8 @@ fn run_made<R: Read + Drop>(
         IfOk made (λ run. start ≡ Some (core_of run).start) →
         IfOk result (λ ran. start ≡ Some (core_of ran.die).start) }
     ensures ran { IfOk result (λ ran.
-        RanAsDie (script_left R.remaining script.old) slots die (running ran.die)) }
+        RanAsDie (script_left R.remaining script.old) slots die ran.refused.items
+        (running ran.die)) }
 {
     let mut made = made?;
     let refused = run_die(alloc, script, &mut made, die, slots)?;
@@ -371,7 +373,8 @@ fn run_one<R: Read + Drop>(
     requires few { slots ≤ MAX_SLOT }
     requires bound { All MeetsBound plan }
     ensures { IfOk result (λ ran.
-        IsRunAs (map fresh plan) (R.remaining script) slots die (running ran.die)) }
+        IsRunAs (map fresh plan) (R.remaining script) slots die ran.refused.items
+        (running ran.die)) }
 {
     let mut script = ScriptReader::new(alloc, script, &plan, slots)?;
     let made = one_die(alloc, plan, die, calls_of(fail, die), seen);
@@ -413,6 +416,7 @@ fn drawn(
     fail: Option<FailAt>,
 ) -> Result<Reported, Refusal>
     ensures failure { IfOk result (λ reported. reported.failure ≡ failure_as die fail (core_of ran.die)) }
+    ensures counted { IfOk result (λ reported. CountsRows ran.refused.items reported.refused) }
     ensures refused { FailsForMemory result }
 {
     let RanDie {
@@ -423,7 +427,7 @@ fn drawn(
     let (text, sights) = draw_run(alloc, &mut drawn, frame)?;
     Ok(Reported {
         text,
-        refused,
+        refused: RefusedRows::of(&refused),
         sights,
         failure,
     })
@@ -450,7 +454,7 @@ pub fn draw<R: Read + Drop>(
     requires bound { All MeetsBound plan }
     ensures unknown { IsBeyond fail (length plan) → result ≡ Err Refusal.UnknownDie }
     ensures ran { IfOk result (λ reported.
-        IsDrawingOf plan (R.remaining script) slots die fail reported.failure) }
+        IsDrawingOf plan (R.remaining script) slots die fail reported) }
 {
     check_failing(fail, plan.len())?;
     let frame = Frame {

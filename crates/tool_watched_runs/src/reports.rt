@@ -1,122 +1,191 @@
 //! Runs whose figures are printed.
 
-ghost use Rattle.std.specs.Prelude.{◌≡◌, ◌≤◌, All, IfOk, length, map};
+ghost use Rattle.std.specs.Prelude.{◌≡◌, ◌≤◌, ◌++◌, ◌∷◌, [], true, All, IfOk, OnOk, length, map};
+ghost use Rattle.std.specs.Box.{box_value};
+ghost use Rattle.slot_types.specs.Refusal.{FailsForMemory};
 ghost use Rattle.plan_rules.specs.Bound.{MeetsBound};
+ghost use Rattle.tool_run_figures.specs.Csv.{csv_text};
+ghost use Rattle.tool_script_runs.specs.RunningDies.{running_of};
+ghost use Rattle.tool_watched_runs.specs.Ends.{end_in, ended_in, ends_of, refused_end, refused_ends};
 ghost use Rattle.tool_watched_runs.specs.Failing.{IsBeyond};
-ghost use Rattle.tool_watched_runs.specs.Runs.{IsReportOf, core_of, failure_among};
+ghost use Rattle.tool_watched_runs.specs.Figures.{AreFiguresOf, HaveFigures};
+ghost use Rattle.tool_watched_runs.specs.Runs.{IsReportOf, Tells, running};
 
 use crate::die_runs::DieRun;
 use crate::failing::{FailAt, RunNand, check_failing};
 use crate::script_runs::{Ran, Reported, Sights, failure_of, run_store};
+use die_log::exact_keeps_limits;
+use late_cert::lateness;
 use slot_core::{DieCore, Job, Stage};
 use slot_types::{JobNo, MAX_JOBS, MAX_SLOT, Refusal, StorePlan};
 use std::alloc::Global;
-use std::io;
 use std::io::Read;
 use tool_run_figures::{
-    DieFigures, Ended, JobEnd, Life, Record, Wearing, put_csv, put_header, put_table, records_of,
+    DieFigures, Ended, JobEnd, Life, Records, Wearing, put_csv, put_table, records_of,
 };
+use tool_script_runs::{RefusedRow, RefusedRows};
 
-/// What became of a job or a collection of a die that carried out so many slots. One that waits can't be done before the
-/// end of the next slot.
-fn end_of(job: &Job<'_>, slots: u32) -> JobEnd {
-    JobEnd {
-        task: job.task().0,
-        collects: job.collects(),
-        ended: match job.stage() {
-            Stage::Pending => Ended::Waiting {
-                late: job.due() <= slots,
-            },
-            Stage::Waived { .. } => Ended::Waived,
-            Stage::Done { completion, .. } => Ended::Done {
-                lateness: i64::from(completion).saturating_sub(i64::from(job.due())),
-            },
+/// What became of a job or a collection of this stage, of a die that carried out so many slots. One
+/// that waits can't be done before the end of the next slot.
+fn ended_in(stage: Stage, due: u32, slots: u32) -> Ended
+    ensures { result ≡ ended_in stage due slots }
+{
+    match stage {
+        Stage::Pending => Ended::Waiting { late: due <= slots },
+        Stage::Waived { .. } => Ended::Waived,
+        Stage::Done { completion, .. } => Ended::Done {
+            lateness: lateness(completion, due),
         },
     }
 }
 
-/// Adds what became of the jobs and collections of a die, by their numbers. The only refusal is NoMemory.
-fn put_ends(ends: &mut Vec<JobEnd>, core: &DieCore<RunNand>) -> Result<(), Refusal> {
+/// What became of a job or a collection of a die that carried out so many slots.
+fn end_in(job: &Job<'_>, slots: u32) -> JobEnd
+    ensures { result ≡ end_in slots job.now }
+{
+    JobEnd {
+        task: job.task().0,
+        collects: job.collects(),
+        ended: ended_in(job.stage(), job.due(), slots),
+    }
+}
+
+/// Adds an end. The only refusal is NoMemory.
+fn push_end(ends: &mut Vec<JobEnd>, end: JobEnd) -> Result<(), Refusal>
+    ensures ok { OnOk result (ends.new.items ≡ ends.old.items ++ end ∷ []) }
+    ensures refused { FailsForMemory result }
+{
+    ends.push(end)?;
+    Ok(())
+}
+
+/// What became of the jobs and collections of a die, by their numbers. The only refusal is NoMemory.
+fn ends_of(alloc: Global, core: &DieCore<RunNand>) -> Result<Vec<JobEnd>, Refusal>
+    ensures is { IfOk result (λ ends. ends.items ≡ ends_of core.now.start.plan core.now.log) }
+    ensures refused { FailsForMemory result }
+{
+    core.promises();
+    exact_keeps_limits();
     let slots = core.now();
+    let mut ends = Vec::new(alloc);
     for number in 0..MAX_JOBS {
-        let Some(job) = core.job_record(JobNo(number)) else {
-            break;
-        };
-        ends.push(end_of(&job, slots))?;
+        match core.job_record(JobNo(number)) {
+            Some(job) => push_end(&mut ends, end_in(&job, slots))?,
+            None => return Ok(ends),
+        }
+    }
+    Ok(ends)
+}
+
+/// What became of a row that was refused.
+fn refused_end(row: &RefusedRow) -> JobEnd
+    ensures { result ≡ refused_end row.now }
+{
+    JobEnd {
+        task: row.asker.task,
+        collects: row.asker.collects,
+        ended: Ended::Refused,
+    }
+}
+
+/// Adds the rows of a die that were refused. The only refusal is NoMemory.
+fn put_refused(ends: &mut Vec<JobEnd>, die: usize, rows: &[RefusedRow]) -> Result<(), Refusal>
+    ensures ok { OnOk result (ends.new.items ≡ ends.old.items ++ refused_ends die rows.now) }
+    ensures refused { FailsForMemory result }
+{
+    for row in rows {
+        if row.asker.die as usize == die {
+            push_end(ends, refused_end(row))?;
+        }
     }
     Ok(())
 }
 
-/// The records of a die. The only refusal is NoMemory.
-fn records_in(alloc: Global, run: &DieRun, life: Life) -> Result<Vec<Record>, Refusal> {
-    let mut ends = Vec::new(alloc);
-    put_ends(&mut ends, &run.core)?;
+/// The figures of a die of this number. The only refusal is NoMemory.
+fn figures_of(
+    alloc: Global,
+    run: &DieRun,
+    die: usize,
+    rows: &[RefusedRow],
+    life: Life,
+) -> Result<Records, Refusal>
+    ensures is { IfOk result (AreFiguresOf die rows.now (running_of (box_value run.now.core))) }
+    ensures refused { FailsForMemory result }
+{
+    run.core.promises();
+    let mut ends = ends_of(alloc, &run.core)?;
+    put_refused(&mut ends, die, rows)?;
     let figures = DieFigures {
         counts: &run.counts,
+        levels: &run.levels,
         ends: ends.as_slice(),
         wearing: Wearing::of(run.core.now(), run.tally.erases.as_slice()),
         life,
     };
-    Ok(records_of(alloc, &figures)?)
+    records_of(alloc, &figures)
 }
 
-/// Adds the records of a die to a text.
-fn put_records(
-    alloc: Global,
-    text: &mut Vec<u8>,
-    die: u32,
-    records: &[Record],
-    as_csv: bool,
-) -> io::Result<()> {
-    if as_csv {
-        put_csv(text, die, records)
-    } else {
-        put_table(alloc, text, die, records)
-    }
+/// Adds the figures of a die. The only refusal is NoMemory.
+fn push_figures(all: &mut Vec<Records>, figures: Records) -> Result<(), Refusal>
+    ensures ok { OnOk result (all.new.items ≡ all.old.items ++ figures ∷ []) }
+    ensures refused { FailsForMemory result }
+{
+    all.push(figures)?;
+    Ok(())
 }
 
-/// Adds what a die came to. The only refusal is NoMemory.
-fn put_die(
+/// The figures of dies, by number. The only refusal is NoMemory.
+fn all_figures(
     alloc: Global,
-    text: &mut Vec<u8>,
-    run: &DieRun,
+    dies: &[Box<DieRun>],
+    rows: &[RefusedRow],
     life: Life,
-    as_csv: bool,
-) -> Result<(), Refusal> {
-    let records = records_in(alloc, run, life)?;
-    match put_records(alloc, text, run.die, records.as_slice(), as_csv) {
-        Ok(()) => Ok(()),
+) -> Result<Vec<Records>, Refusal>
+    ensures is { IfOk result (λ all. HaveFigures rows.now (map running dies.now) all.items) }
+    ensures refused { FailsForMemory result }
+{
+    let mut all = Vec::new(alloc);
+    for die in 0..dies.len() {
+        push_figures(&mut all, figures_of(alloc, &dies[die], die, rows, life)?)?;
+    }
+    Ok(all)
+}
+
+/// The figures of dies, as CSV. The only refusal is NoMemory.
+fn csv_of(alloc: Global, all: &[Records]) -> Result<Vec<u8>, Refusal>
+    ensures text { IfOk result (λ text. text.items ≡ csv_text all.now) }
+    ensures refused { FailsForMemory result }
+{
+    let mut text = Vec::new(alloc);
+    match put_csv(&mut text, all) {
+        Ok(()) => Ok(text),
         Err(_) => Err(Refusal::NoMemory),
     }
 }
 
-/// Adds what dies came to, and of CSV the header. The only refusal is NoMemory.
-fn put_dies(
-    alloc: Global,
-    text: &mut Vec<u8>,
-    dies: &[Box<DieRun>],
-    life: Life,
-    as_csv: bool,
-) -> Result<(), Refusal> {
-    if as_csv && put_header(text).is_err() {
-        return Err(Refusal::NoMemory);
+/// The figures of dies, as tables for eyes. The only refusal is NoMemory.
+fn tables_of(alloc: Global, all: &[Records]) -> Result<Vec<u8>, Refusal>
+    ensures { FailsForMemory result }
+{
+    let mut text = Vec::new(alloc);
+    for die in 0..all.len() {
+        if put_table(alloc, &mut text, die, &all[die]).is_err() {
+            return Err(Refusal::NoMemory);
+        }
     }
-    for run in dies {
-        put_die(alloc, text, run, life, as_csv)?;
-    }
-    Ok(())
+    Ok(text)
 }
 
-/// What dies came to, as a text. The only refusal is NoMemory.
-fn report_text(
-    alloc: Global,
-    dies: &[Box<DieRun>],
-    life: Life,
-    as_csv: bool,
-) -> Result<Vec<u8>, Refusal> {
-    let mut text = Vec::new(alloc);
-    put_dies(alloc, &mut text, dies, life, as_csv)?;
-    Ok(text)
+/// The figures of dies, as tables for eyes, or as CSV. The only refusal is NoMemory.
+fn text_of(alloc: Global, all: &[Records], as_csv: bool) -> Result<Vec<u8>, Refusal>
+    ensures text { IfOk result (λ text. as_csv ≡ true → text.items ≡ csv_text all.now) }
+    ensures refused { FailsForMemory result }
+{
+    if as_csv {
+        csv_of(alloc, all)
+    } else {
+        tables_of(alloc, all)
+    }
 }
 
 /// What a run came to, as a text: as a table for eyes, or as CSV. The only refusal is NoMemory.
@@ -127,14 +196,14 @@ fn reported(
     as_csv: bool,
     fail: Option<FailAt>,
 ) -> Result<Reported, Refusal>
-    ensures { IfOk result (λ reported.
-        reported.failure ≡ failure_among fail (map core_of ran.dies.items)) }
+    ensures { IfOk result (Tells ran.dies.items ran.refused.items as_csv fail) }
 {
     let Ran { dies, refused } = ran;
-    let text = report_text(alloc, dies.as_slice(), life, as_csv)?;
+    let figures = all_figures(alloc, &dies, &refused, life)?;
+    let text = text_of(alloc, &figures, as_csv)?;
     Ok(Reported {
         text,
-        refused,
+        refused: RefusedRows::of(&refused),
         sights: Sights::NONE,
         failure: failure_of(fail, dies.as_slice()),
     })
@@ -159,7 +228,7 @@ pub fn report<R: Read + Drop>(
     requires bound { All MeetsBound plan }
     ensures unknown { IsBeyond fail (length plan) → result ≡ Err Refusal.UnknownDie }
     ensures ran { IfOk result (λ reported.
-        IsReportOf plan (R.remaining script) slots fail reported.failure) }
+        IsReportOf plan (R.remaining script) slots fail as_csv reported) }
 {
     check_failing(fail, plan.len())?;
     let ran = run_store(alloc, plan, script, slots, fail)?;

@@ -1,6 +1,6 @@
 //! Scripts that are run, row by row, on dies whose devices are in memory.
 
-ghost use Rattle.std.specs.Prelude.{◌≡◌, ◌≤◌, ◌++◌, ◌∷◌, [], All, length, map, IfOk, OnOk};
+ghost use Rattle.std.specs.Prelude.{◌≡◌, ◌≤◌, ◌++◌, ◌∷◌, [], false, All, length, map, IfOk, OnOk};
 ghost use Rattle.std.specs.Box.{box_value};
 ghost use Rattle.plan_rules.specs.Bound.{MeetsBound};
 ghost use Rattle.die_log.specs.Model.Start.{fresh};
@@ -9,7 +9,7 @@ ghost use Rattle.script_texts.specs.ScriptLeft.{dies_of, script_left, slots_of};
 ghost use Rattle.tool_script_runs.specs.RunningDies.{HasEmptyLog, starts_of};
 ghost use Rattle.tool_script_runs.specs.ScriptRuns.{IsRunOf, RanScript};
 ghost use Rattle.tool_watched_runs.specs.Runs.{core_of, failure_among, running, worn_of};
-ghost use Rattle.tool_watched_runs.specs.Wear.{IsWorn};
+ghost use Rattle.tool_watched_runs.specs.Wear.{IsWorn, IsWornWell};
 ghost use Rattle.tool_watched_runs.specs.WearText.{IsWearText};
 
 use crate::die_runs::DieRun;
@@ -19,7 +19,7 @@ use script_texts::ScriptReader;
 use slot_types::{MAX_SLOT, Refusal, StorePlan};
 use std::alloc::Global;
 use std::io::Read;
-use tool_script_runs::{RefusedRows, run_dies};
+use tool_script_runs::{RefusedRow, RefusedRows, run_dies};
 
 /// What of a run is worth a picture.
 #[derive(Clone, Copy, Drop)]
@@ -44,7 +44,7 @@ pub struct Reported {
 #[derive(Drop)]
 pub struct Ran {
     pub dies: Vec<Box<DieRun>>,
-    pub refused: RefusedRows,
+    pub refused: Vec<RefusedRow>,
 }
 
 impl Sights {
@@ -110,7 +110,8 @@ fn run_lent<R: Read + Drop>(
     requires bound { All MeetsBound plan }
     ensures starts { IfOk result (λ ran. starts_of (map running ran.dies.items) ≡ map fresh plan) }
     ensures ran { IfOk result (λ ran.
-        RanScript (script_left R.remaining script.old) slots (map running ran.dies.items)) }
+        RanScript (script_left R.remaining script.old) slots ran.refused.items
+        (map running ran.dies.items)) }
 {
     let mut dies = fresh_dies(alloc, plan, fail)?;
     let refused = run_dies(alloc, script, &mut dies, slots)?;
@@ -130,20 +131,25 @@ pub fn run_store<R: Read + Drop>(
     requires few { slots ≤ MAX_SLOT }
     requires bound { All MeetsBound plan }
     ensures { IfOk result (λ ran.
-        IsRunOf (map fresh plan) (R.remaining script) slots (map running ran.dies.items)) }
+        IsRunOf (map fresh plan) (R.remaining script) slots ran.refused.items
+        (map running ran.dies.items)) }
 {
     let mut script = ScriptReader::new(alloc, script, &plan, slots)?;
     run_lent(alloc, &mut script, plan, slots, fail)
 }
 
-/// What a die wore, which is given up.
-fn tally_of(run: Box<DieRun>) -> Tally
-    ensures tally { result ≡ (box_value run).tally }
-    ensures worn { IsWorn (worn_of run) }
+/// What a die wore, which is given up. DeviceFault where its device has failed, and nothing else.
+fn tally_of(run: Box<DieRun>) -> Result<Tally, Refusal>
+    ensures tally { IfOk result (λ tally. tally ≡ (box_value run).tally) }
+    ensures worn { IfOk result (λ _. IsWorn (worn_of run)) }
+    ensures runs { IfOk result (λ _. (running run).stopped ≡ false) }
 {
     run.core.promises();
+    if run.core.is_stopped() {
+        return Err(Refusal::DeviceFault);
+    }
     let DieRun { tally, .. } = Box::into_inner(run);
-    tally
+    Ok(tally)
 }
 
 /// Adds what a die wore. The only refusal is NoMemory.
@@ -155,23 +161,24 @@ fn push_tally(tallies: &mut Vec<Tally>, tally: Tally) -> Result<(), Refusal>
     Ok(())
 }
 
-/// What dies wore.
+/// What dies wore. DeviceFault where the device of one has failed; or NoMemory.
 fn tallies_of(alloc: Global, dies: Vec<Box<DieRun>>) -> Result<Vec<Tally>, Refusal>
     ensures tallies { IfOk result (λ tallies.
         tallies.items ≡ map (λ die. (worn_of die).tally) dies.items) }
-    ensures worn { IfOk result (λ _. All (λ die. IsWorn (worn_of die)) dies.items) }
+    ensures worn { IfOk result (λ _. All (λ die. IsWornWell (worn_of die)) dies.items) }
 {
     let mut tallies = Vec::new(alloc);
     for run in dies {
-        push_tally(&mut tallies, tally_of(run))?;
+        push_tally(&mut tallies, tally_of(run)?)?;
     }
     Ok(tallies)
 }
 
 /// Runs a script on a store of dies in memory, and reports what it wore, as a text of records: the counts are those of
-/// the logs of dies that began fresh by these plans, and ran the script.
+/// the logs of dies that began fresh by these plans, and ran the whole script and so many slots.
 ///
-/// Refused with the first fault of the script, as [`ScriptReader`] says it; or with ReadFault or NoMemory.
+/// Refused with the first fault of the script, as [`ScriptReader`] says it; with DeviceFault where a device has failed,
+/// which none in memory does; or with ReadFault or NoMemory.
 pub fn wear<R: Read + Drop>(
     alloc: Global,
     plan: StorePlan,
@@ -181,14 +188,15 @@ pub fn wear<R: Read + Drop>(
     requires few { slots ≤ MAX_SLOT }
     requires bound { All MeetsBound plan }
     ensures text { IfOk result (λ reported.
-        IsWearText plan (R.remaining script) slots reported.text.items) }
+        IsWearText plan (R.remaining script) slots reported.refused reported.text.items) }
 {
     let Ran { dies, refused } = run_store(alloc, plan, script, slots, None)?;
+    let counts = RefusedRows::of(&refused);
     let tallies = tallies_of(alloc, dies)?;
     let text = wear_text(alloc, &tallies)?;
     Ok(Reported {
         text,
-        refused,
+        refused: counts,
         sights: Sights::NONE,
         failure: None,
     })

@@ -1,12 +1,11 @@
 use Rattle.std.proofs.Common.{◌≡◌, ℕ, List, length, map}
-use Rattle.script_texts.specs.declared.script_rows.ScriptItem.{ScriptItem}
 use Rattle.tool_script_runs.specs.RunningDies.{starts_of}
-use Rattle.tool_script_runs.specs.ScriptRuns.{HaveRun, HaveRunBelow}
+use Rattle.tool_script_runs.specs.ScriptRuns.{EndedRow, HaveRun, HaveRunBelow}
 use Rattle.tool_script_runs.proofs.rows.carry_all.Given as goal
 
 abbrev pub invariant-loop-place : goal.invariant-loop-place
 invariant-loop-place g l = record {
-  ran : (rows : ℕ → List ScriptItem) → HaveRun rows 0 (map g.D.ScriptDie.running l.fn.dies.items)
+  ran : (rows : ℕ → List EndedRow) → HaveRun rows 0 (map g.D.ScriptDie.running l.fn.dies.items)
       → HaveRunBelow l.place rows l.slot (map g.D.ScriptDie.running l.dies.items);
   starts : starts_of (map g.D.ScriptDie.running l.dies.items) ≡ starts_of (map g.D.ScriptDie.running l.fn.dies.items);
   count : length l.dies.items ≡ length l.fn.dies.items;

@@ -7,6 +7,6 @@ abbrev pub invariant-loop : goal.invariant-loop
 invariant-loop g l = record {
   slots : slots_of l.script ≡ slots_of l.fn.script;
   start : (g.D.ScriptDie.running l.die).start ≡ (g.D.ScriptDie.running l.fn.die).start;
-  read : HasReadAs l.number (script_left g.R.Read.remaining l.fn.script) (script_left g.R.Read.remaining l.script)
+  read : HasReadAs l.number (script_left g.R.Read.remaining l.fn.script) (script_left g.R.Read.remaining l.script) l.refused.items
       (g.D.ScriptDie.running l.die);
 }

@@ -8,7 +8,7 @@ loop-init g c = record {
   slots = refl;
   starts = refl;
   count = refl;
-  read = reads_none _ _ c.requires.empty;
+  read = reads_none _ _ _ c.new-refused.ensures.items c.requires.empty;
 }
 
 pub loop-preserved : goal.loop-preserved
@@ -17,6 +17,6 @@ loop-preserved g c = record {
   slots = c.next.ensures.slots ∙ c.loop.invariant.slots;
   starts = c.run_row.ensures.starts ∙ c.loop.invariant.starts;
   count = c.run_row.ensures.count ∙ c.loop.invariant.count;
-  read = reads_row _ _ _ _ _ c.in-Some.item c.loop.invariant.read (rw c.in-Some.is at c.in_ok-item.ensures.item)
+  read = reads_row _ _ _ _ _ _ _ c.in-Some.item c.loop.invariant.read (rw c.in-Some.is at c.in_ok-item.ensures.item)
       c.in_ok-run_row.ensures.ran;
 }

@@ -10,6 +10,6 @@ invariant-loop g l = record {
   slots : slots_of l.script ≡ slots_of l.fn.script;
   starts : starts_of (map g.D.ScriptDie.running l.dies.items) ≡ starts_of (map g.D.ScriptDie.running l.fn.dies.items);
   count : length l.dies.items ≡ length l.fn.dies.items;
-  read : HasRead (script_left g.R.Read.remaining l.fn.script) (script_left g.R.Read.remaining l.script)
+  read : HasRead (script_left g.R.Read.remaining l.fn.script) (script_left g.R.Read.remaining l.script) l.refused.items
       (map g.D.ScriptDie.running l.dies.items);
 }

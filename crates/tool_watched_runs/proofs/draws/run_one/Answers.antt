@@ -14,7 +14,7 @@ returns g c =
     let left = script_left g.R.Read.remaining c.in_ok-script.script in
     let start = slice_get (map fresh c.args.plan) c.args.die in
     both_ok c.run_made.result
-    (λ (ran : RanDie) (begun : start ≡ Some (core_of ran.die).start) (runs : RanAsDie left c.args.slots c.args.die (running ran.die)).
+    (λ (ran : RanDie) (begun : start ≡ Some (core_of ran.die).start) (runs : RanAsDie left c.args.slots c.args.die ran.refused.items (running ran.die)).
     run_as_text (map fresh c.args.plan) (g.R.Read.remaining c.args.script) c.args.slots (length c.args.plan) c.args.die left
-    (running ran.die) (length-map c.args.plan fresh) c.in_ok-script.ensures.script begun runs)
+    ran.refused.items (running ran.die) (length-map c.args.plan fresh) c.in_ok-script.ensures.script begun runs)
     (c.run_made.ensures.start start c.one_die-made.ensures.start) c.run_made.ensures.ran

@@ -1,6 +1,5 @@
-use Rattle.std.proofs.Common.{◌≡◌, map}
 use Rattle.std.proofs.lemmas.Result.{IfOk-weaker}
-use Rattle.tool_watched_runs.specs.Runs.{IsReportOf, core_of, failure_among}
+use Rattle.tool_watched_runs.specs.Runs.{IsReportOf, Tells}
 use Rattle.tool_watched_runs.specs.declared.script_runs.Reported.{Reported}
 use Rattle.tool_watched_runs.proofs.RunsOf.{is_report}
 use Rattle.tool_watched_runs.proofs.reports.report.Goals as goal
@@ -8,9 +7,10 @@ use Rattle.tool_watched_runs.proofs.reports.report.Goals as goal
 pub returns-clause-ran : goal.returns-clause-ran
 returns-clause-ran g c =
     let dies = c.in_ok-ran.ran.dies.items in
+    let refused = c.in_ok-ran.ran.refused.items in
     let text = g.R.Read.remaining c.args.script in
-    IfOk-weaker c.reported.result (λ (r : Reported). r.failure ≡ failure_among c.args.fail (map core_of dies))
-    (λ (r : Reported). IsReportOf c.args.plan text c.args.slots c.args.fail r.failure)
-    (λ (r : Reported) (is : r.failure ≡ failure_among c.args.fail (map core_of dies)).
-    is_report c.args.plan text c.args.slots c.args.fail dies r.failure c.in_ok-ran.ensures is)
+    IfOk-weaker c.reported.result (Tells dies refused c.args.as_csv c.args.fail)
+    (IsReportOf c.args.plan text c.args.slots c.args.fail c.args.as_csv)
+    (λ (said : Reported) (tells : Tells dies refused c.args.as_csv c.args.fail said).
+    is_report c.args.plan text c.args.slots c.args.fail c.args.as_csv dies refused said c.in_ok-ran.ensures tells)
     c.reported.ensures

@@ -14,7 +14,7 @@ returns g c =
     let left = script_left g.R.Read.remaining c.in_ok-script.script in
     both_ok c.run_lent.result
     (λ (ran : Ran) (begun : starts_of (map running ran.dies.items) ≡ map fresh c.args.plan)
-    (runs : RanScript left c.args.slots (map running ran.dies.items)).
+    (runs : RanScript left c.args.slots ran.refused.items (map running ran.dies.items)).
     run_of_text (map fresh c.args.plan) (g.R.Read.remaining c.args.script) c.args.slots (length c.args.plan) left
-    (map running ran.dies.items) (length-map c.args.plan fresh) c.in_ok-script.ensures.script begun runs)
+    ran.refused.items (map running ran.dies.items) (length-map c.args.plan fresh) c.in_ok-script.ensures.script begun runs)
     c.run_lent.ensures.starts c.run_lent.ensures.ran

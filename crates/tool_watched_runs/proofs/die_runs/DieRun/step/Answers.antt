@@ -1,4 +1,6 @@
-use Rattle.std.proofs.Common.{rules, ◌≡◌, ◌<◌, Err, ap, subst, sym}
+use Rattle.std.proofs.Common.{rules, ◌≡◌, ◌<◌, Err, ap, subst, sym, ◌∙◌, length}
+use Rattle.slot_types.specs.declared.plans.DiePlan.{DiePlan}
+use Rattle.tool_watched_runs.specs.SlotsCarried.{AreCountsOf}
 use Rattle.std.specs.Box.{box_value}
 use Rattle.slot_types.specs.declared.limits.TheConstants.{MAX_SLOT}
 use Rattle.die_log.specs.Model.Log.{now}
@@ -17,6 +19,15 @@ invariant_of-self-2 c = record {
       c.in_ok-reply.reply c.args.self.now.tally c.note.new.self c.in_ok-reply.ensures.ended.logged
       (ap (λ (s : Start). s.plan) c.in_ok-reply.ensures.start_stays)
       c.note.ensures (rw c.deref_mut.ensures.value c.args.self.now.worn);
+  counted =
+      let before = c.deref_mut.result.now in
+      let was : AreCountsOf (length before.start.plan.caps) before.log c.args.self.now.counts =
+      rw c.deref_mut.ensures.value c.args.self.now.counted in
+      let logged = ap (λ (core : Core (Fuse Memory)). core.log) c.deref.ensures ∙ c.in_ok-reply.ensures.ended.logged in
+      subst (λ (plan : DiePlan). AreCountsOf (length plan.caps) c.slot.new.self.log c.count.new.counts)
+      (sym (ap (λ (s : Start). s.plan) c.in_ok-reply.ensures.start_stays))
+      (subst (λ (core : Core (Fuse Memory)). AreCountsOf (length before.start.plan.caps) core.log c.count.new.counts) c.deref.ensures
+      (c.count.ensures (length before.start.plan.caps) before.log logged was));
 }
 
 pub returns-in_err-reply : goal.returns-in_err-reply

@@ -1,6 +1,6 @@
--- What is counted while a die runs.
+-- How low something fell.
 use Rattle.std.specs.Prelude.{◌≡◌, ℕ, ◌<◌, ◌≤◌, min}
-use Rattle.tool_run_figures.specs.declared.counts.Low.{Low}
+use Rattle.tool_run_figures.specs.declared.levels.Low.{Low}
 
 -- the least so far, with a value of this slot: the first slot in which it was so low
 pub record IsLowWith (value slot : ℕ) (old new : Low) : Type 0 where
