@@ -59,6 +59,28 @@ lateness: worst                    0          0
 lateness: mean                -14.72     -14.72
 ";
 
+/// Job 0 was done in slot 1, a slot late, and alone until then. Job 1 is due by slot 2 and waits after slot 2, so it ends in slot
+/// 3 at best: 2 slots late. The others are due later.
+const OVERLOAD: &str = "die 0: job 0 (task 0, due 1) was 1 late: from slot 0 to before slot 2 the die carried only it
+die 0 is overloaded: job 1 (task 0, due 2) isn't done in 3 slots, and will be 2 late at least; what the die carried instead was \
+due no later
+";
+
+/// Three slots go to the first job, which is as urgent and came first; the second is done in slot 3.
+const BUSY: &str = "at,die,task,kind,release,due,ops
+0,0,0,job,0,2,R0 R0 R0
+0,0,0,job,0,2,R0
+0,0,0,job,0,9,R0
+";
+
+const WORST: &str =
+    "die 0: job 1 (task 0, due 2) was 2 late: from slot 0 to before slot 4 the die carried only it and 1 more, none due later
+";
+
+/// The last line of a table, where nothing was late.
+const LAST: &str = "years until one wears out                      
+";
+
 fn is_reported(
     alloc: Global,
     script: &str,
@@ -87,6 +109,22 @@ fn figures_are_reported_by_die_and_task(rt: HostRuntime) -> Result<(), Fail> {
     assert!(rt; is_reported(rt.alloc(), SCRIPT, 25, LIFE, FIGURES)?);
     assert!(rt; is_reported(rt.alloc(), HEADER, 3, UNKNOWN, NOTHING)?);
     assert!(rt; is_reported(rt.alloc(), LATE, 3, UNKNOWN, LATE_FIGURES)?);
+    Ok(())
+}
+
+/// Whether the table of a run ends with these lines.
+fn ends_with(alloc: Global, script: &str, slots: u32, lines: &str) -> Result<bool, Fail> {
+    let plan = read_plan(alloc, PLAN.as_bytes())?;
+    let script = script.as_bytes();
+    let run = report(alloc, plan, script, slots.min(25), UNKNOWN, false, None)?;
+    Ok(run.text.as_slice().ends_with(lines.as_bytes()))
+}
+
+#[test]
+fn what_is_late_is_told_with_its_reason(rt: HostRuntime) -> Result<(), Fail> {
+    assert!(rt; ends_with(rt.alloc(), LATE, 3, OVERLOAD)?);
+    assert!(rt; ends_with(rt.alloc(), BUSY, 5, WORST)?);
+    assert!(rt; ends_with(rt.alloc(), HEADER, 3, LAST)?);
     Ok(())
 }
 

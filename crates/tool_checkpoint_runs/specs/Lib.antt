@@ -1,3 +1,4 @@
 pub mod SavedDies
 pub mod Devices
 pub mod Runs
+pub mod Counted

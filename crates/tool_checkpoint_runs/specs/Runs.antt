@@ -1,5 +1,5 @@
 -- What comes of a run on the dies of a store.
-use Rattle.std.specs.Prelude.{◌≡◌, ℕ, Bool, false, List, map, Option, Some, None, IfSome, slice_get}
+use Rattle.std.specs.Prelude.{◌≡◌, ℕ, All, Bool, false, List, map, Option, Some, None, IfSome, slice_get}
 use Rattle.std.specs.List.{AllZip}
 use Rattle.slot_types.specs.declared.plans.DiePlan.{DiePlan}
 use Rattle.checkpoint_texts.specs.declared.saved.SavedDie.{SavedDie}
@@ -9,6 +9,9 @@ use Rattle.slot_core.specs.Core.{Core}
 use Rattle.tool_script_runs.specs.RunningDies as runs
 use Rattle.tool_script_runs.specs.RunningDies.{RunningDie, running_of}
 use Rattle.tool_script_runs.specs.ScriptRuns.{GoesOn, IsRunOf}
+use Rattle.tool_script_runs.specs.Counted.{CountsRows}
+use Rattle.tool_script_runs.specs.declared.counted.RefusedRows.{RefusedRows}
+use Rattle.tool_script_runs.specs.declared.refused.RefusedRow.{RefusedRow}
 use Rattle.tool_watched_runs.specs.Failing.{calls_of}
 use Rattle.tool_watched_runs.specs.declared.failing.FailAt.{FailAt}
 use Rattle.tool_checkpoint_runs.specs.SavedDies.{saved_starts}
@@ -30,9 +33,18 @@ starts_by plan (Some saved) = saved_starts plan saved
 abbrev pub HaveCalls : {N : Type 0} → Option FailAt → List (Core (Fuse N)) → Type 0
 HaveCalls {N} fail dies = (number : ℕ) → IfSome (slice_get dies number) (λ (die : Core (Fuse N)). die.device.left ≡ calls_of fail number)
 
--- dies that start so ran a script of this text, and so many slots; and then each went on for some more, if they were to
-pub record RanAndWentOn (starts : List Start) (text : Option (List ℕ)) (slots : ℕ) (more : Bool) (dies : List RunningDie) : Type 0 where
+-- no device of these failed
+abbrev pub NoneStopped : List RunningDie → Type 0
+NoneStopped dies = All (λ (die : RunningDie). die.stopped ≡ false) dies
+
+-- Dies that start so ran the whole of a script of this text, and so many slots, and so many of its rows were refused; and then
+-- each went on for some more, if they were to.
+pub record RanAndWentOn (starts : List Start) (text : Option (List ℕ)) (slots : ℕ) (more : Bool) (counts : RefusedRows)
+    (dies : List RunningDie) : Type 0 where
   pub came : List RunningDie
-  pub ran : IsRunOf starts text slots came
+  pub refused : List RefusedRow
+  pub ran : IsRunOf starts text slots refused came
+  pub counted : CountsRows refused counts
+  pub none_stopped : NoneStopped came
   pub went_on : AllZip GoesOn came dies
   pub no_more : more ≡ false → dies ≡ came

@@ -8,7 +8,7 @@ ghost use Rattle.report_texts.specs.TextSoFar.{text_so_far};
 ghost use Rattle.task_script.specs.StoreRuns.{reports_of};
 ghost use Rattle.script_texts.specs.ScriptLeft.{dies_of, script_left, slots_of};
 ghost use Rattle.tool_script_runs.specs.RunningDies.{HasEmptyLog};
-ghost use Rattle.tool_script_runs.specs.ScriptRuns.{IsRunOf, RanScript};
+ghost use Rattle.tool_checkpoint_runs.specs.Counted.{IsRunCounting, RanCounting};
 ghost use Rattle.tool_checkpoint_runs.specs.Runs.{HaveCalls, running, starts_of};
 ghost use Rattle.tool_watched_runs.specs.Failing.{IsBeyond, failure_in};
 
@@ -88,7 +88,7 @@ fn run_lent<R: Read + Drop>(
     requires slots { slots_of script.old ≡ slots }
     requires dies { dies_of script.old ≡ length plan }
     ensures ran { IfOk result (λ run.
-        RanScript (script_left R.remaining script.old) slots (running run.dies.items)) }
+        RanCounting (script_left R.remaining script.old) slots run.refused (running run.dies.items)) }
     ensures starts { IfOk result (λ run. starts_of run.dies.items ≡ map fresh plan) }
     ensures report { IfOk result (λ run. run.report ≡ text_so_far (reports_of 0 run.dies.items)) }
     ensures count { IfOk result (λ run. length run.dies.items ≡ length plan) }
@@ -97,6 +97,7 @@ fn run_lent<R: Read + Drop>(
 {
     let mut dies = fresh_store(alloc, plan, fail)?;
     let refused = run_dies(alloc, script, &mut dies, slots)?;
+    let refused = RefusedRows::of(&refused);
     let report = report_of(alloc, &dies)?;
     let failure = failure_in(fail, &dies[fail.die as usize]);
     Ok(FailingRun {
@@ -125,7 +126,8 @@ pub fn run_failing<R: Read + Drop>(
     requires few_slots { slots ≤ MAX_SLOT }
     ensures unknown { IsBeyond (Some fail) (length plan) → result ≡ Err Refusal.UnknownDie }
     ensures ran { IfOk result (λ run.
-        IsRunOf (map fresh plan) (R.remaining script) slots (running run.dies.items)) }
+        IsRunCounting (map fresh plan) (R.remaining script) slots run.refused
+        (running run.dies.items)) }
     ensures starts { IfOk result (λ run. starts_of run.dies.items ≡ map fresh plan) }
     ensures report { IfOk result (λ run. run.report ≡ text_so_far (reports_of 0 run.dies.items)) }
     ensures count { IfOk result (λ run. length run.dies.items ≡ length plan) }

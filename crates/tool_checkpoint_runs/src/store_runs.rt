@@ -9,7 +9,7 @@ ghost use Rattle.task_script.specs.StoreRuns.{reports_of};
 ghost use Rattle.script_texts.specs.ScriptLeft.{dies_of, script_left, slots_of};
 ghost use Rattle.tool_script_runs.specs.RunningDies.{HasEmptyLog};
 ghost use Rattle.tool_script_runs.specs.ScriptRuns.{GoesOn, script_in};
-ghost use Rattle.tool_checkpoint_runs.specs.Runs.{RanAndWentOn, running, starts_by, starts_of};
+ghost use Rattle.tool_checkpoint_runs.specs.Runs.{NoneStopped, RanAndWentOn, running, starts_by, starts_of};
 
 use crate::dies::{DiesOn, StoreDies};
 use crate::faults::RunFault;
@@ -76,6 +76,18 @@ fn settled(alloc: Global, dies: &mut StoreDies, saves: bool) -> Result<Vec<u32>,
     settle(alloc, dies)
 }
 
+/// Whether no device of these dies has failed. DeviceFault where one has, and nothing else.
+fn check_running(dies: &StoreDies) -> Result<(), Refusal>
+    ensures { OnOk result (NoneStopped (running dies.now.items)) }
+{
+    for number in 0..dies.len() {
+        if dies[number].is_stopped() {
+            return Err(Refusal::DeviceFault);
+        }
+    }
+    Ok(())
+}
+
 /// Runs a script on the dies of a plan, as [`run_script`] does. It is lent, since a reader is large to free where the
 /// run stops.
 fn run_lent<R: Read + Drop>(
@@ -94,13 +106,15 @@ fn run_lent<R: Read + Drop>(
     ensures ran { (text : Option (List ℕ)) →
         script_left R.remaining script.old ≡ script_in (length plan) slots text →
         IfOk result (λ run.
-        RanAndWentOn (starts_by plan from) text slots saves (running run.dies.items)) }
+        RanAndWentOn (starts_by plan from) text slots saves run.refused (running run.dies.items)) }
     ensures starts { IfOk result (λ run. starts_of run.dies.items ≡ starts_by plan from) }
     ensures report { IfOk result (λ run. run.report ≡ text_so_far (reports_of 0 run.dies.items)) }
     ensures count { IfOk result (λ run. length run.dies.items ≡ length plan) }
 {
     let mut dies = dies_of(alloc, plan, from)?;
     let refused = run_dies(alloc, script, &mut dies, slots)?;
+    check_running(&dies)?;
+    let refused = RefusedRows::of(&refused);
     let idle = settled(alloc, &mut dies, saves)?;
     let report = report_of(alloc, &dies)?;
     Ok(StoreRun {
@@ -116,7 +130,8 @@ fn run_lent<R: Read + Drop>(
 /// accepted is done or was waived, at most as many slots as that work can take, and not beyond slot 1,048,576.
 ///
 /// The report is read off the log of each die over its start. Refused with the first fault of what was saved, of the first die that
-/// has one; of the script, as [`ScriptReader`] tells it; or with ReadFault or NoMemory.
+/// has one; of the script, as [`ScriptReader`] tells it; with DeviceFault where a device has
+/// failed, which none in memory does; or with ReadFault or NoMemory.
 pub fn run_script<R: Read + Drop>(
     alloc: Global,
     plan: StorePlan,
@@ -129,7 +144,7 @@ pub fn run_script<R: Read + Drop>(
     requires bound { All MeetsBound plan }
     requires few_slots { slots ≤ MAX_SLOT }
     ensures ran { IfOk result (λ run.
-        RanAndWentOn (starts_by plan from) (R.remaining script) slots saves
+        RanAndWentOn (starts_by plan from) (R.remaining script) slots saves run.refused
         (running run.dies.items)) }
     ensures starts { IfOk result (λ run. starts_of run.dies.items ≡ starts_by plan from) }
     ensures report { IfOk result (λ run. run.report ≡ text_so_far (reports_of 0 run.dies.items)) }

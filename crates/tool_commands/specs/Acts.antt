@@ -36,11 +36,13 @@ use Rattle.slot_core.specs.Core.{Core}
 use Rattle.task_script.specs.StoreRuns.{reports_of}
 use Rattle.checkpoint_texts.specs.declared.saved.SavedDie.{SavedDie}
 use Rattle.tool_checkpoint_runs.specs.Runs.{RanAndWentOn, running, starts_by}
-use Rattle.tool_script_runs.specs.ScriptRuns.{IsRunOf}
+use Rattle.tool_checkpoint_runs.specs.Counted.{IsRunCounting}
+use Rattle.tool_script_runs.specs.declared.counted.RefusedRows.{RefusedRows}
+use Rattle.tool_store_compare.specs.Runs.{HasStoreRun}
+use Rattle.tool_watched_runs.specs.declared.script_runs.Reported.{Reported}
 use Rattle.die_log.specs.Model.Start.{fresh}
 use Rattle.tool_watched_runs.specs.Runs.{IsDrawingOf, IsReportOf as ReportsRun}
 use Rattle.tool_watched_runs.specs.declared.failing.FailAt.{FailAt}
-use Rattle.tool_watched_runs.specs.declared.failing.Failure.{Failure}
 use Rattle.tool_command_words.specs.declared.asked.FailingDie.{FailingDie}
 use Rattle.tool_command_words.specs.declared.asked.Command.{Command}
 use Rattle.tool_command_words.specs.declared.asked.Command.TheVariants as command
@@ -151,13 +153,14 @@ pub record BreaksTerms (plan script : Option (List ℕ)) (slots : ℕ) : Type 0 
   pub broken : BreaksTermsOf store slots text die breach
   pub before : KeepsBelow store slots text die
 
--- what dies wore is printed that began fresh by the plans of the store that was read, and ran the script that was read and
--- so many slots
+-- what dies wore is printed that began fresh by the plans of the store that was read, and ran the whole script that was
+-- read and so many slots
 pub record PrintsWear (plan script : Option (List ℕ)) (slots : ℕ) (old new : Option (List ℕ)) : Type 0 where
   pub store : List DiePlan
   pub read : ReadsStore plan store
+  pub counts : RefusedRows
   pub text : List ℕ
-  pub worn : IsWearText store script slots text
+  pub worn : IsWearText store script slots counts text
   pub written : Appends old new text
 
 -- the device that is to fail, as a run takes it
@@ -167,20 +170,28 @@ failing fail = record { die = fail.die; call = fail.call }
 abbrev pub failing_in : Option FailingDie → Option FailAt
 failing_in fail = option_map failing fail
 
--- a text is printed of such a run, of which one device may be to fail
-pub record PrintsFigures (plan script : Option (List ℕ)) (slots : ℕ) (fail : Option FailAt) (old new : Option (List ℕ)) : Type 0 where
+-- the report of such a run is printed, of which one device may be to fail: as CSV its figures, and as a table some text
+pub record PrintsRunFigures (plan script : Option (List ℕ)) (slots : ℕ) (fail : Option FailAt) (as_csv : Bool) (old new : Option (List ℕ))
+    : Type 0 where
   pub store : List DiePlan
   pub read : ReadsStore plan store
-  pub failure : Option Failure
-  pub ran : ReportsRun store script slots fail failure
-  pub text : PrintsText old new
+  pub said : Reported
+  pub ran : ReportsRun store script slots fail as_csv said
+  pub written : Appends old new said.text.items
 
 -- a picture is printed of a run of the die of this number
 pub record PrintsDrawing (plan script : Option (List ℕ)) (slots die : ℕ) (fail : Option FailAt) (old new : Option (List ℕ)) : Type 0 where
   pub store : List DiePlan
   pub read : ReadsStore plan store
-  pub failure : Option Failure
-  pub ran : IsDrawingOf store script slots die fail failure
+  pub said : Reported
+  pub ran : IsDrawingOf store script slots die fail said
+  pub written : Appends old new said.text.items
+
+-- a comparison is printed of such a run with runs of plain layers, of which nothing is said
+pub record PrintsCompared (plan script : Option (List ℕ)) (slots : ℕ) (old new : Option (List ℕ)) : Type 0 where
+  pub store : List DiePlan
+  pub read : ReadsStore plan store
+  pub ran : HasStoreRun store script slots
   pub text : PrintsText old new
 
 -- a script's text keeps plans with times, or breaks one
@@ -218,23 +229,25 @@ explained_status (Err fault) = 1
 abbrev pub PrintsReport : {N : Type 0} → Option (List ℕ) → Option (List ℕ) → List (Core N) → Type 0
 PrintsReport old new dies = Appends old new (report_text (reports_of 0 dies))
 
--- The report is printed of dies that ran the script that was read, and so many slots. They began fresh by the plans of the
+-- The report is printed of dies that ran the whole script that was read, and so many slots. They began fresh by the plans of the
 -- store that was read, or as they were saved, if that was asked for; and went on for some slots more, if their end was.
 pub record PrintsRun (plan script : Option (List ℕ)) (slots : ℕ) (begins_fresh saves : Bool) (old new : Option (List ℕ)) : Type 0 where
   pub store : List DiePlan
   pub read : ReadsStore plan store
   pub saved : Option (List SavedDie)
   pub begun : begins_fresh ≡ true → saved ≡ None
+  pub counts : RefusedRows
   pub dies : List (Core Memory)
-  pub ran : RanAndWentOn (starts_by store saved) script slots saves (running dies)
+  pub ran : RanAndWentOn (starts_by store saved) script slots saves counts (running dies)
   pub written : PrintsReport old new dies
 
 -- the report is printed of dies that began fresh, one of which may fail on its way
 pub record PrintsFailing (plan script : Option (List ℕ)) (slots : ℕ) (old new : Option (List ℕ)) : Type 0 where
   pub store : List DiePlan
   pub read : ReadsStore plan store
+  pub counts : RefusedRows
   pub dies : List (Core (Fuse Memory))
-  pub ran : IsRunOf (map fresh store) script slots (running dies)
+  pub ran : IsRunCounting (map fresh store) script slots counts (running dies)
   pub written : PrintsReport old new dies
 
 -- a report was read and audited, and this says whether a certificate of it is refused
@@ -323,12 +336,12 @@ EndsSo contents has_failed (command.Keeps plan script slots) text rows old new s
 EndsSo contents has_failed (command.Wear plan script slots) text rows old new status =
     Ends contents has_failed (PrintsWear text rows slots) old new status
 EndsSo contents has_failed (command.Report plan script slots endurance slot_us as_csv fail) text rows old new status =
-    Ends contents has_failed (PrintsFigures text rows slots (failing_in fail)) old new status
+    Ends contents has_failed (PrintsRunFigures text rows slots (failing_in fail) as_csv) old new status
 EndsSo contents has_failed (command.Draw plan script slots die first end worst as_text all fail) text rows old new status =
     Ends contents has_failed (PrintsDrawing text rows slots die (failing_in fail)) old new status
 EndsSo contents has_failed (command.Demand plan die) text rows old new status = Ends contents has_failed PrintsText old new status
 EndsSo contents has_failed (command.Compare plan script slots first pool as_csv draws die task) text rows old new status =
-    Ends contents has_failed PrintsText old new status
+    Ends contents has_failed (PrintsCompared text rows slots) old new status
 EndsSo contents has_failed (command.Run plan script slots from to None) text rows old new status =
     EndsRun contents has_failed (PrintsRun text rows slots (is_none from) (is_some to)) (is_none to) old new status
 EndsSo contents has_failed (command.Run plan script slots from to (Some fail)) text rows old new status =

@@ -2,7 +2,7 @@
 
 ghost use Rattle.std.specs.Prelude.{◌≡◌, ◌≤◌, OnErr, OnOk, if◌then◌else◌, is_ok};
 ghost use Rattle.text_base.specs.Writing.{IsNotWhole};
-ghost use Rattle.tool_commands.specs.Acts.{Ends, PrintsText};
+ghost use Rattle.tool_commands.specs.Acts.{Ends, PrintsCompared};
 
 use crate::endings::end_refused;
 use crate::plan_faults::end_unread;
@@ -48,8 +48,12 @@ fn print_compared<P: Read + Drop, S: Read + Drop, W: Output>(
     out: &mut W,
 ) -> Result<(), Uncompared>
     requires slots { measure.slots ≤ MAX_SLOT }
-    ensures printed { OnOk result (PrintsText (W.contents out.old) (W.contents out.new)) }
-    ensures part { OnErr result (IsNotWhole W.contents W.has_failed PrintsText out.old out.new) }
+    ensures printed { OnOk result
+        (PrintsCompared (P.remaining plan) (S.remaining script) measure.slots (W.contents out.old)
+        (W.contents out.new)) }
+    ensures part { OnErr result
+        (IsNotWhole W.contents W.has_failed
+        (PrintsCompared (P.remaining plan) (S.remaining script) measure.slots) out.old out.new) }
 {
     let store = store_of(alloc, plan)?;
     let said = compare(alloc, &store, script, measure, form)?;
@@ -89,7 +93,8 @@ pub fn act_compare<P: Read + Drop, S: Read + Drop, W: Output, E: Write>(
     err: &mut E,
 ) -> u8
     requires slots { measure.slots ≤ MAX_SLOT }
-    ensures { Ends W.contents W.has_failed PrintsText out.old out.new result }
+    ensures { Ends W.contents W.has_failed
+        (PrintsCompared (P.remaining plan) (S.remaining script) measure.slots) out.old out.new result }
 {
     let compared = print_compared(alloc, plan, script, measure, form, out);
     end_compared(err, compared)

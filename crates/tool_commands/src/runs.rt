@@ -2,7 +2,7 @@
 
 ghost use Rattle.std.specs.Prelude.{◌≡◌, ◌≤◌, OnErr, OnOk, if◌then◌else◌, is_ok};
 ghost use Rattle.text_base.specs.Writing.{IsNotWhole};
-ghost use Rattle.tool_commands.specs.Acts.{Ends, PrintsDrawing, PrintsFigures, PrintsWear};
+ghost use Rattle.tool_commands.specs.Acts.{Ends, PrintsDrawing, PrintsRunFigures, PrintsWear};
 
 use crate::endings::report_failure;
 use crate::plan_faults::{end_run, end_unread};
@@ -70,11 +70,11 @@ fn print_report<P: Read + Drop, S: Read + Drop, W: Output>(
 ) -> Result<(RefusedRows, Option<Failure>), Unread>
     requires slots { slots ≤ MAX_SLOT }
     ensures printed { OnOk result
-        (PrintsFigures (P.remaining plan) (S.remaining script) slots fail (W.contents out.old)
-        (W.contents out.new)) }
+        (PrintsRunFigures (P.remaining plan) (S.remaining script) slots fail as_csv
+        (W.contents out.old) (W.contents out.new)) }
     ensures part { OnErr result
         (IsNotWhole W.contents W.has_failed
-        (PrintsFigures (P.remaining plan) (S.remaining script) slots fail) out.old out.new) }
+        (PrintsRunFigures (P.remaining plan) (S.remaining script) slots fail as_csv) out.old out.new) }
 {
     let store = store_of(alloc, plan)?;
     let said = report(alloc, store, script, slots, life, as_csv, fail)?;
@@ -111,7 +111,8 @@ pub fn act_report<P: Read + Drop, S: Read + Drop, W: Output, E: Write>(
 ) -> u8
     requires slots { slots ≤ MAX_SLOT }
     ensures { Ends W.contents W.has_failed
-        (PrintsFigures (P.remaining plan) (S.remaining script) slots fail) out.old out.new result }
+        (PrintsRunFigures (P.remaining plan) (S.remaining script) slots fail as_csv) out.old out.new
+        result }
 {
     let ran = print_report(alloc, plan, script, slots, life, as_csv, fail, out);
     end_report(err, ran)

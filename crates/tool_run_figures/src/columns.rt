@@ -1,4 +1,4 @@
-//! The figures of a record, in the order in which they are told.
+//! The figures of a record, in the order in which they stand.
 
 ghost use Rattle.std.specs.Prelude.{◌≡◌};
 ghost use Rattle.tool_run_figures.specs.Csv.{end_columns, level_columns, low_columns, slot_columns, spare_of, wear_columns};

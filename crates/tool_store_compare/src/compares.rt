@@ -6,7 +6,7 @@ ghost use Rattle.die_log.specs.Model.Start.{fresh};
 ghost use Rattle.script_texts.specs.ScriptLeft.{dies_of, script_left, slots_of};
 ghost use Rattle.tool_script_runs.specs.RunningDies.{HasEmptyLog, starts_of};
 ghost use Rattle.tool_script_runs.specs.ScriptRuns.{IsRunOf, RanScript};
-ghost use Rattle.tool_store_compare.specs.Runs.{running};
+ghost use Rattle.tool_store_compare.specs.Runs.{HasStoreRun, running};
 
 use crate::curves::Curve;
 use crate::figures::End;
@@ -21,7 +21,7 @@ use slot_types::{DiePlan, MAX_SLOT, Refusal, StorePlan};
 use std::alloc::Global;
 use std::io::Read;
 use tool_plain_layers::{Load, Marks, Policy, play};
-use tool_script_runs::run_dies;
+use tool_script_runs::{RefusedRow, run_dies};
 
 /// What is measured.
 #[derive(Clone, Copy, PartialEq, Eq, Debug, Drop)]
@@ -75,6 +75,13 @@ fn fresh_dies(alloc: Global, plans: &StorePlan, from: u32) -> Result<Vec<Box<Sto
     Ok(dies)
 }
 
+/// Dies that ran a script, and which of its rows they refused.
+#[derive(Drop)]
+struct Ran {
+    dies: Vec<Box<StoreDie>>,
+    refused: Vec<RefusedRow>,
+}
+
 /// Runs a script on fresh dies, as [`run_store`] does. It is lent, since a reader is large to free where a row stops the
 /// run.
 fn run_lent<R: Read + Drop>(
@@ -82,17 +89,17 @@ fn run_lent<R: Read + Drop>(
     script: &mut ScriptReader<R>,
     plan: &StorePlan,
     measure: Measure,
-) -> Result<Vec<Box<StoreDie>>, Refusal>
+) -> Result<Ran, Refusal>
     requires few { measure.slots ≤ MAX_SLOT }
     requires slots { slots_of script.old ≡ measure.slots }
     requires dies { dies_of script.old ≡ length plan.now }
-    ensures starts { IfOk result (λ dies. starts_of (map running dies.items) ≡ map fresh plan.now) }
-    ensures ran { IfOk result (λ dies.
-        RanScript (script_left R.remaining script.old) measure.slots (map running dies.items)) }
+    ensures starts { IfOk result (λ ran. starts_of (map running ran.dies.items) ≡ map fresh plan.now) }
+    ensures ran { IfOk result (λ ran. RanScript (script_left R.remaining script.old) measure.slots
+        ran.refused.items (map running ran.dies.items)) }
 {
     let mut dies = fresh_dies(alloc, plan, measure.from)?;
-    run_dies(alloc, script, &mut dies, measure.slots)?;
-    Ok(dies)
+    let refused = run_dies(alloc, script, &mut dies, measure.slots)?;
+    Ok(Ran { dies, refused })
 }
 
 /// Runs a script on a store of fresh dies in memory.
@@ -101,10 +108,10 @@ fn run_store<R: Read + Drop>(
     plan: &StorePlan,
     script: R,
     measure: Measure,
-) -> Result<Vec<Box<StoreDie>>, Refusal>
+) -> Result<Ran, Refusal>
     requires { measure.slots ≤ MAX_SLOT }
-    ensures { IfOk result (λ dies.
-        IsRunOf (map fresh plan.now) (R.remaining script) measure.slots (map running dies.items)) }
+    ensures { IfOk result (λ ran. IsRunOf (map fresh plan.now) (R.remaining script) measure.slots
+        ran.refused.items (map running ran.dies.items)) }
 {
     let mut script = ScriptReader::new(alloc, script, plan, measure.slots)?;
     run_lent(alloc, &mut script, plan, measure)
@@ -289,7 +296,8 @@ fn check_form(plan: &StorePlan, form: Form) -> Result<(), Refusal> {
 }
 
 /// Runs a script on a store of dies in memory, as `flashrec run` does, and its jobs once more by each plain policy; and tells how
-/// late they were, as a table or records by policy, die and task, or as a picture. Counted are the jobs that are released from
+/// late they were, as a table or records by policy, die and task, or as a picture: what the store did is that of fresh dies
+/// that ran the script and so many slots. Counted are the jobs that are released from
 /// the first measured slot on and due within the slots of the run, and that the store takes or refuses for lack of tokens.
 ///
 /// A picture of a die or a task that isn't there is UnknownDie or UnknownTask.
@@ -301,9 +309,11 @@ pub fn compare<R: Read + Drop>(
     form: Form,
 ) -> Result<Vec<u8>, CompareFault>
     requires { measure.slots ≤ MAX_SLOT }
+    ensures { OnOk result (HasStoreRun plan.now (R.remaining script) measure.slots) }
 {
     check_form(plan, form)?;
-    let dies = run_store(alloc, plan, script, measure)?;
+    let ran = run_store(alloc, plan, script, measure)?;
+    let dies = ran.dies;
     let mut teller = Teller::new(alloc, form, measure)?;
     add_stores(alloc, &mut teller, plan, dies.as_slice())?;
     for policy in Policy::ALL {

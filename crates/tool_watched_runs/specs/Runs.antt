@@ -55,7 +55,7 @@ pub record IsReportOf (plans : List DiePlan) (script : Option (List ℕ)) (slots
   pub figured : HaveFigures refused (map running_of dies) figures
   pub text_is : as_csv ≡ true → said.text.items ≡ csv_text figures
 
--- what is told of dies that ran, which refused these rows
+-- what is said of dies that ran, which refused these rows
 pub record Tells (dies : List (Box DieRun)) (refused : List RefusedRow) (as_csv : Bool) (fail : Option FailAt) (said : Reported) : Type 0 where
   pub counted : CountsRows refused said.refused
   pub failure_is : said.failure ≡ failure_among fail (map core_of dies)

@@ -13,7 +13,7 @@ ghost use Rattle.tool_watched_runs.specs.Wear.{IsWearOf, slot_entry};
 use crate::failing::RunNand;
 use crate::{Level, Tally, Waiver, Whose, Window};
 use flash_die::{FuseNand, MemoryNand};
-use slot_core::{DieCore, Stage};
+use slot_core::{DieCore, Overdue, Stage};
 use slot_types::{DiePlan, Event, JobNo, MAX_SLOT, Op, Refusal, SlotReply};
 use std::alloc::Global;
 use tool_run_figures::{DieCounts, Levels};
@@ -248,6 +248,15 @@ impl DieRun {
         count(&mut self.counts, &self.core, &reply);
         note_tokens(&mut self.levels, &self.core, &reply);
         note(&mut self.window, &self.levels, &self.core, &reply)
+    }
+}
+
+impl DieRun {
+    /// What is overdue at the end of the run, as the die tells it ([`DieCore::overdue`]); none where its device has failed.
+    pub fn overdue(&mut self) -> Option<Overdue>
+        ensures { self.new ≡ self.old }
+    {
+        self.core.overdue()
     }
 }
 

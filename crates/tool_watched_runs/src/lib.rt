@@ -12,6 +12,7 @@ mod lanes;
 mod layouts;
 mod legends;
 mod levels;
+mod overloads;
 mod pictures;
 mod reports;
 mod rows;

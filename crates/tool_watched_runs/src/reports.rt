@@ -13,6 +13,7 @@ ghost use Rattle.tool_watched_runs.specs.Runs.{IsReportOf, Tells, running};
 
 use crate::die_runs::DieRun;
 use crate::failing::{FailAt, RunNand, check_failing};
+use crate::overloads::put_lateness;
 use crate::script_runs::{Ran, Reported, Sights, failure_of, run_store};
 use die_log::exact_keeps_limits;
 use late_cert::lateness;
@@ -163,8 +164,12 @@ fn csv_of(alloc: Global, all: &[Records]) -> Result<Vec<u8>, Refusal>
     }
 }
 
-/// The figures of dies, as tables for eyes. The only refusal is NoMemory.
-fn tables_of(alloc: Global, all: &[Records]) -> Result<Vec<u8>, Refusal>
+/// The figures of dies, as tables for eyes, and below each what was late, and why. The only refusal is NoMemory.
+fn tables_of(
+    alloc: Global,
+    all: &[Records],
+    dies: &mut Vec<Box<DieRun>>,
+) -> Result<Vec<u8>, Refusal>
     ensures { FailsForMemory result }
 {
     let mut text = Vec::new(alloc);
@@ -172,19 +177,27 @@ fn tables_of(alloc: Global, all: &[Records]) -> Result<Vec<u8>, Refusal>
         if put_table(alloc, &mut text, die, &all[die]).is_err() {
             return Err(Refusal::NoMemory);
         }
+        if die < dies.len() {
+            put_lateness(alloc, &mut text, die, &mut dies[die])?;
+        }
     }
     Ok(text)
 }
 
 /// The figures of dies, as tables for eyes, or as CSV. The only refusal is NoMemory.
-fn text_of(alloc: Global, all: &[Records], as_csv: bool) -> Result<Vec<u8>, Refusal>
+fn text_of(
+    alloc: Global,
+    all: &[Records],
+    dies: &mut Vec<Box<DieRun>>,
+    as_csv: bool,
+) -> Result<Vec<u8>, Refusal>
     ensures text { IfOk result (λ text. as_csv ≡ true → text.items ≡ csv_text all.now) }
     ensures refused { FailsForMemory result }
 {
     if as_csv {
         csv_of(alloc, all)
     } else {
-        tables_of(alloc, all)
+        tables_of(alloc, all, dies)
     }
 }
 
@@ -198,14 +211,15 @@ fn reported(
 ) -> Result<Reported, Refusal>
     ensures { IfOk result (Tells ran.dies.items ran.refused.items as_csv fail) }
 {
-    let Ran { dies, refused } = ran;
+    let Ran { mut dies, refused } = ran;
     let figures = all_figures(alloc, &dies, &refused, life)?;
-    let text = text_of(alloc, &figures, as_csv)?;
+    let failure = failure_of(fail, dies.as_slice());
+    let text = text_of(alloc, &figures, &mut dies, as_csv)?;
     Ok(Reported {
         text,
         refused: RefusedRows::of(&refused),
         sights: Sights::NONE,
-        failure: failure_of(fail, dies.as_slice()),
+        failure,
     })
 }
 

@@ -10,8 +10,11 @@ returns-clause-ran g c = λ text is.
     let starts = starts_by c.args.plan c.args.from in
     record {
       came = running c.run_dies.new.dies.items;
+      refused = c.in_ok-refused.refused.items;
+      counted = rw c.deref.ensures.value at c.of-refused.ensures;
+      none_stopped = c.in_ok-check_running.ensures;
       ran = run_of_text starts text c.args.slots (length c.args.plan) (script_left g.R.Read.remaining c.args.script.now)
-          (running c.run_dies.new.dies.items)
+          c.in_ok-refused.refused.items (running c.run_dies.new.dies.items)
           (many_starts starts c.in_ok-dies.dies.items (length c.args.plan) c.in_ok-dies.ensures.starts c.in_ok-dies.ensures.count) is
           (c.run_dies.ensures.starts ∙ c.in_ok-dies.ensures.starts) c.in_ok-refused.ensures.ran;
       went_on = c.in_ok-idle.ensures.went_on;

@@ -16,6 +16,7 @@ returns-in_err-write-clause-part g c =
         record {
           store = c.in_ok-store.store;
           read = c.in_ok-store.ensures.store;
+          counts = c.in_ok-dies.field-0.refused;
           dies = dies;
           ran = c.in_ok-dies.ensures.ran;
           written = refl;
@@ -30,6 +31,7 @@ returns-clause-printed g c =
     record {
       store = c.in_ok-store.store;
       read = c.in_ok-store.ensures.store;
+      counts = c.in_ok-dies.field-0.refused;
       dies = dies;
       ran = c.in_ok-dies.ensures.ran;
       written = rw (whole_is (reports_of 0 dies) _ c.in_ok-dies.ensures.report) at c.in_ok-write.ensures.written;

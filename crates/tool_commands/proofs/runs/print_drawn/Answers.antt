@@ -4,7 +4,7 @@ pub returns-clause-printed : goal.returns-clause-printed
 returns-clause-printed g c = record {
   store = c.in_ok-store.store;
   read = c.in_ok-store.ensures.store;
-  failure = c.in_ok-drawn.drawn.failure;
+  said = c.in_ok-drawn.drawn;
   ran = c.in_ok-drawn.ensures.ran;
-  text = (c.in_ok-drawn.drawn.text.items, rw c.deref.ensures.value at c.in_ok-write_whole.ensures.whole);
+  written = rw c.deref.ensures.value at c.in_ok-write_whole.ensures.whole;
 }

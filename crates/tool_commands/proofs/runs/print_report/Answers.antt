@@ -4,7 +4,7 @@ pub returns-clause-printed : goal.returns-clause-printed
 returns-clause-printed g c = record {
   store = c.in_ok-store.store;
   read = c.in_ok-store.ensures.store;
-  failure = c.in_ok-said.said.failure;
+  said = c.in_ok-said.said;
   ran = c.in_ok-said.ensures.ran;
-  text = (c.in_ok-said.said.text.items, rw c.deref.ensures.value at c.in_ok-write_whole.ensures.whole);
+  written = rw c.deref.ensures.value at c.in_ok-write_whole.ensures.whole;
 }

@@ -4,6 +4,7 @@ pub returns-clause-printed : goal.returns-clause-printed
 returns-clause-printed g c = record {
   store = c.in_ok-store.store;
   read = c.in_ok-store.ensures.store;
+  counts = c.in_ok-worn.worn.refused;
   text = c.in_ok-worn.worn.text.items;
   worn = c.in_ok-worn.ensures.text;
   written = rw c.deref.ensures.value at c.in_ok-write_whole.ensures.whole;

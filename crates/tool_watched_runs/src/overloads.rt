@@ -1,0 +1,102 @@
+//! Sentences on what is late on a die, and why.
+
+ghost use Rattle.slot_types.specs.Refusal.{FailsForMemory};
+
+use crate::die_runs::{DieRun, whose};
+use crate::failing::RunNand;
+use late_cert::Certificate;
+use slot_core::{DieCore, Overdue};
+use slot_types::Refusal;
+use std::alloc::Global;
+use std::io;
+use std::io::Write;
+
+/// Tells what waits past its deadline, and that the die had too much to do: since some slot it carried only work that was
+/// due no later.
+fn put_overdue(
+    text: &mut Vec<u8>,
+    die: usize,
+    core: &DieCore<RunNand>,
+    overdue: Overdue,
+) -> io::Result<()> {
+    let of = whose(core, overdue.job);
+    let (kind, job, task, slots) = (of.kind(), of.job, of.task, core.now());
+    let Overdue { due, late_by, .. } = overdue;
+    write!(text, "die {die} is overloaded: {kind} {job} (task {task}, ")?;
+    write!(text, "due {due}) isn't done in {slots} slots, and will be ")?;
+    writeln!(
+        text,
+        "{late_by} late at least; what the die carried instead was due no later"
+    )
+}
+
+/// Tells what a die carried in the slots of a certificate: its job, and so many others.
+fn put_others(text: &mut Vec<u8>, others: usize) -> io::Result<()> {
+    if others == 0 {
+        writeln!(text, "the die carried only it")
+    } else {
+        writeln!(
+            text,
+            "the die carried only it and {others} more, none due later"
+        )
+    }
+}
+
+/// Tells what was done latest, if it was late, and why: the certificate of the worst.
+fn put_cert(
+    text: &mut Vec<u8>,
+    die: usize,
+    core: &DieCore<RunNand>,
+    cert: &Certificate,
+) -> io::Result<()> {
+    let late = cert.completion.saturating_sub(cert.due);
+    if late == 0 {
+        return Ok(());
+    }
+    let of = whose(core, cert.job);
+    let (kind, job, task, due) = (of.kind(), of.job, of.task, cert.due);
+    let (start, end) = (cert.start, cert.completion);
+    write!(text, "die {die}: {kind} {job} (task {task}, due {due}) ")?;
+    write!(
+        text,
+        "was {late} late: from slot {start} to before slot {end} "
+    )?;
+    put_others(text, cert.jobs.len().saturating_sub(1))
+}
+
+/// Tells what was done latest, if it was late, and why. The only refusal is NoMemory.
+fn put_worst(
+    alloc: Global,
+    text: &mut Vec<u8>,
+    die: usize,
+    core: &DieCore<RunNand>,
+) -> Result<(), Refusal>
+    ensures { FailsForMemory result }
+{
+    let Some(cert) = core.certificate(alloc)? else {
+        return Ok(());
+    };
+    match put_cert(text, die, core, &cert) {
+        Ok(()) => Ok(()),
+        Err(_) => Err(Refusal::NoMemory),
+    }
+}
+
+/// Tells of a die what is late, and why; nothing where nothing is. The only refusal is NoMemory.
+pub fn put_lateness(
+    alloc: Global,
+    text: &mut Vec<u8>,
+    die: usize,
+    run: &mut DieRun,
+) -> Result<(), Refusal>
+    ensures { FailsForMemory result }
+{
+    put_worst(alloc, text, die, &run.core)?;
+    let Some(overdue) = run.overdue() else {
+        return Ok(());
+    };
+    match put_overdue(text, die, &run.core, overdue) {
+        Ok(()) => Ok(()),
+        Err(_) => Err(Refusal::NoMemory),
+    }
+}
