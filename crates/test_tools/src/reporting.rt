@@ -61,7 +61,8 @@ lateness: mean                -14.72     -14.72
 
 /// Job 0 was done in slot 1, a slot late, and alone until then. Job 1 is due by slot 2 and waits after slot 2, so it ends in slot
 /// 3 at best: 2 slots late. The others are due later.
-const OVERLOAD: &str = "die 0: job 0 (task 0, due 1) was 1 late: from slot 0 to before slot 2 the die carried only it
+const OVERLOAD: &str =
+    "die 0: job 0 (task 0, due 1) was 1 late: from slot 0 to before slot 2 the die carried only it
 die 0 is overloaded: job 1 (task 0, due 2) isn't done in 3 slots, and will be 2 late at least; what the die carried instead was \
 due no later
 ";
