@@ -275,6 +275,128 @@ static void show_trims(void) {
     }
 }
 
+/* Tells a mount a block: which page its first cell has, if any, and which its second one. */
+static uint32_t tell(mg_mount *mount, uint32_t first, uint64_t first_serial, uint32_t second, uint64_t second_serial) {
+    const struct mg_label labels[2] = {{first_serial, first}, {second_serial, second}};
+    return mg_mount_tell(mount, labels, 2, NULL);
+}
+
+static int needs(mg_mount *mount, uint32_t kind, uint32_t block, uint32_t last) {
+    struct mg_step step;
+    return mg_mount_next(mount, &step) == MG_OK && step.kind == kind && step.block == block && step.last == last;
+}
+
+/* Three slots of an erase. */
+static void erase(mg_mount *mount, uint32_t block) {
+    for (uint32_t slot = 0; slot < 3; slot++)
+        check(needs(mount, MG_STEP_ERASE, block, slot == 2) && mg_mount_done(mount) == MG_OK, "a slot of an erase");
+}
+
+/* Every call of a handle that has no mount, or of none. */
+static void of_no_mount(mg_mount *mount) {
+    struct mg_why why = unsaid;
+    struct mg_step step;
+    struct mg_cell cell = {1, 2};
+    mg_die die = {0};
+    mg_mount_free(mount);
+    check(mg_mount_next(mount, &step) == MG_EMPTY_HANDLE && mg_mount_done(mount) == MG_EMPTY_HANDLE && mg_mount_calls_left(mount) == 0, "steps");
+    check(mg_mount_tell(mount, NULL, 0, &why) == MG_EMPTY_HANDLE && says(&why, 0, 0), "a block");
+    check(mg_mount_place(mount, 0, &cell) == MG_EMPTY_HANDLE && cell.block == 1 && mg_mount_end(mount, NULL, 0, &die) == MG_EMPTY_HANDLE
+          && !die.at, "places, and the end");
+}
+
+/* A part of nine blocks. Page 5 lies in the second cell of block 3; a cell before it is torn. Ten pages have to be free: those of three
+ * blocks are. The first of these stands aside, and the die's block of that number is the part's last one. */
+static void show_mount(void) {
+    mg_mount mount = {0};
+    mg_die die = {0};
+    struct mg_plan large = plan;
+    struct mg_step step;
+    struct mg_cell cell = {1, 2};
+    struct mg_why why = unsaid;
+    struct mg_call call;
+    struct mg_reply reply;
+    struct mg_name names[6] = {{{0}}};
+    uint32_t block = 99, tried;
+    const struct mg_label bad[3] = {{1, 0}, {0, MG_NO_LABEL}, {2, LOGICAL}}, late = {(uint64_t)1 << 63, 0};
+    const struct mg_op write = {MG_WRITE, 2, {{9}}};
+    names[5].bytes[0] = 171;
+    large.blocks = 1024;
+    of_no_mount(NULL);
+    of_no_mount(&mount);
+    check(mg_serial(&die) == 0 && mg_part_block(&die, 0, &block) == MG_EMPTY_HANDLE && block == 99, "of no die");
+    check(mg_mount_new(NULL, &plan, &task, 1) == MG_EMPTY_HANDLE && mg_mount_new(&mount, NULL, &task, 1) == MG_NULL_POINTER
+          && mg_mount_new(&mount, &plan, NULL, 1) == MG_NULL_POINTER && mg_mount_new(&mount, &plan, NULL, 0) == MG_BAD_PLAN
+          && mg_mount_new(&mount, &large, &task, 1) == MG_BAD_PLAN && !mount.at, "no mount");
+    for (tried = 0;; tried++) {
+        left = tried;
+        uint32_t code = mg_mount_new(&mount, &plan, &task, 1);
+        left = UINT32_MAX;
+        if (code == MG_OK) break;
+        check(code == MG_NO_MEMORY && !mount.at, "no memory");
+    }
+    check(tried > 3 && mg_mount_new(&mount, &plan, &task, 1) == MG_FULL_HANDLE, "a mount isn't lost");
+    check(mg_mount_next(&mount, NULL) == MG_NULL_POINTER && mg_mount_tell(&mount, NULL, 1, &why) == MG_NULL_POINTER && says(&why, 0, 0),
+          "null pointers");
+    check(mg_mount_done(&mount) == MG_WRONG_STEP && mg_mount_place(&mount, 5, &cell) == MG_WRONG_STEP && cell.block == 1
+          && mg_mount_calls_left(&mount) == 0 && mg_mount_end(&mount, names, 6, &die) == MG_WRONG_STEP && !die.at, "blocks come first");
+    const struct mg_label many[5] = {{1, 0}, {2, 0}, {3, 0}, {4, 0}, {5, 0}};
+    check(mg_mount_tell(&mount, many, 5, &why) == MG_TOO_MANY_CELLS && says(&why, 0, 0), "too many cells");
+    check(mg_mount_tell(&mount, bad, 3, &why) == MG_BAD_LABEL && says(&why, 2, 0) && mg_mount_tell(&mount, &late, 1, NULL) == MG_BAD_LABEL,
+          "labels out of their range");
+    for (uint32_t b = 0; b < 8; b++) {
+        check(needs(&mount, MG_STEP_TELL, b, 0), "the next block");
+        check((b == 3 ? tell(&mount, MG_NO_LABEL, 0, 5, 41) : mg_mount_tell(&mount, NULL, 0, NULL)) == MG_OK, "a block is told");
+    }
+    check(needs(&mount, MG_STEP_TELL, 8, 0) && tell(&mount, 7, 40, MG_NO_LABEL, 0) == MG_OK, "the last one");
+    check(mg_mount_tell(&mount, NULL, 0, &why) == MG_WRONG_STEP && mg_mount_calls_left(&mount) == 24, "calls come now");
+    check(mg_mount_place(&mount, 5, &cell) == MG_OK && cell.block == 3 && cell.page == 1 && mg_mount_place(&mount, 5, NULL) == MG_NULL_POINTER,
+          "a page may be read");
+    check(mg_mount_place(&mount, 6, &cell) == MG_OK && cell.block == MG_NOWHERE, "one that lies nowhere");
+    erase(&mount, 0);
+    check(mg_mount_calls_left(&mount) == 17 && mg_mount_end(&mount, names, 6, &die) == MG_WRONG_STEP, "it hasn't ended");
+    erase(&mount, 1);
+    erase(&mount, 2);
+    check(needs(&mount, MG_STEP_END, 0, 0) && mg_mount_done(&mount) == MG_WRONG_STEP && mg_mount_calls_left(&mount) == 0, "the end");
+    check(mg_mount_end(&mount, names, 6, NULL) == MG_EMPTY_HANDLE && mg_mount_end(&mount, NULL, 6, &die) == MG_NULL_POINTER, "where to");
+    left = 3;
+    check(mg_mount_end(&mount, names, 6, &die) == MG_NO_MEMORY && !die.at && needs(&mount, MG_STEP_END, 0, 0), "it may be asked again");
+    left = UINT32_MAX;
+    check(mg_mount_end(&mount, names, 6, &die) == MG_OK && mg_mount_end(&mount, names, 6, &die) == MG_FULL_HANDLE, "a die");
+    check(mg_mount_next(&mount, &step) == MG_WRONG_STEP && mg_mount_done(&mount) == MG_WRONG_STEP, "and no other one");
+    mg_mount_free(&mount);
+    of_no_mount(&mount);
+    check(mg_part_block(&die, 0, &block) == MG_OK && block == 8 && mg_part_block(&die, 3, &block) == MG_OK && block == 3
+          && mg_part_block(&die, 3, NULL) == MG_NULL_POINTER, "its blocks on the part");
+    check(mg_place(&die, 5, &cell) == MG_OK && cell.block == 3 && cell.page == 1, "the page lies where it did");
+    check(mg_place(&die, 7, &cell) == MG_OK && cell.block == 0 && cell.page == 0, "and one in the last block has the number of that aside");
+    check(mg_serial(&die) == 42 && mg_submit(&die, 1, 0, 0, 9, &write, 1, NULL, NULL) == MG_OK && mg_begin(&die, 9, &call) == MG_OK, "a write");
+    check(call.kind == MG_CALL_PROGRAM && call.block == 1 && call.page == 0 && call.logical == 2 && mg_serial(&die) == 42, "its program");
+    check(mg_end(&die, 1, &call.name, &reply, NULL, 0) == MG_OK && mg_serial(&die) == 43, "the next one's serial");
+    const struct mg_op read = {MG_READ, 5, {{0}}};
+    check(mg_submit(&die, 1, 0, 1, 9, &read, 1, NULL, NULL) == MG_OK && mg_begin(&die, 9, &call) == MG_OK && call.block == 3
+          && call.name.bytes[0] == 171 && mg_end(&die, 1, &call.name, &reply, NULL, 0) == MG_OK && mg_serial(&die) == 43, "the page, by its name");
+    check(mg_renew(&die, NULL) == MG_OK && mg_serial(&die) == 43, "serials go on");
+    mg_free(&die);
+    check(mg_new(&die, &plan, &task, 1) == MG_OK && mg_serial(&die) == 1 && mg_part_block(&die, 7, &block) == MG_OK && block == 7, "a fresh die");
+    mg_free(&die);
+}
+
+/* A page lies in each of the nine blocks: a mount was cut as it copied page 8 from block 0 to block 8, which is undone. */
+static void show_undoing(void) {
+    mg_mount mount = {0};
+    struct mg_cell cell;
+    check(mg_mount_new(&mount, &plan, &task, 1) == MG_OK, "new");
+    for (int again = 0; again < 2; again++)
+        for (uint32_t b = 0; b < 9; b++) {
+            check(needs(&mount, MG_STEP_TELL, b, 0), "all blocks, and once more");
+            check(tell(&mount, b, b == 8 ? 200 : b, b == 0 ? 8 : MG_NO_LABEL, b == 0 ? 50 : 0) == MG_OK, "a block");
+            if (again || b == 8) check(mg_mount_place(&mount, 8, &cell) == MG_OK && cell.block == (again && b == 8 ? 0 : 8), "where page 8 is");
+        }
+    erase(&mount, 8);
+    mg_mount_free(&mount);
+}
+
 static void show_texts(void) {
     uint32_t texts = 0;
     for (uint32_t code = 0; code < 400; code++) {
@@ -334,6 +456,8 @@ int main(int argc, char **argv) {
     show_memory();
     show_reserves();
     show_trims();
+    show_mount();
+    show_undoing();
     show_texts();
     show_report(argc > 1 ? argv[1] : NULL);
     puts("all as it should be");

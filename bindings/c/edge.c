@@ -151,6 +151,66 @@ uint32_t mg_resume(mg_die *die, const struct mg_plan *plan, const struct mg_task
                         block_count, ARRAY(balances), balance_count, spare, why ? why : &numbers);
 }
 
+/* ---- After a loss of power --------------------------------------------------------------------------------------- */
+
+static bool is_mounting(const mg_mount *mount) { return mount && mount->at; }
+
+uint32_t mg_mount_new(mg_mount *mount, const struct mg_plan *plan, const struct mg_task *tasks, size_t count) {
+    if (!mount) return MG_EMPTY_HANDLE;
+    if (mount->at) return MG_FULL_HANDLE;
+    if (!plan || !is_array(tasks, count)) return MG_NULL_POINTER;
+    return flash_mount_new(mount, plan, ARRAY(tasks), count);
+}
+
+void mg_mount_free(mg_mount *mount) {
+    if (is_mounting(mount)) flash_mount_free(mount);
+}
+
+uint32_t mg_mount_next(mg_mount *mount, struct mg_step *step) {
+    if (!is_mounting(mount)) return MG_EMPTY_HANDLE;
+    if (!step) return MG_NULL_POINTER;
+    return flash_mount_next(mount, step);
+}
+
+uint32_t mg_mount_tell(mg_mount *mount, const struct mg_label *labels, size_t count, struct mg_why *why) {
+    struct mg_why numbers;
+    if (!is_mounting(mount)) return refused(MG_EMPTY_HANDLE, why);
+    if (!is_array(labels, count)) return refused(MG_NULL_POINTER, why);
+    return flash_mount_tell(mount, ARRAY(labels), count, why ? why : &numbers);
+}
+
+uint32_t mg_mount_done(mg_mount *mount) { return is_mounting(mount) ? flash_mount_done(mount) : MG_EMPTY_HANDLE; }
+
+uint64_t mg_mount_calls_left(mg_mount *mount) { return is_mounting(mount) ? flash_mount_calls_left(mount) : 0; }
+
+uint32_t mg_mount_place(mg_mount *mount, uint32_t page, struct mg_cell *place) {
+    if (!is_mounting(mount)) return MG_EMPTY_HANDLE;
+    if (!place) return MG_NULL_POINTER;
+    return flash_mount_place(mount, page, place);
+}
+
+uint32_t mg_mount_end(mg_mount *mount, const struct mg_name *names, size_t name_count, mg_die *die) {
+    if (!is_mounting(mount)) return MG_EMPTY_HANDLE;
+    uint32_t handle = unmade(die);
+    if (handle) return handle;
+    if (!is_array(names, name_count)) return MG_NULL_POINTER;
+    return flash_mount_end(mount, ARRAY(names), name_count, die);
+}
+
+uint64_t mg_serial(const mg_die *die) {
+    if (!is_full(die)) return 0;
+    mg_die own = *die;
+    return flash_serial(&own);
+}
+
+uint32_t mg_part_block(const mg_die *die, uint32_t block, uint32_t *part_block) {
+    if (!is_full(die)) return MG_EMPTY_HANDLE;
+    if (!part_block) return MG_NULL_POINTER;
+    mg_die own = *die;
+    *part_block = flash_part_block(&own, block);
+    return MG_OK;
+}
+
 /* ---- Questions ---------------------------------------------------------------------------------------------------
  *
  * A function that has a handle takes the die out of it and puts it back. A question has one of its own for that, so that it

@@ -1,9 +1,9 @@
 /* A die of a proved flash translation layer with deadlines, for C and C++. bindings/README.md is the way in.
  *
- * HANDLES. One `struct mg_die` is one die. `{0}` is empty; mg_new and mg_resume fill an empty one, mg_free empties it, and
- * nothing else may look inside. A handle is never copied: both copies would free the die. Every call of an empty handle, or
- * of none, is answered: MG_EMPTY_HANDLE, or 0 by mg_now, mg_len and mg_records; mg_free does nothing then. mg_new and mg_resume
- * of a full one answer MG_FULL_HANDLE.
+ * HANDLES. One `struct mg_die` is one die. `{0}` is empty; mg_new, mg_resume and mg_mount_end fill an empty one, mg_free empties
+ * it, and nothing else may look inside. A handle is never copied: both copies would free the die. Every call of an empty handle, or
+ * of none, is answered: MG_EMPTY_HANDLE, or 0 by mg_now, mg_len, mg_records, mg_serial and mg_mount_calls_left; mg_free does nothing
+ * then. What fills a handle answers MG_FULL_HANDLE of a full one. So it is with `struct mg_mount`, mg_mount_new and mg_mount_free.
  *
  * THREADS. Several dies share nothing but the heap. A die may be made on one thread and used on another. A call that takes a
  * `const` handle is a question: it reads the die, and several may run beside each other. While any other call of a die runs,
@@ -42,7 +42,7 @@ extern "C" {
  * something is added. So a program that was compiled with this header works with a library of the same major number whose
  * minor one isn't below: MG_FITS(mg_version()). */
 #define MG_VERSION_MAJOR 1u
-#define MG_VERSION_MINOR 0u
+#define MG_VERSION_MINOR 1u
 #define MG_VERSION (MG_VERSION_MAJOR << 16 | MG_VERSION_MINOR)
 #define MG_FITS(version) ((version) >> 16 == MG_VERSION_MAJOR && ((version) & 0xFFFFu) + 1u > MG_VERSION_MINOR)
 
@@ -72,11 +72,15 @@ enum {
     MG_ROWS_NOT_RISING = 104, /* rows whose numbers don't rise */
     MG_NOT_QUIET = 105,       /* a job or collection is neither done nor waived [first: the one that is carried next] */
     MG_WORN_OUT = 106,        /* a block was erased more than 4,293,918,718 times [first: the first such block] */
-    MG_EMPTY_HANDLE = 107,    /* the handle has no die */
-    MG_FULL_HANDLE = 108,     /* the handle has a die, which would be lost */
+    MG_EMPTY_HANDLE = 107,    /* the handle has no die, or no mount */
+    MG_FULL_HANDLE = 108,     /* the handle has a die or a mount, which would be lost */
     MG_NULL_POINTER = 109,    /* a pointer is null that may not be */
     MG_NOT_TAKEN = 110,       /* the program didn't take a piece of a report */
     MG_NONE_OVERDUE = 111, /* no released work that waits is due by now; or a fault has stopped the die */
+    MG_WRONG_STEP = 112,      /* the mount needs something else next, or nothing comes any more */
+    MG_TOO_MANY_CELLS = 113,  /* more cells of a block were told than it has */
+    MG_BAD_LABEL = 114,       /* a label of a page that the plan doesn't have, or with a serial of 2^63 or more [first: the
+                                 first such cell] */
     /* what is wrong with a certificate first */
     MG_CERT_EMPTY = 201,         /* it lists no job */
     MG_CERT_NOT_RISING = 202,    /* a listed number isn't above the one before */
@@ -109,7 +113,7 @@ const char *mg_refusal_text(uint32_t refusal);
 /* MG_VERSION of the library. */
 uint32_t mg_version(void);
 
-/* The same as a text: "1.0"; "1.0, not proved" of a library that was built without a proof. */
+/* The same as a text: "1.1"; "1.1, not proved" of a library that was built without a proof. */
 const char *mg_version_text(void);
 
 /* ---- What the library asks of the program ------------------------------------------------------------------------
@@ -273,7 +277,7 @@ uint32_t mg_reserve_jobs(mg_die *die, uint32_t jobs, uint32_t operations);
 /* How many bytes a die asks of the heap at most, in all blocks that it has at once: while mg_realloc moves a block, the old one
  * and the new one. With C cells (blocks * pages), K tasks, and K' of them rounded up to 4, 8 or 16:
  *
- *   birth     1,120 + 20 C + 4 logical + 60 blocks + 8 (pages + 1) + 8 (blocks / 64, rounded up) + 53 K + 4 K', and 16 K' more
+ *   birth     1,136 + 20 C + 4 logical + 60 blocks + 8 (pages + 1) + 8 (blocks / 64, rounded up) + 53 K + 4 K', and 16 K' more
  *             in a plan with times. It has so many from mg_new or mg_resume on. This is exact
  *   reserved  that, and 24 a slot, 108 a job or collection, 37 an operation, and 12 K: with so much reserved at once, jobs first;
  *             of it 8 a job are given back when it is reserved. It has so many until all of that is used up, also in later lives,
@@ -342,6 +346,91 @@ uint32_t mg_resume(mg_die *die, const struct mg_plan *plan, const struct mg_task
                       const struct mg_cell *places, size_t place_count, const struct mg_name *names, size_t name_count,
                       const struct mg_block *blocks, size_t block_count, const uint32_t *balances, size_t balance_count,
                       uint32_t spare, struct mg_why *why);
+
+/* ---- After a loss of power ----------------------------------------------------------------------------------------
+ *
+ * A driver may keep LABELS on its part: it writes into each cell that it programs, beside the payload, the logical page and the
+ * program's serial (mg_serial), and a check. Then a mount finds again what the part holds, whenever the power went, in a mount too.
+ * Each page has its last finished write then, or the one in progress. A page that was trimmed since its last write is blank, or
+ * has some earlier write of it, since a trim leaves no label: a driver with notes of trims leaves out the labels that are older.
+ * That is proved of parts that owe what bindings/README.md says ("A loss of power").
+ *
+ * THE PART has one block more than the plan, so a plan has at most 1,023 here. One block of it stands aside: the last one of a die
+ * that mg_new or mg_resume made, and another one after each mount. A die numbers its own blocks from 0 on, without that one, in
+ * calls, cells and checkpoints: mg_part_block says which block of the part it is. A mount tells the part's own numbers.
+ *
+ * A MOUNT says what it needs next, until a die may start. It may be given up at any moment, as the power may go.
+ *
+ *     mg_mount_new(&mount, &plan, tasks, count);
+ *     while (!mg_mount_next(&mount, &step) && step.kind != MG_STEP_END)
+ *         if (step.kind == MG_STEP_TELL) mg_mount_tell(&mount, labels, pages, NULL);   (what the cells of step.block show)
+ *         else mg_mount_done(&mount);                                                  (once it was done)
+ *     mg_mount_end(&mount, names, logical, &die);
+ *     mg_mount_free(&mount);
+ *
+ * It is told each block once, and all of them again where no block is without a page, as after some mounts that were cut. Then it
+ * erases a block, and copies pages into blocks that it erased until full accounts and one block are free: at most
+ * 1 + fmax / alpha blocks are erased (fmax as mg_plan_bound has it), each but the first after at most pages - alpha copies. */
+
+typedef struct mg_mount { void *at; } mg_mount;
+
+/* Makes a mount in an empty handle. It takes 12 bytes a logical page and 4 a cell here, twice that where it is told all blocks
+ * again, and 12 a block as its calls begin. Tasks and plan are those of the die. The first that stands: NO_MEMORY, since the tasks
+ * are copied first; BAD_PLAN, where mg_plan_bound refuses it, for its shape, too, or it has 1,024 blocks; NO_MEMORY. */
+uint32_t mg_mount_new(mg_mount *mount, const struct mg_plan *plan, const struct mg_task *tasks, size_t count);
+
+/* Frees a mount, and leaves its handle empty. Of an empty handle, or of none, it does nothing. */
+void mg_mount_free(mg_mount *mount);
+
+enum { MG_STEP_END = 0,     /* nothing any more: mg_mount_end */
+       MG_STEP_READ = 1,    /* read the page in this cell; the program that comes next has its payload */
+       MG_STEP_PROGRAM = 2, /* program this cell with what was read last, and with a label of this page and serial */
+       MG_STEP_ERASE = 3,   /* one slot of the erase of the block */
+       MG_STEP_TELL = 4 };  /* tell what the cells of the block show */
+struct mg_step {
+    uint64_t serial;      /* of a program what its label bears */
+    uint32_t kind;        /* MG_STEP_END .. */
+    uint32_t block, page; /* the cell, or the block */
+    uint32_t logical;     /* of a program the logical page */
+    uint32_t last;        /* 1: the slot of the erase is its last */
+};
+/* What the mount needs next; asking changes nothing. WRONG_STEP where nothing comes any more: the mount has ended in a die, or
+ * was refused for memory as its calls were to begin. */
+uint32_t mg_mount_next(mg_mount *mount, struct mg_step *step);
+
+/* What a cell shows: a label, or none (`page` is MG_NO_LABEL) where the cell isn't good, as a torn or blank one. */
+#define MG_NO_LABEL UINT32_MAX
+struct mg_label {
+    uint64_t serial; /* below 2^63 */
+    uint32_t page;   /* the logical page */
+};
+/* Tells the labels of the block that MG_STEP_TELL names, cell by cell from the first one on; cells that aren't told have none. No two
+ * of a part have one serial. The first that stands: NO_MEMORY, which leaves the mount; WRONG_STEP; TOO_MANY_CELLS; BAD_LABEL; and
+ * where it was the last block NO_MEMORY, after which nothing comes any more: free the mount and begin anew, nothing was called. */
+uint32_t mg_mount_tell(mg_mount *mount, const struct mg_label *labels, size_t count, struct mg_why *why);
+
+/* The call that mg_mount_next says was made, and went well. WRONG_STEP where none is to be made. Where a call fails the mount is
+ * given up: the part may be mounted anew. */
+uint32_t mg_mount_done(mg_mount *mount);
+
+/* How many calls of the part may come yet, once all blocks were told; 0 before. It falls with each call. */
+uint64_t mg_mount_calls_left(mg_mount *mount);
+
+/* The cell of the part from which a page may be read now, while the mount goes on, too. WRONG_STEP before all blocks were told,
+ * and where nothing comes any more. */
+uint32_t mg_mount_place(mg_mount *mount, uint32_t page, struct mg_cell *place);
+
+/* Makes a die in an empty handle that begins where the mount has ended: at slot 0 with an empty log, each task with as many tokens as
+ * its cap, and with the pages that were found. `names` has by logical page the name of what lies there; a page that lies nowhere, or
+ * that has no name here, is blank. The mount is over then. The first that stands, after those of the handles: NO_MEMORY, which may come at any time and leaves the mount; WRONG_STEP, where the mount hasn't ended. */
+uint32_t mg_mount_end(mg_mount *mount, const struct mg_name *names, size_t name_count, mg_die *die);
+
+/* What the label of the next program bears, of the one that has begun, too. It rises by one with each program that is ended: from
+ * 1 on, or of a mounted die from the first serial that its mount left. A program that failed stops its die. */
+uint64_t mg_serial(const mg_die *die);
+
+/* The number that the part gives a block of the die: its last block's where a block stands aside in its place. */
+uint32_t mg_part_block(const mg_die *die, uint32_t block, uint32_t *part_block);
 
 /* ---- Questions ----------------------------------------------------------------------------------------------------
  *

@@ -15,6 +15,7 @@
 #define MG_AT(type, field, bytes) MG_IS(offsetof(struct type, field) == (bytes))
 
 MG_SIZE(mg_die, sizeof(void *));
+MG_SIZE(mg_mount, sizeof(void *));
 MG_SIZE(mg_name, 16);
 MG_SIZE(mg_why, 8);
 MG_AT(mg_why, first, 0);
@@ -104,7 +105,16 @@ MG_AT(mg_row, due, 8);
 MG_AT(mg_row, work, 12);
 MG_AT(mg_row, done, 16);
 MG_AT(mg_row, completion, 20);
-
+MG_SIZE(mg_label, 16);
+MG_AT(mg_label, serial, 0);
+MG_AT(mg_label, page, 8);
+MG_SIZE(mg_step, 32);
+MG_AT(mg_step, serial, 0);
+MG_AT(mg_step, kind, 8);
+MG_AT(mg_step, block, 12);
+MG_AT(mg_step, page, 16);
+MG_AT(mg_step, logical, 20);
+MG_AT(mg_step, last, 24);
 #undef MG_IS
 #undef MG_SIZE
 #undef MG_AT

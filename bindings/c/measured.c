@@ -132,7 +132,7 @@ static void show_formulas(uint32_t plans) {
         random_plan();
         const uint32_t jobs = between(64, 65536), slots = between(jobs, 1048576), operations = between(64, 64 * jobs);
         const uint64_t cells = plan.blocks * plan.pages, listed = task_count <= 4 ? 4 : task_count <= 8 ? 8 : 16;
-        const uint64_t birth = 1120 + 20 * cells + 4 * plan.logical + 60 * plan.blocks + 8 * (plan.pages + 1) + 8 * ((plan.blocks + 63) / 64)
+        const uint64_t birth = 1136 + 20 * cells + 4 * plan.logical + 60 * plan.blocks + 8 * (plan.pages + 1) + 8 * ((plan.blocks + 63) / 64)
                                + 53 * task_count + 4 * listed + (plan.common ? 16 * listed : 0);
         const struct mg_bytes bytes = said(slots, jobs, operations);
         check(bytes.birth == birth, "the formula of a birth");

@@ -25,7 +25,7 @@ static uint64_t list(uint64_t items, uint64_t first) { return grown(0, items, fi
 
 static uint64_t at_birth(const struct mg_plan *plan, uint64_t tasks) {
     const uint64_t blocks = plan->blocks, cells = blocks * plan->pages, listed = doubled(tasks, 4);
-    return 1120                                           /* the die itself */
+    return 1136                                           /* the die itself */
            + cells * 16 + blocks * 12                     /* the mirror: names; by block what is programmed, in erase, erased */
            + plan->logical * (uint64_t)4 + cells * 4      /* the map: by page its cell, by cell its page */
            + blocks * (4 + 4 + 4 + 4)                     /* valid pages, first pages, programmed pages, erases */

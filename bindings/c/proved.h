@@ -1,5 +1,5 @@
 /* What crates/flash_c exports, under the names that it has there. edge.c alone calls it: it sees to what these take for
- * granted, that no pointer is null, and that a handle is full, or empty for flash_new and flash_resume. */
+ * granted, that no pointer is null, and that a handle is full, or empty for what fills it. */
 #ifndef PROVED_H
 #define PROVED_H
 #include "maulgreen.h"
@@ -28,6 +28,16 @@ uint32_t flash_resume(mg_die *die, const struct mg_plan *plan, const struct mg_t
                       const struct mg_cell *places, size_t place_count, const struct mg_name *names, size_t name_count,
                       const struct mg_block *blocks, size_t block_count, const uint32_t *balances, size_t balance_count,
                       uint32_t spare, struct mg_why *why);
+uint32_t flash_mount_new(mg_mount *mount, const struct mg_plan *plan, const struct mg_task *tasks, size_t count);
+void flash_mount_free(mg_mount *mount);
+uint32_t flash_mount_next(mg_mount *mount, struct mg_step *step);
+uint32_t flash_mount_tell(mg_mount *mount, const struct mg_label *labels, size_t count, struct mg_why *why);
+uint32_t flash_mount_done(mg_mount *mount);
+uint64_t flash_mount_calls_left(mg_mount *mount);
+uint32_t flash_mount_place(mg_mount *mount, uint32_t page, struct mg_cell *place);
+uint32_t flash_mount_end(mg_mount *mount, const struct mg_name *names, size_t count, mg_die *die);
+uint64_t flash_serial(mg_die *die);
+uint32_t flash_part_block(mg_die *die, uint32_t block);
 uint32_t flash_now(mg_die *die);
 uint64_t flash_len(mg_die *die);
 uint64_t flash_records(mg_die *die);

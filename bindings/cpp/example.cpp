@@ -91,5 +91,25 @@ int main() {
     }
     check(refused([&] { die.begin(9); }) == MG_DIE_STOPPED, "a slot that is destroyed stops the die");
     check(cells.count({die.place(5)->block, die.place(5)->page}) == 1, "and its pages are found");
+    // Page 5 lies in a part's last block, which the die has under the number of the one aside: block 0.
+    maulgreen::mount unmoved(plan, {{4, 0, 0, 0, 0}});
+    maulgreen::mount mount = std::move(unmoved);
+    check(refused([&] { mount.done(); }) == MG_WRONG_STEP, "blocks come first");
+    uint32_t slots = 0;
+    for (maulgreen::step step = mount.step(); step.kind != MG_STEP_END; step = mount.step())
+        if (step.kind == MG_STEP_TELL) mount.tell(step.block == 8 ? std::vector<maulgreen::label>{{41, 5}} : std::vector<maulgreen::label>{});
+        else {
+            check(step.kind == MG_STEP_ERASE && mount.place(5)->block == 8 && mount.calls_left() > 0, "nothing is to be copied");
+            mount.done();
+            slots++;
+        }
+    maulgreen::name fifth{};
+    fifth.bytes[3] = 171;
+    maulgreen::die mounted = mount.end({{}, {}, {}, {}, {}, fifth});
+    check(slots == 9 && mounted.serial() == 42 && mounted.part_block(0) == 8 && mounted.place(5)->block == 0, "it goes on there");
+    mounted.submit(1, 0, 0, 1, {maulgreen::read(5)});
+    maulgreen::slot read_back = mounted.begin(9);
+    check(read_back.call().name == fifth && read_back.end(true, fifth).finished, "with the page's name");
+    check(refused([&] { mount.step(); }) == MG_WRONG_STEP, "a mount makes one die");
     std::cout << "all as it should be\n";
 }

@@ -31,6 +31,8 @@ using job_head = struct ::mg_job_head;
 using worst_job = struct ::mg_worst_job;
 using overdue_job = struct ::mg_overdue_job;
 using cell = ::mg_cell;
+using label = ::mg_label;
+using step = ::mg_step;
 
 // Why a call is refused: its number of maulgreen.h, and the numbers that it has.
 class refusal : public std::exception {
@@ -247,6 +249,14 @@ public:
         return said;
     }
 
+    // What the label of the next program bears, and which block of the part one of the die is.
+    std::uint64_t serial() const { return ::mg_serial(handle_); }
+    std::uint32_t part_block(std::uint32_t block) const {
+        std::uint32_t said = 0;
+        must(::mg_part_block(handle_, block, &said));
+        return said;
+    }
+
     std::uint32_t now() const { return ::mg_now(handle_); }
     std::uint64_t entries() const { return ::mg_len(handle_); }
     std::uint64_t records() const { return ::mg_records(handle_); }
@@ -330,12 +340,74 @@ public:
     }
 
 private:
+    friend class mount;
     static void must_fit() {
         if (!fits()) throw std::runtime_error("another version of libmaulgreen");
     }
+    die(::mg_die *made, const plan &p, std::size_t tasks) : handle_(made), size_(p), tasks_(tasks) {}
 
     // On the heap, so that a die moves while one of its slots has begun, and so that a handle is never copied.
     ::mg_die *handle_ = nullptr;
+    plan size_{};
+    std::size_t tasks_ = 0;
+};
+
+// A mount of a part after a loss of power, by the labels in its cells. It moves and isn't copied, and frees its mount. Its blocks are
+// the part's.
+class mount {
+public:
+    mount(const plan &p, const std::vector<task> &tasks) : size_(p), tasks_(tasks.size()) {
+        die::must_fit();
+        must(::mg_mount_new(&handle_, &p, tasks.data(), tasks.size()));
+    }
+    mount(const mount &) = delete;
+    mount &operator=(const mount &) = delete;
+    mount(mount &&other) noexcept : handle_(std::exchange(other.handle_, ::mg_mount{nullptr})), size_(other.size_), tasks_(other.tasks_) {}
+    mount &operator=(mount &&other) noexcept {
+        std::swap(handle_, other.handle_);
+        std::swap(size_, other.size_);
+        std::swap(tasks_, other.tasks_);
+        return *this;
+    }
+    ~mount() { ::mg_mount_free(&handle_); }
+
+    // What it needs next.
+    maulgreen::step step() {
+        maulgreen::step said{};
+        must(::mg_mount_next(&handle_, &said));
+        return said;
+    }
+
+    // Tells what the cells of the block show that the step names; `page` is MG_NO_LABEL where one isn't good.
+    void tell(const std::vector<label> &labels) {
+        ::mg_why why{0, 0};
+        must(::mg_mount_tell(&handle_, labels.data(), labels.size(), &why), why);
+    }
+
+    // The call that the step names was made, and went well.
+    void done() { must(::mg_mount_done(&handle_)); }
+    std::uint64_t calls_left() { return ::mg_mount_calls_left(&handle_); }
+
+    // The cell of the part from which a page may be read now, if it lies in one.
+    std::optional<cell> place(std::uint32_t page) {
+        cell said{};
+        must(::mg_mount_place(&handle_, page, &said));
+        return said.block == MG_NOWHERE ? std::nullopt : std::optional<cell>(said);
+    }
+
+    // The die that begins where it has ended; by logical page the name of what lies there.
+    die end(const std::vector<name> &names) {
+        auto made = new ::mg_die{nullptr};
+        const std::uint32_t code = ::mg_mount_end(&handle_, names.data(), names.size(), made);
+        if (code != MG_OK) {
+            delete made;
+            throw refusal(code);
+        }
+        return die(made, size_, tasks_);
+    }
+
+private:
+    ::mg_mount handle_{nullptr};
     plan size_{};
     std::size_t tasks_ = 0;
 };

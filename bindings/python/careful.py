@@ -54,6 +54,89 @@ other.slot(lambda call: (True, BLANK))
 assert other.overdue() is None, "it is done"
 other.close()
 
+
+
+# A part of nine blocks, by cell what was programmed there, with its label. It is mounted, and a die writes and reads; after each write
+# the power may go.
+class Part:
+    def __init__(self):
+        self.cells = {}
+        self.read = None
+
+    def program(self, block, page, name, label):
+        assert (block, page) not in self.cells and all((block, earlier) in self.cells for earlier in range(page)), "the next cell"
+        self.cells[block, page] = name, label
+
+    def erase(self, block):
+        for page in range(PLAN.pages):
+            self.cells.pop((block, page), None)
+
+    def mount(self):
+        mount, names = maulgreen.Mount(PLAN, [TASK]), {}
+        while (step := mount.step()).kind != maulgreen.NEEDS_NOTHING:
+            cell = step.block, step.page
+            if step.kind == maulgreen.TELL_BLOCK:
+                told = [self.cells.get((step.block, page), (None, None)) for page in range(PLAN.pages)]
+                names.update({label: name for name, label in told if label})
+                mount.tell(label for _, label in told)
+                continue
+            left = mount.calls_left()
+            if step.kind == maulgreen.READ_PAGE:
+                self.read = self.cells[cell][0]
+            elif step.kind == maulgreen.PROGRAM_PAGE:
+                self.program(*cell, self.read, (step.logical, step.serial))
+            elif step.last:
+                self.erase(step.block)
+            mount.done()
+            assert mount.calls_left() < left
+        places = [mount.place(page) for page in range(PLAN.logical)]
+        return mount.end([self.cells[at][0] if at else BLANK for at in places])
+
+    def drive(self, die, call):
+        cell = die.part_block(call.block), call.page
+        if call.kind == maulgreen.PROGRAM_CELL:
+            self.program(*cell, call.name, (call.logical, die.serial()))
+        if call.kind == maulgreen.ERASE_SLOT and call.last:
+            self.erase(cell[0])
+        return True, self.cells[cell][0] if call.kind == maulgreen.READ_CELL else BLANK
+
+
+part, written = Part(), {}
+for life in range(12):
+    with part.mount() as mounted:
+        is_wrong(lambda: mounted.part_block(-1))
+        for turn in range(9):
+            page = (life * 5 + turn * 3) % PLAN.logical
+            name = bytes([life, turn]) * 8
+            now = mounted.now()
+            try:
+                mounted.collect(0, now, now + 40)
+            except maulgreen.Refusal as refusal:
+                assert refusal.name == "CollectorBusy"
+            try:
+                wanted = mounted.submit(0, now, now + 9, [(WRITE, page, name)])
+            except maulgreen.Refusal as refusal:
+                assert refusal.name == "NoTokens"
+                wanted = None
+            while wanted is not None:
+                reply = mounted.slot(lambda call: part.drive(mounted, call))
+                if reply.finished and reply.job == wanted:
+                    written[page], wanted = name, None
+    with part.mount() as mounted:
+        for page in range(PLAN.logical):
+            now = mounted.now()
+            job = mounted.submit(0, now, now + 1, [(READ, page)])
+            assert mounted.slot(lambda call: part.drive(mounted, call)).name == written.get(page, BLANK), "nothing is lost"
+with maulgreen.Mount(PLAN, [TASK]) as mount:
+    for wrong in ([(0, -1)], [(0, 2**64)], [(-1, 0)], [(0, 1.0)]):
+        is_wrong(lambda: mount.tell(wrong))
+    try:
+        mount.done()
+        raise SystemExit("wrong: blocks come first")
+    except maulgreen.Refusal as refusal:
+        assert refusal.name == "WrongStep"
+is_wrong(mount.step)
+
 # Questions of three threads beside slots: ctypes lets go of the interpreter's lock meanwhile.
 done = threading.Event()
 

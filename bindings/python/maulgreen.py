@@ -17,6 +17,8 @@ READ, WRITE, TRIM = 0, 1, 2
 NOTHING, READ_CELL, PROGRAM_CELL, ERASE_SLOT, NOTE_TRIM = 0, 1, 2, 3, 4
 IDLE, DID_READ, DID_WRITE, DID_TRIM, COPY_READ, COPY_PROGRAM, ERASE = range(7)
 WAITING, DONE, WAIVED = 0, 1, 2
+# what a mount needs next
+NEEDS_NOTHING, READ_PAGE, PROGRAM_PAGE, ERASE_BLOCK, TELL_BLOCK = range(5)
 # what an entry of the log is of
 SUBMITTED, COLLECTED, IDLE_SLOT, OPERATION, LAST_OPERATION, PAGE_READ, PAGE_PROGRAMMED, ERASED, LAST_ERASED = range(9)
 
@@ -50,6 +52,8 @@ _Certificate = _struct("_Certificate", "job start due completion jobs")
 _Row = _struct("_Row", "number release due work done completion")
 _Place = _struct("_Place", "block page")
 _Block = _struct("_Block", "filled erases")
+_Label = _struct("_Label", "page", [("serial", U64)])
+_Step = _struct("_Step", "kind block page logical last", [("serial", U64)])
 _Bytes = type("_Bytes", (c.Structure,), {"_fields_": [(word, U64) for word in "birth reserved life question resume".split()]})
 _NOWHERE = _NO_PAGE = 0xFFFFFFFF
 _NONE_OVERDUE = 111
@@ -72,6 +76,16 @@ class Task(NamedTuple):
     collect_period: int = 0
     work: int = 0
     writes: int = 0
+
+
+class Step(NamedTuple):
+    """What a mount needs next: NEEDS_NOTHING .. TELL_BLOCK. Blocks are the part's. `logical` and `serial` are those of a program's label."""
+    kind: int
+    block: int
+    page: int
+    last: bool
+    logical: int
+    serial: int
 
 
 class Load(NamedTuple):
@@ -199,13 +213,13 @@ def _library() -> str:
 
 _lib = c.CDLL(_library())
 for _word in ("version refusal_name plan_bound plan_test memory new submit collect begin end reserve reserve_jobs renew "
-              "renew_giving_back now place entries entry_waived job outcome worst overdue certificate rows check checkpoint resume").split():
+              "renew_giving_back now place part_block mount_new mount_next mount_tell mount_done mount_place mount_end entries entry_waived job outcome worst overdue certificate rows check checkpoint resume").split():
     getattr(_lib, "mg_" + _word).restype = U32
-_lib.mg_len.restype = _lib.mg_records.restype = U64
-_lib.mg_free.restype = None
+_lib.mg_len.restype = _lib.mg_records.restype = _lib.mg_serial.restype = _lib.mg_mount_calls_left.restype = U64
+_lib.mg_free.restype = _lib.mg_mount_free.restype = None
 _lib.mg_refusal_text.restype = c.c_char_p
 # Another major number has other calls; a lower minor one lacks some of these.
-if _lib.mg_version() >> 16 != 1:
+if _lib.mg_version() >> 16 != 1 or _lib.mg_version() & 0xFFFF < 1:
     raise ImportError("another version of libmaulgreen.so")
 
 
@@ -288,6 +302,78 @@ def check(rows: Iterable[Row], certificate: Certificate) -> None:
     _must(_lib.mg_check(rows, row_count, c.byref(given), jobs, count))
 
 
+class Mount:
+    """A mount of a part after a loss of power, by the labels in its cells; `with` frees it. For one thread at a time."""
+
+    def __init__(self, plan: Plan, tasks: Iterable[Task]):
+        self._at = None
+        self._shape = Plan(*plan), list(tasks)
+        handle = _Handle()
+        _must(_lib.mg_mount_new(c.byref(handle), *_plan(*self._shape)))
+        self._at = handle
+
+    def __enter__(self):
+        return self
+
+    def __exit__(self, *_):
+        self.close()
+
+    def __del__(self):
+        self.close()
+
+    def close(self) -> None:
+        if self._at is not None:
+            _lib.mg_mount_free(c.byref(self._at))
+            self._at = None
+
+    def __copy__(self):
+        raise TypeError("a mount isn't copied")
+
+    def __deepcopy__(self, _):
+        raise TypeError("a mount isn't copied")
+
+    def _call(self, function: str, *words) -> int:
+        if self._at is None:
+            raise ValueError("the mount was freed")
+        return getattr(_lib, "mg_mount_" + function)(c.byref(self._at), *words)
+
+    def step(self) -> Step:
+        """What it needs next."""
+        said = _Step()
+        _must(self._call("next", c.byref(said)))
+        return Step(said.kind, said.block, said.page, said.last == 1, said.logical, said.serial)
+
+    def tell(self, labels: Iterable[Optional[Tuple[int, int]]]) -> None:
+        """Tells what the cells of the block show that the step names, from the first one on: (logical page, serial), or None."""
+        told = []
+        for label in labels:
+            page, serial = (_NO_PAGE, 0) if label is None else label
+            if isinstance(serial, bool) or not isinstance(serial, int) or not 0 <= serial < 2**64:
+                raise ValueError(f"{serial!r} is no serial")
+            told.append(_Label(serial, _u32(page)))
+        why = _Why()
+        _must(self._call("tell", *_list(_Label, told), c.byref(why)), why)
+
+    def done(self) -> None:
+        """The call that the step names was made, and went well."""
+        _must(self._call("done"))
+
+    def calls_left(self) -> int:
+        return self._call("calls_left")
+
+    def place(self, page: int) -> Optional[Tuple[int, int]]:
+        """The cell of the part from which a page may be read now, (block, page), or None."""
+        at = _Place()
+        _must(self._call("place", U32(_u32(page)), c.byref(at)))
+        return None if at.block == _NOWHERE else (at.block, at.page)
+
+    def end(self, names: Iterable[bytes]) -> "Die":
+        """The die that begins where it has ended; by logical page the name of what lies there."""
+        handle = _Handle()
+        _must(self._call("end", *_list(_Name, map(_name, names)), c.byref(handle)))
+        return Die._of(handle, *self._shape)
+
+
 class Die:
     """One die; `with` frees it. Calls of several threads wait for each other."""
 
@@ -307,6 +393,14 @@ class Die:
                 *_list(_Name, map(_name, checkpoint.names)), *_list(_Block, (_numbers(_Block, b) for b in checkpoint.blocks)),
                 *_list(U32, map(_u32, checkpoint.balances)), U32(_u32(checkpoint.spare)), c.byref(why)), why)
         self._at = handle
+
+    @classmethod
+    def _of(cls, handle, plan, tasks):
+        die = cls.__new__(cls)
+        die._lock = threading.RLock()
+        die._shape = plan, len(tasks)
+        die._at = handle
+        return die
 
     def __enter__(self):
         return self
@@ -402,6 +496,16 @@ class Die:
                                     c.c_size_t(plan.blocks), balances, c.c_size_t(count), c.byref(spare), c.byref(why)), why)
         return Checkpoint([None if p.block == _NOWHERE else (p.block, p.page) for p in places], [bytes(n) for n in names],
                           [Block(b.filled, b.erases) for b in blocks], list(balances), spare.value)
+
+    def serial(self) -> int:
+        """What the label of the next program bears."""
+        return self._call("serial")
+
+    def part_block(self, block: int) -> int:
+        """The number that the part gives a block of the die."""
+        said = U32()
+        _must(self._call("part_block", U32(_u32(block)), c.byref(said)))
+        return said.value
 
     def now(self) -> int:
         return self._call("now")

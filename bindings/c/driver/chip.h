@@ -1,4 +1,4 @@
-/* A NAND chip in a file: 24 blocks of 16 pages, of 2,048 bytes and a spare area of 64, and two blocks more, for notes. A page is
+/* A NAND chip in a file: 25 blocks of 16 pages, of 2,048 bytes and a spare area of 64, and two blocks more, for notes. A page is
  * programmed once between two erases of its block, and an erase may be suspended between its slots. The power can be made to go
  * in the middle of a call, which then does a part of its work and ends the process; and a program can be made to fail. */
 #ifndef CHIP_H
@@ -6,7 +6,7 @@
 #include <stdbool.h>
 #include <stdint.h>
 
-enum { BLOCKS = 24, NOTE_BLOCKS = 2, PAGES = 16, ERASE_SLOTS = 4, PAYLOAD = 2048, SPARE = 64 };
+enum { BLOCKS = 25, NOTE_BLOCKS = 2, PAGES = 16, ERASE_SLOTS = 4, PAYLOAD = 2048, SPARE = 64 };
 struct chip_page { uint8_t payload[PAYLOAD], spare[SPARE]; };
 
 void chip_open(const char *file);

@@ -1,12 +1,13 @@
 #include "driver.h"
 #include <string.h>
 
-static const struct mg_plan plan = {BLOCKS, PAGES, ERASE_SLOTS, LOGICAL, ALPHA, 0};
+/* One block of the chip stands aside. */
+static const struct mg_plan plan = {BLOCKS - 1, PAGES, ERASE_SLOTS, LOGICAL, ALPHA, 0};
 static const struct mg_task tasks[TASKS] = {{CAP, 0, 0, 0, 0}, {CAP, 0, 0, 0, 0}};
 
 /* ---- Names and labels -------------------------------------------------------------------------------------------- */
 
-struct label { struct mg_name name; uint64_t serial; uint32_t logical, erases, check; uint8_t rest[SPARE - 40]; };
+struct label { struct mg_name name; uint64_t serial; uint32_t logical, check; uint8_t rest[SPARE - 32]; };
 _Static_assert(sizeof(struct label) == SPARE, "a label fills the spare area");
 
 static uint64_t hash(uint64_t h, const void *at, size_t size) {
@@ -22,33 +23,35 @@ static struct mg_name name_of(const uint8_t *payload) {
     return name;
 }
 
-static uint32_t check_of(struct label label) {
+/* Over the label, with the payload's name, and the cell's own address. */
+static uint32_t check_of(struct label label, uint32_t block, uint32_t page) {
     label.check = 0;
-    return (uint32_t)hash(14695981039346656037u, &label, sizeof label);
+    uint64_t h = hash(14695981039346656037u, &label, sizeof label);
+    h = hash(hash(h, &block, sizeof block), &page, sizeof page);
+    return (uint32_t)(h ^ h >> 32);
 }
 
-/* A page as it is programmed into a block: the payload, and the newest label so far. */
-static struct chip_page sealed(struct driver *driver, const uint8_t *payload, struct mg_name name, uint32_t logical,
-                               uint32_t block) {
+/* Programs a cell with a payload and its label. */
+static bool program(uint32_t block, uint32_t at, const uint8_t *payload, struct mg_name name, uint32_t logical, uint64_t serial) {
     struct chip_page page;
-    struct label label = {name, ++driver->serial, logical, driver->erases[block], 0, {0}};
-    label.check = check_of(label);
+    struct label label = {name, serial, logical, 0, {0}};
+    label.check = check_of(label, block, at);
     memcpy(page.payload, payload, PAYLOAD);
     memcpy(page.spare, &label, SPARE);
-    return page;
+    return chip_program(block, at, &page);
 }
 
-/* Whether a page was programmed whole, and its label. */
-static bool is_whole(const struct chip_page *page, struct label *label) {
+/* Whether what was read of a cell was programmed there, and whole; and its label. */
+static bool is_good(const struct chip_page *page, uint32_t block, uint32_t at, struct label *label) {
     memcpy(label, page->spare, SPARE);
     struct mg_name name = name_of(page->payload);
-    return label->check == check_of(*label) && label->logical <= LOGICAL && !memcmp(&label->name, &name, sizeof name);
+    return label->check == check_of(*label, block, at) && label->logical <= LOGICAL && !memcmp(&label->name, &name, sizeof name);
 }
 
 /* ---- Notes of trims ---------------------------------------------------------------------------------------------- */
 
-/* A note is a page with all of `trims`, sealed as a payload is. Notes fill one block, and then the other one, which is erased
- * before: so the newest is always whole. */
+/* A note is a page with all of `trims`, labelled as a payload is, and notes are numbered by themselves. They fill one block, and
+ * then the other one, which is erased before: so the newest is always whole. */
 _Static_assert(sizeof(uint64_t[LOGICAL]) <= PAYLOAD, "a note is a page");
 enum { NOTE = LOGICAL }; /* the logical page of its label */
 
@@ -58,7 +61,7 @@ static bool erase_all(uint32_t block) {
     return true;
 }
 
-/* Notes that a page is trimmed: whether it was noted. */
+/* Notes that a page is trimmed: whether it was noted. The next program's label counts again. */
 static bool note_trim(struct driver *driver, uint32_t logical) {
     uint8_t payload[PAYLOAD] = {0};
     if (driver->note_page == PAGES) {
@@ -66,10 +69,9 @@ static bool note_trim(struct driver *driver, uint32_t logical) {
         driver->note_page = 0;
         if (!erase_all(driver->note_block)) return false;
     }
-    driver->trims[logical] = ++driver->serial;
+    driver->trims[logical] = mg_serial(&driver->die) + driver->above;
     memcpy(payload, driver->trims, sizeof driver->trims);
-    struct chip_page page = sealed(driver, payload, name_of(payload), NOTE, 0);
-    return chip_program(driver->note_block, driver->note_page++, &page);
+    return program(driver->note_block, driver->note_page++, payload, name_of(payload), NOTE, ++driver->notes);
 }
 
 /* Finds the newest note, and where the next one goes: behind it, and behind those that are torn. */
@@ -82,8 +84,8 @@ static bool find_notes(struct driver *driver) {
             if (!chip_read(b, p, &page)) return false;
             if (chip_is_free(&page)) continue;
             if (b == driver->note_block) driver->note_page = p + 1;
-            if (!is_whole(&page, &label) || label.logical != NOTE || label.serial <= driver->serial) continue;
-            driver->serial = label.serial;
+            if (!is_good(&page, b, p, &label) || label.logical != NOTE || label.serial <= driver->notes) continue;
+            driver->notes = label.serial;
             memcpy(driver->trims, page.payload, sizeof driver->trims);
             driver->note_block = b;
             driver->note_page = p + 1;
@@ -116,22 +118,21 @@ static bool keep(struct driver *driver, uint32_t job, const uint8_t *payload) {
 static bool drive(struct driver *driver, const struct mg_call *call, struct mg_name *gave) {
     struct buffer *buffer = buffer_of(driver, call->job);
     struct chip_page page;
+    uint32_t block;
+    if (mg_part_block(&driver->die, call->block, &block)) return false;
     /* a copy's buffer is free at the collection's next call, whichever it is; a write's, once it is programmed */
     if (buffer && (call->act >= MG_COPY_READ || call->kind == MG_CALL_PROGRAM)) buffer->is_used = false;
     switch (call->kind) {
     case MG_CALL_READ:
-        if (!chip_read(call->block, call->page, &page)) return false;
+        if (!chip_read(block, call->page, &page)) return false;
         *gave = name_of(page.payload);
         if (call->act == MG_COPY_READ) return keep(driver, call->job, page.payload);
         memcpy(driver->read, page.payload, PAYLOAD);
         return true;
     case MG_CALL_PROGRAM:
         if (!buffer) return false;
-        page = sealed(driver, buffer->payload, call->name, call->logical, call->block);
-        return chip_program(call->block, call->page, &page);
-    case MG_CALL_ERASE:
-        driver->erases[call->block] += call->last;
-        return chip_erase_slot(call->block, call->last);
+        return program(block, call->page, buffer->payload, call->name, call->logical, mg_serial(&driver->die) + driver->above);
+    case MG_CALL_ERASE: return chip_erase_slot(block, call->last);
     case MG_CALL_TRIM: return note_trim(driver, call->logical);
     default: return true;
     }
@@ -179,122 +180,76 @@ uint32_t driver_read(struct driver *driver, uint32_t page, uint8_t *payload, boo
 uint32_t driver_rescue(struct driver *driver, uint32_t page, uint8_t *payload, bool *blank) {
     struct mg_cell at;
     struct chip_page read;
-    uint32_t refusal = mg_place(&driver->die, page, &at);
+    uint32_t block, refusal = mg_place(&driver->die, page, &at);
     if (refusal) return refusal;
     *blank = at.block == MG_NOWHERE;
     if (*blank) return MG_OK;
-    if (!chip_read(at.block, at.page, &read)) return BROKEN;
+    if (mg_part_block(&driver->die, at.block, &block) || !chip_read(block, at.page, &read)) return BROKEN;
     memcpy(payload, read.payload, PAYLOAD);
     return MG_OK;
 }
 
 /* ---- After a loss of power --------------------------------------------------------------------------------------- */
 
-/* What is on the chip: where the newest payload of each page lies, how many pages of each block are programmed, and how many
- * of these are the newest. */
-static struct {
-    struct mg_cell places[LOGICAL];
-    struct mg_name names[LOGICAL];
-    uint64_t serials[LOGICAL];
-    struct mg_block blocks[BLOCKS];
-    uint32_t live[BLOCKS];
-} found;
-
-static void place(uint32_t logical, uint32_t block, uint32_t page, const struct label *label) {
-    if (found.places[logical].block != MG_NOWHERE) found.live[found.places[logical].block]--;
-    found.places[logical] = (struct mg_cell){block, page};
-    found.names[logical] = label->name;
-    found.serials[logical] = label->serial;
-    found.live[block]++;
-}
-
-static bool scan(struct driver *driver) {
-    memset(&found, 0, sizeof found);
-    memset(found.names, 0xFF, sizeof found.names);
-    for (uint32_t l = 0; l < LOGICAL; l++) found.places[l].block = MG_NOWHERE;
-    for (uint32_t b = 0; b < BLOCKS; b++)
-        for (uint32_t p = 0; p < PAGES; p++) {
-            struct chip_page page;
-            struct label label;
-            if (!chip_read(b, p, &page)) return false;
-            if (chip_is_free(&page)) continue;
-            found.blocks[b].filled = p + 1;
-            if (!is_whole(&page, &label) || label.logical == NOTE) continue; /* torn: programmed, and of no use */
-            if (label.serial > driver->serial) driver->serial = label.serial;
-            if (label.erases > driver->erases[b]) driver->erases[b] = label.erases;
-            if (label.serial > found.serials[label.logical] && label.serial > driver->trims[label.logical]) place(label.logical, b, p, &label);
-        }
-    return true;
-}
-
-/* An erase that was cut is done from its start: no newest payload lies in such a block. */
-static bool erase(struct driver *driver, uint32_t block) {
-    if (!erase_all(block)) return false;
-    driver->erases[block]++;
-    found.blocks[block].filled = found.live[block] = 0;
-    return true;
-}
-
-static uint32_t free_pages(void) {
-    uint32_t pages = 0;
-    for (uint32_t b = 0; b < BLOCKS; b++) pages += PAGES - found.blocks[b].filled;
-    return pages;
-}
-
-/* The block that has programmed and free pages, else one that is wholly free. */
-static uint32_t open_block(void) {
-    uint32_t open = BLOCKS;
-    for (uint32_t b = 0; b < BLOCKS; b++) {
-        if (found.blocks[b].filled > 0 && found.blocks[b].filled < PAGES) return b;
-        if (found.blocks[b].filled == 0) open = b;
-    }
-    return open;
-}
-
-/* Copies what is new out of a full block, and erases it. */
-static bool collect(struct driver *driver, uint32_t victim) {
-    for (uint32_t l = 0; l < LOGICAL; l++) {
+/* Tells the mount what the cells of a block show: labels that count, and nothing of torn and blank cells. Serials that are told and
+ * trims that were noted are below those to come. */
+static uint32_t tell(struct driver *driver, mg_mount *mount, uint32_t block, uint64_t *least) {
+    struct mg_label labels[PAGES];
+    for (uint32_t p = 0; p < PAGES; p++) {
         struct chip_page page;
         struct label label;
-        if (found.places[l].block != victim) continue;
-        uint32_t to = open_block();
-        if (to == BLOCKS || !chip_read(victim, found.places[l].page, &page)) return false;
-        page = sealed(driver, page.payload, found.names[l], l, to);
-        memcpy(&label, page.spare, SPARE);
-        if (!chip_program(to, found.blocks[to].filled, &page)) return false;
-        place(l, to, found.blocks[to].filled++, &label);
+        labels[p] = (struct mg_label){0, MG_NO_LABEL};
+        if (!chip_read(block, p, &page)) return BROKEN;
+        if (!is_good(&page, block, p, &label) || label.logical == NOTE || label.serial < driver->trims[label.logical]) continue;
+        labels[p] = (struct mg_label){label.serial, label.logical};
+        if (label.serial >= *least) *least = label.serial + 1;
+        if (label.serial < driver->serials[label.logical]) continue;
+        driver->serials[label.logical] = label.serial;
+        driver->names[label.logical] = label.name;
     }
-    return erase(driver, victim);
+    return mg_mount_tell(mount, labels, PAGES, NULL);
 }
 
-/* Collects until the pages that are free cover all caps and reserves, or no block is worth it. */
-static bool make_room(struct driver *driver) {
-    while (free_pages() < TASKS * (CAP + PAGES - ALPHA)) {
-        uint32_t victim = BLOCKS;
-        for (uint32_t b = 0; b < BLOCKS; b++)
-            if (found.blocks[b].filled == PAGES && (victim == BLOCKS || found.live[b] < found.live[victim])) victim = b;
-        if (victim == BLOCKS || found.live[victim] > PAGES - ALPHA) break;
-        if (!collect(driver, victim)) return false;
+/* Does what the mount needs next, until it needs nothing any more. */
+static uint32_t carry_out(struct driver *driver, mg_mount *mount) {
+    struct mg_step step;
+    struct chip_page page; /* what was read last */
+    uint64_t noted = 0, least = 0;
+    for (uint32_t l = 0; l < LOGICAL; l++)
+        if (driver->trims[l] > noted) noted = driver->trims[l];
+    for (;;) {
+        uint32_t refusal = mg_mount_next(mount, &step);
+        if (refusal) return refusal;
+        bool ok = true;
+        switch (step.kind) {
+        case MG_STEP_TELL:
+            refusal = tell(driver, mount, step.block, &least);
+            if (refusal) return refusal;
+            driver->above = noted > least ? noted - least : 0;
+            continue;
+        case MG_STEP_READ: ok = chip_read(step.block, step.page, &page); break;
+        case MG_STEP_PROGRAM:
+            ok = program(step.block, step.page, page.payload, driver->names[step.logical], step.logical, step.serial + driver->above);
+            break;
+        case MG_STEP_ERASE: ok = chip_erase_slot(step.block, step.last); break;
+        default: return MG_OK;
+        }
+        if (!ok) return BROKEN;
+        refusal = mg_mount_done(mount);
+        if (refusal) return refusal;
     }
-    return free_pages() >= TASKS * (PAGES - ALPHA);
 }
 
 uint32_t driver_open(struct driver *driver) {
+    mg_mount mount = {0};
     mg_free(&driver->die);
     memset(driver, 0, sizeof *driver);
-    if (!find_notes(driver) || !scan(driver)) return BROKEN;
-    for (uint32_t b = 0; b < BLOCKS; b++)
-        if (found.blocks[b].filled > 0 && found.live[b] == 0 && !erase(driver, b)) return BROKEN;
-    if (!make_room(driver)) return BROKEN;
-    /* The accounts share out the free pages: the reserve of each task for its collections, tokens up to the caps, the rest. */
-    uint32_t balances[TASKS], spare = free_pages() - TASKS * (PAGES - ALPHA);
-    for (int t = 0; t < TASKS; t++) {
-        balances[t] = CAP < spare ? CAP : spare;
-        spare -= balances[t];
-    }
-    for (uint32_t b = 0; b < BLOCKS; b++) found.blocks[b].erases = driver->erases[b];
-    uint32_t refusal = mg_resume(&driver->die, &plan, tasks, TASKS, found.places, LOGICAL, found.names, LOGICAL, found.blocks, BLOCKS,
-                                 balances, TASKS, spare, NULL);
+    memset(driver->names, 0xFF, sizeof driver->names);
+    if (!find_notes(driver)) return BROKEN;
+    uint32_t refusal = mg_mount_new(&mount, &plan, tasks, TASKS);
+    if (!refusal) refusal = carry_out(driver, &mount);
+    if (!refusal) refusal = mg_mount_end(&mount, driver->names, LOGICAL, &driver->die);
+    mg_mount_free(&mount);
     /* With that nothing is refused for memory, nor waits for it, until a renewal is due. */
     if (!refusal) refusal = mg_reserve_jobs(&driver->die, JOBS, JOBS);
     return refusal ? refusal : mg_reserve(&driver->die, SLOTS);

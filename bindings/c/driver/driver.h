@@ -1,30 +1,32 @@
 /* A driver over maulgreen.h: two tasks write, trim and read pages of 2,048 bytes. What a page holds is named by a digest, and a
- * label in its spare area says which logical page it is and how new. A trim leaves no label: a note of it goes into one of two
- * blocks that the die knows nothing of. So after a loss of power the driver finds the newest payload of each page that wasn't
- * trimmed since, and the die goes on from there. */
+ * label in its spare area says which logical page it is and how new. The chip has one block more than the die's plan: so after a
+ * loss of power the driver tells a mount what all cells show, does what it asks, and has a die again. A trim leaves no label: a
+ * note of it goes into one of two blocks that neither die nor mount knows, and labels that are older aren't told. */
 #ifndef DRIVER_H
 #define DRIVER_H
 #include "../maulgreen.h"
 #include "chip.h"
 
 enum { TASKS = 2, LOGICAL = 150, ALPHA = 4, CAP = 16, BUFFERS = 40, BROKEN = 1000 };
-enum { SLOTS = 16384, JOBS = 8192 }; /* that are reserved: in 1,592,154 bytes with the 11,074 of its birth, as mg_memory says */
+enum { SLOTS = 16384, JOBS = 8192 }; /* that are reserved: in 1,592,202 bytes with the 11,122 of its birth, as mg_memory says */
 
 struct buffer { bool is_used; uint32_t job; uint8_t payload[PAYLOAD]; };
 
 struct driver {
     mg_die die;
-    uint64_t serial;             /* of the last program or trim, over all lives of the chip */
-    uint64_t trims[LOGICAL];     /* by page the serial of its last trim: a payload that is older isn't there any more */
+    uint64_t above;              /* what the serials of labels have more than those of the die and of its mount */
+    uint64_t trims[LOGICAL];     /* by page the least serial since its last trim: what is older isn't there any more */
+    uint64_t notes;              /* how many were written */
     uint32_t note_block, note_page; /* where the next note goes */
-    uint32_t erases[BLOCKS];
+    struct mg_name names[LOGICAL];  /* by page, of the newest label that the mount was told */
+    uint64_t serials[LOGICAL];
     struct buffer buffers[BUFFERS]; /* of writes until they are programmed, of copies until the collection's next call */
     uint8_t read[PAYLOAD];       /* what the last read of a job gave */
 };
 
 /* Each answers MG_OK, the number of a refusal, or BROKEN where the chip has failed beyond what the driver recovers. */
 
-/* Finds what is on the chip, and makes a die of it. */
+/* Finds what is on the chip, mounts it, and makes a die of it. */
 uint32_t driver_open(struct driver *driver);
 
 /* Asks for a write by `due`, which is done in some later slot. */

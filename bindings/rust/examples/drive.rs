@@ -1,6 +1,6 @@
 //! Drives a chip of 4 KiB pages, which is simulated here: what `../c/example.c` does, in Rust.
 
-use maulgreen::{check, Act, Call, Die, Entered, Misfit, Name, Op, Outcome, Plan, Refusal};
+use maulgreen::{check, Act, Call, Die, Entered, Label, Misfit, Mount, Name, Op, Outcome, Place, Plan, Refusal, Step};
 use std::collections::HashMap;
 
 const PAYLOAD: usize = 4096;
@@ -186,6 +186,33 @@ fn main() -> Result<(), Refusal> {
     drop(die.begin(9)?);
     assert!(matches!(die.begin(9), Err(Refusal::DieStopped)));
     println!("a slot that is dropped stops the die");
+
+    // Page 5 lies in a part's last block, which the die has under the number of the one aside: block 0.
+    let mut mount = Mount::new(&plan)?;
+    assert_eq!((mount.done(), mount.calls_left()), (Err(Refusal::WrongStep), 0));
+    assert_eq!(mount.tell(&[None, Some(Label { page: LOGICAL, serial: 1 })]), Err(Refusal::BadLabel { cell: 1 }));
+    let mut slots = 0;
+    while let Some(step) = mount.next_step()? {
+        match step {
+            Step::Tell { block: 8 } => mount.tell(&[Some(Label { page: 5, serial: 41 })])?,
+            Step::Tell { .. } => mount.tell(&[])?,
+            Step::Erase { .. } => {
+                assert_eq!(mount.place(5)?, Some(Place { block: 8, page: 0 }));
+                mount.done()?;
+                slots += 1;
+            }
+            _ => panic!("nothing is to be copied"),
+        }
+    }
+    let fifth = Name([171; 16]);
+    let mut die = mount.end(&[Name::BLANK, Name::BLANK, Name::BLANK, Name::BLANK, Name::BLANK, fifth])?;
+    assert_eq!(mount.next_step(), Err(Refusal::WrongStep));
+    assert_eq!((slots, die.serial(), die.part_block(0), die.place(5)), (9, 42, 8, Some(Place { block: 0, page: 0 })));
+    die.submit(1, 0, 0, 1, &[Op::Read(5)])?;
+    let slot = die.begin(9)?;
+    assert!(matches!(slot.call(), Call::Read { block: 0, page: 0, name, .. } if name == fifth));
+    slot.end(true, fifth)?;
+    println!("a mount, and the die that begins where it ends");
     println!("all as it should be");
     Ok(())
 }

@@ -10,10 +10,10 @@ use alloc::vec;
 use alloc::vec::Vec;
 use core::ops::Deref;
 
-const NO_NUMBERS: raw::Why = raw::Why { first: 0, second: 0 };
+pub(crate) const NO_NUMBERS: raw::Why = raw::Why { first: 0, second: 0 };
 
 /// What a call answered that has no numbers.
-fn plain(code: u32) -> Result<(), Refusal> {
+pub(crate) fn plain(code: u32) -> Result<(), Refusal> {
     answer(code, &NO_NUMBERS)
 }
 
@@ -62,9 +62,9 @@ pub fn check(rows: &[Row], certificate: &Certificate) -> Result<(), Refusal> {
 /// One die. Questions (`&self`) may be asked by several threads at a time.
 pub struct Die {
     // It is full from `new` to `drop`.
-    handle: raw::Handle,
+    pub(crate) handle: raw::Handle,
     // What a checkpoint has: logical pages, blocks, tasks.
-    counts: [usize; 3],
+    pub(crate) counts: [usize; 3],
 }
 
 // SAFETY: the library knows no thread. A die shares nothing with another but the heap, and what takes it by `&` only reads it.
@@ -73,16 +73,16 @@ unsafe impl Sync for Die {}
 
 /// The version of the interface that this crate was written for: a library of the same major number serves, whose minor one
 /// isn't below.
-const VERSION: u32 = 1 << 16;
+const VERSION: u32 = 1 << 16 | 1;
 
-fn must_fit() {
+pub(crate) fn must_fit() {
     // SAFETY: it takes nothing.
     let version = unsafe { raw::mg_version() };
     assert!(version >> 16 == VERSION >> 16 && version >= VERSION, "another version of libmaulgreen");
 }
 
 /// The block of a page that lies nowhere.
-const NOWHERE: u32 = u32::MAX;
+pub(crate) const NOWHERE: u32 = u32::MAX;
 
 impl Die {
     /// A die at slot 0, of a chip that is erased. `BadShape`, `BadPlan` or `NoMemory` where it is refused.
@@ -254,6 +254,19 @@ impl Die {
         }
         let waived = waived.into_iter().map(|raw::Waived { job, given }| Waived { job, given }).collect();
         Entry { what: Entered::of(entry), caller: entry.caller, waived }
+    }
+
+    /// What the label of the next program bears. It rises by one with each program that is ended.
+    pub fn serial(&self) -> u64 {
+        unsafe { raw::mg_serial(&self.handle) }
+    }
+
+    /// The number that the part gives a block of the die.
+    pub fn part_block(&self, block: u32) -> u32 {
+        let mut said = block;
+        // The handle is full, so it isn't refused.
+        unsafe { raw::mg_part_block(&self.handle, block, &mut said) };
+        said
     }
 
     /// The present slot: how many were carried out.

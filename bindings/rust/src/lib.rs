@@ -92,7 +92,7 @@
 //!
 //! # fn main() -> Result<(), Refusal> {
 //! let plan = Plan { blocks: 64, pages: 32, erase_slots: 3, logical: 1024, alpha: 8, caps: vec![32], times: None };
-//! assert_eq!(plan.memory(1000, 100, 400)?.reserved, 99_969);
+//! assert_eq!(plan.memory(1000, 100, 400)?.reserved, 99_985);
 //! let mut die = Die::new(&plan)?;
 //! die.reserve_jobs(100, 400)?;
 //! die.reserve(1000)?;
@@ -111,6 +111,7 @@ extern crate alloc;
 
 mod data;
 mod die;
+mod mount;
 mod raw;
 mod refusals;
 
@@ -119,4 +120,5 @@ pub use data::{
     TaskTimes, Times, Waived, Worst,
 };
 pub use die::{check, Die, Slot};
+pub use mount::{Label, Mount, Step};
 pub use refusals::{Flaw, Misfit, Refusal};

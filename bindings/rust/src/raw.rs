@@ -40,6 +40,8 @@ structs! {
     Row { number: u32, release: u32, due: u32, work: u32, done: u32, completion: u32 }
     Place { block: u32, page: u32 }
     Block { filled: u32, erases: u32 }
+    Label { serial: u64, page: u32 }
+    Step { serial: u64, kind: u32, block: u32, page: u32, logical: u32, last: u32 }
 }
 
 extern "C" {
@@ -76,6 +78,16 @@ extern "C" {
         names: *const Name, name_count: usize, blocks: *const Block, block_count: usize, balances: *const u32,
         balance_count: usize, spare: u32, why: *mut Why,
     ) -> u32;
+    pub fn mg_mount_new(mount: *mut Handle, plan: *const Plan, tasks: *const Task, count: usize) -> u32;
+    pub fn mg_mount_free(mount: *mut Handle);
+    pub fn mg_mount_next(mount: *mut Handle, step: *mut Step) -> u32;
+    pub fn mg_mount_tell(mount: *mut Handle, labels: *const Label, count: usize, why: *mut Why) -> u32;
+    pub fn mg_mount_done(mount: *mut Handle) -> u32;
+    pub fn mg_mount_calls_left(mount: *mut Handle) -> u64;
+    pub fn mg_mount_place(mount: *mut Handle, page: u32, place: *mut Place) -> u32;
+    pub fn mg_mount_end(mount: *mut Handle, names: *const Name, count: usize, die: *mut Handle) -> u32;
+    pub fn mg_serial(die: *const Handle) -> u64;
+    pub fn mg_part_block(die: *const Handle, block: u32, part_block: *mut u32) -> u32;
     pub fn mg_now(die: *const Handle) -> u32;
     pub fn mg_len(die: *const Handle) -> u64;
     pub fn mg_records(die: *const Handle) -> u64;

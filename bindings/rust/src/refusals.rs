@@ -52,6 +52,12 @@ pub enum Refusal {
     WornOut { block: u32 },
     /// No released work that waits is due by now.
     NoneOverdue,
+    /// A mount needs something else next, or nothing comes any more.
+    WrongStep,
+    /// More cells of a block were told than it has.
+    TooManyCells,
+    /// A label of a page that the plan doesn't have, or with a serial of 2^63 or more: the first such cell.
+    BadLabel { cell: u32 },
     /// What is wrong with a certificate first.
     Certificate(Flaw),
     /// A checkpoint doesn't fit the plan.
@@ -131,6 +137,9 @@ impl Refusal {
             NotBegun => 101,
             NothingDone => 103,
             NoneOverdue => 111,
+            WrongStep => 112,
+            TooManyCells => 113,
+            BadLabel { .. } => 114,
             RowsNotRising => 104,
             NotQuiet { .. } => 105,
             WornOut { .. } => 106,
@@ -174,6 +183,9 @@ pub(crate) fn answer(code: u32, why: &raw::Why) -> Result<(), Refusal> {
         101 => NotBegun,
         103 => NothingDone,
         111 => NoneOverdue,
+        112 => WrongStep,
+        113 => TooManyCells,
+        114 => BadLabel { cell: why.first },
         104 => RowsNotRising,
         105 => NotQuiet { job: why.first },
         106 => WornOut { block: why.first },

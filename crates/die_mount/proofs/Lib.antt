@@ -11,3 +11,4 @@ pub mod Stepping
 pub mod Beginning
 pub mod Outcomes
 pub mod Cutting
+pub mod Ending

@@ -337,7 +337,11 @@ module _ (m : Mounting) (bound : MeetsBound m.plan) (less : m.plan.shape.blocks 
   -- it stands well there
   pub chosen_at : (last left : ℕ) (after : Stage) → IsChosen (state_of m last) (goal_of m.plan) m.rounds after left
       → IsAt (chosen_mount m left after) after
-  chosen_at last left after (inl e) = subst (IsAt (chosen_mount m left after)) (sym e.is) (record { idle = h.idle; enough = e.enough })
+  chosen_at last left after (inl e) = subst (IsAt (chosen_mount m left after)) (sym e.is) (record {
+    idle = h.idle;
+    enough = e.enough;
+    erased = λ b. omega (arith, h.erased b);
+  })
   chosen_at last left after (inr g) = at_next (chosen_mount m left after) g.block 0 after (begun last left after g) g.is
 
   -- no more calls, copies and slots than the rounds that were left have

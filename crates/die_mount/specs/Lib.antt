@@ -10,3 +10,4 @@ pub mod SoundMount
 pub mod Choosing
 pub mod Beginning
 pub mod Cutting
+pub mod Ending

@@ -1,5 +1,5 @@
 -- A mount after the scan: how far it is, and what its calls do.
-use Rattle.std.specs.Prelude.{◌≡◌, ◌⊎◌, ℕ, ◌+◌, ◌-◌, ◌*◌, ◌<◌, ◌≤◌, List, [], ◌∷◌, Option, Some, None, sum_by, count_by}
+use Rattle.std.specs.Prelude.{◌≡◌, ◌⊎◌, ℕ, ◌+◌, ◌-◌, ◌*◌, ◌<◌, ◌≤◌, ◌==◌, Bool, false, List, [], ◌∷◌, Option, Some, None, sum_by, count_by}
 use Rattle.slot_types.specs.Places.{place_of}
 use Rattle.slot_types.specs.declared.pages.Place.{Place}
 use Rattle.slot_types.specs.declared.pages.PageData.{PageData}
@@ -68,6 +68,14 @@ programs_at (stage.Read page from) = 0
 programs_at (stage.Program page from to) = 1
 programs_at (stage.Erase block slots) = 0
 programs_at stage.Done = 0
+
+-- whether the call is the last slot of an erase
+abbrev pub ends_erase_at : DiePlan → Stage → Bool
+ends_erase_at plan (stage.First block slots) = slots + 1 == plan.shape.erase_slots
+ends_erase_at plan (stage.Read page from) = false
+ends_erase_at plan (stage.Program page from to) = false
+ends_erase_at plan (stage.Erase block slots) = slots + 1 == plan.shape.erase_slots
+ends_erase_at plan stage.Done = false
 
 -- The most calls
 
@@ -139,6 +147,7 @@ pub record IsAtErase (m : Mounting) (block slots : ℕ) : Type 0 where
 pub record IsAtEnd (m : Mounting) : Type 0 where
   pub idle : AreIdle m.cells
   pub enough : goal_of m.plan ≤ free_of m
+  pub erased : ErasedAtMost m.cells (most_rounds_beside m.plan)
 
 abbrev pub IsAt : Mounting → Stage → Type 0
 IsAt m (stage.First block slots) = IsAtFirst m block slots

@@ -5,11 +5,12 @@ ghost use Rattle.slot_types.specs.declared.acts.Act.{Act};
 ghost use Rattle.slot_types.specs.declared.pages.PageData.{PageData};
 ghost use Rattle.slot_types.specs.declared.plans.DiePlan.{DiePlan};
 ghost use Rattle.plan_rules.specs.Bound.{MeetsBound};
-ghost use Rattle.power_loss.specs.Aside.{StandsOnPart, most_rounds_beside};
-ghost use Rattle.power_loss.specs.Labels.{Shown};
+ghost use Rattle.power_loss.specs.Aside.{MountsTo, StandsOnPart, most_rounds_beside};
+ghost use Rattle.power_loss.specs.Labels.{Labels, Shown};
 ghost use Rattle.power_loss.specs.Mounted.{all_count};
-ghost use Rattle.power_loss.specs.Recovery.{FitRounds};
+ghost use Rattle.power_loss.specs.Recovery.{FitRounds, IsFreeBlock};
 ghost use Rattle.die_mount.specs.Cutting.{GoesBy, MaySeeCut, StartsLog};
+ghost use Rattle.die_mount.specs.Ending.{start_beside};
 ghost use Rattle.die_mount.specs.Mounting.{Mounting, BeginsWith, IsAtEnd, IsMountOf, IsStep, acts_after, calls_left, most_calls};
 
 use crate::stage::Stage;
@@ -40,6 +41,15 @@ pub fn a_mount_may_be_cut_anywhere()
 pub fn a_mount_that_ends_starts_a_log()
     ensures { (pages : List PageData) (before : Shown) (erased next : ℕ) (acts : List Act) (m : Mounting)
         → GoesBy pages before erased next acts m → IsAtEnd m → StartsLog pages before erased next acts m }
+{}
+
+/// There the mount goes to the die beside any wholly free block, by what it saw: a log may start on that die, with full
+/// accounts and with just the pages that were found, and the serial of its next program is the mount's.
+pub fn a_mount_that_ends_leaves_a_die()
+    ensures { (pages : List PageData) (before : Shown) (erased next : ℕ) (acts : List Act) (m : Mounting)
+        → GoesBy pages before erased next acts m → IsAtEnd m → (aside : ℕ) → IsFreeBlock m.cells aside
+        → (first : Labels) × MountsTo m.plan all_count before (start_beside m.plan aside m.cells pages) first
+        × (first.next ≡ m.next) }
 {}
 
 /// At its start no more calls may come than the plan says; and a mount does no more copies, and no more slots of

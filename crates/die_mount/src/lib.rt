@@ -7,6 +7,7 @@ mod erasing;
 mod label;
 mod laws;
 mod mount;
+mod mounted;
 mod newest;
 mod part;
 mod scan;
@@ -17,9 +18,10 @@ pub use erasing::FirstErase;
 pub use label::Label;
 pub use laws::{
     a_mount_goes_by_what_it_saw, a_mount_is_short, a_mount_may_be_cut_anywhere,
-    a_mount_that_ends_starts_a_log,
+    a_mount_that_ends_leaves_a_die, a_mount_that_ends_starts_a_log,
 };
 pub use mount::Mount;
+pub use mounted::Mounted;
 pub use newest::Newest;
 pub use scan::{MountFault, Scan, ScanFault};
 pub use stage::{MountCall, Stage};

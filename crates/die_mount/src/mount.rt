@@ -2,25 +2,30 @@
 
 ghost use Rattle.std.specs.Prelude.{◌≡◌, ◌≢◌, ◌⊎◌, ◌+◌, ◌<◌, ◌≤◌, ◌^◌, ℕ, [], List, Some, None, length, IfOk, IfErr, IfNone};
 ghost use Rattle.slot_types.specs.Places.{place_of};
+ghost use Rattle.slot_types.specs.Refusal.{FailsForMemory};
 ghost use Rattle.slot_types.specs.declared.acts.Act.{Act};
+ghost use Rattle.die_checkpoint.specs.Fits.{Fits};
 ghost use Rattle.die_log.specs.Model.Flash.{cells_after};
 ghost use Rattle.power_loss.specs.Aside.{part_of};
 ghost use Rattle.power_loss.specs.Labels.{Shown, FitPlan};
 ghost use Rattle.power_loss.specs.Mounted.{all_count};
-ghost use Rattle.power_loss.specs.Recovery.{AreIdle, MayErase, MayMount, without_block};
+ghost use Rattle.power_loss.specs.Recovery.{AreIdle, IsFreeBlock, MayErase, MayMount, without_block};
 ghost use Rattle.die_mount.specs.Beginning.{BeginsAt, HasBeginFault, HasIdle, IsIdleIn, IsScanned};
+ghost use Rattle.die_mount.specs.Ending.{IsEndOf};
 ghost use Rattle.die_mount.specs.Scanned.{IsScanOf};
 ghost use Rattle.die_mount.specs.Choosing.{HasClosed, IsChosen, IsNextIn, LieFrom, LieWithin};
-ghost use Rattle.die_mount.specs.Mounting.{BeginsWith, IsAtEnd, IsMountOf, IsStep, IsTaken, acts_after, act_at, call_at, calls_left, carried_at};
+ghost use Rattle.die_mount.specs.Mounting.{BeginsWith, IsAtEnd, IsMountOf, IsStep, IsTaken, acts_after, act_at, call_at, calls_left, carried_at, ends_erase_at};
 ghost use Rattle.die_mount.specs.Mounting.{free_of, goal_of, most_calls, programs_at, victim_at};
 
 use crate::begin_fault::BeginFault;
 use crate::label::Label;
+use crate::mounted::Mounted;
 use crate::part::Part;
 use crate::scan::Scan;
 use crate::stage::{MountCall, Stage};
+use die_checkpoint::Checkpoint;
 use plan_rules::figures;
-use slot_types::{DiePlan, Place};
+use slot_types::{DiePlan, Items, Place, Refusal};
 use std::alloc::Global;
 use std::marker::Model;
 
@@ -125,6 +130,24 @@ impl Mount {
         }
     }
 
+    /// Whether that call is the last slot of an erase.
+    pub fn ends_erase(&self) -> bool
+        ensures { result ≡ ends_erase_at self.now.plan self.now.stage }
+    {
+        match self.stage {
+            Stage::First { slots, .. } => slots + 1 == self.plan.shape.erase_slots,
+            Stage::Erase { slots, .. } => slots + 1 == self.plan.shape.erase_slots,
+            _ => false,
+        }
+    }
+
+    /// The plan of the die.
+    pub fn plan(&self) -> &DiePlan
+        ensures { result.now ≡ self.now.plan }
+    {
+        &self.plan
+    }
+
     /// The call that comes next was carried out.
     pub fn done(&mut self)
         requires { self.old.stage ≢ Stage.Done }
@@ -166,9 +189,52 @@ impl Mount {
         }
         self.part.place(page)
     }
+
+    /// Where no call comes any longer, the block that stands aside from then on, the die on the others, and the serial
+    /// of its first program. The mount stays as it is.
+    ///
+    /// The checkpoint fits the plan: each balance is its cap, pages lie where the mount left them, and of each block so
+    /// many cells count as programmed. A block's erases are those of this mount, since no label tells of others. It
+    /// takes memory for 12 bytes by page and 8 by block. Refused with `NoMemory` alone, and may be called again then.
+    pub fn finish(&self, alloc: Global) -> Result<Mounted, Refusal>
+        requires { self.now.stage ≡ Stage.Done }
+        ensures end { IfOk result (IsEndOf self.now) }
+        ensures fits { IfOk result (λ end. Fits self.now.plan end.checkpoint) }
+        ensures refused { FailsForMemory result }
+    {
+        match self.part.free_block() {
+            Some(aside) => self.end_beside(alloc, aside),
+            None => unreachable!(),
+        }
+    }
 }
 
 impl Mount {
+    /// The end beside a block of which no cell is programmed.
+    fn end_beside(&self, alloc: Global, aside: u32) -> Result<Mounted, Refusal>
+        requires stage { self.now.stage ≡ Stage.Done }
+        requires free { IsFreeBlock self.now.cells aside }
+        ensures end { IfOk result (IsEndOf self.now) }
+        ensures fits { IfOk result (λ end. Fits self.now.plan end.checkpoint) }
+        ensures refused { FailsForMemory result }
+    {
+        let last = self.plan.shape.blocks;
+        let places = self.part.places_beside(alloc, last, aside)?;
+        let blocks = self.part.blocks_beside(alloc, last, aside)?;
+        let balances = Items::from_vec(Vec::from_slice(alloc, self.plan.caps.as_slice())?);
+        Ok(Mounted {
+            aside,
+            checkpoint: Checkpoint {
+                places,
+                blocks,
+                // The goal has the pages of the block aside, and those of full accounts.
+                spare: self.part.free() - self.goal,
+                balances,
+            },
+            next: self.serial,
+        })
+    }
+
     /// The block that is erased first had one slot more of its erase.
     fn first_slot(&mut self, block: u32, slots: u32)
         requires { self.old.stage ≡ Stage.First block slots }

@@ -1,17 +1,20 @@
 //! The cells of a part, as a mount goes on.
 
-ghost use Rattle.std.specs.Prelude.{◌≡◌, ◌⊎◌, ◌<◌, ◌≤◌, ◌+◌, ◌^◌, ℕ, None, length, IfOk, IfSome, IfNone, position};
+ghost use Rattle.std.specs.Prelude.{◌≡◌, ◌⊎◌, ◌==◌, ◌<◌, ◌≤◌, ◌+◌, ◌^◌, ℕ, None, length, map, option_map, IfOk, IfSome, IfNone, position};
 ghost use Rattle.slot_types.specs.Refusal.{FailsForMemory};
 ghost use Rattle.slot_types.specs.Places.{owner_of, place_of};
 ghost use Rattle.slot_types.specs.declared.plans.DiePlan.{DiePlan};
 ghost use Rattle.page_map.specs.PlacesFaults.{AreCells};
 ghost use Rattle.page_map.specs.Placing.{HaveOwnCells, IsCell};
-ghost use Rattle.die_log.specs.Model.Flash.{block_at, valid};
+ghost use Rattle.die_log.specs.Model.Flash.{block_at, free_block, valid};
+ghost use Rattle.power_loss.specs.Aside.{on_die, renumbered, renumbered_places, without_aside};
+ghost use Rattle.die_mount.specs.Ending.{counts_of};
 ghost use Rattle.die_mount.specs.SoundPart.{block_of, is_unfilled};
 ghost use Rattle.die_mount.specs.PartState.{closed_but, is_open_at, next_cell_of, with_erase_slot, with_program, IsFewest, IsFirstPage};
 
+use die_checkpoint::BlockCounts;
 use page_map::PageMap;
-use slot_types::{Place, Refusal, Shape};
+use slot_types::{Items, Place, Refusal, Shape};
 use std::alloc::Global;
 use std::marker::Model;
 
@@ -192,6 +195,56 @@ impl Part {
         }
     }
 
+    /// The first block of which no cell is programmed.
+    pub(crate) fn free_block(&self) -> Option<u32>
+        ensures { result ≡ position (λ t. t.filled == 0) self.now.cells.blocks }
+    {
+        match first_unfilled(&self.blocks) {
+            Some(block) => Some(block as u32),
+            None => None,
+        }
+    }
+
+    /// By page its cell, as a die on the blocks beside one numbers it. Refused with `NoMemory` alone.
+    pub(crate) fn places_beside(
+        &self,
+        alloc: Global,
+        last: u32,
+        aside: u32,
+    ) -> Result<Items<Option<Place>>, Refusal>
+        ensures places { IfOk result (λ places.
+            places ≡ renumbered_places (on_die last aside) self.now.cells.places) }
+        ensures refused { FailsForMemory result }
+    {
+        let mut places = Items::new(alloc);
+        for page in 0..self.map.pages() {
+            places.push(renumbered(self.map.place(page), last, aside))?;
+        }
+        Ok(places)
+    }
+
+    /// By block what a checkpoint says of it, without the last block and with that one in place of the one aside.
+    /// Refused with `NoMemory` alone.
+    pub(crate) fn blocks_beside(
+        &self,
+        alloc: Global,
+        last: u32,
+        aside: u32,
+    ) -> Result<Items<BlockCounts>, Refusal>
+        requires last { last + 1 ≡ self.now.shape.blocks }
+        requires aside { aside ≤ last }
+        ensures blocks { IfOk result (λ blocks. blocks
+            ≡ map counts_of (without_aside last aside free_block self.now.cells.blocks)) }
+        ensures refused { FailsForMemory result }
+    {
+        let mut blocks = Items::new(alloc);
+        for block in 0..last {
+            let from = if block == aside { last } else { block };
+            blocks.push(counts_of(self.blocks[from as usize]))?;
+        }
+        Ok(blocks)
+    }
+
     /// The page lies in the next cell of a block, which was programmed.
     pub(crate) fn program(&mut self, page: u32, to: Place)
         requires page { page < length self.old.cells.places }
@@ -245,4 +298,31 @@ fn first_unfilled(blocks: &[PartBlock]) -> Option<usize>
     ensures in_range { IfSome result (λ block. block < length blocks.now) }
 {
     blocks.iter().position(|block| block.filled == 0)
+}
+
+/// What a checkpoint says of a block.
+fn counts_of(block: PartBlock) -> BlockCounts
+    ensures { result ≡ counts_of (block_of block) }
+{
+    BlockCounts {
+        filled: block.filled,
+        erases: block.erases,
+    }
+}
+
+/// The same cell, as a die numbers it whose block with the number of the one aside is the part's last one.
+fn renumbered(at: Option<Place>, last: u32, aside: u32) -> Option<Place>
+    ensures { result ≡ option_map (renumbered (on_die last aside)) at }
+{
+    match at {
+        None => None,
+        Some(place) => Some(Place {
+            block: if place.block == last {
+                aside
+            } else {
+                place.block
+            },
+            page: place.page,
+        }),
+    }
 }

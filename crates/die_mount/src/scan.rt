@@ -137,6 +137,13 @@ impl Scan {
         self.told == self.shape.blocks
     }
 
+    /// How many blocks were reported: the number of the next one.
+    pub fn told(&self) -> u32
+        ensures { result ≡ self.now.told }
+    {
+        self.told
+    }
+
     /// How many blocks the part has: one more than the plan.
     pub fn blocks(&self) -> u32
         ensures { result ≡ self.now.shape.blocks }

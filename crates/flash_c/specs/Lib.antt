@@ -1,4 +1,5 @@
 pub mod Handles
+pub mod Mounts
 pub mod Codes
 pub mod Counts
 pub mod Names

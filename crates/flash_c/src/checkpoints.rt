@@ -124,7 +124,7 @@ fn blocks_in(alloc: Global, blocks: &[FlashBlock]) -> Result<Items<BlockCounts>,
     Ok(made)
 }
 
-fn pages_in(alloc: Global, names: &[FlashName]) -> Result<Items<PageData>, Refusal>
+pub(crate) fn pages_in(alloc: Global, names: &[FlashName]) -> Result<Items<PageData>, Refusal>
     ensures pages { IfOk result (λ made. made ≡ map page_in names.now) }
     ensures refused { FailsForMemory result }
 {

@@ -46,6 +46,15 @@ pub const WORN_OUT: u32 = 106;
 /// No work is overdue.
 pub const NONE_OVERDUE: u32 = 111;
 
+/// A mount needs something else next.
+pub const WRONG_STEP: u32 = 112;
+
+/// More cells of a block were reported than it has.
+pub const TOO_MANY_CELLS: u32 = 113;
+
+/// A label of a page that the plan doesn't have, or with a serial of 2^63 or more.
+pub const BAD_LABEL: u32 = 114;
+
 /// The faults of a certificate are 201 to 207.
 pub const VERDICTS: u32 = 200;
 

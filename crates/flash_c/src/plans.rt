@@ -70,3 +70,25 @@ pub(crate) fn plan_in(
         times,
     })
 }
+
+/// Another plan of the same numbers.
+pub(crate) fn copy_of(alloc: Global, given: &DiePlan) -> Result<DiePlan, Refusal>
+    ensures plan { IfOk result (λ made. made ≡ given.now) }
+    ensures refused { FailsForMemory result }
+{
+    let caps = Caps::from_vec(Vec::from_slice(alloc, given.caps.as_slice())?);
+    let times = match &given.times {
+        None => None,
+        Some(times) => Some(Times {
+            common: times.common,
+            tasks: TimesList::from_vec(Vec::from_slice(alloc, times.tasks.as_slice())?),
+        }),
+    };
+    Ok(DiePlan {
+        shape: given.shape,
+        logical: given.logical,
+        alpha: given.alpha,
+        caps,
+        times,
+    })
+}

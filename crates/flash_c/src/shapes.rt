@@ -200,3 +200,26 @@ pub struct FlashBlock {
     pub filled: u32,
     pub erases: u32,
 }
+
+/// What a cell shows: the label of a program; with `page` 0xFFFFFFFF it isn't good.
+#[repr(C)]
+#[derive(Clone, Copy, Drop)]
+pub struct FlashLabel {
+    pub serial: u64,
+    pub page: u32,
+}
+
+/// What a mount needs next: 0 nothing any more, 1 a read, 2 a program, 3 one slot of an erase, 4 to be told a block.
+#[repr(C)]
+#[derive(Clone, Copy, Drop)]
+pub struct FlashStep {
+    /// Of a program what its label bears.
+    pub serial: u64,
+    pub kind: u32,
+    pub block: u32,
+    pub page: u32,
+    /// Of a program the logical page.
+    pub logical: u32,
+    /// 1 where the slot of the erase is its last.
+    pub last: u32,
+}

@@ -22,6 +22,7 @@ use Rattle.slot_core.proofs.Calling.{has_entered, arrival_stays, stopped_only}
 use Rattle.slot_core.proofs.Slotting.{slot_unrefused}
 use Rattle.stepped_die.specs.declared.calls.Begun.{Begun}
 use Rattle.stepped_die.specs.declared.mirror.MirrorNand.{MirrorNand}
+use Rattle.stepped_die.specs.declared.part.Part.{Part}
 use Rattle.stepped_die.specs.declared.refusals.StepRefusal.{StepRefusal}
 use Rattle.stepped_die.specs.declared.refusals.StepRefusal.TheVariants as refuses
 use Rattle.stepped_die.specs.Arrivals.{WaitsAfter}
@@ -120,25 +121,25 @@ none_held before begun release held is h e =
     subst (λ (o : Option Begun). IfSome o (λ b. b.slot < release)) (sym is) (not_held before.begun release held h e)
 
 -- whether it was accepted or not
-answer_keeps : (core : Core Mirror) (begun : Option Begun) (caller : ℕ) (event : Event) (after : Core Mirror) (r : Result ℕ Refusal)
-    → IsStepped (record { core = core; begun = begun }) → KeepsPromises core.start core.log → IsArrival event
+answer_keeps : (core : Core Mirror) (begun : Option Begun) (part : Part) (caller : ℕ) (event : Event) (after : Core Mirror) (r : Result ℕ Refusal)
+    → IsStepped (record { core = core; begun = begun; part = part }) → KeepsPromises core.start core.log → IsArrival event
     → IsCall ends failures true caller event (reply_as replies.Taken r) core after
-    → IfSome begun (λ b. WaitsAfter b.slot event) → IsStepped (record { core = after; begun = begun })
-answer_keeps core begun caller event after (Ok number) h keeps arrives call beyond =
-    arrival_keeps (record { core = core; begun = begun }) caller event number after h keeps
+    → IfSome begun (λ b. WaitsAfter b.slot event) → IsStepped (record { core = after; begun = begun; part = part })
+answer_keeps core begun part caller event after (Ok number) h keeps arrives call beyond =
+    arrival_keeps (record { core = core; begun = begun; part = part }) caller event number after h keeps
     (has_entered ends failures true caller event core after number arrives call) beyond
-answer_keeps core begun caller event after (Err refusal) h keeps arrives call beyond =
-    subst (λ (c : Core Mirror). IsStepped (record { core = c; begun = begun }))
+answer_keeps core begun part caller event after (Err refusal) h keeps arrives call beyond =
+    subst (λ (c : Core Mirror). IsStepped (record { core = c; begun = begun; part = part }))
     (sym (arrival_stays ends failures true caller event core after refusal arrives call)) h
 
 -- of either kind, where no slot holds it back
-pub arrived_keeps : (before : Stepped) (core : Core Mirror) (begun : Option Begun) (release caller : ℕ) (event : Event) (after : Core Mirror)
-    (r : Result ℕ Refusal) (held : Bool) → begun ≡ before.begun → IsStepped (record { core = core; begun = begun })
+pub arrived_keeps : (before : Stepped) (core : Core Mirror) (begun : Option Begun) (part : Part) (release caller : ℕ) (event : Event) (after : Core Mirror)
+    (r : Result ℕ Refusal) (held : Bool) → begun ≡ before.begun → IsStepped (record { core = core; begun = begun; part = part })
     → KeepsPromises core.start core.log → IsArrival event → ((slot : ℕ) → slot < release → WaitsAfter slot event)
     → IsCall ends failures true caller event (reply_as replies.Taken r) core after
-    → (HoldsBack release before.begun → held ≡ true) → held ≡ false → IsStepped (record { core = after; begun = begun })
-arrived_keeps before core begun release caller event after r held is h keeps arrives beyond call holds free =
-    answer_keeps core begun caller event after r h keeps arrives call
+    → (HoldsBack release before.begun → held ≡ true) → held ≡ false → IsStepped (record { core = after; begun = begun; part = part })
+arrived_keeps before core begun part release caller event after r held is h keeps arrives beyond call holds free =
+    answer_keeps core begun part caller event after r h keeps arrives call
     (waits begun event release beyond (none_held before begun release held is holds free))
   where
     waits : (o : Option Begun) (e : Event) (n : ℕ) → ((slot : ℕ) → slot < n → WaitsAfter slot e) → IfSome o (λ b. b.slot < n)

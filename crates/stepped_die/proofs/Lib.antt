@@ -2,3 +2,5 @@ pub mod Arriving
 pub mod Ending
 pub mod Naming
 pub mod OneAnswer
+pub mod Numbering
+pub mod Mounted

@@ -24,6 +24,7 @@ use Rattle.stepped_die.specs.declared.calls.Call.TheVariants as calls
 use Rattle.stepped_die.specs.declared.refusals.StepRefusal.{StepRefusal}
 use Rattle.stepped_die.specs.declared.refusals.StepRefusal.TheVariants as refuses
 use Rattle.stepped_die.specs.DeviceCalls.{Changes, IsDone}
+use Rattle.stepped_die.specs.Parts.{serial_after}
 use Rattle.stepped_die.specs.Steps.{HasBegun, HasEnded, HasFailed, HoldsBack, RefusesArrival, RefusesBeginning}
 use Rattle.stepped_die.specs.Stepped.{Stepped, mirror_of}
 use Rattle.stepped_die.proofs.Ending.{Mirror}
@@ -44,8 +45,8 @@ refused_alike : {T : Type 0} (d : StepRefusal) (other : Result T StepRefusal) (b
 refused_alike d (Ok x) before left right a b is = absurd cc
 refused_alike d (Err e) before left right a b is = (sym is, a ∙ sym b)
 
-pub same_die : (left right : Stepped) → left.core ≡ right.core → left.begun ≡ right.begun → left ≡ right
-same_die left right core begun = λ i. record { core = core i; begun = begun i }
+pub same_die : (left right : Stepped) → left.core ≡ right.core → left.begun ≡ right.begun → left.part ≡ right.part → left ≡ right
+same_die left right core begun part = λ i. record { core = core i; begun = begun i; part = part i }
 
 -- Arrivals
 
@@ -55,6 +56,7 @@ pub record Arrives (caller release : ℕ) (event : Event) (result : Result ℕ S
   pub held : before.core.stopped ≡ false → ((result ≡ Err refuses.Begun) ↔ HoldsBack release before.begun)
   pub taken : IfOk result (λ number. HasEntered caller event number before.core after.core)
   pub begun : after.begun ≡ before.begun
+  pub part : after.part ≡ before.part
   pub cause : IfErr result (RefusesArrival release event before after)
   pub refused : OnErr result (after ≡ before)
 
@@ -127,7 +129,7 @@ module _ (caller release : ℕ) (event : Event) (before : Stepped) (arrives : Is
               reserved = reserved_after event before.core.reserved;
               log = with_entry caller event (Taken number) before.core.log;
             }) same ∙ sym b.taken.logged))
-            (a.begun ∙ sym b.begun),
+            (a.begun ∙ sym b.begun) (a.part ∙ sym b.part),
       )
 
 -- The beginning of a slot
@@ -212,7 +214,7 @@ module _ (caller : ℕ) (before : Stepped) where
       (x.runs_next ∙ sym y.runs_next) in
       inl (
         ap Ok same,
-        x.begins ∙ (ap (λ (begun : Begun). record { core = with_slots 1 before.core; begun = Some begun }) same ∙ sym y.begins),
+        x.begins ∙ (ap (λ (begun : Begun). record before { core = with_slots 1 before.core; begun = Some begun }) same ∙ sym y.begins),
       )
 
 -- The end of a slot
@@ -263,7 +265,8 @@ module _ (ok : Bool) (bytes : PageData) (before : Stepped) where
             (same_device left.core.device right.core.device memory)
             (a.carried.runs ∙ sym b.carried.runs) (a.carried.used ∙ sym b.carried.used) (a.lasting_stays ∙ sym b.lasting_stays)
             (a.carried.logged ∙ (λ i. with_entry (slot i).caller events.Slot (Slot (reply i)) before.core.log) ∙ sym b.carried.logged))
-            (a.idle ∙ sym b.idle),
+            (a.idle ∙ sym b.idle)
+            (a.serial ∙ (λ i. record before.part { serial = serial_after (slot i).call before.part.serial }) ∙ sym b.serial),
         reply,
       )
 

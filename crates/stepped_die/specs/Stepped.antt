@@ -7,12 +7,14 @@ use Rattle.slot_core.specs.Core.{Core}
 use Rattle.slot_core.specs.NextSlot.{next_slot}
 use Rattle.stepped_die.specs.declared.calls.Begun.{Begun}
 use Rattle.stepped_die.specs.declared.mirror.MirrorNand.{MirrorNand}
+use Rattle.stepped_die.specs.declared.part.Part.{Part}
 use Rattle.stepped_die.specs.DeviceCalls.{reported_by}
 
--- the die, over a mirror of its device; and the slot that has begun
+-- the die, over a mirror of its device; the slot that has begun; and what is known of the part beneath it
 pub record Stepped : Type 0 where
   pub core : Core MirrorNand
   pub begun : Option Begun
+  pub part : Part
 
 -- the cells of the mirror
 abbrev pub mirror_of : Core MirrorNand → Memory

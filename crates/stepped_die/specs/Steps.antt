@@ -23,6 +23,7 @@ use Rattle.stepped_die.specs.declared.refusals.StepRefusal.{StepRefusal}
 use Rattle.stepped_die.specs.declared.refusals.StepRefusal.TheVariants as refuses
 use Rattle.stepped_die.specs.declared.refusals.StepRenewalRefusal.{StepRenewalRefusal}
 use Rattle.stepped_die.specs.declared.refusals.StepRenewalRefusal.TheVariants as unrenewed
+use Rattle.stepped_die.specs.Parts.{fresh_part, serial_after}
 use Rattle.stepped_die.specs.Stepped.{Stepped, mirror_of}
 use Rattle.stepped_die.specs.DeviceCalls.{IsDone, Changes, reported_by}
 
@@ -35,6 +36,7 @@ pub record IsNew (plan : DiePlan) (die : Stepped) : Type 0 where
   pub lasts : die.core.lasting ≡ nothing_reserved
   pub log : die.core.log ≡ []
   pub idle : die.begun ≡ None
+  pub part : die.part ≡ fresh_part plan
 
 -- why no die is made of a plan: its shape is out of its limits; else it doesn't meet its bound; or there was no memory
 abbrev pub RefusesNewDie : DiePlan → Refusal → Type 0
@@ -52,7 +54,7 @@ pub record HasBegun (caller : ℕ) (begun : Begun) (before after : Stepped) : Ty
   pub slot_is : begun.slot ≡ now before.core.log
   pub runs_next : begun.runs ≡ (next_slot before.core.start before.core.log).ran
   pub said : begun.call ≡ reported_by (mirror_of before.core) (next_slot before.core.start before.core.log)
-  pub begins : after ≡ record { core = with_slots 1 before.core; begun = Some begun }
+  pub begins : after ≡ record before { core = with_slots 1 before.core; begun = Some begun }
 
 -- A slot has ended: the driver did what it was asked, and the slot is the log's next entry. The mirror has had that call, and
 -- no other.
@@ -65,6 +67,7 @@ pub record HasEnded (ok : Bool) (bytes : PageData) (reply : SlotReply) (before a
   pub start_stays : after.core.start ≡ before.core.start
   pub lasting_stays : after.core.lasting ≡ before.core.lasting
   pub idle : after.begun ≡ None
+  pub serial : after.part ≡ record before.part { serial = serial_after begun.call before.part.serial }
 
 -- A slot has failed: the driver didn't do what it was asked, or a read gave other bytes than its cell was programmed with. The
 -- die is stopped, and nothing else of it changes: its log is that before the slot, and the mirror has had no call.
@@ -72,7 +75,7 @@ pub record HasFailed (ok : Bool) (bytes : PageData) (before after : Stepped) : T
   pub begun : Begun
   pub held : before.begun ≡ Some begun
   pub undone : ¬ IsDone begun.call ok bytes
-  pub stops : after ≡ record { core = record before.core { stopped = true }; begun = None }
+  pub stops : after ≡ record before { core = record before.core { stopped = true }; begun = None }
 
 -- a slot has begun that isn't below the release
 abbrev pub HoldsBack : ℕ → Option Begun → Type 0

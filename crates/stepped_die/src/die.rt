@@ -11,12 +11,14 @@ ghost use Rattle.slot_core.specs.Calls.{HasEntered};
 ghost use Rattle.slot_core.specs.WithinSlot.{idle_reply};
 ghost use Rattle.slot_core.specs.Overdues.{overdue_of};
 ghost use Rattle.slot_core.specs.Renewals.{MayBeRenewed, renewed_core};
+ghost use Rattle.power_loss.specs.Aside.{on_part};
 ghost use Rattle.stepped_die.specs.Steps.{HoldsBack};
 ghost use Rattle.slot_core.specs.Core.{nothing_reserved, with_slots, with_arrivals};
 ghost use Rattle.stepped_die.specs.DeviceCalls.{IsDone, call_reported, reported_by};
 
 use crate::calls::{Begun, Call};
 use crate::mirror::MirrorNand;
+use crate::part::{Part, on_part, serial_after};
 use crate::refusals::{StepRefusal, StepRenewalRefusal};
 use flash_die::NandCall;
 use plan_rules::bound;
@@ -33,6 +35,7 @@ use std::marker::Model;
 pub struct SteppedDie {
     pub(crate) core: DieCore<MirrorNand>,
     pub(crate) begun: Option<Begun>,
+    pub(crate) part: Part,
 }
 
 impl Model for SteppedDie {
@@ -40,9 +43,9 @@ impl Model for SteppedDie {
 
     ghost Value = { Stepped };
 
-    ghost view = { λ d. record { core = d.core; begun = d.begun } };
+    ghost view = { λ d. record { core = d.core; begun = d.begun; part = d.part } };
 
-    ghost invariant = { λ d. IsStepped (record { core = d.core; begun = d.begun }) };
+    ghost invariant = { λ d. IsStepped (record { core = d.core; begun = d.begun; part = d.part }) };
 }
 
 impl SteppedDie {
@@ -60,9 +63,11 @@ impl SteppedDie {
     {
         bound(&plan)?;
         let mirror = MirrorNand::new(alloc, plan.shape)?;
+        let part = Part::fresh(&plan);
         Ok(SteppedDie {
             core: DieCore::new(alloc, plan, mirror)?,
             begun: None,
+            part,
         })
     }
 
@@ -99,6 +104,7 @@ impl SteppedDie {
             HasEntered caller (events.Submit task release due ops.now) number self.old.core
             self.new.core) }
         ensures begun { self.new.begun ≡ self.old.begun }
+        ensures part { self.new.part ≡ self.old.part }
         ensures cause { IfErr result
             (RefusesArrival release (events.Submit task release due ops.now) self.old self.new) }
         ensures refused { OnErr result (self.new ≡ self.old) }
@@ -140,6 +146,7 @@ impl SteppedDie {
             HasEntered caller (events.Collect task release due) number self.old.core
             self.new.core) }
         ensures begun { self.new.begun ≡ self.old.begun }
+        ensures part { self.new.part ≡ self.old.part }
         ensures cause { IfErr result
             (RefusesArrival release (events.Collect task release due) self.old self.new) }
         ensures refused { OnErr result (self.new ≡ self.old) }
@@ -230,6 +237,7 @@ impl SteppedDie {
             match self.core.fill_slot(begun.caller, reply) {
                 Ok(()) => {
                     self.begun = None;
+                    self.part.serial = serial_after(begun.call, self.part.serial);
                     Ok(())
                 }
                 Err(_) => unreachable!(),
@@ -325,6 +333,22 @@ impl SteppedDie {
         ensures { result ≡ self.now.begun }
     {
         self.begun
+    }
+
+    /// The number that the part gives a block of the die. A die that wasn't mounted has the part's own numbers.
+    pub fn part_block(&self, block: u32) -> u32
+        ensures { result
+            ≡ on_part self.now.core.start.plan.shape.blocks self.now.part.aside block }
+    {
+        on_part(self.core.plan().shape.blocks, self.part.aside, block)
+    }
+
+    /// What is known of the part: the block that stands aside, and the serial of the next program, within a slot that
+    /// has begun, too. It rises by one with each program, up to 2^64 - 1. A fresh die begins with 1.
+    pub fn part(&self) -> Part
+        ensures { result ≡ self.now.part }
+    {
+        self.part
     }
 
     /// The work that is overdue, as [`DieCore::overdue`]: by the log, in which a slot that has begun isn't. A die that a

@@ -53,6 +53,7 @@ pub fn an_arrival_has_one_answer()
         IfOk one (λ number. HasEntered caller event number before.core left.core) →
         IfOk other (λ number. HasEntered caller event number before.core right.core) →
         left.begun ≡ before.begun → right.begun ≡ before.begun →
+        left.part ≡ before.part → right.part ≡ before.part →
         IfErr one (RefusesArrival release event before left) →
         IfErr other (RefusesArrival release event before right) →
         OnErr one (left ≡ before) → OnErr other (right ≡ before) →

@@ -6,6 +6,8 @@ mod calls;
 mod die;
 mod laws;
 mod mirror;
+mod mount_laws;
+mod part;
 mod refusals;
 mod resumptions;
 
@@ -16,5 +18,7 @@ pub use laws::{
     ending_a_slot_has_one_answer,
 };
 pub use mirror::MirrorNand;
+pub use mount_laws::{a_mounted_die_begins_a_life, serials_number_programs};
+pub use part::Part;
 pub use refusals::{StepCheckpointRefusal, StepRefusal, StepRenewalRefusal};
 pub use resumptions::NamedCheckpoint;

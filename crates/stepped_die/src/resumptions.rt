@@ -10,11 +10,14 @@ ghost use Rattle.die_log.specs.Model.Opening.{renewed_start};
 ghost use Rattle.slot_core.specs.Renewals.{MayBeRenewed};
 ghost use Rattle.slot_core.specs.Resumptions.{checkpoint_of, start_with};
 ghost use Rattle.stepped_die.specs.Names.{GoesOn, RefusesNames, pages_named};
+ghost use Rattle.stepped_die.specs.Parts.{fresh_part};
 
 use crate::die::SteppedDie;
 use crate::mirror::MirrorNand;
+use crate::part::Part;
 use crate::refusals::StepCheckpointRefusal;
 use die_checkpoint::{Checkpoint, CheckpointFault};
+use die_mount::Mounted;
 use slot_core::{CheckpointRefusal, DieCore, RenewalRefusal, ResumeRefusal};
 use slot_types::{DiePlan, Items, PageData, Place, Refusal};
 use std::alloc::Global;
@@ -98,6 +101,7 @@ impl SteppedDie {
         names: &[PageData],
     ) -> Result<SteppedDie, CheckpointFault>
         ensures ok { IfOk result (GoesOn plan checkpoint.now names.now) }
+        ensures part { IfOk result (λ die. die.part ≡ fresh_part plan) }
         ensures fits { OnOk result (Fits plan checkpoint.now) }
         ensures refused { IfErr result (HasCheckpointFault plan checkpoint.now) }
     {
@@ -109,13 +113,49 @@ impl SteppedDie {
             Ok(mirror) => mirror,
             Err(_) => return Err(CheckpointFault::NoMemory),
         };
+        let part = Part::fresh(&plan);
         match DieCore::resume(alloc, plan, mirror, checkpoint) {
-            Ok(core) => Ok(SteppedDie { core, begun: None }),
+            Ok(core) => Ok(SteppedDie {
+                core,
+                begun: None,
+                part,
+            }),
             Err(no) => match no.refusal {
                 ResumeRefusal::Unfit { fault } => Err(fault),
                 // The mirror is of the plan's shape.
                 ResumeRefusal::OtherDevice => unreachable!(),
             },
+        }
+    }
+
+    /// A die that begins where a mount ended, on the part's blocks but the one aside: at slot 0, with an empty log and
+    /// full accounts. `names` has by logical page the name of what lies there; a page that lies nowhere, or that has no
+    /// name, is blank. Its programs go on with the mount's serials.
+    ///
+    /// Refused with the first cause that stands, as [`CheckpointFault`] lists them: with the plan of the mount that is
+    /// `NoMemory` alone.
+    pub fn mounted(
+        alloc: Global,
+        plan: DiePlan,
+        end: &Mounted,
+        names: &[PageData],
+    ) -> Result<SteppedDie, CheckpointFault>
+        ensures ok { IfOk result (GoesOn plan end.now.checkpoint names.now) }
+        ensures part { IfOk result (λ die.
+            die.part ≡ record { aside = end.now.aside; serial = end.now.next }) }
+        ensures fits { OnOk result (Fits plan end.now.checkpoint) }
+        ensures refused { IfErr result (HasCheckpointFault plan end.now.checkpoint) }
+    {
+        match SteppedDie::resume(alloc, plan, &end.checkpoint, names) {
+            Ok(die) => Ok(SteppedDie {
+                core: die.core,
+                begun: die.begun,
+                part: Part {
+                    aside: end.aside,
+                    serial: end.next,
+                },
+            }),
+            Err(fault) => Err(fault),
         }
     }
 }

@@ -123,7 +123,7 @@ impl Chip {
     }
 
     /// Whether each label has a smaller serial.
-    fn is_above(&self, serial: u64) -> bool {
+    pub fn is_above(&self, serial: u64) -> bool {
         for cell in self.cells.as_slice() {
             if let Cell::Good { label, .. } = *cell {
                 if label.serial >= serial {

@@ -1,6 +1,7 @@
 //! Whole mounts of a part: its scan, its calls one by one, and what has to be so when it ends.
 
 use crate::chips::{Cell, Chip, Leftover};
+use crate::ends::check_die;
 use crate::parts::Held;
 use crate::sizes::Sizes;
 use crate::wrongs::Wrong;
@@ -208,6 +209,19 @@ pub fn mounts(
         return Err(Wrong::Calls);
     }
     let calls = finish(sizes, &mut mount, chip, held)?;
+    Ok((calls, undoes))
+}
+
+/// A whole mount, and the die that begins where it ends. Answers the same.
+pub fn mounts_a_die(
+    alloc: Global,
+    sizes: Sizes,
+    chip: &mut Chip,
+    held: &Held,
+) -> Result<(u32, bool), Wrong> {
+    let (mut mount, undoes) = begin(alloc, sizes, chip)?;
+    let calls = finish(sizes, &mut mount, chip, held)?;
+    check_die(alloc, sizes, &mount, chip, held)?;
     Ok((calls, undoes))
 }
 

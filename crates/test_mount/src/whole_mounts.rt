@@ -1,7 +1,7 @@
 //! Mounts of parts by chance, to their end and cut at each of their calls.
 
 use crate::chips::{Chip, LEFTOVERS, Leftover};
-use crate::mounts::{mounts, mounts_until};
+use crate::mounts::{mounts, mounts_a_die, mounts_until};
 use crate::parts::{Held, by_chance};
 use crate::sizes::Sizes;
 use crate::wrongs::Wrong;
@@ -55,7 +55,7 @@ fn enough(met: Result<Met, Wrong>, mounts: u32, undone: u32, longest: u32) -> Re
     }
 }
 
-/// Mounts a part, and then once more as the first mount left it.
+/// Mounts a part, and then once more as the first mount left it; a die begins where each of them ends.
 fn mounts_twice(
     alloc: Global,
     sizes: Sizes,
@@ -64,10 +64,10 @@ fn mounts_twice(
     words: &mut Pcg32,
     met: &mut Met,
 ) -> Result<(), Wrong> {
-    let (calls, undoes) = mounts(alloc, sizes, chip, held)?;
+    let (calls, undoes) = mounts_a_die(alloc, sizes, chip, held)?;
     met.note(sizes, calls, undoes);
     chip.power_comes(words);
-    let (calls, undoes) = mounts(alloc, sizes, chip, held)?;
+    let (calls, undoes) = mounts_a_die(alloc, sizes, chip, held)?;
     met.note(sizes, calls, undoes);
     Ok(())
 }
@@ -153,7 +153,7 @@ fn leftover(words: &mut Pcg32) -> Leftover {
     }
 }
 
-/// Cuts five mounts in a row, each at some call. What each leaves is mounted to its end, too.
+/// Cuts five mounts in a row, each at some call. What each leaves is mounted to its end, too, and the last one to a die.
 fn cut_five_times(
     alloc: Global,
     sizes: Sizes,
@@ -171,7 +171,7 @@ fn cut_five_times(
             return Err(Wrong::Calls);
         }
     }
-    let (calls, undoes) = mounts(alloc, sizes, chip, held)?;
+    let (calls, undoes) = mounts_a_die(alloc, sizes, chip, held)?;
     met.note(sizes, calls, undoes);
     Ok(())
 }

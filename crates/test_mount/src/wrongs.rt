@@ -38,6 +38,10 @@ pub enum Wrong {
     Lost { page: u32 },
     /// Too few cells are erased for full accounts, or no block is wholly so.
     NotFree,
+    /// A call of the die that begins there is refused.
+    Die,
+    /// Its serial isn't above all others, or doesn't rise by one.
+    Serial,
     /// A refused mount changed the part.
     Refusal,
     /// What is to be shown came up too seldom.

@@ -202,7 +202,7 @@ part_sees plan aside c l seen le s f w = record {
 at_die_cells : (last aside b : ℕ) (p : Cells) → length p.blocks ≡ last + 1 → b < last → block_at (die_cells last aside p) b ≡ block_at p (on_part last aside b)
 at_die_cells last aside b p e lt = without_at last aside free_block p.blocks b e lt
 
-stands_on_die : (plan : DiePlan) (aside : ℕ) (p : Cells) (l : Labels) → IsFreeBlock p aside → labels_in l.blocks aside ≡ [] → AreSoundCells (part_of plan) p
+pub stands_on_die : (plan : DiePlan) (aside : ℕ) (p : Cells) (l : Labels) → IsFreeBlock p aside → labels_in l.blocks aside ≡ [] → AreSoundCells (part_of plan) p
     → length l.blocks ≡ plan.shape.blocks + 1
     → AreRenumbered (on_die plan.shape.blocks aside) (on_part plan.shape.blocks aside) p (die_cells plan.shape.blocks aside p) l.blocks
     (die_labels plan.shape.blocks aside l).blocks

@@ -7,7 +7,7 @@ use Rattle.stepped_die.proofs.die.SteppedDie.submit.Goals.{in-Ok, in-Err}
 use Rattle.stepped_die.proofs.die.SteppedDie.submit.Goals as goal
 
 pub invariant_of-self : goal.invariant_of-self
-invariant_of-self c = arrived_keeps c.args.self.now c.self.inside.core c.self.inside.begun c.args.release c.args.caller
+invariant_of-self c = arrived_keeps c.args.self.now c.self.inside.core c.self.inside.begun c.self.inside.part c.args.release c.args.caller
     (events.Submit c.args.task c.args.release c.args.due c.args.ops.now) c.submit_lent.new.self c.submit_lent.result c.holds_back.result
     (ap (λ (d : Stepped). d.begun) c.self.view_is) c.self.invariant c.promises.ensures tt (λ slot below. below) c.submit_lent.ensures
     c.holds_back.ensures.1 c.if-holds_back.false
@@ -15,7 +15,7 @@ invariant_of-self c = arrived_keeps c.args.self.now c.self.inside.core c.self.in
 pub returns-then-is_stopped-clause-cause : goal.returns-then-is_stopped-clause-cause
 returns-then-is_stopped-clause-cause c =
     rw (← c.self.view_is) (stopped_refuses c.args.release (events.Submit c.args.task c.args.release c.args.due c.args.ops.now)
-    (record { core = c.self.inside.core; begun = c.self.inside.begun }) (sym c.is_stopped.ensures ∙ c.if-is_stopped.true))
+    (record { core = c.self.inside.core; begun = c.self.inside.begun; part = c.self.inside.part }) (sym c.is_stopped.ensures ∙ c.if-is_stopped.true))
 
 pub returns-clause-stopped : goal.returns-clause-stopped
 returns-clause-stopped c =

@@ -1,0 +1,30 @@
+use Rattle.std.proofs.Common.{◌≡◌, ◌∙◌, ◌+◌, ◌++◌, ◌∷◌, [], ap, sym, length, List, arith}
+use Rattle.die_checkpoint.specs.declared.checkpoint.BlockCounts.{BlockCounts}
+use Rattle.power_loss.specs.Aside.{on_part}
+use Rattle.power_loss.proofs.Aside.Lists.{part_aside, part_other}
+use Rattle.die_mount.specs.PartState.{PartState}
+use Rattle.die_mount.proofs.Ending.{block_more}
+use Rattle.die_mount.proofs.part.Part.blocks_beside.Goals.{then-block-aside, else-block-aside}
+use Rattle.die_mount.proofs.part.Part.blocks_beside.Goals as goal
+
+pub loop-block-preserved : goal.loop-block-preserved
+loop-block-preserved c =
+    let items = c.self.inside.blocks.items in
+    let last = c.args.last in
+    let aside = c.args.aside in
+    let n = c.loop-block.block in
+    let long : length items ≡ last + 1 = omega (arith, c.self.invariant.blocks, ap (λ (s : PartState). s.shape.blocks) c.self.view_is, c.requires.last) in
+    elim c.if-block-aside.branch [
+      | then-block-aside w ↦
+          c.in_ok-push.ensures.ok
+          ∙ (ap (λ (x : BlockCounts). c.loop-block.blocks ++ x ∷ []) c.counts_of.ensures
+          ∙ block_more items c.args.self.now.cells.blocks last aside n c.if-block-aside.from c.index.result.now c.loop-block.blocks
+          (ap (λ (s : PartState). s.cells.blocks) c.self.view_is) long c.loop-block-test.true (omega (arith, w.from-is))
+          (w.from-is ∙ sym (part_aside last aside n w.if-block-aside.true)) c.index.ensures c.loop-block.invariant)
+      | else-block-aside w ↦
+          c.in_ok-push.ensures.ok
+          ∙ (ap (λ (x : BlockCounts). c.loop-block.blocks ++ x ∷ []) c.counts_of.ensures
+          ∙ block_more items c.args.self.now.cells.blocks last aside n c.if-block-aside.from c.index.result.now c.loop-block.blocks
+          (ap (λ (s : PartState). s.cells.blocks) c.self.view_is) long c.loop-block-test.true (omega (arith, w.from-is, c.loop-block-test.true))
+          (w.from-is ∙ sym (part_other last aside n w.if-block-aside.false)) c.index.ensures c.loop-block.invariant)
+    ]

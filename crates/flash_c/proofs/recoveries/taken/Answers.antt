@@ -1,0 +1,8 @@
+use Rattle.flash_c.proofs.Mounting.{of_ok, told_seen}
+use Rattle.flash_c.proofs.recoveries.taken.Goals as goal
+
+pub returns-in-Ok-begun : goal.returns-in-Ok-begun
+returns-in-Ok-begun c =
+    told_seen c.args.labels.now c.args.recovery c.told-after.result.0 c.in-Ok-begun.after
+    (of_ok c.told-after.result.1 c.in-Ok.field-0 c.in-Ok.is c.told-after.ensures.first)
+    (of_ok c.told-after.result.1 c.in-Ok.field-0 c.in-Ok.is c.told-after.ensures.again) c.in-Ok-begun.ensures

@@ -1,0 +1,4 @@
+pub mod KeptPlans
+pub mod KeptDies
+pub mod KeptRows
+pub mod KeptRuns
