@@ -1,3 +1,4 @@
 pub mod PlanKinds
+pub mod KeptActs
 pub mod Acts
 pub mod Files

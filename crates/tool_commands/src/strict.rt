@@ -109,7 +109,9 @@ pub fn amiss_of(
         return Ok(Some(Amiss::Refused));
     }
     match request {
-        Request::One(Command::Run { slots, .. }) => amiss_in_report(alloc, printed, *slots),
+        Request::One(Command::Run { slots, .. } | Command::RunKept { slots, .. }) => {
+            amiss_in_report(alloc, printed, *slots)
+        }
         Request::Listed(ListCommand::Audit, _) => Ok(amiss_in_audit(printed)),
         _ => Ok(None),
     }
