@@ -7,8 +7,8 @@ use Rattle.std.proofs.lemmas.Option.{IfSome_then, get_or_from_slice_get, slice_g
 use Rattle.die_log.specs.Model.Log.{now}
 use Rattle.planned_log.specs.Laws.{AreDoneInTime}
 use Rattle.script_texts.specs.declared.script_rows.ScriptItem.{ScriptItem}
-use Rattle.tool_script_runs.specs.ScriptRuns.{rows_of_die}
-use Rattle.tool_script_runs.proofs.DieRows.{rows_of_other, rows_of_own}
+use Rattle.tool_script_runs.specs.ScriptRuns.{items_of_die}
+use Rattle.tool_kept_runs.proofs.DieItems.{items_of_other, items_of_own}
 use Rattle.tool_kept_runs.specs.KeptDies.{HasEmptyLog, HasMoved, KeptDie, KeptStart, begins_of}
 use Rattle.tool_kept_runs.specs.KeptRows.{slot_moves}
 use Rattle.tool_kept_runs.specs.KeptRuns.{HasKept, HasTaken, HaveKeptTo, HaveTaken, IsKeptTo, TakesRow}
@@ -55,7 +55,7 @@ one_begins {D} P f xs place old below is all =
 -- Rows
 
 -- dies without an entry took no row
-pub none_of_them_taken : (dies : List KeptDie) → All HasEmptyLog dies → HaveTaken (rows_of_die []) dies
+pub none_of_them_taken : (dies : List KeptDie) → All HasEmptyLog dies → HaveTaken (items_of_die []) dies
 none_of_them_taken dies empty n = by (slice_get dies n) refl
   where
     by : (o : Option KeptDie) → slice_get dies n ≡ o → IfSome o (HasTaken [])
@@ -63,20 +63,20 @@ none_of_them_taken dies empty n = by (slice_get dies n) refl
     by (Some x) is = none_taken x (subst HasEmptyLog (get_or_from_slice_get dies n x x is) (empty n x (slice_get_within dies n x is)))
 
 own_more : (items : List ScriptItem) (item : ScriptItem) (die : ℕ) (before after : KeptDie) → item.die ≡ die
-    → HasTaken (rows_of_die items die) before → TakesRow item before after → HasTaken (rows_of_die (items ++ item ∷ []) die) after
+    → HasTaken (items_of_die items die) before → TakesRow item before after → HasTaken (items_of_die (items ++ item ∷ []) die) after
 own_more items item die before after is h t =
-    subst (λ (xs : List ScriptItem). HasTaken xs after) (rows_of_own items item die is) (row_more (rows_of_die items die) item before after h t)
+    subst (λ (xs : List ScriptItem). HasTaken xs after) (items_of_own items item die is) (row_more (items_of_die items die) item before after h t)
 
 other_more : (items : List ScriptItem) (item : ScriptItem) (die : ℕ) (at : KeptDie) → (item.die ≡ die → ⊥)
-    → HasTaken (rows_of_die items die) at → HasTaken (rows_of_die (items ++ item ∷ []) die) at
-other_more items item die at isnt h = subst (λ (xs : List ScriptItem). HasTaken xs at) (rows_of_other items item die isnt) h
+    → HasTaken (items_of_die items die) at → HasTaken (items_of_die (items ++ item ∷ []) die) at
+other_more items item die at isnt h = subst (λ (xs : List ScriptItem). HasTaken xs at) (items_of_other items item die isnt) h
 
 -- one die takes a row of its own
 pub one_took_row : {D : Type 0} (f : D → KeptDie) (xs : List D) (place : ℕ) (old new : D) (item : ScriptItem) → item.die ≡ place
-    → old ≡ get_or xs place old → TakesRow item (f old) (f new) → (items : List ScriptItem) → HaveTaken (rows_of_die items) (map f xs)
-    → HaveTaken (rows_of_die (items ++ item ∷ [])) (map f (set xs place new))
+    → old ≡ get_or xs place old → TakesRow item (f old) (f new) → (items : List ScriptItem) → HaveTaken (items_of_die items) (map f xs)
+    → HaveTaken (items_of_die (items ++ item ∷ [])) (map f (set xs place new))
 one_took_row f xs place old new item own is taken items h =
-    each_set f (λ n. HasTaken (rows_of_die items n)) (λ n. HasTaken (rows_of_die (items ++ item ∷ []) n)) xs place old new
+    each_set f (λ n. HasTaken (items_of_die items n)) (λ n. HasTaken (items_of_die (items ++ item ∷ []) n)) xs place old new
     (λ n ne x p. other_more items item n x (λ e. ne (sym e ∙ own)) p)
     (λ p. own_more items item place (f old) (f new) own p taken) is h
 
@@ -115,11 +115,11 @@ kept_up_to f rows slots place xs all h n = by (slice_get (map f xs) n) refl (h n
     }
 
 pub all_kept : {D : Type 0} (f : D → KeptDie) (items : List ScriptItem) (slots : ℕ) (xs : List D)
-    → HaveKeptTo (length xs) (rows_of_die items) slots (map f xs) → (number : ℕ)
-    → IfSome (slice_get (map f xs) number) (HasKept (rows_of_die items number) slots)
+    → HaveKeptTo (length xs) (items_of_die items) slots (map f xs) → (number : ℕ)
+    → IfSome (slice_get (map f xs) number) (HasKept (items_of_die items number) slots)
 all_kept f items slots xs h n = by (slice_get (map f xs) n) refl (h n)
   where
-    by : (o : Option KeptDie) → slice_get (map f xs) n ≡ o → IfSome o (IsKeptTo (length xs) n (rows_of_die items n) slots)
-        → IfSome o (HasKept (rows_of_die items n) slots)
+    by : (o : Option KeptDie) → slice_get (map f xs) n ≡ o → IfSome o (IsKeptTo (length xs) n (items_of_die items n) slots)
+        → IfSome o (HasKept (items_of_die items n) slots)
     by None is p = tt
     by (Some die) is p = p.carried (omega (arith, length-map xs f, slice_get_within (map f xs) n die is))

@@ -1,5 +1,6 @@
 mod Moving
 mod OneDie
+mod DieItems
 mod EachDie
 mod ReadSoFar
 mod Slots

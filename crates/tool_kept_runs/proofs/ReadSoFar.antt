@@ -4,7 +4,7 @@ use Rattle.std.specs.Prelude.{All, IfSome, length}
 use Rattle.std.proofs.lemmas.List.{append-nil}
 use Rattle.script_texts.specs.Script.{Script, Yields, with_front}
 use Rattle.script_texts.specs.declared.script_rows.ScriptItem.{ScriptItem}
-use Rattle.tool_script_runs.specs.ScriptRuns.{rows_of_die}
+use Rattle.tool_script_runs.specs.ScriptRuns.{items_of_die}
 use Rattle.tool_script_runs.proofs.ReadSoFar.{IsReadTo, with_items}
 use Rattle.tool_kept_runs.specs.KeptDies.{HasEmptyLog, KeptDie}
 use Rattle.tool_kept_runs.specs.KeptRuns.{HaveKeptTo, HaveRead, HaveTaken, RanKept}
@@ -39,14 +39,14 @@ read_all (Some all) (Some more) new items so_far step = so_far
 pub record HasRead (whole left : Option Script) (dies : List KeptDie) : Type 0 where
   pub items : List ScriptItem
   pub read : IsReadTo whole left items
-  pub taken : HaveTaken (rows_of_die items) dies
+  pub taken : HaveTaken (items_of_die items) dies
 
 pub reads_none : (whole : Option Script) (dies : List KeptDie) → All HasEmptyLog dies → HasRead whole whole dies
 reads_none whole dies empty = record { items = []; read = read_none whole; taken = none_of_them_taken dies empty }
 
 pub reads_row : (whole left new : Option Script) (before after : List KeptDie) (item : ScriptItem) → HasRead whole left before
     → Yields left new (Ok (Some item))
-    → ((items : List ScriptItem) → HaveTaken (rows_of_die items) before → HaveTaken (rows_of_die (items ++ item ∷ [])) after)
+    → ((items : List ScriptItem) → HaveTaken (items_of_die items) before → HaveTaken (items_of_die (items ++ item ∷ [])) after)
     → HasRead whole new after
 reads_row whole left new before after item h step takes = record {
   items = h.items ++ item ∷ [];
@@ -66,5 +66,5 @@ pub then_slots : {D : Type 0} (f : D → KeptDie) (script : Option Script) (slot
 then_slots f script slots before after h carry = record {
   items = h.items;
   read = h.read;
-  ran = all_kept f h.items slots after (carry (rows_of_die h.items) h.taken);
+  ran = all_kept f h.items slots after (carry (items_of_die h.items) h.taken);
 }

@@ -19,7 +19,6 @@ use Rattle.die_log.specs.Model.Start.{Start}
 use Rattle.die_log.specs.Model.Answers.{after_call, answer, refusal_of, run, with_answer}
 use Rattle.die_log.proofs.Legality.{accepted_answer, refused_answer}
 use Rattle.slot_core.specs.Core.{Core}
-use Rattle.planned_log.specs.declared.ask_kinds.AskKind.TheVariants as kinds
 use Rattle.planned_log.specs.declared.refusals.AskRefusal.{AskRefusal}
 use Rattle.planned_log.specs.declared.ask_kinds.AskKind.TheVariants as kinds
 use Rattle.planned_log.specs.Asks.{asked_job}

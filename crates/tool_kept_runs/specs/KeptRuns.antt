@@ -6,7 +6,7 @@ use Rattle.script_texts.specs.Script.{Script}
 use Rattle.script_texts.specs.declared.script_rows.ScriptItem.{ScriptItem}
 use Rattle.die_log.specs.Model.Log.{now}
 use Rattle.planned_log.specs.Laws.{AreDoneInTime}
-use Rattle.tool_script_runs.specs.ScriptRuns.{rows_of_die, script_in}
+use Rattle.tool_script_runs.specs.ScriptRuns.{items_of_die, script_in}
 use Rattle.tool_kept_runs.specs.KeptDies.{BeginsBy, HasMoved, KeptDie, begins_of, log_after}
 use Rattle.tool_kept_runs.specs.KeptRows.{row_moves, rows_moves, run_moves, slot_after, slot_moves}
 
@@ -21,7 +21,7 @@ pub record HasKept (items : List ScriptItem) (slots : ℕ) (die : KeptDie) : Typ
 pub record RanKept (script : Option Script) (slots : ℕ) (dies : List KeptDie) : Type 0 where
   pub items : List ScriptItem
   pub read : IfSome script (λ all. all ≡ Ok items)
-  pub ran : (number : ℕ) → IfSome (slice_get dies number) (HasKept (rows_of_die items number) slots)
+  pub ran : (number : ℕ) → IfSome (slice_get dies number) (HasKept (items_of_die items number) slots)
 
 -- dies that began fresh by these plans ran a script of this text, and so many slots
 pub record IsKeptRun (plans : List DieTerms) (text : Option (List ℕ)) (slots : ℕ) (dies : List KeptDie) : Type 0 where
@@ -58,4 +58,4 @@ HaveKeptTo place rows slots dies = (number : ℕ) → IfSome (slice_get dies num
 pub record HaveRead (script : Option Script) (dies : List KeptDie) : Type 0 where
   pub items : List ScriptItem
   pub read : IfSome script (λ all. all ≡ Ok items)
-  pub taken : HaveTaken (rows_of_die items) dies
+  pub taken : HaveTaken (items_of_die items) dies

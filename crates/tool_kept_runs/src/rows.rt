@@ -3,7 +3,7 @@
 ghost use Rattle.std.specs.Prelude.{◌≡◌, ℕ, ◌+◌, ◌<◌, ◌≤◌, ◌++◌, ◌∷◌, [], All, List, length, map, OnOk};
 ghost use Rattle.slot_types.specs.Arrivals.{IsArrival};
 ghost use Rattle.script_texts.specs.declared.script_rows.ScriptItem.{ScriptItem};
-ghost use Rattle.tool_script_runs.specs.ScriptRuns.{rows_of_die};
+ghost use Rattle.tool_script_runs.specs.ScriptRuns.{items_of_die};
 ghost use Rattle.tool_kept_runs.specs.KeptDies.{AreWithin, begins_of};
 ghost use Rattle.tool_kept_runs.specs.KeptRuns.{HaveKeptTo, HaveTaken, TakesRow};
 
@@ -53,8 +53,8 @@ pub(crate) fn run_row<D: KeptScriptDie>(
     requires arrival { IsArrival item.event }
     requires there { item.die < length dies.old.items }
     ensures ran { OnOk result ((items : List ScriptItem) →
-        HaveTaken (rows_of_die items) (map D.kept dies.old.items) →
-        HaveTaken (rows_of_die (items ++ item ∷ [])) (map D.kept dies.new.items)) }
+        HaveTaken (items_of_die items) (map D.kept dies.old.items) →
+        HaveTaken (items_of_die (items ++ item ∷ [])) (map D.kept dies.new.items)) }
     ensures begins { begins_of (map D.kept dies.new.items)
         ≡ begins_of (map D.kept dies.old.items) }
     ensures count { length dies.new.items ≡ length dies.old.items }

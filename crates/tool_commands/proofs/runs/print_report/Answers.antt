@@ -1,3 +1,5 @@
+use Rattle.std.proofs.Common.{inr, refl}
+use Rattle.text_base.proofs.WritingLaws.{on-error}
 use Rattle.tool_commands.proofs.runs.print_report.Goals as goal
 
 pub returns-clause-printed : goal.returns-clause-printed
@@ -8,3 +10,21 @@ returns-clause-printed g c = record {
   ran = c.in_ok-said.ensures.ran;
   written = rw c.deref.ensures.value at c.in_ok-write_whole.ensures.whole;
 }
+
+pub returns-in_err-write_whole-clause-part : goal.returns-in_err-write_whole-clause-part
+returns-in_err-write_whole-clause-part g c =
+    on-error c.from_residual-in_err-write_whole.result _
+    (inr (
+      c.in_err-write_whole.ensures.failed,
+      (
+        c.in_ok-said.said.text.items,
+        record {
+          store = c.in_ok-store.store;
+          read = c.in_ok-store.ensures.store;
+          said = c.in_ok-said.said;
+          ran = c.in_ok-said.ensures.ran;
+          written = refl;
+        },
+        rw c.deref.ensures.value at c.in_err-write_whole.ensures.part,
+      ),
+    ))
