@@ -16,7 +16,7 @@ use Rattle.die_mount.specs.declared.mounted.Mounted.{Mounted}
 use Rattle.die_mount.specs.declared.stage.Stage.TheVariants as stage
 use Rattle.die_mount.specs.Ending.{IsEndOf}
 use Rattle.die_mount.specs.Mounting.{IsMountOf, Mounting, call_at, calls_left, ends_erase_at}
-use Rattle.die_mount.specs.Scanned.{IsScanOf, Scanned}
+use Rattle.die_mount.specs.Scanned.{IsScanOf}
 use Rattle.die_mount.specs.Told.{told_cells}
 use Rattle.flash_c.specs.declared.recoveries.Recovery.{Recovery}
 use Rattle.flash_c.specs.declared.recoveries.Recovery.TheVariants as recovery

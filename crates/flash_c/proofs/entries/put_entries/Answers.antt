@@ -1,4 +1,4 @@
-use Rattle.std.proofs.Common.{◌≡◌, ◌++◌, ◌∷◌, [], List, refl, sym, ap, ◌∙◌, length, length-append, append_assoc, arith}
+use Rattle.std.proofs.Common.{◌++◌, ◌∷◌, [], List, refl, sym, ap, ◌∙◌, length-append, append_assoc, arith}
 use Rattle.event_log.specs.Notes.{Note}
 use Rattle.flash_c.specs.Entries.{entry_of}
 use Rattle.flash_c.specs.Lists.{array_with}

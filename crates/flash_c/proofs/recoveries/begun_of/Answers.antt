@@ -1,9 +1,8 @@
 use Rattle.std.proofs.Common.{refl}
 use Rattle.power_loss.specs.Aside.{part_of}
 use Rattle.power_loss.specs.Labels.{Shown, FitPlan}
-use Rattle.die_mount.specs.Mounting.{BeginsWith, Mounting}
+use Rattle.die_mount.specs.Mounting.{BeginsWith}
 use Rattle.die_mount.specs.Scanned.{IsScanOf}
-use Rattle.flash_c.specs.declared.recoveries.Recovery.{Recovery}
 use Rattle.flash_c.specs.Mounts.{HasSeen}
 use Rattle.flash_c.proofs.Mounting.{calls_seen, goes_by, none_again}
 use Rattle.flash_c.proofs.recoveries.begun_of.Goals as goal
