@@ -165,6 +165,8 @@ class Page(unittest.TestCase):
     def test_explain_says_the_same(self):
         (self.at / "plan.toml").write_text(self.blocks[0])
         said = self.run_words(["explain", "plan.toml"]).stdout
+        # The plan of `fit` says how long a slot is, so `explain` has times and shares in brackets behind numbers of slots.
+        said = re.sub(r" \([0-9.]+ (?:us|ms|s|min|h|%)\)", "", said)
         plan, page = self.plan(), words_of(self.tree)
         copies = 2 * (plan["pages"] - plan["alpha"]) + plan["erase_slots"]
         self.assertIn(f"A collection takes at most {copies} slots", page)
