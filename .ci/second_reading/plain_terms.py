@@ -1,6 +1,8 @@
 """A second reading of docs/FORMATS.md and docs/RULES.md: what `flashplan explain` prints of a plan with terms, in plain Python.
 It reads nothing of the program, and looks at each interval of a life. `.ci/second_reading/plays` uses it."""
 
+import re
+
 from second_reading.plain_texts import LAST_SLOT, Refused, is_number, live_of, meets_bound, read_toml
 
 TOP = ["terms", "dies", "blocks", "pages", "erase_slots", "logical", "alpha"]
@@ -271,3 +273,28 @@ def explained(text):
     said = [passing_text(at, die) for at, die in enumerate(dies)]
     said += [room_text(at, die) + margins_text(at, die) for at, die in enumerate(dies)]
     return 0, "The plan is accepted.\n" + "".join(said)
+
+
+def time_text(us):
+    """So many us, in the unit that crates/tool_slot_times/README.md says, rounded down to its thousandth."""
+    for below, unit, name in ((10**3, 1, "us"), (10**7, 10**3, "ms"), (6 * 10**8, 10**6, "s"), (36 * 10**9, 6 * 10**7, "min"), (None, 36 * 10**8, "h")):
+        if below is None or us < below:
+            whole, rest = us // unit, us % unit * 1000 // unit
+            return f"{whole}.{rest:03}".rstrip("0").rstrip(".") + f" {name}" if rest else f"{whole} {name}"
+    return None
+
+
+TIMED = [
+    re.compile(r"(?<=, )(?:period|deadline|held|collect_period|collect_deadline) (\d+)"),
+    re.compile(r"(?<=: a collection takes at most )(\d+)|(?<=: the tightest interval has )(\d+)|(?<= slots, of which )(\d+)(?= may)|(?<= may be asked for: )(\d+)(?= to spare)"),
+]
+
+
+def with_times(said, slot_us):
+    """What `explain` says of a plan with terms, where a slot is so long: periods, deadlines and held jobs, a collection and the
+    tightest interval are followed by their times."""
+    lines = []
+    for line in said.splitlines(keepends=True):
+        form = TIMED[0] if re.match(r"die \d+ task \d+: cap \d+, period ", line) else TIMED[1]
+        lines.append(form.sub(lambda met: f"{met[0]} ({time_text(int(next(n for n in met.groups() if n)) * slot_us)})", line))
+    return "".join(lines)
