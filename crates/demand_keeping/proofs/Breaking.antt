@@ -19,6 +19,7 @@ use Rattle.demand_rules.specs.Demand.{no_terms, terms_of, IsTaskTerms}
 use Rattle.demand_rules.specs.Faults.{IsWithin}
 use Rattle.demand_rules.specs.Keeping.{IsDemanded, IsDemandedJob, IsDemandedCollection, KeepsDemandPlan}
 use Rattle.demand_keeping.specs.declared.windows.Count.{Count}
+use Rattle.demand_keeping.specs.declared.windows.Count.TheVariants as count
 use Rattle.demand_keeping.specs.declared.planning.JobRule.{JobRule}
 use Rattle.demand_keeping.specs.declared.planning.JobRule.TheVariants as job
 use Rattle.demand_keeping.specs.declared.planning.CollectionRule.{CollectionRule}
@@ -85,9 +86,9 @@ collection_holds plan terms end a h collection.BeforeEnd = h.slot.before_end
 collection_holds plan terms end a h collection.Due = h.due
 collection_holds plan terms end a h collection.LastDue = omega (arith, h.due, h.slot.due_limit)
 
-overfull : {c : Count} {task : ℕ} (period limit : ℕ) (all : List Event) (start : ℕ) → IsFirstOverfull c task period limit all start
+overfull : (c : Count) (task period limit : ℕ) (all : List Event) (start : ℕ) → IsFirstOverfull c task period limit all start
     → KeepsLimit c task period limit all → ⊥
-overfull {c} {task} period limit all start h keeps =
+overfull c task period limit all start h keeps =
     omega (arith, h.above, keeps start, first_in_all (amount_in c task start (start + period)) all (h.index + 1))
 
 module _ (plan : DiePlan) (terms : Terms) where
@@ -119,9 +120,11 @@ module _ (plan : DiePlan) (terms : Terms) where
       collection_keeps (slots all) (slots (take index all)) rule h.1.event
       (all_at (IsDemanded plan terms (slots all)) all index h.1.event h.1.there
       (recursion_from_All (IsDemanded plan terms (slots all)) (arrivals 0 all) keeps.planned)) h.1.broken
-  breaks all (breach.Operations task start) h keeps = overfull (terms_of terms task).period (terms_of terms task).work all start h.1
+  breaks all (breach.Operations task start) h keeps = overfull count.Operations task (terms_of terms task).period (terms_of terms task).work
+      all start h.1
       (λ slot. keeps.few_operations task slot h.0.is_task)
-  breaks all (breach.Writes task start) h keeps = overfull (terms_of terms task).period (terms_of terms task).writes all start h.2
+  breaks all (breach.Writes task start) h keeps = overfull count.Writes task (terms_of terms task).period (terms_of terms task).writes
+      all start h.2
       (λ slot. keeps.few_writes task slot h.0.is_task)
   breaks all (breach.Collections task slot) h keeps = h.3.other (keeps.collected task slot h.0.is_task h.3.planned)
 
@@ -134,13 +137,15 @@ module _ (plan : DiePlan) (terms : Terms) where
       (planned, record { event = event; there = there; broken = subst (λ (n : ℕ). BreaksJob plan terms n rule event) at h.1 })
   alone all index event there now end at is_end planned (breach.Collection place rule) h =
       subst (λ (n : ℕ). ArePlanned plan terms all (take n all)
-      × BreaksAt (λ now event. BreaksCollection plan terms (slots all) now rule event) all n) (sym h.0)
-      (planned, record {
-        event = event;
-        there = there;
-        broken = subst (λ (n : ℕ). BreaksCollection plan terms (slots all) n rule event) at
-            (subst (λ (n : ℕ). BreaksCollection plan terms n now rule event) is_end h.1);
-      })
+      × BreaksAt (λ now event. BreaksCollection plan terms (slots all) now rule event) all n) (sym h.0) (
+        planned,
+        record {
+          event = event;
+          there = there;
+          broken = subst (λ (n : ℕ). BreaksCollection plan terms (slots all) n rule event) at
+              (subst (λ (n : ℕ). BreaksCollection plan terms n now rule event) is_end h.1);
+        },
+      )
   alone all index event there now end at is_end planned (breach.Limits fault) h = absurd h
   alone all index event there now end at is_end planned breach.Slots h = absurd h
   alone all index event there now end at is_end planned breach.Arrivals h = absurd h

@@ -15,9 +15,9 @@ use Rattle.demand_keeping.specs.Windows.{amount_in, is_job_of, slot_of, window, 
 use Rattle.demand_keeping.proofs.Taking.{each_first, each_more, first_in_more}
 use Rattle.demand_keeping.proofs.Ends.{HasRoom, HasRoomBefore, all_have_room, sooner_have_room}
 
-each_so : {P Q : TaskArrival → Type 0} → ((a : TaskArrival) → P a → Q a) → (xs : List TaskArrival) → AllByRecursion P xs → AllByRecursion Q xs
-each_so so [] h = tt
-each_so so (x ∷ xs) h = (so x h.0, each_so so xs h.1)
+each_so : (P Q : TaskArrival → Type 0) → ((a : TaskArrival) → P a → Q a) → (xs : List TaskArrival) → AllByRecursion P xs → AllByRecursion Q xs
+each_so P Q so [] h = tt
+each_so P Q so (x ∷ xs) h = (so x h.0, each_so P Q so xs h.1)
 
 module _ (c : Count) (task period limit : ℕ) (events : List Event) where
   abbrev to : ℕ → List TaskArrival
@@ -46,7 +46,7 @@ module _ (c : Count) (task period limit : ℕ) (events : List Event) where
   -- the windows that end with the jobs among the first have room in fewer events
   pub each_fewer : (seen fewer : ℕ) → fewer ≤ seen → (xs : List TaskArrival) → AllByRecursion (HasRoom c task period limit (to seen)) xs
       → AllByRecursion (HasRoom c task period limit (to fewer)) xs
-  each_fewer seen fewer le xs h = each_so (λ a room job. omega (
+  each_fewer seen fewer le xs h = each_so (HasRoom c task period limit (to seen)) (HasRoom c task period limit (to fewer)) (λ a room job. omega (
     arith,
     room job,
     first_in_more (amount_in c task (first_with period (slot_of c a)) (first_with period (slot_of c a) + period)) events fewer seen le,
@@ -56,10 +56,10 @@ module _ (c : Count) (task period limit : ℕ) (events : List Event) where
     abbrev own : List TaskArrival
     own = arrivals now (event ∷ [])
 
-    no_job : {P : TaskArrival → Type 0} → (xs : List TaskArrival) → AllByRecursion (λ a. is_job_of task a ≡ false) xs
+    no_job : (P : TaskArrival → Type 0) → (xs : List TaskArrival) → AllByRecursion (λ a. is_job_of task a ≡ false) xs
         → AllByRecursion (λ a. is_job_of task a ≡ true → P a) xs
-    no_job [] h = tt
-    no_job {P} (x ∷ xs) h = ((λ job. absurd (true≢false (sym job ∙ h.0))), no_job {P} xs h.1)
+    no_job P [] h = tt
+    no_job P (x ∷ xs) h = ((λ job. absurd (true≢false (sym job ∙ h.0))), no_job P xs h.1)
 
     one_job : (P : ℕ → Type 0) (slot : ℕ) → P slot → (xs : List TaskArrival) → AllByRecursion (λ a. slot_of c a ≡ slot) xs
         → AllByRecursion (λ a. is_job_of task a ≡ true → P (slot_of c a)) xs
@@ -69,7 +69,7 @@ module _ (c : Count) (task period limit : ℕ) (events : List Event) where
     pub room_without : (seen : ℕ) → CountsNothing c task own → AllByRecursion (HasRoom c task period limit (to seen)) (to i)
         → AllByRecursion (HasRoom c task period limit (to seen)) (to (i + 1))
     room_without seen none old = each_more events i event is lt (HasRoom c task period limit (to seen)) now at old
-        (no_job {λ a. own_window (first_with period (slot_of c a)) seen ≤ limit} own none.each)
+        (no_job (λ a. own_window (first_with period (slot_of c a)) seen ≤ limit) own none.each)
 
     pub room_with : (seen slot counted start : ℕ) → CountsOne c task own slot counted → start ≡ first_with period slot → own_window start seen ≤ limit
         → AllByRecursion (HasRoom c task period limit (to seen)) (to i) → AllByRecursion (HasRoom c task period limit (to seen)) (to (i + 1))
@@ -79,7 +79,7 @@ module _ (c : Count) (task period limit : ℕ) (events : List Event) where
     pub before_without : (bound seen : ℕ) → CountsNothing c task own → AllByRecursion (HasRoomBefore c task bound period limit (to seen)) (to i)
         → AllByRecursion (HasRoomBefore c task bound period limit (to seen)) (to (i + 1))
     before_without bound seen none old = each_more events i event is lt (HasRoomBefore c task bound period limit (to seen)) now at old
-        (no_job {λ a. first_with period (slot_of c a) < bound → own_window (first_with period (slot_of c a)) seen ≤ limit} own none.each)
+        (no_job (λ a. first_with period (slot_of c a) < bound → own_window (first_with period (slot_of c a)) seen ≤ limit) own none.each)
 
     pub before_with : (bound seen slot counted start : ℕ) → CountsOne c task own slot counted → start ≡ first_with period slot
         → (start < bound → own_window start seen ≤ limit)
@@ -93,22 +93,24 @@ module _ (c : Count) (task period limit : ℕ) (events : List Event) where
   -- of fewer windows
   pub each_sooner : (bound sooner seen : ℕ) → sooner ≤ bound → (xs : List TaskArrival)
       → AllByRecursion (HasRoomBefore c task bound period limit (to seen)) xs → AllByRecursion (HasRoomBefore c task sooner period limit (to seen)) xs
-  each_sooner bound sooner seen le xs h = each_so (λ a room job below. room job (omega (arith, below, le))) xs h
+  each_sooner bound sooner seen le xs h =
+      each_so (HasRoomBefore c task bound period limit (to seen)) (HasRoomBefore c task sooner period limit (to seen))
+      (λ a room job below. room job (omega (arith, below, le))) xs h
 
   -- all were looked at
-  looked : {P : TaskArrival → Type 0} → (i : ℕ) → length events ≤ i → AllByRecursion P (to i) → AllByRecursion P (arrivals 0 events)
-  looked {P} i all h = subst (λ (es : List Event). AllByRecursion P (arrivals 0 es)) (take_all i events all) h
+  looked : (P : TaskArrival → Type 0) → (i : ℕ) → length events ≤ i → AllByRecursion P (to i) → AllByRecursion P (arrivals 0 events)
+  looked P i all h = subst (λ (es : List Event). AllByRecursion P (arrivals 0 es)) (take_all i events all) h
 
   pub none_overfull : (i seen : ℕ) → length events ≤ i → seen ≡ length events → AllByRecursion (HasRoom c task period limit (to seen)) (to i)
       → KeepsLimit c task period limit events
   none_overfull i seen all whole h = all_have_room c task period limit (arrivals 0 events)
       (subst (λ (es : List Event). AllByRecursion (HasRoom c task period limit (arrivals 0 es)) (arrivals 0 events))
-      (take_all seen events (omega (arith, whole))) (looked i all h))
+      (take_all seen events (omega (arith, whole))) (looked (HasRoom c task period limit (to seen)) i all h))
 
   pub none_before : (i seen : ℕ) → length events ≤ i → AllByRecursion (HasRoom c task period limit (to seen)) (to i)
       → KeepsLimit c task period limit (take seen events)
   none_before i seen all h = all_have_room c task period limit (to seen)
-      (each_first (HasRoom c task period limit (to seen)) events seen (looked i all h))
+      (each_first (HasRoom c task period limit (to seen)) events seen (looked (HasRoom c task period limit (to seen)) i all h))
 
   -- a window gets too much with one of the first events
   pub has_too_much : (found : Option ℕ) → is_some found ≡ true → (seen start : ℕ)

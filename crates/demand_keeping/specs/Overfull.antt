@@ -1,5 +1,5 @@
 -- Windows that get more than a limit, as the events come one by one.
-use Rattle.std.specs.Prelude.{ℕ, ◌≡◌, ◌+◌, ◌<◌, ◌≤◌, List, length, take}
+use Rattle.std.specs.Prelude.{ℕ, ◌+◌, ◌<◌, ◌≤◌, List, length, take}
 use Rattle.slot_types.specs.declared.events.Event.{Event}
 use Rattle.plan_rules.specs.Keeping.{arrivals}
 use Rattle.demand_keeping.specs.declared.windows.Count.{Count}

@@ -94,9 +94,7 @@ fn amount_in(of: Limit, start: u32, now: u32, event: &Event) -> usize
 {
     match count_of(of, now, event) {
         Some(own) => {
-            if start <= own.slot
-                && u64::from(own.slot) < u64::from(start) + u64::from(of.period)
-            {
+            if start <= own.slot && u64::from(own.slot) < u64::from(start) + u64::from(of.period) {
                 own.amount
             } else {
                 0

@@ -1,4 +1,4 @@
-use Rattle.std.proofs.Common.{◌≡◌, ℕ, ◌+◌, Option, Some, sym, subst, refl, arith, take, [], ◌∷◌}
+use Rattle.std.proofs.Common.{ℕ, ◌+◌, Option, sym, subst, refl, arith, take}
 use Rattle.std.specs.List.{AllByRecursion}
 use Rattle.plan_rules.specs.Keeping.{arrivals}
 use Rattle.demand_keeping.specs.declared.overfull.Overfull.{Overfull}
@@ -28,16 +28,16 @@ loop-i-preserved c = record {
   );
   sought = elim c.match-count_of.branch [
     | in-Some+in-Some-event_above w ↦
-        subst (λ (n : ℕ). IsSought c.args.of.count c.args.of.task c.args.of.period c.args.of.limit c.args.events.now n _) (sym w.seen-is)
+        subst (λ (n : ℕ). IsSought c.args.of.count c.args.of.task c.args.of.period c.args.of.limit c.args.events.now n c.match-count_of.found) (sym w.seen-is)
         (subst (λ (f : Option Overfull). IsSought c.args.of.count c.args.of.task c.args.of.period c.args.of.limit c.args.events.now
         w.in-Some-event_above.index f) (sym w.found-is)
         (sought_more c.args.of.count c.args.of.task c.args.of.period c.args.of.limit c.args.events.now c.loop-i.seen w.start_with-start.result
         w.in-Some-event_above.index c.loop-i.invariant.sought.within w.in-Some-event_above.ensures.some))
     | in-Some+in_default-event_above w ↦ subst (λ (n : ℕ). IsSought c.args.of.count c.args.of.task c.args.of.period c.args.of.limit
-    c.args.events.now n _) (sym w.seen-is)
+        c.args.events.now n c.match-count_of.found) (sym w.seen-is)
         (subst (λ (f : Option Overfull). IsSought c.args.of.count c.args.of.task c.args.of.period c.args.of.limit c.args.events.now c.loop-i.seen f)
         (sym w.found-is) c.loop-i.invariant.sought)
-    | in_default w ↦ subst (λ (n : ℕ). IsSought c.args.of.count c.args.of.task c.args.of.period c.args.of.limit c.args.events.now n _) (sym w.seen-is)
+    | in_default w ↦ subst (λ (n : ℕ). IsSought c.args.of.count c.args.of.task c.args.of.period c.args.of.limit c.args.events.now n c.match-count_of.found) (sym w.seen-is)
         (subst (λ (f : Option Overfull). IsSought c.args.of.count c.args.of.task c.args.of.period c.args.of.limit c.args.events.now c.loop-i.seen f)
         (sym w.found-is) c.loop-i.invariant.sought)
   ];

@@ -1,4 +1,4 @@
-use Rattle.std.proofs.Common.{◌≡◌, ℕ, ◌+◌, ◌<◌, ◌≤◌, sym, subst, ◌∙◌, refl, arith, take, [], ◌∷◌}
+use Rattle.std.proofs.Common.{ℕ, ◌+◌, ◌<◌, sym, subst, ◌∙◌, refl, arith, take}
 use Rattle.std.specs.List.{AllByRecursion}
 use Rattle.plan_rules.specs.Keeping.{arrivals}
 use Rattle.demand_keeping.specs.Windows.{window}
@@ -39,7 +39,7 @@ loop-i-preserved c = record {
         c.loop-i.start (c.args.found.index + 1) w.in-Some.own.slot w.in-Some.own.amount w.start_with-other.result w.in-Some.ensures.some
         w.start_with-other.ensures (λ less. elim w.else-other-start.branch [
           | else-other-start-via-then-other-start+else-is_some v ↦ has_no_more c.args.of.count c.args.of.task c.args.of.period c.args.of.limit
-          c.args.events.now v.event_above.result (sym v.is_some.ensures ∙ v.if-is_some.false) (c.args.found.index + 1)
+              c.args.events.now v.event_above.result (sym v.is_some.ensures ∙ v.if-is_some.false) (c.args.found.index + 1)
               w.start_with-other.result v.event_above.ensures.none
           | else-other-start-via-else-other-start v ↦ absurd (omega (arith, less, v.if-other-start.false))
         ]) c.loop-i.invariant.room)
