@@ -115,26 +115,21 @@ def collection_fault(task, at, release, due, slots):
 
 
 def excess(rows, number, period, most, count):
-    """The first row with which more is counted in a period than may be, where the period begins, and what is counted then. Named
-    is the period that ends with the first row that has too much before it, or that counts in a slot before another's; where
-    that one has room, the first with too much that begins with a row. A row that counts has its slot and its amount."""
-    counted = [(row, *count(row)) for row in rows if row[3] == number and row[6] is not None]
-
-    def within(begin, among):
-        return [entry for entry in among if begin <= entry[1] < begin + period]
-
-    def over(begin):
-        total = 0
-        for row, _, amount in within(begin, counted):
-            total += amount
+    """The first row with which more is counted in a period than may be, where the period begins that begins first of those, and
+    what is counted then. A row that counts has its slot and its amount."""
+    seen = []
+    for row in rows:
+        if row[3] != number or row[6] is None:
+            continue
+        slot, amount = count(row)
+        seen.append((slot, amount))
+        near = [(other, some) for other, some in seen if abs(other - slot) < period]  # what may be in a period with it
+        if sum(some for _, some in near) <= most:
+            continue
+        for begin in range(max(0, slot - period + 1), slot + 1):
+            total = sum(some for other, some in near if begin <= other < begin + period)
             if total > most:
                 return row, begin, total
-        return None
-
-    for at, (_, slot, amount) in enumerate(counted):
-        begin, seen = max(0, slot - period + 1), counted[:at]
-        if any(other > slot for _, other, _ in seen) or sum(some for _, _, some in within(begin, seen)) + amount > most:
-            return over(begin) or next((found for _, begin, _ in counted if (found := over(begin))), None)
     return None
 
 

@@ -1,5 +1,6 @@
 pub mod Taking
-pub mod Least
+pub mod Ends
+pub mod Finding
 pub mod Steps
 pub mod Counting
 pub mod Breaking

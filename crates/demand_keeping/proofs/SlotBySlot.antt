@@ -16,7 +16,7 @@ use Rattle.plan_rules.proofs.Moments.{arrivals_after}
 use Rattle.demand_rules.specs.declared.terms.Terms.{Terms}
 use Rattle.demand_rules.specs.Demand.{terms_of}
 use Rattle.demand_rules.specs.Keeping.{IsCollectSlot, IsDemanded}
-use Rattle.demand_keeping.specs.Collecting.{IsCollection}
+use Rattle.demand_keeping.specs.Collecting.{ComesOnce, IsCollection}
 use Rattle.std.specs.Prelude.{All}
 use Rattle.std.proofs.lemmas.Option.{slice_get_read}
 use Rattle.std.proofs.lemmas.List.Elements.{recursion_from_All}
@@ -104,6 +104,16 @@ module _ (terms : Terms) (task : ℕ) (all : List Event) (i : ℕ) (event : Even
     pub other_event : ((now slot : ℕ) → collected task slot (arrivals now (event ∷ [])) ≡ 0) → (slot : ℕ) → seen_next slot ≡ seen slot
     other_event none slot = omega (arith, one_more slot, none now slot)
 
+    -- of a slot that is past all was seen
+    pub whole : (slot : ℕ) → slot < now → collected task slot (arrivals 0 all) ≡ seen slot
+    whole slot past = omega (
+      arith,
+      ap (λ (es : List Event). collected task slot (arrivals 0 es)) (sym (take-append-drop i all)),
+      ap (λ (came : List TaskArrival). collected task slot came) (arrivals_after (take i all) (drop i all)),
+      sum_by-append (λ a. one_if (is_collection_at task slot a)) (arrivals 0 (take i all)) (arrivals (slots (take i all)) (drop i all)),
+      none_later task slot (slots (take i all)) (drop i all) (omega (arith, past, is_now)),
+    )
+
     -- the collection that was expected
     module _ (period next : ℕ) (multiple : next % period ≡ 0) (before : (slot : ℕ) → slot % period ≡ 0 → slot < next → seen slot ≡ 1)
         (after : (slot : ℕ) → next ≤ slot → seen slot ≡ 0) (is : IsCollection task event)
@@ -153,15 +163,13 @@ module _ (terms : Terms) (task : ℕ) (all : List Event) (i : ℕ) (event : Even
 
         -- one didn't come
         pub is_missing : next < now → collected task next (arrivals 0 all) ≡ 1 → ⊥
-        is_missing sooner once = omega (
-          arith,
-          once,
-          ap (λ (es : List Event). collected task next (arrivals 0 es)) (sym (take-append-drop i all)),
-          ap (λ (came : List TaskArrival). collected task next came) (arrivals_after (take i all) (drop i all)),
-          sum_by-append (λ a. one_if (is_collection_at task next a)) (arrivals 0 (take i all)) (arrivals (slots (take i all)) (drop i all)),
-          after next (omega arith),
-          none_later task next (slots (take i all)) (drop i all) (omega (arith, sooner, is_now)),
-        )
+        is_missing sooner once = omega (arith, once, whole next sooner, after next (omega arith))
+
+        -- each before came once
+        pub came_before : (bound : ℕ) → bound ≤ now → bound ≤ next → (end earlier : ℕ) → earlier < bound
+            → IsCollectSlot terms end task earlier → period ≡ (terms_of terms task).collect_period → ComesOnce task all earlier
+        came_before bound by_now by_next end earlier sooner at is_period = whole earlier (omega (arith, sooner, by_now))
+            ∙ before earlier (subst (λ (p : ℕ). earlier % p ≡ 0) (sym is_period) at.multiple) (omega (arith, sooner, by_next))
 
 -- a planned collection comes in a slot in which the plan has one
 pub planned_here : (plan : DiePlan) (terms : Terms) (end task now : ℕ) (event : Event) → IsCollection task event

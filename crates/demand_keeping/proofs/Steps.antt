@@ -1,18 +1,22 @@
 -- What a window that slides says, event by event.
-use Rattle.std.proofs.Common.{◌≡◌, ℕ, ◌+◌, ◌-◌, ◌<◌, ◌≤◌, nat_le, nat_lt, Bool, cond, List, [], ◌∷◌, length, get_or, take}
-use Rattle.std.proofs.Common.{ap, subst, ◌∙◌, inl, inr, arith}
+use Rattle.std.proofs.Common.{◌≡◌, ℕ, ◌+◌, ◌-◌, ◌<◌, ◌≤◌, nat_le, nat_lt, Bool, false, cond, List, [], ◌∷◌, length, get_or, take}
+use Rattle.std.proofs.Common.{ap, subst, inl, inr, arith}
 use Rattle.std.proofs.lemmas.Bool.{cases_Bool, and_parts, ltb-true}
+use Rattle.std.proofs.lemmas.Bool.Decides.{nat_tests}
 use Rattle.std.proofs.lemmas.List.{take_all}
 use Rattle.slot_types.specs.declared.events.Event.{Event}
 use Rattle.plan_rules.specs.Keeping.{TaskArrival, arrivals, slots}
 use Rattle.demand_keeping.specs.declared.windows.Count.{Count}
 use Rattle.demand_keeping.specs.declared.sliding.Sliding.{Sliding}
-use Rattle.demand_keeping.specs.Windows.{amount, amount_in, is_in, total, window, CountsNothing, CountsOne}
-use Rattle.demand_keeping.specs.Sliding.{AreFew, IsSliding}
+use Rattle.demand_keeping.specs.Windows.{amount, amount_in, is_in, total, window, CountsNothing, CountsOne, KeepsLimit}
+use Rattle.demand_keeping.specs.Sliding.{IsSliding}
 use Rattle.demand_keeping.proofs.Taking.{sum_more, sum_grows, inside_between}
 
 abbrev one_if : Bool → ℕ → ℕ
 one_if b n = cond b n 0
+
+not_in : (start end slot : ℕ) → end ≤ slot → is_in start end slot ≡ false
+not_in start end slot ended = grind (arith, nat_tests)
 
 module _ (c : Count) (task period limit : ℕ) (events : List Event) where
   abbrev to : ℕ → List TaskArrival
@@ -25,7 +29,7 @@ module _ (c : Count) (task period limit : ℕ) (events : List Event) where
       abbrev own : List TaskArrival
       own = arrivals now (event ∷ [])
 
-      pub few_without : CountsNothing c task own → AreFew c task period limit events seen → AreFew c task period limit events (seen + 1)
+      pub few_without : CountsNothing c task own → KeepsLimit c task period limit (take seen events) → KeepsLimit c task period limit (take (seen + 1) events)
       few_without none few start = omega (
         arith,
         sum_more events seen event is_event lt now is_now (amount_in c task start (start + period)),
@@ -45,7 +49,7 @@ module _ (c : Count) (task period limit : ℕ) (events : List Event) where
 
       -- it is one
       pub few_with : (slot counted : ℕ) → CountsOne c task own slot counted → (w : Sliding) → IsSliding c task period limit events seen w
-          → w.last ≡ slot → w.sum + counted ≤ limit → AreFew c task period limit events seen → AreFew c task period limit events (seen + 1)
+          → w.last ≡ slot → w.sum + counted ≤ limit → KeepsLimit c task period limit (take seen events) → KeepsLimit c task period limit (take (seen + 1) events)
       few_with slot counted one w h last fits few start = elim (cases_Bool (is_in start (start + period) slot)) [
         | inl is ↦
             let below : slot < start + period = ltb-true slot (start + period)
@@ -71,6 +75,17 @@ module _ (c : Count) (task period limit : ℕ) (events : List Event) where
           few start,
         )
       ]
+
+      -- a window that ends before its slot gets no more
+      pub few_sooner : (slot counted : ℕ) → CountsOne c task own slot counted → KeepsLimit c task period limit (take seen events)
+          → (start : ℕ) → start + period ≤ slot → window c task start (start + period) (to (seen + 1)) ≤ limit
+      few_sooner slot counted one few start ended = omega (
+        arith,
+        sum_more events seen event is_event lt now is_now (amount_in c task start (start + period)),
+        one.inside start (start + period),
+        ap (λ (b : Bool). one_if b counted) (not_in start (start + period) slot ended),
+        few start,
+      )
 
       pub sliding_with : (slot counted : ℕ) → CountsOne c task own slot counted → (w : Sliding) → IsSliding c task period limit events seen w
           → w.sum + counted ≤ limit → IsSliding c task period limit events (seen + 1) (record w { sum = w.sum + counted })
@@ -137,15 +152,6 @@ module _ (c : Count) (task period limit : ℕ) (events : List Event) where
   }
 
   -- at the end
-  pub few_in_all : AreFew c task period limit events (length events) → (start : ℕ) → window c task start (start + period) (arrivals 0 events) ≤ limit
+  pub few_in_all : KeepsLimit c task period limit (take (length events) events) → (start : ℕ) → window c task start (start + period) (arrivals 0 events) ≤ limit
   few_in_all few start = subst (λ (es : List Event). window c task start (start + period) (arrivals 0 es) ≤ limit)
       (take_all (length events) events (omega arith)) (few start)
-
-  -- what is counted in the first events is counted in all
-  pub first_in_all : (d : Event) (n start end : ℕ) → n ≤ length events
-      → window c task start end (to n) ≤ window c task start end (arrivals 0 events)
-  first_in_all d n start end le =
-      let same : n + (length events - n) ≡ length events = omega (arith, le) in
-      subst (λ (es : List Event). window c task start end (to n) ≤ window c task start end (arrivals 0 es))
-      (ap (λ (k : ℕ). take k events) same ∙ take_all (length events) events (omega arith))
-      (sum_grows events d n (amount_in c task start end) (length events - n) (omega (arith, same)))

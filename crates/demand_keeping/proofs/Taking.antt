@@ -3,7 +3,7 @@ use Rattle.std.proofs.Common.{◌≡◌, ℕ, zero, suc, ◌+◌, ◌<◌, ◌�
 use Rattle.std.proofs.Common.{refl, sym, ap, subst, ◌∙◌, arith}
 use Rattle.std.specs.List.{AllByRecursion}
 use Rattle.std.proofs.Math.Seq.{take-suc}
-use Rattle.std.proofs.lemmas.List.{take-append-drop}
+use Rattle.std.proofs.lemmas.List.{take-append-drop, take-take}
 use Rattle.std.proofs.lemmas.List.Sums.{sum_by-cons, sum_by-append}
 use Rattle.slot_types.specs.declared.events.Event.{Event}
 use Rattle.plan_rules.specs.Keeping.{TaskArrival, arrivals, slots}
@@ -53,6 +53,32 @@ slots_first events i = omega (
   slots_append (take i events) (drop i events),
   ap (λ (es : List Event). slots es) (take-append-drop i events),
 )
+
+-- what is counted in the first of some events is counted in all of them, and in more of them
+module _ (f : TaskArrival → ℕ) (events : List Event) where
+  pub first_in_all : (n : ℕ) → sum_by f (arrivals 0 (take n events)) ≤ sum_by f (arrivals 0 events)
+  first_in_all n = omega (
+    arith,
+    ap (λ (es : List Event). sum_by f (arrivals 0 es)) (take-append-drop n events),
+    ap (λ (came : List TaskArrival). sum_by f came) (arrivals_after (take n events) (drop n events)),
+    sum_by-append f (arrivals 0 (take n events)) (arrivals (slots (take n events)) (drop n events)),
+  )
+
+module _ (f : TaskArrival → ℕ) (events : List Event) (m n : ℕ) (le : m ≤ n) where
+  pub first_in_more : sum_by f (arrivals 0 (take m events)) ≤ sum_by f (arrivals 0 (take n events))
+  first_in_more = subst (λ (es : List Event). sum_by f (arrivals 0 es) ≤ sum_by f (arrivals 0 (take n events))) (take-take m n events le)
+      (first_in_all f (take n events) m)
+
+-- what holds of all that comes holds of what comes first
+pub all_left : {X : Type 0} (P : X → Type 0) (xs ys : List X) → AllByRecursion P (xs ++ ys) → AllByRecursion P xs
+all_left P [] ys h = tt
+all_left P (x ∷ xs) ys h = (h.0, all_left P xs ys h.1)
+
+pub each_first : (P : TaskArrival → Type 0) (events : List Event) (n : ℕ) → AllByRecursion P (arrivals 0 events)
+    → AllByRecursion P (arrivals 0 (take n events))
+each_first P events n h = all_left P (arrivals 0 (take n events)) (arrivals (slots (take n events)) (drop n events))
+    (subst (λ (came : List TaskArrival). AllByRecursion P came) (arrivals_after (take n events) (drop n events))
+    (subst (λ (es : List Event). AllByRecursion P (arrivals 0 es)) (sym (take-append-drop n events)) h))
 
 -- what is counted in a window is no more than what is counted in all
 pub inside_all : (c : Count) (task start end : ℕ) (xs : List TaskArrival) → window c task start end xs ≤ total c task xs

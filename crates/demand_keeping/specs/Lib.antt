@@ -1,5 +1,6 @@
 pub mod Windows
 pub mod Sliding
+pub mod Overfull
 pub mod Planned
 pub mod Collecting
 pub mod Breaches

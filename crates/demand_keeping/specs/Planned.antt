@@ -1,4 +1,4 @@
--- The conditions on a single job or collection, one by one.
+-- The conditions on a single job or collection, one by one, and the first that doesn't hold.
 use Rattle.std.specs.Prelude.{ℕ, ◌≡◌, ◌+◌, ◌%◌, ◌<◌, ◌≤◌, true, false, List, [], length, All}
 use Rattle.slot_types.specs.declared.plans.DiePlan.{DiePlan}
 use Rattle.slot_types.specs.declared.limits.TheConstants.{MAX_OPS, MAX_SLOT}
@@ -35,3 +35,31 @@ CollectionHolds plan terms end a collection.Multiple = a.release % (terms_of ter
 CollectionHolds plan terms end a collection.BeforeEnd = a.release < end
 CollectionHolds plan terms end a collection.Due = a.due ≡ a.release + (terms_of terms a.task).collect_deadline
 CollectionHolds plan terms end a collection.LastDue = a.due ≤ MAX_SLOT
+
+-- the place of a condition in the order in which they are looked at
+abbrev pub job_place : JobRule → ℕ
+job_place job.Task = 0
+job_place job.Release = 1
+job_place job.Due = 2
+job_place job.Held = 3
+job_place job.LastDue = 4
+job_place job.SomeOps = 5
+job_place job.FewOps = 6
+job_place job.Pages = 7
+
+abbrev pub collection_place : CollectionRule → ℕ
+collection_place collection.Task = 0
+collection_place collection.Release = 1
+collection_place collection.Multiple = 2
+collection_place collection.BeforeEnd = 3
+collection_place collection.Due = 4
+collection_place collection.LastDue = 5
+
+-- a condition doesn't hold, and each before it does
+pub record IsFirstJobFault (plan : DiePlan) (terms : Terms) (a : TaskArrival) (rule : JobRule) : Type 0 where
+  pub fails : ¬ JobHolds plan terms a rule
+  pub before : (earlier : JobRule) → job_place earlier < job_place rule → JobHolds plan terms a earlier
+
+pub record IsFirstCollectionFault (plan : DiePlan) (terms : Terms) (end : ℕ) (a : TaskArrival) (rule : CollectionRule) : Type 0 where
+  pub fails : ¬ CollectionHolds plan terms end a rule
+  pub before : (earlier : CollectionRule) → collection_place earlier < collection_place rule → CollectionHolds plan terms end a earlier

@@ -6,10 +6,6 @@ use Rattle.demand_keeping.specs.declared.windows.Count.{Count}
 use Rattle.demand_keeping.specs.declared.sliding.Sliding.{Sliding}
 use Rattle.demand_keeping.specs.Windows.{total, window}
 
--- in each window of the first events no more is counted than the limit
-abbrev pub AreFew : Count → (task period limit : ℕ) → List Event → ℕ → Type 0
-AreFew c task period limit events seen = (start : ℕ) → window c task start (start + period) (arrivals 0 (take seen events)) ≤ limit
-
 -- the jobs before `tail` are past: none of them is in a window with the last one that was seen; `sum` counts the others
 pub record IsSliding (c : Count) (task period limit : ℕ) (events : List Event) (seen : ℕ) (w : Sliding) : Type 0 where
   pub order : w.tail ≤ seen

@@ -1,8 +1,9 @@
 -- What the jobs of a task ask of a window of slots.
-use Rattle.std.specs.Prelude.{ℕ, ◌≡◌, ◌&&◌, ◌==◌, not, nat_le, nat_lt, Bool, false, if◌then◌else◌, List, length, sum_by}
+use Rattle.std.specs.Prelude.{ℕ, ◌≡◌, ◌+◌, ◌-◌, ◌≤◌, ◌&&◌, ◌==◌, not, nat_le, nat_lt, Bool, false, if◌then◌else◌, List, length, sum_by}
 use Rattle.std.specs.List.{AllByRecursion}
+use Rattle.slot_types.specs.declared.events.Event.{Event}
 use Rattle.slot_types.specs.Operations.{writes}
-use Rattle.plan_rules.specs.Keeping.{TaskArrival}
+use Rattle.plan_rules.specs.Keeping.{TaskArrival, arrivals}
 use Rattle.demand_keeping.specs.declared.windows.Count.{Count}
 use Rattle.demand_keeping.specs.declared.windows.Count.TheVariants as count
 
@@ -33,6 +34,14 @@ total c task all = sum_by (amount c task) all
 
 abbrev pub window : Count → ℕ → ℕ → ℕ → List TaskArrival → ℕ
 window c task start end all = sum_by (amount_in c task start end) all
+
+-- in no window of a period is more counted than the limit
+abbrev pub KeepsLimit : Count → (task period limit : ℕ) → List Event → Type 0
+KeepsLimit c task period limit all = (start : ℕ) → window c task start (start + period) (arrivals 0 all) ≤ limit
+
+-- where the first window of a period begins that has this slot
+abbrev pub first_with : (period slot : ℕ) → ℕ
+first_with period slot = slot - (period - 1)
 
 -- there is no job of the task among these
 pub record CountsNothing (c : Count) (task : ℕ) (came : List TaskArrival) : Type 0 where

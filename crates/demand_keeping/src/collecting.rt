@@ -3,8 +3,8 @@
 ghost use Rattle.std.specs.Prelude.{◌≡◌, ℕ, ◌≤◌, false, [], ◌∷◌, All, IsTrue, IsNone, IfSome, count_by};
 ghost use Rattle.plan_rules.specs.Keeping.{arrivals, slots, is_collection_at};
 ghost use Rattle.demand_rules.specs.Demand.{IsTaskTerms, terms_of};
-ghost use Rattle.demand_rules.specs.Keeping.{IsCollectSlot, IsDemanded};
-ghost use Rattle.demand_keeping.specs.Collecting.{IsCollection, IsWrongAt};
+ghost use Rattle.demand_rules.specs.Keeping.{IsDemanded};
+ghost use Rattle.demand_keeping.specs.Collecting.{IsCollected, IsCollection, IsFirstWrong};
 
 use crate::windows::slots_in;
 use demand_rules::{TaskTerms, Terms};
@@ -22,7 +22,7 @@ fn collects(task: u32, event: &Event) -> bool
     }
 }
 
-/// The slot in which the plan has a collection of a task, and none comes, or more than one.
+/// The first slot in which the plan has a collection of a task, and none comes, or more than one.
 pub(crate) fn wrong_collection(
     plan: &DiePlan,
     terms: &Terms,
@@ -36,9 +36,8 @@ pub(crate) fn wrong_collection(
     requires end { end ≡ slots events.now }
     requires few { end ≤ 1048576 }
     requires planned { All (IsDemanded plan.now terms.now end) (arrivals 0 events.now) }
-    ensures none { IsNone result → (slot : ℕ) → IsCollectSlot terms.now end task slot
-        → count_by (is_collection_at task slot) (arrivals 0 events.now) ≡ 1 }
-    ensures some { IfSome result (λ slot. IsWrongAt terms.now task events.now slot) }
+    ensures none { IsNone result → IsCollected terms.now task events.now }
+    ensures some { IfSome result (IsFirstWrong terms.now task events.now) }
 {
     let mut now: u32 = 0;
     let mut next: u32 = 0;

@@ -5,16 +5,16 @@ ghost use Rattle.slot_types.specs.declared.limits.TheConstants.{MAX_SLOT};
 ghost use Rattle.plan_rules.specs.Keeping.{arrivals, slots};
 ghost use Rattle.demand_rules.specs.Demand.{HasTerms};
 ghost use Rattle.demand_rules.specs.Keeping.{IsDemanded, KeepsDemandPlan};
-ghost use Rattle.demand_keeping.specs.Breaches.{AreTasksKept, BreaksAlone, IsBreach, IsTaskKept};
+ghost use Rattle.demand_keeping.specs.Breaches.{AreKeptBelow, ArePlanned, AreTasksKept, BreaksAlone, IsFirstBreach, IsInLimits, IsTaskKept};
 
 use crate::collecting::wrong_collection;
 use crate::planning::{CollectionRule, JobRule, broken_of_collection, broken_of_job, task_terms};
-use crate::sliding::{Limit, window_above};
-use crate::windows::{Count, slots_in};
+use crate::sliding::window_above;
+use crate::windows::{Count, Limit, slots_in};
 use demand_rules::{LimitFault, Terms, limits_test};
 use slot_types::{DiePlan, Event, MAX_JOBS, MAX_SLOT};
 
-/// A condition of a plan that doesn't hold of events.
+/// The first condition of a plan that doesn't hold of events, in the order in which these stand here.
 #[derive(Clone, Copy, PartialEq, Eq, Debug, Drop)]
 pub enum Breach {
     /// The terms are none of the plan's.
@@ -23,15 +23,20 @@ pub enum Breach {
     Slots,
     /// There are more than 65,536 jobs and collections.
     Arrivals,
-    /// A condition doesn't hold of the job at this index of the events.
+    /// A condition doesn't hold of the job at this index of the events: of the first job or collection of which one doesn't,
+    /// and of that one the first.
     Job { index: usize, rule: JobRule },
-    /// A condition doesn't hold of the collection at this index of the events.
+    /// Likewise of the collection at this index.
     Collection { index: usize, rule: CollectionRule },
     /// The jobs of a task that are released in the period that begins in this slot have more operations than it may ask for.
+    /// It is the first task of which anything is wrong, and as the events come one by one no period has more before this
+    /// one; of those that have more with the same job it begins first. Where the jobs of the task are released in the order
+    /// in which they come, it is the period that ends with that job's release.
     Operations { task: u32, start: u32 },
-    /// Those that come in the period that begins in this slot have more writes than it may ask for.
+    /// Likewise those that come in the period that begins in this slot have more writes than it may ask for. It is the
+    /// period that ends with the slot in which a job comes.
     Writes { task: u32, start: u32 },
-    /// In this slot the plan has a collection of a task, and none comes, or more than one.
+    /// In this slot the plan has a collection of a task, and none comes, or more than one; it is the first such slot.
     Collections { task: u32, slot: u32 },
 }
 
@@ -45,7 +50,7 @@ fn slots_of(events: &[Event]) -> usize
         .count()
 }
 
-// What of one event isn't as the plan has it.
+// What of one event isn't as the plan has it, the first of it.
 fn broken(
     plan: &DiePlan,
     terms: &Terms,
@@ -56,7 +61,7 @@ fn broken(
 ) -> Option<Breach>
     requires { HasTerms plan.now terms.now }
     ensures none { IsNone result → All (IsDemanded plan.now terms.now end) (arrivals now (event.now ∷ [])) }
-    ensures broken { IfSome result (BreaksAlone plan.now terms.now end now index event.now) }
+    ensures first { IfSome result (BreaksAlone plan.now terms.now end now index event.now) }
 {
     match event {
         Event::Submit {
@@ -80,23 +85,23 @@ fn broken(
 
 // The first event that isn't as the plan has it.
 fn first_broken(plan: &DiePlan, terms: &Terms, end: u32, events: &[Event]) -> Option<Breach>
-    requires has { HasTerms plan.now terms.now }
+    requires limits { IsInLimits plan.now terms.now events.now }
     requires end { end ≡ slots events.now }
     requires few { end ≤ 1048576 }
-    ensures none { IsNone result → All (IsDemanded plan.now terms.now end) (arrivals 0 events.now) }
-    ensures broken { IfSome result (IsBreach plan.now terms.now events.now) }
+    ensures none { IsNone result → ArePlanned plan.now terms.now events.now events.now }
+    ensures first { IfSome result (IsFirstBreach plan.now terms.now events.now) }
 {
     let mut now: u32 = 0;
     for i in 0..events.len() {
-        if let Some(breach) = broken(plan, terms, end, now, i, &events[i]) {
-            return Some(breach);
+        if let Some(first) = broken(plan, terms, end, now, i, &events[i]) {
+            return Some(first);
         }
         now += slots_in(&events[i]);
     }
     None
 }
 
-// What breaks the plan of a task's operations, its writes or its collections.
+// What breaks the plan of a task's operations, its writes or its collections, the first of these.
 fn broken_of_task(
     plan: &DiePlan,
     terms: &Terms,
@@ -104,13 +109,11 @@ fn broken_of_task(
     end: u32,
     events: &[Event],
 ) -> Option<Breach>
-    requires has { HasTerms plan.now terms.now }
-    requires task { task < length plan.now.caps }
+    requires kept { AreKeptBelow plan.now terms.now events.now task }
     requires end { end ≡ slots events.now }
     requires few { end ≤ 1048576 }
-    requires planned { All (IsDemanded plan.now terms.now end) (arrivals 0 events.now) }
     ensures none { IsNone result → IsTaskKept terms.now task events.now }
-    ensures broken { IfSome result (IsBreach plan.now terms.now events.now) }
+    ensures first { IfSome result (IsFirstBreach plan.now terms.now events.now) }
 {
     let own = task_terms(terms, task as usize);
     let operations = Limit {
@@ -138,13 +141,12 @@ fn broken_of_task(
 }
 
 fn first_broken_task(plan: &DiePlan, terms: &Terms, end: u32, events: &[Event]) -> Option<Breach>
-    requires has { HasTerms plan.now terms.now }
     requires few_tasks { length plan.now.caps ≤ 16 }
     requires end { end ≡ slots events.now }
     requires few { end ≤ 1048576 }
-    requires planned { All (IsDemanded plan.now terms.now end) (arrivals 0 events.now) }
-    ensures none { IsNone result → AreTasksKept plan.now terms.now events.now }
-    ensures broken { IfSome result (IsBreach plan.now terms.now events.now) }
+    requires planned { ArePlanned plan.now terms.now events.now events.now }
+    ensures none { IsNone result → AreTasksKept terms.now (length plan.now.caps) events.now }
+    ensures first { IfSome result (IsFirstBreach plan.now terms.now events.now) }
 {
     for task in 0..plan.caps.len() {
         if let Some(breach) = broken_of_task(plan, terms, task as u32, end, events) {
@@ -154,17 +156,17 @@ fn first_broken_task(plan: &DiePlan, terms: &Terms, end: u32, events: &[Event]) 
     None
 }
 
-/// Whether events keep to a plan with deadlines and bursts; else a condition that doesn't hold. It takes any plan of at most
-/// 16 tasks, any terms and events, and no memory.
+/// Whether events keep to a plan with deadlines and bursts; else the first condition that doesn't hold. It takes any plan of
+/// at most 16 tasks, any terms and events, and no memory.
 ///
 /// It looks at the terms, the numbers of slots and of jobs and collections, each event by itself, and then task by task at
 /// what is released in a period, what comes in one, and at its collections. It takes time linear in the events for each
-/// task, where the jobs of each task are released in the order in which they come, and nothing breaks the plan; else, of such
-/// a task, as often that as it has jobs.
+/// task, where the jobs of each task are released in the order in which they come; else, of such a task, at most twice as
+/// often that as it has jobs.
 pub fn keeps_demand_plan(plan: &DiePlan, terms: &Terms, events: &[Event]) -> Result<(), Breach>
     requires { length plan.now.caps ≤ 16 }
     ensures keeps { IsOk result ↔ KeepsDemandPlan plan.now terms.now events.now }
-    ensures breach { IfErr result (IsBreach plan.now terms.now events.now) }
+    ensures breach { IfErr result (IsFirstBreach plan.now terms.now events.now) }
 {
     if let Err(fault) = limits_test(plan, terms) {
         return Err(Breach::Limits(fault));

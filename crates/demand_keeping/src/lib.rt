@@ -3,6 +3,7 @@
 
 mod collecting;
 mod keeping;
+mod overfull;
 mod planning;
 mod sliding;
 mod windows;

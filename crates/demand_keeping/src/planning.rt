@@ -4,12 +4,12 @@ ghost use Rattle.std.specs.Prelude.{◌≡◌, ℕ, ◌<◌, ◌≤◌, ◌%◌,
 ghost use Rattle.slot_types.specs.Operations.{page_of};
 ghost use Rattle.demand_rules.specs.Demand.{HasTerms, no_terms, terms_of};
 ghost use Rattle.demand_rules.specs.Keeping.{IsDemandedCollection, IsDemandedJob};
-ghost use Rattle.demand_keeping.specs.Planned.{CollectionHolds, JobHolds, collection_of, job_of};
+ghost use Rattle.demand_keeping.specs.Planned.{IsFirstCollectionFault, IsFirstJobFault, collection_of, job_of};
 
 use demand_rules::{TaskTerms, Terms};
 use slot_types::{DiePlan, MAX_OPS, MAX_SLOT, Op};
 
-/// A condition on a job.
+/// A condition on a job, in the order in which they are looked at.
 #[derive(Clone, Copy, PartialEq, Eq, Debug, Drop)]
 pub enum JobRule {
     /// Its task is one of the die.
@@ -30,7 +30,7 @@ pub enum JobRule {
     Pages,
 }
 
-/// A condition on a collection.
+/// A condition on a collection, in the order in which they are looked at.
 #[derive(Clone, Copy, PartialEq, Eq, Debug, Drop)]
 pub enum CollectionRule {
     /// Its task is one of the die.
@@ -81,7 +81,7 @@ fn are_on_die(ops: &[Op], logical: u32) -> bool
     ops.iter().all(|op| page(op) < logical)
 }
 
-/// A condition that doesn't hold of a job that comes in slot `now`.
+/// The first condition that doesn't hold of a job that comes in slot `now`.
 pub(crate) fn broken_of_job(
     plan: &DiePlan,
     terms: &Terms,
@@ -92,8 +92,7 @@ pub(crate) fn broken_of_job(
     ops: &[Op],
 ) -> Option<JobRule>
     ensures none { IsNone result ↔ IsDemandedJob plan.now terms.now (job_of now task release due ops.now) }
-    ensures broken { IfSome result (λ rule.
-        ¬ JobHolds plan.now terms.now (job_of now task release due ops.now) rule) }
+    ensures first { IfSome result (IsFirstJobFault plan.now terms.now (job_of now task release due ops.now)) }
 {
     let own = task_terms(terms, task as usize);
     if task as usize >= plan.caps.len() {
@@ -117,7 +116,7 @@ pub(crate) fn broken_of_job(
     }
 }
 
-/// A condition that doesn't hold of a collection that comes in slot `now`, where `end` slots are carried out.
+/// The first condition that doesn't hold of a collection that comes in slot `now`, where `end` slots are carried out.
 pub(crate) fn broken_of_collection(
     plan: &DiePlan,
     terms: &Terms,
@@ -130,8 +129,7 @@ pub(crate) fn broken_of_collection(
     requires { HasTerms plan.now terms.now }
     ensures none { IsNone result ↔
         IsDemandedCollection plan.now terms.now end (collection_of now task release due) }
-    ensures broken { IfSome result (λ rule.
-        ¬ CollectionHolds plan.now terms.now end (collection_of now task release due) rule) }
+    ensures first { IfSome result (IsFirstCollectionFault plan.now terms.now end (collection_of now task release due)) }
 {
     if task as usize >= plan.caps.len() {
         return Some(CollectionRule::Task);

@@ -1,11 +1,13 @@
-//! Whether no window has more than a limit, by one that slides over the events.
+//! The first window that gets more than a limit, by one that slides over the events.
 
-ghost use Rattle.std.specs.Prelude.{◌≡◌, ℕ, ◌+◌, ◌<◌, ◌≤◌, [], ◌∷◌, length, take, IsOk, IsNone, IfSome, IfOk};
+ghost use Rattle.std.specs.Prelude.{◌≡◌, ℕ, ◌+◌, ◌<◌, ◌≤◌, [], ◌∷◌, length, take, IsOk, IsNone, IfErr, IfSome, IfOk};
 ghost use Rattle.plan_rules.specs.Keeping.{arrivals, slots};
-ghost use Rattle.demand_keeping.specs.Windows.{total, window};
-ghost use Rattle.demand_keeping.specs.Sliding.{AreFew, IsSliding};
+ghost use Rattle.demand_keeping.specs.Overfull.{IsFirstOverfull, IsUnsure};
+ghost use Rattle.demand_keeping.specs.Sliding.{IsSliding};
+ghost use Rattle.demand_keeping.specs.Windows.{KeepsLimit, total, window};
 
-use crate::windows::{Count, count_of, first_above, is_above, slots_in};
+use crate::overfull::first_overfull;
+use crate::windows::{Limit, count_of, event_above, slots_in, start_with};
 use slot_types::Event;
 
 /// A window that slides over the events: it begins after those before `tail`, and ends with the last job seen.
@@ -17,13 +19,11 @@ pub(crate) struct Sliding {
     last: u32,
 }
 
-/// The limit of a task.
+/// The first event with which it isn't sure that no window has more than the limit, and the slot of its job.
 #[derive(Clone, Copy)]
-pub(crate) struct Limit {
-    pub count: Count,
-    pub task: u32,
-    pub period: u32,
-    pub limit: u32,
+pub(crate) struct Unsure {
+    index: usize,
+    slot: u32,
 }
 
 // What is counted of an event that isn't in a window with a job in that slot, nor in one that begins later; None if it is.
@@ -33,7 +33,7 @@ fn past(of: Limit, now: u32, event: &Event, slot: u32) -> Option<usize>
     ensures past { IfSome result (λ amount. (start : ℕ) → slot < start + of.period →
         window of.count of.task start (start + of.period) (arrivals now (event.now ∷ [])) ≡ 0) }
 {
-    match count_of(of.count, of.task, now, event) {
+    match count_of(of, now, event) {
         Some(own) => {
             if u64::from(own.slot) + u64::from(of.period) <= u64::from(slot) {
                 Some(own.amount)
@@ -75,24 +75,26 @@ fn with_next(
     events: &[Event],
     seen: usize,
     now: u32,
-    window: Sliding,
+    before: Sliding,
 ) -> Result<Sliding, u32>
     requires few { slots events.now ≤ 1048576 }
     requires within { seen < length events.now }
     requires now { now ≡ slots (take seen events.now) }
-    requires sliding { IsSliding of.count of.task of.period of.limit events.now seen window }
-    requires kept { AreFew of.count of.task of.period of.limit events.now seen }
+    requires sliding { IsSliding of.count of.task of.period of.limit events.now seen before }
+    requires kept { KeepsLimit of.count of.task of.period of.limit (take seen events.now) }
     ensures sliding { IfOk result (IsSliding of.count of.task of.period of.limit events.now (seen + 1)) }
     ensures kept { IfOk result (λ next.
-        AreFew of.count of.task of.period of.limit events.now (seen + 1)) }
+        KeepsLimit of.count of.task of.period of.limit (take (seen + 1) events.now)) }
+    ensures sooner { IfErr result (λ slot. (start : ℕ) → start + of.period ≤ slot →
+        window of.count of.task start (start + of.period) (arrivals 0 (take (seen + 1) events.now)) ≤ of.limit) }
 {
-    match count_of(of.count, of.task, now, &events[seen]) {
-        None => Ok(window),
+    match count_of(of, now, &events[seen]) {
+        None => Ok(before),
         Some(own) => {
-            if own.slot < window.last {
+            if own.slot < before.last {
                 return Err(own.slot);
             }
-            let rest = slid(of, events, seen, window, own.slot);
+            let rest = slid(of, events, seen, before, own.slot);
             if own.amount > of.limit as usize - rest.sum {
                 return Err(own.slot);
             }
@@ -104,11 +106,11 @@ fn with_next(
     }
 }
 
-/// Whether it is sure that no window has more than the limit; else a slot at which that isn't sure.
-fn are_few(of: Limit, events: &[Event]) -> Result<(), u32>
+/// Whether it is sure that no window has more than the limit; else the first event with which that isn't sure.
+fn are_few(of: Limit, events: &[Event]) -> Result<(), Unsure>
     requires few { slots events.now ≤ 1048576 }
-    ensures { IsOk result → (start : ℕ) →
-        window of.count of.task start (start + of.period) (arrivals 0 events.now) ≤ of.limit }
+    ensures few { IsOk result → KeepsLimit of.count of.task of.period of.limit events.now }
+    ensures unsure { IfErr result (IsUnsure of.count of.task of.period of.limit events.now) }
 {
     let mut window = Sliding {
         tail: 0,
@@ -117,33 +119,31 @@ fn are_few(of: Limit, events: &[Event]) -> Result<(), u32>
         last: 0,
     };
     let mut now: u32 = 0;
-    for i in 0..events.len() {
-        match with_next(of, events, i, now, window) {
+    for index in 0..events.len() {
+        match with_next(of, events, index, now, window) {
             Ok(next) => window = next,
-            Err(slot) => return Err(slot),
+            Err(slot) => return Err(Unsure { index, slot }),
         }
-        now += slots_in(&events[i]);
+        now += slots_in(&events[index]);
     }
     Ok(())
 }
 
-/// The start of a window with more than the limit, if there is one. It takes time linear in the events where jobs count in
-/// slots that rise, and else where there is none: as often as there are jobs of the task.
+/// Where the first window begins that gets more than the limit, if there is one. It takes time linear in the events where
+/// jobs count in slots that rise, and else twice as often that as there are jobs of the task.
 pub(crate) fn window_above(of: Limit, events: &[Event]) -> Option<u32>
     requires few { slots events.now ≤ 1048576 }
-    ensures none { IsNone result → (start : ℕ) →
-        window of.count of.task start (start + of.period) (arrivals 0 events.now) ≤ of.limit }
-    ensures some { IfSome result (λ start.
-        of.limit < window of.count of.task start (start + of.period) (arrivals 0 events.now)) }
+    ensures none { IsNone result → KeepsLimit of.count of.task of.period of.limit events.now }
+    ensures some { IfSome result (IsFirstOverfull of.count of.task of.period of.limit events.now) }
 {
     match are_few(of, events) {
         Ok(()) => None,
-        Err(slot) => {
-            let start = slot.saturating_sub(of.period.saturating_sub(1));
-            if is_above(of.count, of.task, start, of.period, of.limit, events) {
+        Err(unsure) => {
+            let start = start_with(of, unsure.slot);
+            if event_above(of, start, events, unsure.index + 1).is_some() {
                 Some(start)
             } else {
-                first_above(of.count, of.task, of.period, of.limit, events)
+                first_overfull(of, events)
             }
         }
     }

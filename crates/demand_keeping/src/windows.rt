@@ -1,9 +1,10 @@
-//! What a task's jobs ask of a window of slots, counted over all events.
+//! What a task's jobs ask of a window of slots, counted over the events.
 
-ghost use Rattle.std.specs.Prelude.{◌≡◌, ℕ, ◌+◌, ◌<◌, ◌≤◌, ◌↔◌, [], ◌∷◌, length, count_by, IsTrue, IsNone, IfSome};
+ghost use Rattle.std.specs.Prelude.{◌≡◌, ℕ, ◌+◌, ◌<◌, ◌≤◌, ◌↔◌, [], ◌∷◌, length, take, count_by, IsTrue, IsNone, IfSome};
 ghost use Rattle.slot_types.specs.Operations.{is_write};
 ghost use Rattle.plan_rules.specs.Keeping.{arrivals, slots};
-ghost use Rattle.demand_keeping.specs.Windows.{CountsNothing, CountsOne, window};
+ghost use Rattle.demand_keeping.specs.Overfull.{GetsTooMuch};
+ghost use Rattle.demand_keeping.specs.Windows.{CountsNothing, CountsOne, first_with, window};
 
 use slot_types::{Event, Op};
 
@@ -14,6 +15,15 @@ pub enum Count {
     Operations,
     /// Writes, in the slot in which a job comes.
     Writes,
+}
+
+/// The limit of a task.
+#[derive(Clone, Copy)]
+pub(crate) struct Limit {
+    pub count: Count,
+    pub task: u32,
+    pub period: u32,
+    pub limit: u32,
 }
 
 /// What is counted of a job, and in which slot.
@@ -42,11 +52,18 @@ pub(crate) fn slots_in(event: &Event) -> u32
     }
 }
 
+/// Where the first window begins that has this slot.
+pub(crate) fn start_with(of: Limit, slot: u32) -> u32
+    ensures { result ≡ first_with of.period slot }
+{
+    slot.saturating_sub(of.period.saturating_sub(1))
+}
+
 /// What is counted of a job of the task, if the event that comes in slot `now` is one.
-pub(crate) fn count_of(count: Count, task: u32, now: u32, event: &Event) -> Option<Counted>
-    ensures none { IsNone result → CountsNothing count task (arrivals now (event.now ∷ [])) }
+pub(crate) fn count_of(of: Limit, now: u32, event: &Event) -> Option<Counted>
+    ensures none { IsNone result → CountsNothing of.count of.task (arrivals now (event.now ∷ [])) }
     ensures some { IfSome result (λ own.
-        CountsOne count task (arrivals now (event.now ∷ [])) own.slot own.amount) }
+        CountsOne of.count of.task (arrivals now (event.now ∷ [])) own.slot own.amount) }
 {
     if let Event::Submit {
         task: other,
@@ -55,8 +72,8 @@ pub(crate) fn count_of(count: Count, task: u32, now: u32, event: &Event) -> Opti
         ..
     } = event
     {
-        if other.0 == task {
-            return Some(match count {
+        if other.0 == of.task {
+            return Some(match of.count {
                 Count::Operations => Counted {
                     slot: *release,
                     amount: ops.len(),
@@ -71,13 +88,13 @@ pub(crate) fn count_of(count: Count, task: u32, now: u32, event: &Event) -> Opti
     None
 }
 
-/// What is counted of a job in a window of a task, if the event that comes in slot `now` is one; 0 if it isn't.
-fn amount_in(count: Count, task: u32, start: u32, period: u32, now: u32, event: &Event) -> usize
-    ensures { result ≡ window count task start (start + period) (arrivals now (event.now ∷ [])) }
+/// What is counted of a job in a window, if the event that comes in slot `now` is one of the task; 0 if it isn't.
+fn amount_in(of: Limit, start: u32, now: u32, event: &Event) -> usize
+    ensures { result ≡ window of.count of.task start (start + of.period) (arrivals now (event.now ∷ [])) }
 {
-    match count_of(count, task, now, event) {
+    match count_of(of, now, event) {
         Some(own) => {
-            if start <= own.slot && u64::from(own.slot) < u64::from(start) + u64::from(period) {
+            if start <= own.slot && u64::from(own.slot) < u64::from(start) + u64::from(of.period) {
                 own.amount
             } else {
                 0
@@ -87,52 +104,22 @@ fn amount_in(count: Count, task: u32, start: u32, period: u32, now: u32, event: 
     }
 }
 
-/// Whether more than the limit is counted in a window.
-pub(crate) fn is_above(
-    count: Count,
-    task: u32,
-    start: u32,
-    period: u32,
-    limit: u32,
-    events: &[Event],
-) -> bool
-    requires { slots events.now ≤ 1048576 }
-    ensures { IsTrue result ↔ (limit < window count task start (start + period) (arrivals 0 events.now)) }
+/// The index of the event, one of the first `seen`, with which a window gets more than the limit.
+pub(crate) fn event_above(of: Limit, start: u32, events: &[Event], seen: usize) -> Option<usize>
+    requires few { slots events.now ≤ 1048576 }
+    requires within { seen ≤ length events.now }
+    ensures none { IsNone result →
+        window of.count of.task start (start + of.period) (arrivals 0 (take seen events.now)) ≤ of.limit }
+    ensures some { IfSome result (GetsTooMuch of.count of.task of.period of.limit events.now seen start) }
 {
     let mut sum: usize = 0;
     let mut now: u32 = 0;
-    for i in 0..events.len() {
-        let amount = amount_in(count, task, start, period, now, &events[i]);
-        if amount > limit as usize - sum {
-            return true;
+    for i in 0..seen {
+        let amount = amount_in(of, start, now, &events[i]);
+        if amount > of.limit as usize - sum {
+            return Some(i);
         }
         sum += amount;
-        now += slots_in(&events[i]);
-    }
-    false
-}
-
-/// The start of a window with more than the limit, if there is one: it begins with a job. Each window is counted by itself.
-pub(crate) fn first_above(
-    count: Count,
-    task: u32,
-    period: u32,
-    limit: u32,
-    events: &[Event],
-) -> Option<u32>
-    requires few { slots events.now ≤ 1048576 }
-    ensures none { IsNone result → (start : ℕ) →
-        window count task start (start + period) (arrivals 0 events.now) ≤ limit }
-    ensures some { IfSome result (λ start.
-        limit < window count task start (start + period) (arrivals 0 events.now)) }
-{
-    let mut now: u32 = 0;
-    for i in 0..events.len() {
-        if let Some(own) = count_of(count, task, now, &events[i]) {
-            if is_above(count, task, own.slot, period, limit, events) {
-                return Some(own.slot);
-            }
-        }
         now += slots_in(&events[i]);
     }
     None

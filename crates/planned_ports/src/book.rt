@@ -6,6 +6,7 @@ ghost use Rattle.planned_ports.specs.Calls.{calls_after};
 ghost use Rattle.planned_ports.specs.Replies.{MayReply};
 ghost use Rattle.planned_ports.specs.Shared.{IsSharedDie};
 
+use crate::as_opened::AsOpened;
 use crate::calls::{AskHead, Granted, Refused, Request};
 use crate::history::History;
 use flash_die::Nand;
@@ -13,7 +14,6 @@ use ongoing_die::{AskKind, OngoingDie};
 use slot_types::{Op, TaskNo};
 use std::alloc::Global;
 use std::marker::Model;
-use std::snapshot::Snapshot;
 use turn_lock::{Book, NotingBook};
 
 /// The most entries that a lock takes.
@@ -34,7 +34,7 @@ pub struct PlannedBook<N: Nand> {
     die: Box<OngoingDie<N>>,
     alloc: Global,
     count: u64,
-    opened: Snapshot<OngoingDie<N>>,
+    opened: AsOpened<OngoingDie<N>>,
     history: History,
 }
 
@@ -62,7 +62,7 @@ impl<N: Nand> PlannedBook<N> {
         ensures die { result.die ≡ box_value die }
     {
         die.goes_on();
-        let opened = Snapshot::of(&*die);
+        let opened = AsOpened::of(&*die);
         PlannedBook {
             die,
             alloc,

@@ -10,6 +10,7 @@ ghost use Rattle.ongoing_die.specs.Standing.{OngoingParts};
 ghost use Rattle.planned_ports.specs.Calls.{PortCall, after_calls};
 ghost use Rattle.planned_ports.specs.Laws.{IsInTime, answers_in, RanFrom, SeesTheSame};
 
+use crate::ports::{ClockPort, SharedPlannedDie, TaskPort};
 use flash_die::Nand;
 use planned_log::{
     a_die_goes_on_by_itself, kept_logs_are_in_time, ongoing_tasks_are_answered_for_their_own_asks,
@@ -45,4 +46,18 @@ pub fn tasks_are_answered_for_their_own_asks<N: Nand>()
         ≡ answer_to other terms life (after_calls other terms life two others) kind task ops }
 {
     ongoing_tasks_are_answered_for_their_own_asks();
+}
+
+/// A value of this type may be sent to a thread.
+fn is_sent<T: Send>() {}
+
+/// And a value of this one lent to any number of threads.
+fn is_lent<T: Sync>() {}
+
+/// Where its device may be sent to a thread, so may the ports of a die, and the die that they share may be lent to any
+/// number of threads. A law by its bounds: it has no clause.
+pub fn ports_go_to_threads<N: Nand + Send>() {
+    is_sent::<TaskPort<N>>();
+    is_sent::<ClockPort<N>>();
+    is_lent::<SharedPlannedDie<N>>();
 }

@@ -3,6 +3,7 @@
 //! such a die are laws of it.
 #![tactic(auto)]
 
+mod as_opened;
 pub mod book;
 pub mod calls;
 pub mod closing;

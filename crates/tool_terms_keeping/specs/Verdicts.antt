@@ -1,6 +1,6 @@
 -- What is reported of a script, by the plans with terms of its dies.
 use Rattle.std.specs.Prelude.{◌≡◌, ℕ, ◌<◌, List, length, Ok, Some, IfSome, slice_get}
-use Rattle.demand_keeping.specs.Breaches.{IsBreach}
+use Rattle.demand_keeping.specs.Breaches.{IsFirstBreach}
 use Rattle.demand_keeping.specs.declared.keeping.Breach.{Breach}
 use Rattle.demand_rules.specs.Keeping.{KeepsDemandPlan}
 use Rattle.script_texts.specs.Script.{script_of}
@@ -21,15 +21,15 @@ pub record IsKeptScript (store : List DieTerms) (slots : ℕ) (text : List ℕ) 
   pub said : script_of (length store) slots text ≡ Ok items
   pub kept : (die : ℕ) → IfSome (slice_get store die) (λ made. RowsKeepTerms made slots (feed_of items die))
 
--- the text is such a script, and the rows of this die don't keep its plan: a condition doesn't hold of the events that they
--- make
+-- the text is such a script, and the rows of this die don't keep its plan: this is the first condition that doesn't hold of
+-- the events that they make
 pub record IsBrokenScript (store : List DieTerms) (slots : ℕ) (text : List ℕ) (die : ℕ) (breach : Breach) : Type 0 where
   pub items : List ScriptItem
   pub said : script_of (length store) slots text ≡ Ok items
   pub made : DieTerms
   pub there : slice_get store die ≡ Some made
   pub unkept : ¬ RowsKeepTerms made slots (feed_of items die)
-  pub broken : IsBreach made.plan made.terms (events_of_rows slots (feed_of items die)) breach
+  pub broken : IsFirstBreach made.plan made.terms (events_of_rows slots (feed_of items die)) breach
 
 -- it is, and the rows of this die keep its plan
 pub record KeepsOn (store : List DieTerms) (slots : ℕ) (text : List ℕ) (die : ℕ) : Type 0 where

@@ -11,7 +11,7 @@ use std::alloc::Global;
 use terms_texts::{StoreTerms, plans_of};
 use tool_plan_arrivals::events_on;
 
-/// What breaks the plan of a die, unless its rows keep it.
+/// What breaks the plan of a die first, unless its rows keep it.
 fn die_breach(
     alloc: Global,
     text: &[u8],
@@ -37,8 +37,8 @@ fn die_breach(
 }
 
 /// Whether the rows of a script keep the plan of each die, as
-/// [`keeps_demand_plan`](demand_keeping::keeps_demand_plan) judges it; and if not, a condition that doesn't hold, of the
-/// first die whose plan they break. It refuses what the reader of scripts refuses, and NoMemory.
+/// [`keeps_demand_plan`](demand_keeping::keeps_demand_plan) judges it; and if not, the first die whose plan they break, and
+/// the first condition of that plan that doesn't hold. It refuses what the reader of scripts refuses, and NoMemory.
 pub fn keep_terms(
     alloc: Global,
     text: &[u8],

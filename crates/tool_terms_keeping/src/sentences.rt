@@ -265,7 +265,7 @@ impl Reported<'_> {
     }
 }
 
-/// What breaks the plan of a die, in a sentence: the record, its slot and its task, what is asked, and what the plan
+/// What breaks the plan of a die first, in a sentence: the record, its slot and its task, what is asked, and what the plan
 /// allows. The slot is followed by its time, where it is known how many us one takes. It refuses what the reader of scripts refuses, and NoMemory.
 pub fn sentence(
     alloc: Global,

@@ -2,7 +2,7 @@
 
 use demand_keeping::Breach;
 
-/// What breaks the plan of a die.
+/// What breaks the plan of a die first.
 #[derive(Clone, Copy, PartialEq, Eq, Debug, Drop)]
 pub struct Broken {
     pub die: u32,

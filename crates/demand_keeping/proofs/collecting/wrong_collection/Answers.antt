@@ -1,8 +1,9 @@
-use Rattle.std.proofs.Common.{◌≡◌, ℕ, ◌+◌, ◌%◌, ◌≤◌, sym, subst, ◌∙◌, arith}
+use Rattle.std.proofs.Common.{◌≡◌, ℕ, ◌+◌, ◌%◌, ◌≤◌, ap, sym, subst, ◌∙◌, arith}
+use Rattle.plan_rules.specs.Keeping.{slots}
 use Rattle.demand_rules.specs.declared.terms.TaskTerms.{TaskTerms}
 use Rattle.demand_rules.specs.Keeping.{IsCollectSlot}
 use Rattle.demand_keeping.proofs.Taking.{slots_more}
-use Rattle.demand_keeping.proofs.SlotBySlot.{next_multiple, other_event, expected_before, expected_after, comes_twice, is_missing, here, sooner_planned, seen_all}
+use Rattle.demand_keeping.proofs.SlotBySlot.{next_multiple, other_event, expected_before, expected_after, comes_twice, is_missing, came_before, here, sooner_planned, seen_all}
 use Rattle.demand_keeping.proofs.collecting.wrong_collection.Goals as goal
 use Rattle.demand_keeping.proofs.collecting.wrong_collection.Goals.{then-collects+else-now-next+else-next-now, else-collects}
 
@@ -17,6 +18,10 @@ returns-then-now-next-clause-some c =
           c.loop-i-test.true c.loop-i.now c.loop-i.invariant.now c.args.own.now.collect_period c.loop-i.next c.loop-i.invariant.multiple
           c.loop-i.invariant.before c.loop-i.invariant.after is
           (subst (λ (t : TaskTerms). c.loop-i.now % t.collect_period ≡ 0) (sym c.requires.own) at.multiple) c.if-now-next.true;
+      before = λ earlier less at. came_before c.args.terms.now c.args.task c.args.events.now c.loop-i.i c.index-events-i.result
+          c.index-events-i.is c.loop-i-test.true c.loop-i.now c.loop-i.invariant.now c.args.own.now.collect_period c.loop-i.next
+          c.loop-i.invariant.multiple c.loop-i.invariant.before c.loop-i.invariant.after is c.loop-i.now (omega arith)
+          (omega (arith, c.if-now-next.true)) (slots c.args.events.now) earlier less at (ap (λ (t : TaskTerms). t.collect_period) c.requires.own);
     }
 
 pub returns-then-next-now-clause-some : goal.returns-then-next-now-clause-some
@@ -31,6 +36,10 @@ returns-then-next-now-clause-some c =
       other = is_missing c.args.terms.now c.args.task c.args.events.now c.loop-i.i c.index-events-i.result c.index-events-i.is
           c.loop-i-test.true c.loop-i.now c.loop-i.invariant.now c.args.own.now.collect_period c.loop-i.next c.loop-i.invariant.multiple
           c.loop-i.invariant.before c.loop-i.invariant.after is c.if-next-now.true;
+      before = λ earlier less at. came_before c.args.terms.now c.args.task c.args.events.now c.loop-i.i c.index-events-i.result
+          c.index-events-i.is c.loop-i-test.true c.loop-i.now c.loop-i.invariant.now c.args.own.now.collect_period c.loop-i.next
+          c.loop-i.invariant.multiple c.loop-i.invariant.before c.loop-i.invariant.after is c.loop-i.next (omega (arith, c.if-next-now.true))
+          (omega arith) (slots c.args.events.now) earlier less at (ap (λ (t : TaskTerms). t.collect_period) c.requires.own);
     }
 
 pub returns-then-from-clause-some : goal.returns-then-from-clause-some
@@ -47,6 +56,8 @@ returns-then-from-clause-some c = record {
     c.loop-i.invariant.after c.loop-i.next (omega arith),
     seen_all c.args.task c.loop-i.next c.args.events.now c.loop-i.i (omega (arith, c.loop-i-test.false)),
   );
+  before = λ earlier less at. sym (seen_all c.args.task earlier c.args.events.now c.loop-i.i (omega (arith, c.loop-i-test.false)))
+      ∙ c.loop-i.invariant.before earlier (subst (λ (t : TaskTerms). earlier % t.collect_period ≡ 0) (sym c.requires.own) at.multiple) less;
 }
 
 pub loop-i-preserved : goal.loop-i-preserved

@@ -1,11 +1,14 @@
-use Rattle.std.proofs.Common.{ℕ, refl, sym, subst, arith}
-use Rattle.std.specs.Prelude.{All}
+use Rattle.std.proofs.Common.{refl, sym, arith}
 use Rattle.std.proofs.lemmas.Bool.{true≢false}
-use Rattle.plan_rules.specs.Keeping.{arrivals}
 use Rattle.plan_rules.proofs.Walking.{how_many}
-use Rattle.demand_rules.specs.Keeping.{IsDemanded}
 use Rattle.demand_keeping.proofs.Breaking.{breaks, keeps_if}
 use Rattle.demand_keeping.proofs.keeping.keeps_demand_plan.Goals as goal
+
+pub returns-then-slots-clause-breach : goal.returns-then-slots-clause-breach
+returns-then-slots-clause-breach c = (
+  c.in_default.ensures.has.0 refl,
+  omega (arith, c.slots_of-slots.ensures, c.if-slots.true),
+)
 
 pub returns-then-events-slots-clause-keeps : goal.returns-then-events-slots-clause-keeps
 returns-then-events-slots-clause-keeps c = (
@@ -20,28 +23,34 @@ returns-then-events-slots-clause-keeps c = (
 )
 
 pub returns-then-events-slots-clause-breach : goal.returns-then-events-slots-clause-breach
-returns-then-events-slots-clause-breach c = omega
-    (arith, how_many 0 c.args.events.now, c.slots_of-slots.ensures, c.if-events-slots.true)
+returns-then-events-slots-clause-breach c = (
+  c.in_default.ensures.has.0 refl,
+  omega (arith, c.slots_of-slots.ensures, c.if-slots.false),
+  omega (arith, how_many 0 c.args.events.now, c.slots_of-slots.ensures, c.if-events-slots.true),
+)
+
+pub first_broken-requires-clause-limits : goal.first_broken-requires-clause-limits
+first_broken-requires-clause-limits c = record {
+  has = c.in_default.ensures.has.0 refl;
+  few_slots = omega (arith, c.slots_of-slots.ensures, c.if-slots.false);
+  few_arrivals = omega (arith, how_many 0 c.args.events.now, c.slots_of-slots.ensures, c.if-events-slots.false);
+}
 
 pub returns-in-Some-clause-keeps : goal.returns-in-Some-clause-keeps
 returns-in-Some-clause-keeps c = (
   λ ok. absurd (true≢false (sym ok)),
-  λ keeps. absurd (breaks c.args.plan.now c.args.terms.now c.args.events.now c.in-Some.breach c.in-Some.ensures.broken keeps),
+  λ keeps. absurd (breaks c.args.plan.now c.args.terms.now c.args.events.now c.in-Some.breach c.in-Some.ensures.first keeps),
 )
 
 pub returns-in-Some-first_broken_task-clause-keeps : goal.returns-in-Some-first_broken_task-clause-keeps
 returns-in-Some-first_broken_task-clause-keeps c = (
   λ ok. absurd (true≢false (sym ok)),
   λ keeps. absurd (breaks c.args.plan.now c.args.terms.now c.args.events.now c.in-Some-first_broken_task.breach
-      c.in-Some-first_broken_task.ensures.broken keeps),
+      c.in-Some-first_broken_task.ensures.first keeps),
 )
 
 pub returns-in-None-clause-keeps : goal.returns-in-None-clause-keeps
 returns-in-None-clause-keeps c = (
-  λ ok. keeps_if c.args.plan.now c.args.terms.now c.args.events.now (c.in_default.ensures.has.0 refl)
-      (omega (arith, c.slots_of-slots.ensures, c.if-slots.false))
-      (omega (arith, how_many 0 c.args.events.now, c.slots_of-slots.ensures, c.if-events-slots.false))
-      (subst (λ (n : ℕ). All (IsDemanded c.args.plan.now c.args.terms.now n) (arrivals 0 c.args.events.now)) c.slots_of-slots.ensures
-      (c.in_default-first_broken.ensures.none refl)) (c.in-None.ensures.none refl),
+  λ ok. keeps_if c.args.plan.now c.args.terms.now c.args.events.now (c.in_default-first_broken.ensures.none refl) (c.in-None.ensures.none refl),
   λ keeps. refl,
 )

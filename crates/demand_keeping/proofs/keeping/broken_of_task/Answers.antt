@@ -1,0 +1,56 @@
+use Rattle.std.proofs.Common.{ℕ, refl, sym, subst, arith}
+use Rattle.std.specs.Prelude.{All}
+use Rattle.plan_rules.specs.Keeping.{arrivals}
+use Rattle.demand_rules.specs.declared.terms.TaskTerms.{TaskTerms}
+use Rattle.demand_rules.specs.Demand.{no_terms, IsTaskTerms}
+use Rattle.demand_rules.specs.Keeping.{IsDemanded}
+use Rattle.demand_keeping.specs.declared.windows.Count.TheVariants as count
+use Rattle.demand_keeping.specs.Windows.{KeepsLimit}
+use Rattle.demand_keeping.specs.Overfull.{IsFirstOverfull}
+use Rattle.demand_keeping.proofs.keeping.broken_of_task.Goals as goal
+
+pub returns-in-Some-clause-first : goal.returns-in-Some-clause-first
+returns-in-Some-clause-first c = (
+  c.requires.kept,
+  subst (λ (t : TaskTerms). IsFirstOverfull count.Operations c.args.task t.period t.work c.args.events.now c.in-Some.start)
+      c.task_terms-own.ensures c.in-Some.ensures.some,
+)
+
+pub returns-in-Some-window_above-clause-first : goal.returns-in-Some-window_above-clause-first
+returns-in-Some-window_above-clause-first c = (
+  c.requires.kept,
+  subst (λ (t : TaskTerms). KeepsLimit count.Operations c.args.task t.period t.work c.args.events.now) c.task_terms-own.ensures
+      (c.in_default.ensures.none refl),
+  subst (λ (t : TaskTerms). IsFirstOverfull count.Writes c.args.task t.period t.writes c.args.events.now c.in-Some-window_above.start)
+      c.task_terms-own.ensures c.in-Some-window_above.ensures.some,
+)
+
+pub wrong_collection-requires-clause-limits : goal.wrong_collection-requires-clause-limits
+wrong_collection-requires-clause-limits c =
+    let has = c.requires.kept.planned.limits.has in
+    subst (λ (t : TaskTerms). IsTaskTerms t) (sym c.task_terms-own.ensures)
+    (has.each c.args.task no_terms (omega (arith, has.one_each, c.requires.kept.is_task)))
+
+pub wrong_collection-requires-clause-planned : goal.wrong_collection-requires-clause-planned
+wrong_collection-requires-clause-planned c =
+    subst (λ (n : ℕ). All (IsDemanded c.args.plan.now c.args.terms.now n) (arrivals 0 c.args.events.now)) (sym c.requires.end)
+    c.requires.kept.planned.each
+
+pub returns-in-Some-wrong_collection-clause-first : goal.returns-in-Some-wrong_collection-clause-first
+returns-in-Some-wrong_collection-clause-first c = (
+  c.requires.kept,
+  subst (λ (t : TaskTerms). KeepsLimit count.Operations c.args.task t.period t.work c.args.events.now) c.task_terms-own.ensures
+      (c.in_default.ensures.none refl),
+  subst (λ (t : TaskTerms). KeepsLimit count.Writes c.args.task t.period t.writes c.args.events.now) c.task_terms-own.ensures
+      (c.in_default-window_above.ensures.none refl),
+  c.in-Some-wrong_collection.ensures.some,
+)
+
+pub returns-clause-none : goal.returns-clause-none
+returns-clause-none c none = record {
+  few_operations = subst (λ (t : TaskTerms). KeepsLimit count.Operations c.args.task t.period t.work c.args.events.now)
+      c.task_terms-own.ensures (c.in_default.ensures.none refl);
+  few_writes = subst (λ (t : TaskTerms). KeepsLimit count.Writes c.args.task t.period t.writes c.args.events.now) c.task_terms-own.ensures
+      (c.in_default-window_above.ensures.none refl);
+  collected = c.in_default-wrong_collection.ensures.none refl;
+}
