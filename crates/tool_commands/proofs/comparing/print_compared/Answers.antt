@@ -4,7 +4,7 @@ use Rattle.tool_commands.proofs.comparing.print_compared.Goals as goal
 
 pub returns-clause-printed : goal.returns-clause-printed
 returns-clause-printed g c = record {
-  store = c.in_ok-store.store;
+  store = c.in_ok-store.field-0.store;
   read = c.in_ok-store.ensures.store;
   ran = c.in_ok-compared.ensures;
   text = (c.in_ok-compared.compared.text.items, rw c.deref.ensures.value at c.in_ok-write_whole.ensures.whole);
@@ -18,7 +18,7 @@ returns-in_err-write_whole-clause-part g c =
       (
         c.in_ok-compared.compared.text.items,
         record {
-          store = c.in_ok-store.store;
+          store = c.in_ok-store.field-0.store;
           read = c.in_ok-store.ensures.store;
           ran = c.in_ok-compared.ensures;
           text = (c.in_ok-compared.compared.text.items, refl);
