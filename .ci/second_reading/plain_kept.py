@@ -1,12 +1,16 @@
 """A second reading of docs/RULES.md and crates/flashplan/README.md: what `flashplan run --keep` prints and tells, in plain
-Python. It reads nothing of the program, and looks at each slot of a life. `.ci/second_reading/kept-runs` uses it."""
+Python. It reads nothing of the program, and looks at each slot of a life. `.ci/second_reading/plays` and
+`.ci/second_reading/kept-runs` use it."""
+
+from bisect import bisect_right
 
 from second_reading import plain_texts
-from second_reading.plain_terms import is_terms_text
+from second_reading.plain_terms import Fault, is_terms_text
 from second_reading.plain_texts import LAST_SLOT, Die, Refused, read_plan, read_script
-from second_reading.plain_uses import dies_of
+from second_reading.plain_uses import dies_of, refused as refused_plan
 
 MOST_ARRIVALS = 65_536
+WANTED = "--keep wants a plan that is accepted, with times (version 2) or terms: flashplan explain says more\n"
 OTHER = "its release isn't its slot, or its deadline isn't as many slots later as the plan gives its task"
 ORDER = ["OtherTimes", "DieStopped", "UnknownTask", "EmptyJob", "TooManyOps", "BadPage", "TooManyWrites", "TooSoon", "LifeEnd"]
 
@@ -29,18 +33,21 @@ def come(period, deadline, slots):
     return (slots - deadline) // period + 1 if deadline <= slots else 0
 
 
-def is_life(die, slots):
-    for task in die["tasks"]:
-        last = (slots - 1) // task["collect_period"] * task["collect_period"]
-        if last + task["collect_deadline"] > slots:
-            return False
-    return MOST_ARRIVALS >= sum(task["work"] * come(task["period"], task["deadline"], slots)
-                                + come(task["collect_period"], task["collect_deadline"], slots) for task in die["tasks"])
+def all_due(die, slots):
+    """Whether each collection that comes in so many slots is due by their end."""
+    return all((slots - 1) // task["collect_period"] * task["collect_period"] + task["collect_deadline"] <= slots
+               for task in die["tasks"])
+
+
+def arrivals_in(die, slots):
+    return sum(task["work"] * come(task["period"], task["deadline"], slots)
+               + come(task["collect_period"], task["collect_deadline"], slots) for task in die["tasks"])
 
 
 def life_of(die):
-    """The longest life; None where there is none."""
-    return next((slots for slots in range(LAST_SLOT, 0, -1) if is_life(die, slots)), None)
+    """The longest life; None where there is none. The more slots, the more arrivals."""
+    most = bisect_right(range(LAST_SLOT + 1), MOST_ARRIVALS, key=lambda slots: arrivals_in(die, slots)) - 1
+    return next((slots for slots in range(most, 0, -1) if all_due(die, slots)), None)
 
 
 def writes_in(ops):
@@ -165,3 +172,14 @@ def run(plan_text, script_text, slots):
         refused += lines
         passed += skipped
     return 0, report_of(dies), told_of(refused, passed)
+
+
+def flashplan(words, read_file):
+    """The status, the report and what is told of `run PLAN SCRIPT --slots N --keep`."""
+    _, plan, script, _, slots, _ = words
+    try:
+        return run(read_file(plan), read_file(script), int(slots))
+    except Fault as fault:
+        return 1, "", refused_plan(fault)
+    except Refused as fault:
+        return 1, "", fault.told() + (WANTED if fault.told() == "error 3 BadPlan\n" else "")
