@@ -2,7 +2,7 @@
 
 ghost use Rattle.flash_die.specs.Flash.{IsFresh};
 
-use crate::plans::{Plan, SHAPE};
+use crate::plans::Plan;
 use crate::wrong::Wrong;
 use flash_die::{MemoryNand, Nand};
 use ongoing_die::{OngoingDie, OngoingRefusal};
@@ -42,7 +42,7 @@ fn die_on<N: Nand>(alloc: Global, plan: &Plan, device: N) -> Result<OngoingDie<N
 
 /// A die in memory, for which nothing was asked yet.
 pub(crate) fn a_die(alloc: Global, plan: &Plan) -> Result<Box<OngoingDie<MemoryNand>>, Wrong> {
-    match MemoryNand::new(alloc, SHAPE) {
+    match MemoryNand::new(alloc, plan.shape) {
         Ok(device) => boxed(alloc, die_on(alloc, plan, device)?),
         Err(refusal) => Err(as_wrong(refusal)),
     }
