@@ -11,7 +11,7 @@ use slot_types::{PageData, Place, Refusal, Shape};
 pub enum NandCall {
     /// A page is read.
     Read(Place),
-    /// A cell is programmed with these bytes: those of the logical page, where the device was told which one.
+    /// A cell is programmed with these bytes: those of this logical page, where the device was given one.
     Program(Place, Option<u32>, PageData),
     /// A block has one slot of its erase.
     EraseSlot(u32),
@@ -66,7 +66,7 @@ pub trait Nand: Drop {
         ensures shape { shape_of self.new ≡ shape_of self.old }
         ensures ends { ends self.old (NandCall.Program place None bytes) (is_ok result) self.new };
 
-    /// Programs as [`program`](Nand::program) does, and tells the device of which logical page the bytes are. A die
+    /// Programs as [`program`](Nand::program) does, and gives the device the logical page of which the bytes are. A die
     /// programs by this call alone. A device that keeps no labels does no more than `program`, and one that passes
     /// calls on passes the page on.
     fn program_page(&mut self, place: Place, page: u32, bytes: PageData) -> Result<(), Refusal>

@@ -9,15 +9,15 @@ use Rattle.power_loss.specs.Labels.{Label, Labels, Shown, labels_in, labels_afte
 abbrev pub serial_after : ℕ → ℕ
 serial_after serial = min (serial + 1) (2 ^ 64 - 1)
 
--- a program that wasn't told its page leaves no label in its cell
-abbrev pub labels_after_untold : ℕ → Labels → Labels
-labels_after_untold b l = record l { blocks = slice_set l.blocks b (labels_in l.blocks b ++ None ∷ []) }
+-- a program that wasn't given its page leaves no label in its cell
+abbrev pub labels_after_unnamed : ℕ → Labels → Labels
+labels_after_unnamed b l = record l { blocks = slice_set l.blocks b (labels_in l.blocks b ++ None ∷ []) }
 
 -- where the blocks were these, and an erase takes so many slots: a program leaves the next label, and the last slot of
 -- an erase takes the block's away
 abbrev pub labels_after_call : (slots : ℕ) → List Block → NandCall → Labels → Labels
 labels_after_call slots blocks (calls.Read place) l = l
-labels_after_call slots blocks (calls.Program place None bytes) l = labels_after_untold place.block l
+labels_after_call slots blocks (calls.Program place None bytes) l = labels_after_unnamed place.block l
 labels_after_call slots blocks (calls.Program place (Some page) bytes) l =
     record (labels_after_program page bytes (Some place.block) l) { next = serial_after l.next }
 labels_after_call slots blocks (calls.EraseSlot b) l =

@@ -10,7 +10,7 @@ use crate::look::Look;
 use flash_die::Nand;
 use slot_types::{Place, Refusal};
 
-/// A device that keeps labels: each program that is told its page (`program_page`) leaves in its cell, with the bytes,
+/// A device that keeps labels: each program that is given its page (`program_page`) leaves in its cell, with the bytes,
 /// a label of the page and of a serial number. The serials rise by one with each program; the owner says from which one
 /// on, so that they rise over all lives of the part.
 ///

@@ -18,7 +18,7 @@ use std::marker::Model;
 #[derive(Clone, Copy, PartialEq, Eq, Debug, Drop)]
 pub struct MarkedCell {
     pub bytes: PageData,
-    /// None where a program wasn't told its page, or where it was cut.
+    /// None where a program wasn't given its page, or where it was cut.
     pub label: Option<Label>,
 }
 
