@@ -8,3 +8,4 @@ mod CarriedSlots
 mod NewDies
 mod Rooms
 mod AskEnds
+mod ResumedDies

@@ -1,6 +1,7 @@
-//! Why no die is made that goes on by itself, and why its calls are refused.
+//! Why no die is made that goes on by itself, or resumed, and why its calls are refused.
 
-use planned_die::{AskRefusal, PlanRefusal};
+use planned_die::{AskRefusal, PlanRefusal, PlanResumeRefusal, Shortage};
+use slot_core::CheckpointRefusal;
 
 /// Why no die is made that keeps its plan and goes on by itself.
 #[derive(Clone, Copy, PartialEq, Eq, Debug, Drop)]
@@ -9,6 +10,28 @@ pub enum OngoingRefusal {
     Plan(PlanRefusal),
     /// The longest life that was allowed is shorter than the deadline of this task's jobs: the first such task.
     ShortLife { task: u32 },
+}
+
+/// Why no checkpoint is taken of a die, in the order in which the causes are looked at.
+#[derive(Clone, Copy, PartialEq, Eq, Debug, Drop)]
+pub enum OngoingCheckpointRefusal {
+    /// As none is taken of the die of the present life.
+    Die(CheckpointRefusal),
+    /// An ask of this task waits for the next life: the first such task.
+    Waits { task: u32 },
+    /// A task lacks more than alpha pages to its cap: the first such task.
+    NotFull(Shortage),
+}
+
+/// Why no die goes on by itself from a checkpoint, in the order in which the causes are looked at.
+#[derive(Clone, Copy, PartialEq, Eq, Debug, Drop)]
+pub enum OngoingResumeRefusal {
+    /// As no die that keeps its plan is resumed.
+    Plan(PlanResumeRefusal),
+    /// The longest life that was allowed is shorter than the deadline of this task's jobs: the first such task.
+    ShortLife { task: u32 },
+    /// A task lacks more than alpha pages to its cap: the first such task.
+    NotFull(Shortage),
 }
 
 /// Why a die takes no further ask and carries out no further slot.

@@ -2,14 +2,17 @@
 
 ghost use Rattle.std.specs.Prelude.{◌≡◌, ◌+◌, ◌≤◌, ◌<◌, ◌∷◌, ◌++◌, ℕ, List, [], length, slice_index_or, slice_set, drop, map, replicate};
 ghost use Rattle.std.specs.Prelude.{All, IfOk, IfNone};
-ghost use Rattle.demand_rules.specs.Demand.{terms_of};
+ghost use Rattle.demand_rules.specs.Demand.{terms_of, HasTerms};
 ghost use Rattle.planned_die.specs.declared.task_asks.TaskAsks.{TaskAsks};
-ghost use Rattle.planned_die.specs.Remembered.{own_asks, next_room, jobs_of, AreKept, HasRoomFor, HaveMemory, HasRoomForOne};
+ghost use Rattle.planned_die.specs.Remembered.{own_asks, next_room, jobs_of, IsKeptFor, AreKept, HasRoomFor, HasMemory, HaveMemory, HasRoomForOne};
+ghost use Rattle.planned_die.specs.Resuming.{HaveEnough, lack_jobs, lacks_of};
 
+use crate::lacks::lack_of;
 use crate::memory::AskedJob;
 use crate::task_asks::TaskAsks;
 use crate::terms::terms_at;
 use demand_rules::{TaskTerms, Terms};
+use slot_types::DiePlan;
 use std::alloc::{AllocError, Global};
 
 /// Of so many tasks, none of which has asked for anything, with memory for all that may count of each.
@@ -27,6 +30,51 @@ pub(crate) fn new_asks(
         let work = terms_at(own, task).work;
         let none = TaskAsks::new(alloc, work)?;
         asked.push(none)?;
+    }
+    Ok(asked)
+}
+
+/// That a task of these terms asked in slot 0 of the clock for a job of so many writes, with memory for all that may count of
+/// it.
+fn asks_of_lack(alloc: Global, own: &TaskTerms, lack: u32) -> Result<TaskAsks, AllocError>
+    requires few { lack ≤ own.now.work }
+    ensures jobs { IfOk result (λ t. t.jobs.items ≡ lack_jobs lack) }
+    ensures kept { IfOk result (λ t. (period clock : ℕ) → IsKeptFor period clock t) }
+    ensures memory { IfOk result (HasMemory own.now.work) }
+{
+    let mut asks = TaskAsks::new(alloc, own.work)?;
+    if lack > 0 {
+        asks.note(AskedJob {
+            at: 0,
+            operations: lack,
+            writes: lack,
+        });
+    }
+    Ok(asks)
+}
+
+/// By task that it asked in slot 0 of the clock to write what it lacks, with memory for all that may count of each.
+pub(crate) fn asks_of_lacks(
+    alloc: Global,
+    plan: &DiePlan,
+    terms: &Terms,
+    balances: &[u32],
+) -> Result<Vec<TaskAsks>, AllocError>
+    requires has { HasTerms plan.now terms.now }
+    requires tasks { length balances.now ≡ length plan.now.caps }
+    requires enough { HaveEnough plan.now terms.now balances.now }
+    ensures jobs { IfOk result (λ asked.
+        map jobs_of asked.items ≡ lacks_of plan.now balances.now (length plan.now.caps)) }
+    ensures kept { IfOk result (λ asked. (clock : ℕ) → AreKept terms.now clock asked.items) }
+    ensures memory { IfOk result (λ asked. HaveMemory terms.now asked.items) }
+{
+    let caps = plan.caps.as_slice();
+    let mut asked = Vec::with_capacity(alloc, balances.len())?;
+    for task in 0..balances.len() {
+        let own = terms_at(terms, task);
+        let lack = lack_of(caps[task], plan.alpha, balances[task]);
+        let asks = asks_of_lack(alloc, &own, lack)?;
+        asked.push(asks)?;
     }
     Ok(asked)
 }

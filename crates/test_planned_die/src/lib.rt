@@ -19,6 +19,8 @@ mod faults;
 #[cfg(test)]
 mod going_on;
 #[cfg(test)]
+mod going_on_again;
+#[cfg(test)]
 mod going_on_bursts;
 #[cfg(test)]
 mod lives;
@@ -31,12 +33,18 @@ mod ongoing_dies;
 #[cfg(test)]
 mod ongoing_played;
 #[cfg(test)]
+mod ongoing_shut_downs;
+#[cfg(test)]
 mod ongoing_steps;
 #[cfg(test)]
 mod plans;
 #[cfg(test)]
 mod played;
 #[cfg(test)]
+mod resumptions;
+#[cfg(test)]
 mod said;
+#[cfg(test)]
+mod shut_downs;
 #[cfg(test)]
 mod steps;

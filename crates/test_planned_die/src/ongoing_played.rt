@@ -1,11 +1,15 @@
 //! Plays a table on a die that goes on by itself: what each step asks, and the answer beside what the step wants.
 
+ghost use Rattle.std.specs.Prelude.{IfOk};
+ghost use Rattle.flash_volume.specs.Checkpoints.{IsAsLeft};
+
 use crate::memory::Memory;
 use crate::ongoing_steps::{Answer, Turn};
 use crate::said::Reported;
+use die_checkpoint::Checkpoint;
 use flash_die::Nand;
-use ongoing_die::{AskRefusal, AskStop, OngoingDie, SlotStop, Taken};
-use slot_core::Outcome;
+use ongoing_die::{AskRefusal, AskStop, OngoingCheckpointRefusal, OngoingDie, SlotStop, Taken};
+use slot_core::{CheckpointRefusal, Outcome};
 use slot_types::{JobNo, Op, PageData, Refusal, SlotReply, TaskNo};
 use std::alloc::Global;
 use std::process::Abort;
@@ -183,6 +187,23 @@ fn waiting<N: Nand>(die: &OngoingDie<N>, task: u32) -> usize {
     }
 }
 
+/// What stands on the die; where memory is scarce and is refused for it, it is asked for again.
+pub(crate) fn taken<N: Nand>(
+    memory: Memory,
+    alloc: Global,
+    die: &mut OngoingDie<N>,
+) -> Result<Checkpoint, OngoingCheckpointRefusal>
+    ensures left { IfOk result (λ c.
+        IsAsLeft c (N.blocks die.new.die.core.device) (N.failures die.new.die.core.device)) }
+{
+    match die.checkpoint(alloc) {
+        Err(OngoingCheckpointRefusal::Die(CheckpointRefusal::NoMemory)) if memory.asks_again() => {
+            die.checkpoint(alloc)
+        }
+        answer => answer,
+    }
+}
+
 /// Plays a step.
 fn goes<N: Nand, R: Abort>(
     said: &Reported<R>,
@@ -204,6 +225,10 @@ fn goes<N: Nand, R: Abort>(
         Turn::NoSlot { want } => {
             let got = die.slot(alloc, 9);
             said.same(&got, &Err(*want))
+        }
+        Turn::NoCheckpoint { want } => {
+            let got = taken(said.memory, alloc, die).err();
+            said.fits(got == Some(*want), &got, want)
         }
         Turn::Waiting { task, ops } => said.same(&waiting(die, *task), ops),
         Turn::Clock { slot } => said.same(&die.clock(), slot),

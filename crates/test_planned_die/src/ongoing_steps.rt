@@ -1,6 +1,6 @@
 //! The words of a test of a die that goes on by itself.
 
-use ongoing_die::{AskStop, SlotStop};
+use ongoing_die::{AskStop, OngoingCheckpointRefusal, SlotStop};
 use slot_types::Op;
 
 /// What an ask is answered that isn't refused, with the numbers of its jobs in their life.
@@ -57,6 +57,10 @@ pub(crate) enum Turn<'a> {
     /// The present slot is refused.
     NoSlot {
         want: SlotStop,
+    },
+    /// No checkpoint is taken of the die.
+    NoCheckpoint {
+        want: OngoingCheckpointRefusal,
     },
     /// The task's ask that waits has so many operations; 0 where none waits.
     Waiting {

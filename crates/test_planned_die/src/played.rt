@@ -6,7 +6,7 @@ use crate::said::Reported;
 use crate::steps::{Fact, Jobs, Step};
 use flash_die::Nand;
 use planned_die::{AskRefusal, Burst, PlannedDie};
-use slot_core::{Outcome, Worst};
+use slot_core::{CheckpointRefusal, Outcome, Worst};
 use slot_types::{JobNo, Op, PageData, Refusal, SlotReply};
 use std::alloc::Global;
 use std::process::Abort;
@@ -153,6 +153,21 @@ fn ended<N: Nand, R: Abort>(
     said.fits(end_of(&got) == Some(want), &got, &want)
 }
 
+/// Whether it is done, and its reads gave pages of these bytes.
+fn read_so(outcome: &Result<Outcome, Refusal>, bytes: &[u8]) -> bool {
+    match outcome {
+        Ok(Outcome::Done { reads, .. }) => {
+            reads.len() == bytes.len()
+                && reads
+                    .as_slice()
+                    .iter()
+                    .zip(bytes)
+                    .all(|(page, byte)| *page == PageData([*byte; 16]))
+        }
+        _ => false,
+    }
+}
+
 fn is_late(worst: Option<Worst>) -> bool {
     match worst {
         Some(worst) => worst.lateness > 0,
@@ -174,6 +189,10 @@ fn stands<N: Nand, R: Abort>(said: &Reported<R>, die: &PlannedDie<N>, alloc: Glo
                 given: 0,
             };
             ended(said, die, alloc, *job, want)
+        }
+        Fact::Reads { job, bytes } => {
+            let got = outcome_of(said.memory, die, alloc, *job);
+            said.fits(read_so(&got, *bytes), &got, bytes)
         }
         Fact::Collected {
             collection,
@@ -203,6 +222,18 @@ fn stands<N: Nand, R: Abort>(said: &Reported<R>, die: &PlannedDie<N>, alloc: Glo
     }
 }
 
+/// Why no checkpoint is taken, if none is.
+fn no_checkpoint<N: Nand>(
+    memory: Memory,
+    die: &mut PlannedDie<N>,
+    alloc: Global,
+) -> Option<CheckpointRefusal> {
+    match die.checkpoint(alloc) {
+        Err(CheckpointRefusal::NoMemory) if memory.asks_again() => die.checkpoint(alloc).err(),
+        answer => answer.err(),
+    }
+}
+
 /// Plays a step.
 fn goes<N: Nand, R: Abort>(
     said: &Reported<R>,
@@ -225,6 +256,10 @@ fn goes<N: Nand, R: Abort>(
         Step::NoSlot { want } => {
             let got = carry(die, alloc);
             said.same(&got, &Err(*want))
+        }
+        Step::NoCheckpoint { want } => {
+            let got = no_checkpoint(said.memory, die, alloc);
+            said.fits(got == Some(*want), &got, want)
         }
         Step::Renews { want } => said.same(&die.renew(), want),
         Step::Is(fact) => stands(said, die, alloc, fact),

@@ -12,6 +12,7 @@
 //! they come, the first task's before the second one's.
 
 use planned_die::{AskRefusal, LifeRefusal};
+use slot_core::CheckpointRefusal;
 use slot_types::{Op, Refusal};
 
 /// The jobs of a burst: the number of the first one, and how many they are.
@@ -62,18 +63,27 @@ pub(crate) enum Step<'a> {
     Renews {
         want: Result<(), LifeRefusal>,
     },
+    /// No checkpoint is taken of the die.
+    NoCheckpoint {
+        want: CheckpointRefusal,
+    },
     /// This stands of the die.
-    Is(Fact),
+    Is(Fact<'a>),
 }
 
 /// What may stand of a die.
 #[derive(Drop)]
-pub(crate) enum Fact {
+pub(crate) enum Fact<'a> {
     /// The job is done.
     Done {
         job: u32,
         completion: u32,
         lateness: i64,
+    },
+    /// The job is done, and each page that it read has this byte sixteen times.
+    Reads {
+        job: u32,
+        bytes: &'a [u8],
     },
     /// The collection is done, and gave its task so many pages.
     Collected {
