@@ -1,0 +1,3 @@
+pub mod Holding
+pub mod Running
+pub mod Mounting

@@ -1,0 +1,5 @@
+pub mod Writes
+pub mod CutDies
+pub mod Said
+pub mod Mounts
+pub mod Runs
