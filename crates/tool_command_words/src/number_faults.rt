@@ -3,8 +3,8 @@
 use crate::values::number_in;
 use command_arguments::value_at;
 
-/// The options that have a number from 0 to 1,048,576. The last two are files of `run` and of `explain`.
-const NUMBERS: [&str; 13] = [
+/// The options that have a number from 0 to 1,048,576. The last two are files of `run`, `explain` and `cut`.
+const NUMBERS: [&str; 15] = [
     "--slots",
     "--seed",
     "--jitter",
@@ -16,17 +16,19 @@ const NUMBERS: [&str; 13] = [
     "--slot-us",
     "--page-bytes",
     "--due",
+    "--at",
+    "--looks",
     "--from",
     "--to",
 ];
 
 /// How many of these never name a file.
-const NEVER_FILES: usize = 11;
+const NEVER_FILES: usize = 13;
 
 /// The options that have a number in these words.
 fn numbers_in(words: &[String]) -> &'static [&'static str] {
     match words.get(1) {
-        Some(command) if command.as_str() == "run" || command.as_str() == "explain" => {
+        Some(command) if ["run", "explain", "cut"].contains(&command.as_str()) => {
             &NUMBERS[..NEVER_FILES]
         }
         _ => &NUMBERS,

@@ -88,8 +88,10 @@ fn parsed<'a>(
 /// die 0, begins with slot 0, or ends with the run; `draw PLAN --demand --die D`, which takes no other option;
 /// `compare PLAN SCRIPT --slots N --from F --pool A --csv --draw --die D --task T`, where F, D and T are 0 and A is 4
 /// if left out; `import TRACE.. --slot-us U --due D --plan`, where D is 20 if left out; `run PLAN SCRIPT --slots N
-/// --from CHECKPOINT --to CHECKPOINT --fail-at DIE:K`, where the last goes with neither checkpoint; or `audit
-/// REPORT..`. A checkpoint may be left out, and so may `--fail-at`, with a call K from 1. A number is 1 to 10 decimal
+/// --from CHECKPOINT --to CHECKPOINT --fail-at DIE:K`, where the last goes with neither checkpoint; `cut PLAN SCRIPT
+/// --slots N --at K --every --leaves LEFT --looks S --mounts --die D --slot-us U --to CHECKPOINT`, where K from 1 or
+/// `--every` is there, `--mounts` with the latter alone and the checkpoint with the former, and S, D and U are 0 if left
+/// out; or `audit REPORT..`. A checkpoint may be left out, and so may `--fail-at`, with a call K from 1. A number is 1 to 10 decimal
 /// digits, and at most 1,048,576. The error is that of clap, which prints itself: a call for help, a fault of the
 /// words, or out of memory; and ValueValidation where there is no command, a number that is none or too great, or
 /// options don't go together: one of them would say nothing, or `draw` has nothing to draw.

@@ -48,6 +48,19 @@ pub(crate) fn goes_together(command: Command<'_>) -> bool
         } => {
             !(as_csv && draws) && ((draws || (die == 0 && task == 0)) && has_slots(from, slots))
         }
+        Command::Cut {
+            at,
+            every,
+            mounts,
+            to,
+            ..
+        } => {
+            if every {
+                at == 0 && to.is_none()
+            } else {
+                0 < at && !mounts
+            }
+        }
         _ => true,
     }
 }

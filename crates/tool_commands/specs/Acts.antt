@@ -1,5 +1,5 @@
 -- What a command prints, and its status; and what it leaves where it is refused.
-use Rattle.std.specs.Prelude.{◌≡◌, ◌==◌, ◌↔◌, ◌⊎◌, List, [], ◌∷◌, ◌++◌, ℕ, zero, suc, map, take, ⊤}
+use Rattle.std.specs.Prelude.{◌≡◌, ◌==◌, ◌↔◌, ◌⊎◌, List, [], ◌∷◌, ◌++◌, ℕ, zero, suc, All, map, take, ⊤}
 use Rattle.std.specs.Prelude.{Option, Some, None, Result, Ok, Err, IfSome, is_none, is_some, option_map, IsTrue, MatchBool, Bool, true, false}
 use Rattle.std.specs.Borrow.{Bor}
 use Rattle.std.specs.Prelude.{if◌then◌else◌}
@@ -44,6 +44,9 @@ use Rattle.tool_watched_runs.specs.declared.script_runs.Reported.{Reported}
 use Rattle.die_log.specs.Model.Start.{fresh}
 use Rattle.tool_watched_runs.specs.Runs.{IsDrawingOf, IsReportOf as ReportsRun}
 use Rattle.tool_watched_runs.specs.declared.failing.FailAt.{FailAt}
+use Rattle.tool_power_cuts.specs.Runs.{IsCutRun}
+use Rattle.tool_power_cuts.specs.Said.{IsRight}
+use Rattle.tool_power_cuts.specs.declared.runs.CutRun.{CutRun}
 use Rattle.tool_command_words.specs.declared.asked.FailingDie.{FailingDie}
 use Rattle.tool_command_words.specs.declared.asked.Command.{Command}
 use Rattle.tool_command_words.specs.declared.asked.Command.TheVariants as command
@@ -342,6 +345,28 @@ abbrev pub EndsRun : {W : Type 0} → (W → Option (List ℕ)) → (W → Optio
 EndsRun contents has_failed prints alone old new status =
     (prints (contents old) (contents new) × IsRunStatus alone status) ⊎ IsRefused contents has_failed prints old new status
 
+-- What is said of a cut is printed: of the die of this number that began fresh by the plan of the store that was read, and ran
+-- the script that was read, its power went; and whether no page is wrong
+pub record PrintsCut (plan script : Option (List ℕ)) (slots die : ℕ) (right : Bool) (old new : Option (List ℕ)) : Type 0 where
+  pub store : List DiePlan
+  pub read : ReadsStore plan store
+  pub run : CutRun
+  pub cut : IsCutRun store script slots die run
+  pub verdict : IsTrue right ↔ All IsRight run.pages.items
+  pub text : PrintsText old new
+
+-- where cuts are tried at each call, some text
+abbrev pub PrintsCutting : Option (List ℕ) → Option (List ℕ) → (slots die at : ℕ) → Option (List ℕ) → Option (List ℕ) → Type 0
+PrintsCutting plan script slots die zero old new = PrintsText old new
+PrintsCutting plan script slots die (suc at) old new = Says (PrintsCut plan script slots die) old new
+
+-- it is printed, or refused, or a part isn't mounted
+abbrev pub EndsCut : {W : Type 0} → (W → Option (List ℕ)) → (W → Option Bool) → (Option (List ℕ) → Option (List ℕ) → Type 0) → W → W → ℕ
+    → Type 0
+EndsCut contents has_failed prints old new status =
+    (prints (contents old) (contents new) × ((status ≡ 0) ⊎ ((status ≡ 1) ⊎ (status ≡ 3))))
+    ⊎ (IsNotWhole contents has_failed prints old new × ((status ≡ 1) ⊎ (status ≡ 3)))
+
 -- how a command ends
 abbrev pub EndsSo : {W : Type 0} → (W → Option (List ℕ)) → (W → Option Bool) → Command → Option (List ℕ) → Option (List ℕ) → W → W → ℕ
     → Type 0
@@ -368,3 +393,5 @@ EndsSo contents has_failed (command.Run plan script slots from to None) text row
     EndsRun contents has_failed (PrintsRun text rows slots (is_none from) (is_some to)) (is_none to) old new status
 EndsSo contents has_failed (command.Run plan script slots from to (Some fail)) text rows old new status =
     Ends contents has_failed (PrintsFailing text rows slots) old new status
+EndsSo contents has_failed (command.Cut plan script slots at every leaves looks mounts die slot_us to) text rows old new status =
+    EndsCut contents has_failed (PrintsCutting text rows slots die at) old new status

@@ -5,6 +5,7 @@ mod acts;
 pub mod arriving;
 pub mod checkpoint_acts;
 pub mod comparing;
+mod cutting;
 pub mod demanding;
 pub mod designing;
 pub mod endings;

@@ -34,7 +34,8 @@ fn files_of<'a>(command: Command<'a>) -> (&'a str, Option<&'a str>, Option<&'a s
         | Command::Wear { plan, script, .. }
         | Command::Report { plan, script, .. }
         | Command::Draw { plan, script, .. }
-        | Command::Compare { plan, script, .. } => (plan, Some(script), None),
+        | Command::Compare { plan, script, .. }
+        | Command::Cut { plan, script, .. } => (plan, Some(script), None),
         Command::Run {
             plan,
             script,
@@ -65,7 +66,9 @@ fn parts_of(command: Command<'_>) -> (Option<(&'static str, u32)>, Option<(&'sta
             fail: Some(fail),
             ..
         } => (Some(("the die of --fail-at", fail.die)), None),
-        Command::Draw { die, .. } | Command::Demand { die, .. } => (Some(("--die", die)), None),
+        Command::Draw { die, .. } | Command::Demand { die, .. } | Command::Cut { die, .. } => {
+            (Some(("--die", die)), None)
+        }
         Command::Compare { die, task, .. } => (Some(("--die", die)), Some(("--task", task))),
         _ => (None, None),
     }
@@ -121,7 +124,8 @@ pub fn slots_of(request: &Request<'_>) -> Option<u32> {
             | Command::Report { slots, .. }
             | Command::Draw { slots, .. }
             | Command::Compare { slots, .. }
-            | Command::Run { slots, .. },
+            | Command::Run { slots, .. }
+            | Command::Cut { slots, .. },
         ) => Some(*slots),
         _ => None,
     }
