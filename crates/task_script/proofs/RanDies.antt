@@ -1,16 +1,20 @@
 -- The dies of a run, once they have run all their batches.
 use Rattle.std.proofs.Common.{◌≡◌, suc, List, [], ◌∷◌, ◌++◌, refl, ap, sym, subst, ◌∙◌, arith, append-nil, append_assoc, length, length-append}
+use Rattle.std.proofs.Common.{Bool, true, false, map, Some, None, Result, Ok, Err}
+use Rattle.std.specs.Prelude.{nat_le, if◌then◌else◌}
 use Rattle.std.proofs.lemmas.Grind.{flat_map-append}
-use Rattle.std.proofs.lemmas.List.{length-map}
+use Rattle.std.proofs.lemmas.List.{length-map, map-append}
 use Rattle.std.specs.List.{AllByRecursion, AllZip}
 use Rattle.rtrb.specs.Ring.{received}
 use Rattle.slot_types.specs.declared.plans.DiePlan.{DiePlan}
+use Rattle.slot_types.specs.declared.refusals.Refusal.{Refusal}
 use Rattle.slot_core.specs.Core.{Core}
 use Rattle.flash_die.specs.Memory.{Memory}
 use Rattle.die_service.specs.Stores.{DiePass, IsClosedWith}
 use Rattle.task_script.specs.DieStores.{passes_of, progress_of}
 use Rattle.task_script.specs.RowBatches.{IsSameSender, rows_of_batches, sent_by}
-use Rattle.task_script.specs.RunningDies.{AllBegin, AllRan, AreRun, IsLinked, IsSameDie, rows_received}
+use Rattle.task_script.specs.RowTexts.{order_of}
+use Rattle.task_script.specs.RunningDies.{AllBegin, AllRan, AreRun, IsLinked, IsSameDie, rows_received, with_dies}
 use Rattle.task_script.specs.Sending.{rows_sent}
 use Rattle.task_script.specs.Shares.{AreSharesOf, StaysShare}
 use Rattle.task_script.specs.declared.row_batches.RowBatch.{RowBatch}
@@ -54,6 +58,40 @@ passes_length (die ∷ dies) = omega (
 pub few_closed : (dies : List DieStore) (cores : List (Core Memory)) → AllZip IsClosedWith (passes_of dies) cores
     → length cores ≡ length dies
 few_closed dies cores closed = closed_length (passes_of dies) cores closed ∙ passes_length dies
+
+-- Where none was refused
+
+refused_stays : {A B : Type 0} (e : Refusal) (dies : List (Result A Refusal)) → with_dies (Some e) dies ≡ None → B
+refused_stays e [] none = absurd cc
+refused_stays e (Ok x ∷ dies) none = refused_stays e dies none
+refused_stays {A} {B} e (Err f ∷ dies) none = by (nat_le (order_of e) (order_of f)) none
+  where
+    by : (b : Bool) → with_dies (if b then Some e else Some f) dies ≡ None → B
+    by true h = refused_stays e dies h
+    by false h = refused_stays f dies h
+
+-- the first wasn't
+pub first_ran : {A B : Type 0} (die : Result A Refusal) (dies : List (Result A Refusal)) (e : Refusal) → with_dies None (die ∷ dies) ≡ None
+    → die ≡ Err e → B
+first_ran {A} die dies e none is =
+    refused_stays e dies (subst (λ (d : Result A Refusal). with_dies None (d ∷ dies) ≡ None) is none)
+
+-- nor was one of the others
+pub others_ran : {A : Type 0} (die : Result A Refusal) (dies : List (Result A Refusal)) (x : A) → with_dies None (die ∷ dies) ≡ None
+    → die ≡ Ok x → with_dies None dies ≡ None
+others_ran {A} die dies x none is = subst (λ (d : Result A Refusal). with_dies None (d ∷ dies) ≡ None) is none
+
+abbrev pub die_of : RunningDie → Result DieStore Refusal
+die_of running = running.die
+
+-- one more ran
+pub ran_more : (yielded : List RunningDie) (ran after : List DieStore) (running : RunningDie) (die : DieStore) → running.die ≡ Ok die
+    → after ≡ ran ++ die ∷ [] → map die_of yielded ≡ map Ok ran → map die_of (yielded ++ running ∷ []) ≡ map Ok after
+ran_more yielded ran after running die is pushed so_far =
+    map-append die_of yielded (running ∷ [])
+    ∙ (ap (λ (l : List (Result DieStore Refusal)). l ++ running.die ∷ []) so_far
+    ∙ (ap (λ (r : Result DieStore Refusal). map Ok ran ++ r ∷ []) is
+    ∙ (sym (map-append Ok ran (die ∷ [])) ∙ ap (map Ok) (sym pushed))))
 
 -- The rest of their batches
 

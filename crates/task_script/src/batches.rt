@@ -119,8 +119,9 @@ fn add_rows(lines: &[u32], refused: &[RefusedEvent], count: &mut RunCount)
     }
 }
 
-/// Whether each die carried out all its slots. The only refusal is NoMemory: within a die's life a slot of a device in
-/// memory is refused for nothing else.
+/// Whether each die carried out all its slots. The only refusal is NoMemory: a slot of a device in memory is refused for
+/// that, or at the end of the clock, and a script's slots end before it. No contract rules the second out: that no other
+/// pass has moved the clock is known once the lock is closed, and not before.
 fn none_stopped(ends: &[DieEnd]) -> Result<(), Refusal>
     ensures ok { OnOk result (All (λ end. end.stop ≡ None) ends.now) }
     ensures refused { FailsForMemory result }

@@ -18,6 +18,7 @@ use std::thread::Threads;
 #[derive(Drop)]
 pub struct DieText {
     die: Option<DieCore<MemoryNand>>,
+    /// None before they are made, and where memory ran out.
     text: Option<ReportText>,
 }
 
@@ -81,6 +82,7 @@ fn parts_in(alloc: Global, texts: &mut [DieText]) -> Result<Vec<ReportText>, Ref
     parts.push(header)?;
     for made in texts.iter_mut() {
         let Some(part) = made.text.take() else {
+            // Memory ran out as the lines were made.
             return Err(Refusal::NoMemory);
         };
         parts.push(part)?;

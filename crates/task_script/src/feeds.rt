@@ -19,7 +19,7 @@ const BATCH_BYTES: usize = 1_048_576;
 /// Why no further row is read before those that were read are sent to their dies.
 #[derive(Clone, Copy, PartialEq, Eq, Debug, Drop)]
 pub enum ReadEnd {
-    /// They are as many as are sent at a time; or the run of a die was refused.
+    /// They are as many as are sent at a time.
     More,
     /// The script has no further row.
     Ended,

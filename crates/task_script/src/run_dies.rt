@@ -96,13 +96,14 @@ pub fn run_rests<R: Threads + Wait + Sync>(
 
 /// The dies of a run, none of which was refused. The only refusal is NoMemory.
 pub fn ran_dies(alloc: Global, dies: Vec<RunningDie>) -> Result<Vec<DieStore>, Refusal>
+    requires { with_dies None (map (λ running. running.die) dies.items) ≡ None }
     ensures ok { IfOk result (λ ran. map (λ running. running.die) dies.items ≡ map Ok ran.items) }
     ensures refused { FailsForMemory result }
 {
     let mut ran = Vec::new(alloc);
     for running in dies {
         let Ok(die) = running.into_die() else {
-            return Err(Refusal::NoMemory);
+            unreachable!()
         };
         ran.push(die)?;
     }

@@ -87,6 +87,7 @@ impl RunningDie {
     {
         let batch = self.batches.pop_known();
         sender.unpark();
+        // What stands there meanwhile nobody sees.
         let die = mem::replace(&mut self.die, Err(Refusal::NoMemory));
         self.die = run_on(rt, alloc, die, &batch);
         let mut rows = batch.rows;

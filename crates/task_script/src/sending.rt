@@ -1,6 +1,6 @@
 //! The rows of a script, sent to its dies as they are read.
 
-ghost use Rattle.std.specs.Prelude.{◌≡◌, ◌≤◌, [], All, IfOk, Ok, length, replicate};
+ghost use Rattle.std.specs.Prelude.{◌≡◌, ◌≢◌, ◌≤◌, [], All, IfOk, Ok, length, replicate};
 ghost use Rattle.std.specs.List.{AllZip};
 ghost use Rattle.rtrb.specs.Ring.{received};
 ghost use Rattle.slot_types.specs.Refusal.{FailsForMemory};
@@ -12,7 +12,7 @@ ghost use Rattle.task_script.specs.RunningDies.{AllRan, rows_received};
 ghost use Rattle.task_script.specs.Sending.{AreSent, MayAllFollow, SameBatches, rows_sent};
 ghost use Rattle.task_script.specs.SentRows.{HasSentRows};
 ghost use Rattle.task_script.specs.Shares.{StaysShare};
-ghost use Rattle.task_script.specs.declared.feeds.ReadEnd.TheVariants.{Ended};
+ghost use Rattle.task_script.specs.declared.feeds.ReadEnd.TheVariants.{Ended, More};
 
 use crate::feeds::{ReadEnd, read_rows};
 use crate::row_batches::{BatchSender, RowBatch};
@@ -20,13 +20,12 @@ use crate::run_dies::{run_rests, running_dies};
 use crate::running_dies::RunningDie;
 use crate::sent_rows::SentRows;
 use crate::shares::Share;
-use crate::workers::{ReaderSignal, Signal, end_all, gather, run_here, share_out, signals};
+use crate::workers::{Signal, end_all, gather, run_here, share_out, signals};
 use script_texts::{RowTexts, ScriptReader};
 use slot_types::{DiePlan, Refusal};
 use std::alloc::Global;
 use std::io::Read;
 use std::sync::Wait;
-use std::sync::atomic::Ordering;
 use std::thread;
 use std::thread::{Parker, Scope, Threads};
 
@@ -69,9 +68,9 @@ fn send_rows<R: Wait>(
     }
 }
 
-/// Reads the rows of a script, and sends them to its dies, until it ends or is refused, or the run of a die is refused.
-/// Dies that are here are run batch by batch. `More` says that the run of a die was refused. The only refusal of this
-/// call is NoMemory.
+/// Reads the rows of a script, and sends them to its dies, until it ends or is refused. Dies that are here are run batch
+/// by batch. The run of a die that is refused stops nothing: a script with a fault takes no longer than one without. The
+/// only refusal of this call is NoMemory.
 fn send_all<R: Threads + Wait + Sync, S: Read + Drop>(
     rt: &R,
     alloc: Global,
@@ -79,7 +78,7 @@ fn send_all<R: Threads + Wait + Sync, S: Read + Drop>(
     senders: &mut [BatchSender],
     shares: &mut [Share],
     signals: &[Signal],
-    reader: &ReaderSignal,
+    reader: &Parker,
     slots: u32,
 ) -> Result<ReadEnd, Refusal>
     requires dies { length senders.old ≡ dies_of script.old }
@@ -91,6 +90,7 @@ fn send_all<R: Threads + Wait + Sync, S: Read + Drop>(
     ensures last { result ≡ Ok Ended → All (λ sender. until_of (sent_by sender) ≡ slots) senders.new }
     ensures few { IfOk result (λ _. All (λ sender. length (sent_by sender) ≤ 1000003) senders.new) }
     ensures failed { IfOk result (EndsWithReader (reader_failed script.new)) }
+    ensures over { IfOk result (λ end. end ≢ More) }
     ensures same { IfOk result (λ _. AllZip IsSameSender senders.old senders.new) }
     ensures shares { IfOk result (λ _. AllZip StaysShare shares.old shares.new) }
     ensures refused { FailsForMemory result }
@@ -102,7 +102,7 @@ fn send_all<R: Threads + Wait + Sync, S: Read + Drop>(
             ReadEnd::Ended => slots,
             _ => 0,
         };
-        send_rows(rt, senders, read.dies, until, &reader.parker);
+        send_rows(rt, senders, read.dies, until, reader);
         for signal in signals {
             signal.wake();
         }
@@ -110,9 +110,6 @@ fn send_all<R: Threads + Wait + Sync, S: Read + Drop>(
         let ReadEnd::More = read.end else {
             return Ok(read.end);
         };
-        if reader.refused.load(Ordering::SeqCst) {
-            return Ok(ReadEnd::More);
-        }
     }
     // No script has so many batches: each but the last has a row, and no row has a number above 1,000,001.
     unreachable!()
@@ -127,7 +124,7 @@ fn send_by<'s, 'e: 's, R: Threads + Wait + Sync, S: Read + Drop>(
     senders: Vec<BatchSender>,
     dies: Vec<RunningDie>,
     signals: &'e [Signal],
-    reader: &'e ReaderSignal,
+    reader: &'e Parker,
     slots: u32,
 ) -> Result<SentRows<S>, Refusal>
     requires dies { length senders.items ≡ dies_of script }
@@ -190,11 +187,12 @@ pub fn send_script<R: Threads + Wait + Sync, S: Read + Drop>(
     ensures few { IfOk result (λ sent.
         All (λ running. length (received running.batches) ≤ 1000003) sent.dies.items) }
     ensures failed { IfOk result (λ sent. EndsWithReader (reader_failed sent.script) sent.end) }
+    ensures over { IfOk result (λ sent. sent.end ≢ More) }
     ensures refused { FailsForMemory result }
 {
     let (senders, dies) = running_dies(alloc, plans)?;
     let signals = signals(alloc, if workers == 1 { 0 } else { workers })?;
-    let reader = ReaderSignal::new();
+    let reader = Parker::new();
     let (told, reading) = (signals.as_slice(), &reader);
     let sent = thread::scope(
         thread::scope_env(),

@@ -65,11 +65,7 @@ fn devices(alloc: Global, plans: &[DiePlan]) -> Result<Vec<MemoryNand>, Refusal>
 {
     let mut nands = Vec::new(alloc);
     for plan in plans {
-        let nand = match MemoryNand::new(alloc, plan.shape) {
-            Ok(nand) => nand,
-            Err(_) => return Err(Refusal::NoMemory),
-        };
-        nands.push(nand)?;
+        nands.push(MemoryNand::new(alloc, plan.shape)?)?;
     }
     Ok(nands)
 }

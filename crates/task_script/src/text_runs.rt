@@ -157,8 +157,7 @@ fn run_script<R: Threads + Wait + Sync, S: Read + Drop>(
             refusal,
             reader: Some(script),
         }),
-        // Reading ends early only where the run of a die was refused.
-        ReadEnd::More => Err(RefusedRun::from(Refusal::NoMemory)),
+        ReadEnd::More => unreachable!(),
     }
 }
 

@@ -15,24 +15,6 @@ use std::sync::Wait;
 use std::sync::atomic::{AtomicBool, Ordering};
 use std::thread::{Parker, Scope, Threads};
 
-/// What the workers tell the thread that reads the script.
-#[derive(Drop)]
-pub struct ReaderSignal {
-    /// It waits here for room.
-    pub parker: Parker,
-    /// Whether the run of a die was refused, so that nothing more needs to be read.
-    pub refused: AtomicBool,
-}
-
-impl ReaderSignal {
-    pub fn new() -> ReaderSignal {
-        ReaderSignal {
-            parker: Parker::new(),
-            refused: AtomicBool::new(false),
-        }
-    }
-}
-
 /// What the thread that reads the script tells a worker.
 #[derive(Drop)]
 pub struct Signal {
@@ -78,22 +60,20 @@ pub fn end_all(signals: &[Signal]) {
     }
 }
 
-/// Runs the next batch of each of these dies to which one was sent, and answers whether there was one.
+/// Runs the next batch of each of these dies to which one was sent, and answers whether there was one. The thread that
+/// reads the script waits for room on this parker.
 fn run_arrived<R: Threads + Wait + Sync>(
     rt: &R,
     alloc: Global,
     dies: &mut [RunningDie],
-    reader: &ReaderSignal,
+    reader: &Parker,
 ) -> bool
     ensures { AllZip IsSameDie dies.old dies.new }
 {
     let mut any = false;
     for running in dies.iter_mut() {
-        if running.run_next(rt, alloc, &reader.parker) {
+        if running.run_next(rt, alloc, reader) {
             any = true;
-        }
-        if running.die.is_err() {
-            reader.refused.store(true, Ordering::SeqCst);
         }
     }
     any
@@ -105,7 +85,7 @@ fn work<R: Threads + Wait + Sync>(
     alloc: Global,
     dies: Vec<RunningDie>,
     signal: &Signal,
-    reader: &ReaderSignal,
+    reader: &Parker,
 ) -> Vec<RunningDie>
     ensures { AllZip IsSameDie dies.items result.items }
 {
@@ -131,7 +111,7 @@ fn start<'s, 'e: 's, R: Threads + Wait + Sync>(
     alloc: Global,
     dies: Vec<RunningDie>,
     signal: &'e Signal,
-    reader: &'e ReaderSignal,
+    reader: &'e Parker,
 ) -> Share
     ensures { IsShareOf dies.items result }
 {
@@ -156,7 +136,7 @@ pub fn share_out<'s, 'e: 's, R: Threads + Wait + Sync>(
     alloc: Global,
     dies: Vec<RunningDie>,
     signals: &'e [Signal],
-    reader: &'e ReaderSignal,
+    reader: &'e Parker,
 ) -> Result<Vec<Share>, Refusal>
     ensures ok { IfOk result (λ shares. AreSharesOf dies.items shares.items) }
     ensures refused { FailsForMemory result }
@@ -181,7 +161,7 @@ pub fn run_here<R: Threads + Wait + Sync>(
     rt: &R,
     alloc: Global,
     shares: &mut [Share],
-    reader: &ReaderSignal,
+    reader: &Parker,
 )
     ensures { AllZip StaysShare shares.old shares.new }
 {

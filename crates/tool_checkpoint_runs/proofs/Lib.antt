@@ -3,3 +3,4 @@ pub mod GoingOn
 pub mod DiesLeft
 pub mod CallsMore
 mod ManyStarts
+mod NeverStopped

@@ -1,20 +1,24 @@
 -- What comes of a run on the dies of a store.
-use Rattle.std.specs.Prelude.{◌≡◌, ℕ, All, Bool, false, List, map, Option, Some, None, IfSome, slice_get}
+use Rattle.std.specs.Prelude.{◌≡◌, ⊤, ℕ, All, Bool, false, List, map, Option, Some, None, IfSome, slice_get}
 use Rattle.std.specs.List.{AllZip}
 use Rattle.slot_types.specs.declared.plans.DiePlan.{DiePlan}
+use Rattle.slot_types.specs.declared.refusals.Refusal.TheVariants.{NoMemory}
 use Rattle.checkpoint_texts.specs.declared.saved.SavedDie.{SavedDie}
 use Rattle.die_log.specs.Model.Start.{Start, fresh}
 use Rattle.flash_die.specs.Fuse.{Fuse}
+use Rattle.script_texts.specs.Script.{Script}
 use Rattle.slot_core.specs.Core.{Core}
 use Rattle.tool_script_runs.specs.RunningDies as runs
 use Rattle.tool_script_runs.specs.RunningDies.{RunningDie, running_of}
-use Rattle.tool_script_runs.specs.ScriptRuns.{GoesOn, IsRunOf}
+use Rattle.tool_script_runs.specs.ScriptRuns.{GoesOn, IsRunOf, RefusesScript}
 use Rattle.tool_script_runs.specs.Counted.{CountsRows}
 use Rattle.tool_script_runs.specs.declared.counted.RefusedRows.{RefusedRows}
 use Rattle.tool_script_runs.specs.declared.refused.RefusedRow.{RefusedRow}
 use Rattle.tool_watched_runs.specs.Failing.{calls_of}
 use Rattle.tool_watched_runs.specs.declared.failing.FailAt.{FailAt}
 use Rattle.tool_checkpoint_runs.specs.SavedDies.{saved_starts}
+use Rattle.tool_checkpoint_runs.specs.declared.faults.RunFault.{RunFault}
+use Rattle.tool_checkpoint_runs.specs.declared.faults.RunFault.TheVariants.{Refused}
 
 -- dies, as those that run the rows of a script
 abbrev pub running : {N : Type 0} → List (Core N) → List RunningDie
@@ -36,6 +40,16 @@ HaveCalls {N} fail dies = (number : ℕ) → IfSome (slice_get dies number) (λ 
 -- no device of these failed
 abbrev pub NoneStopped : List RunningDie → Type 0
 NoneStopped dies = All (λ (die : RunningDie). die.stopped ≡ false) dies
+
+-- memory ran out; or what was saved has a fault, or the text of it
+abbrev pub IsOfStart : RunFault → Type 0
+IsOfStart (Refused refusal) = refusal ≡ NoMemory
+IsOfStart _ = ⊤
+
+-- memory ran out, or a reader failed; or the script, where it is known, has this fault, or what was saved has one
+abbrev pub RefusesRun : Option Script → RunFault → Type 0
+RefusesRun script (Refused refusal) = RefusesScript script refusal
+RefusesRun script _ = ⊤
 
 -- Dies that start so ran the whole of a script of this text, and so many slots, and so many of its rows were refused; and then
 -- each went on for some more, if they were to.

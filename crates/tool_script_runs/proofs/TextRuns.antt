@@ -5,7 +5,7 @@ use Rattle.std.proofs.lemmas.List.Elements.{All-append, All-cons, All-nil}
 use Rattle.std.proofs.lemmas.List.{length-map, map-append}
 use Rattle.die_log.specs.Model.Start.{Start}
 use Rattle.script_texts.specs.Script.{Script, script_of}
-use Rattle.tool_script_runs.specs.RunningDies.{HasEmptyLog, RunningDie, starts_of}
+use Rattle.tool_script_runs.specs.RunningDies.{RunningDie, starts_of}
 use Rattle.tool_script_runs.specs.declared.refused.RefusedRow.{RefusedRow}
 use Rattle.tool_script_runs.specs.ScriptRuns.{IsRunAs, IsRunOf, RanAsDie, RanScript}
 
@@ -27,10 +27,11 @@ pub as_many : {D S : Type 0} (f : D → RunningDie) (start : S → Start) (xs : 
 as_many f start xs ys are =
     sym (length-map (map f xs) (λ (die : RunningDie). die.start) ∙ length-map xs f) ∙ (ap length are ∙ length-map ys start)
 
-pub empty_more : {D : Type 0} (f : D → RunningDie) (xs : List D) (x : D) → All HasEmptyLog (map f xs) → HasEmptyLog (f x)
-    → All HasEmptyLog (map f (xs ++ x ∷ []))
-empty_more f xs x all is = subst (All HasEmptyLog) (sym (map-append f xs (x ∷ [])))
-    (All-append HasEmptyLog (map f xs) (f x ∷ []) all (All-cons HasEmptyLog (f x) [] is (All-nil HasEmptyLog)))
+-- what is so of each die is so with one die more of which it is
+pub all_more : {D : Type 0} (P : RunningDie → Type 0) (f : D → RunningDie) (xs : List D) (x : D) → All P (map f xs) → P (f x)
+    → All P (map f (xs ++ x ∷ []))
+all_more P f xs x all is = subst (All P) (sym (map-append f xs (x ∷ [])))
+    (All-append P (map f xs) (f x ∷ []) all (All-cons P (f x) [] is (All-nil P)))
 
 -- a run of what a reader has left is one of its text
 pub run_of_text : (starts : List Start) (text : Option (List ℕ)) (slots count : ℕ) (left : Option Script) (refused : List RefusedRow) (dies : List RunningDie)

@@ -185,7 +185,11 @@ impl ScriptDie for StoreDie {
     ghost use Rattle.std.specs.Box.{box_value};
     ghost use Rattle.tool_script_runs.specs.RunningDies.{running_of};
 
+    ghost use Rattle.std.specs.Prelude.{◌≡◌, false};
+
     ghost running = { λ die. running_of (box_value die.core) };
+
+    ghost runs_well = { λ die. (box_value die.core).stopped ≡ false };
 
     fn carry_to(&mut self, alloc: Global, slot: u32) -> Result<(), Refusal> {
         for _present in self.core.now()..slot {

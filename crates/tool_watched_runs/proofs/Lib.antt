@@ -5,3 +5,4 @@ pub mod JobEnds
 pub mod FiguresSoFar
 mod WornDies
 mod RunsOf
+mod WellRuns

@@ -19,6 +19,10 @@ abbrev pub IsBeyond : Option FailAt → ℕ → Type 0
 IsBeyond None dies = ⊥
 IsBeyond (Some at) dies = dies ≤ at.die
 
+-- a die runs, and its device has a call left for each slot that is left of a life, so it makes all of them well
+abbrev pub RunsWell : Core (Fuse Memory) → Type 0
+RunsWell die = (die.stopped ≡ false) × (MAX_SLOT ≤ now die.log + die.device.left)
+
 -- what became of the device of a die that was to fail: a die that it stopped stays in the slot in which it failed
 abbrev pub failure_in : {N : Type 0} → FailAt → Core N → Failure
 failure_in at die = record { at = at; slot = if die.stopped then Some (now die.log) else None }

@@ -1,12 +1,13 @@
 //! A die that runs the rows of a script, and what is noted of it.
 
-ghost use Rattle.std.specs.Prelude.{◌≡◌, ℕ, ◌<◌, ◌∷◌, [], length, option_map, IfOk};
+ghost use Rattle.std.specs.Prelude.{◌≡◌, ℕ, ◌<◌, ◌∷◌, [], false, length, option_map, IfOk};
 ghost use Rattle.std.specs.Box.{box_value};
 ghost use Rattle.slot_types.specs.Refusal.{FailsForMemory};
 ghost use Rattle.plan_rules.specs.Bound.{MeetsBound};
 ghost use Rattle.die_log.specs.Model.Start.{fresh};
 ghost use Rattle.die_log.specs.Model.Log.{Log, job_at, now};
 ghost use Rattle.tool_script_runs.specs.RunningDies.{TakesSlot, running_of};
+ghost use Rattle.tool_watched_runs.specs.Failing.{RunsWell};
 ghost use Rattle.tool_watched_runs.specs.SlotsCarried.{AreCountsOf};
 ghost use Rattle.tool_watched_runs.specs.Wear.{IsWearOf, slot_entry};
 
@@ -171,6 +172,7 @@ fn fresh_core(alloc: Global, plan: DiePlan, calls: u64) -> Result<Box<DieCore<Ru
     ensures start { IfOk result (λ core. (box_value core).start ≡ fresh plan) }
     ensures log { IfOk result (λ core. (box_value core).log ≡ []) }
     ensures calls { IfOk result (λ core. (box_value core).device.left ≡ calls) }
+    ensures runs { IfOk result (λ core. (box_value core).stopped ≡ false) }
     ensures refused { FailsForMemory result }
 {
     let Ok(nand) = MemoryNand::new(alloc, plan.shape) else {
@@ -204,6 +206,7 @@ impl DieRun {
         ensures start { IfOk result (λ run. (box_value run.core).start ≡ fresh plan) }
         ensures log { IfOk result (λ run. (box_value run.core).log ≡ []) }
         ensures calls { IfOk result (λ run. (box_value run.core).device.left ≡ calls) }
+        ensures runs { IfOk result (λ run. (box_value run.core).stopped ≡ false) }
         ensures die { IfOk result (λ run. run.die ≡ die) }
         ensures refused { FailsForMemory result }
     {
@@ -232,6 +235,8 @@ impl DieRun {
         requires { MeetsBound plan }
         ensures start { IfOk result (λ run. (box_value (box_value run).core).start ≡ fresh plan) }
         ensures log { IfOk result (λ run. (box_value (box_value run).core).log ≡ []) }
+        ensures calls { IfOk result (λ run. (box_value (box_value run).core).device.left ≡ calls) }
+        ensures runs { IfOk result (λ run. (box_value (box_value run).core).stopped ≡ false) }
         ensures refused { FailsForMemory result }
     {
         in_box(alloc, DieRun::new(alloc, die, plan, calls, seen)?)
@@ -240,8 +245,9 @@ impl DieRun {
     /// Carries out the present slot, and notes what was done in it. It is refused as by the die; or with NoMemory.
     fn step(&mut self, alloc: Global) -> Result<(), Refusal>
         requires { now (box_value self.old.core).log < MAX_SLOT }
-        ensures { TakesSlot result (running_of (box_value self.old.core))
+        ensures took { TakesSlot result (running_of (box_value self.old.core))
             (running_of (box_value self.new.core)) }
+        ensures well { RunsWell (box_value self.old.core) → RunsWell (box_value self.new.core) }
     {
         let reply = self.core.slot(alloc, 0)?;
         self.tally.note(&reply);
@@ -264,7 +270,11 @@ impl ScriptDie for DieRun {
     ghost use Rattle.std.specs.Box.{box_value};
     ghost use Rattle.tool_script_runs.specs.RunningDies.{running_of};
 
+    ghost use Rattle.tool_watched_runs.specs.Failing.{RunsWell};
+
     ghost running = { λ run. running_of (box_value run.core) };
+
+    ghost runs_well = { λ run. RunsWell (box_value run.core) };
 
     fn carry_to(&mut self, alloc: Global, slot: u32) -> Result<(), Refusal> {
         for _present in self.core.now()..slot {

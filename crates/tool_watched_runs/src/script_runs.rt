@@ -1,15 +1,16 @@
 //! Scripts that are run, row by row, on dies whose devices are in memory.
 
-ghost use Rattle.std.specs.Prelude.{◌≡◌, ◌≤◌, ◌++◌, ◌∷◌, [], false, All, length, map, IfOk, OnOk};
+ghost use Rattle.std.specs.Prelude.{◌≡◌, ◌≤◌, ◌++◌, ◌∷◌, [], false, All, None, length, map, IfErr, IfOk, OnOk};
 ghost use Rattle.std.specs.Box.{box_value};
 ghost use Rattle.plan_rules.specs.Bound.{MeetsBound};
 ghost use Rattle.die_log.specs.Model.Start.{fresh};
 ghost use Rattle.slot_types.specs.Refusal.{FailsForMemory};
 ghost use Rattle.script_texts.specs.ScriptLeft.{dies_of, script_left, slots_of};
 ghost use Rattle.tool_script_runs.specs.RunningDies.{HasEmptyLog, starts_of};
-ghost use Rattle.tool_script_runs.specs.ScriptRuns.{IsRunOf, RanScript};
+ghost use Rattle.tool_script_runs.specs.ScriptRuns.{IsRunOf, RanScript, RefusesScript, script_in};
+ghost use Rattle.tool_watched_runs.specs.Failing.{RunsWell};
 ghost use Rattle.tool_watched_runs.specs.Runs.{core_of, failure_among, running, worn_of};
-ghost use Rattle.tool_watched_runs.specs.Wear.{IsWorn, IsWornWell};
+ghost use Rattle.tool_watched_runs.specs.Wear.{IsWorn};
 ghost use Rattle.tool_watched_runs.specs.WearText.{IsWearText};
 
 use crate::die_runs::DieRun;
@@ -74,6 +75,9 @@ fn fresh_dies(
     requires { All MeetsBound plan }
     ensures starts { IfOk result (λ dies. starts_of (map running dies.items) ≡ map fresh plan) }
     ensures empty { IfOk result (λ dies. All HasEmptyLog (map running dies.items)) }
+    ensures well { IfOk result (λ dies. fail ≡ None →
+        All (λ run. RunsWell (core_of run)) dies.items) }
+    ensures refused { FailsForMemory result }
 {
     let mut dies = Vec::new(alloc);
     let mut die: u32 = 0;
@@ -112,6 +116,9 @@ fn run_lent<R: Read + Drop>(
     ensures ran { IfOk result (λ ran.
         RanScript (script_left R.remaining script.old) slots ran.refused.items
         (map running ran.dies.items)) }
+    ensures well { IfOk result (λ ran. fail ≡ None →
+        All (λ run. (running run).stopped ≡ false) ran.dies.items) }
+    ensures refused { IfErr result (RefusesScript (script_left R.remaining script.old)) }
 {
     let mut dies = fresh_dies(alloc, plan, fail)?;
     let refused = run_dies(alloc, script, &mut dies, slots)?;
@@ -130,26 +137,26 @@ pub fn run_store<R: Read + Drop>(
 ) -> Result<Ran, Refusal>
     requires few { slots ≤ MAX_SLOT }
     requires bound { All MeetsBound plan }
-    ensures { IfOk result (λ ran.
+    ensures ran { IfOk result (λ ran.
         IsRunOf (map fresh plan) (R.remaining script) slots ran.refused.items
         (map running ran.dies.items)) }
+    ensures well { IfOk result (λ ran. fail ≡ None →
+        All (λ run. (running run).stopped ≡ false) ran.dies.items) }
+    ensures refused { IfErr result
+        (RefusesScript (script_in (length plan) slots (R.remaining script))) }
 {
     let mut script = ScriptReader::new(alloc, script, &plan, slots)?;
     run_lent(alloc, &mut script, plan, slots, fail)
 }
 
-/// What a die wore, which is given up. DeviceFault where its device has failed, and nothing else.
-fn tally_of(run: Box<DieRun>) -> Result<Tally, Refusal>
-    ensures tally { IfOk result (λ tally. tally ≡ (box_value run).tally) }
-    ensures worn { IfOk result (λ _. IsWorn (worn_of run)) }
-    ensures runs { IfOk result (λ _. (running run).stopped ≡ false) }
+/// What a die wore, which is given up.
+fn tally_of(run: Box<DieRun>) -> Tally
+    ensures tally { result ≡ (box_value run).tally }
+    ensures worn { IsWorn (worn_of run) }
 {
     run.core.promises();
-    if run.core.is_stopped() {
-        return Err(Refusal::DeviceFault);
-    }
     let DieRun { tally, .. } = Box::into_inner(run);
-    Ok(tally)
+    tally
 }
 
 /// Adds what a die wore. The only refusal is NoMemory.
@@ -161,15 +168,16 @@ fn push_tally(tallies: &mut Vec<Tally>, tally: Tally) -> Result<(), Refusal>
     Ok(())
 }
 
-/// What dies wore. DeviceFault where the device of one has failed; or NoMemory.
+/// What dies wore. The only refusal is NoMemory.
 fn tallies_of(alloc: Global, dies: Vec<Box<DieRun>>) -> Result<Vec<Tally>, Refusal>
     ensures tallies { IfOk result (λ tallies.
         tallies.items ≡ map (λ die. (worn_of die).tally) dies.items) }
-    ensures worn { IfOk result (λ _. All (λ die. IsWornWell (worn_of die)) dies.items) }
+    ensures worn { IfOk result (λ _. All (λ die. IsWorn (worn_of die)) dies.items) }
+    ensures refused { FailsForMemory result }
 {
     let mut tallies = Vec::new(alloc);
     for run in dies {
-        push_tally(&mut tallies, tally_of(run)?)?;
+        push_tally(&mut tallies, tally_of(run))?;
     }
     Ok(tallies)
 }
@@ -177,8 +185,7 @@ fn tallies_of(alloc: Global, dies: Vec<Box<DieRun>>) -> Result<Vec<Tally>, Refus
 /// Runs a script on a store of dies in memory, and reports what it wore, as a text of records: the counts are those of
 /// the logs of dies that began fresh by these plans, and ran the whole script and so many slots.
 ///
-/// Refused with the first fault of the script, as [`ScriptReader`] says it; with DeviceFault where a device has failed,
-/// which none in memory does; or with ReadFault or NoMemory.
+/// Refused with the first fault of the script, as [`ScriptReader`] says it; or with ReadFault or NoMemory.
 pub fn wear<R: Read + Drop>(
     alloc: Global,
     plan: StorePlan,
@@ -189,6 +196,8 @@ pub fn wear<R: Read + Drop>(
     requires bound { All MeetsBound plan }
     ensures text { IfOk result (λ reported.
         IsWearText plan (R.remaining script) slots reported.refused reported.text.items) }
+    ensures refused { IfErr result
+        (RefusesScript (script_in (length plan) slots (R.remaining script))) }
 {
     let Ran { dies, refused } = run_store(alloc, plan, script, slots, None)?;
     let counts = RefusedRows::of(&refused);

@@ -4,7 +4,6 @@ use Rattle.task_script.specs.declared.row_batches.BatchSender.{BatchSender}
 use Rattle.std.specs.List.{AllZip}
 use Rattle.task_script.specs.declared.shares.Share.{Share}
 use Rattle.task_script.specs.Shares.{StaysShare}
-use Rattle.task_script.specs.RowTexts.{HasReadTexts}
 use Rattle.task_script.specs.declared.feeds.ReadEnd.{ReadEnd}
 use Rattle.task_script.specs.declared.feeds.ReadEnd.TheVariants.{Ended, More}
 use Rattle.task_script.proofs.Dealing.{texts_as}
@@ -51,32 +50,12 @@ returns-in_default-end g c =
       few = batch_few _ _ _ _ _ _ _ _ c.loop.counter c.match-read.until _ _ _ _ _ c.loop.invariant.sent c.in_ok-empty.ensures.same read
           _ c.send_rows.ensures few;
       failed = c.in_ok-read.ensures.failed;
+      over = c.in_default-end.not-More;
       same = batch_same _ _ _ _ _ _ _ _ c.loop.counter c.match-read.until _ _ _ _ _ c.loop.invariant.sent c.in_ok-empty.ensures.same read
           _ c.send_rows.ensures;
       shares = shares_on _ _ c.run_here.new.shares c.loop.invariant.shares c.run_here.ensures;
       refused = tt;
     }
-
-pub returns-then-load-clause-rows : goal.returns-then-load-clause-rows
-returns-then-load-clause-rows g c =
-    let read = texts_as _ _ _ _ _ _ _ _ _ _ c.loop.invariant.dies c.loop.invariant.slots c.in_ok-read.ensures.rows in
-    subst (HasReadTexts _ _ _ _ _ _ _) c.in-More.is (batch_read _ _ _ _ _ _ _ _ c.loop.counter c.match-read.until _ _ _ _ _
-    c.loop.invariant.sent c.in_ok-empty.ensures.same read _ c.send_rows.ensures)
-
-pub returns-then-load-clause-few : goal.returns-then-load-clause-few
-returns-then-load-clause-few g c =
-    let read = texts_as _ _ _ _ _ _ _ _ _ _ c.loop.invariant.dies c.loop.invariant.slots c.in_ok-read.ensures.rows in
-    batch_few _ _ _ _ _ _ _ _ c.loop.counter c.match-read.until _ _ _ _ _ c.loop.invariant.sent c.in_ok-empty.ensures.same read
-    _ c.send_rows.ensures (few_batches _ _ c.loop.counter c.requires.first c.loop.invariant.later c.loop.invariant.below)
-
-pub returns-then-load-clause-same : goal.returns-then-load-clause-same
-returns-then-load-clause-same g c =
-    let read = texts_as _ _ _ _ _ _ _ _ _ _ c.loop.invariant.dies c.loop.invariant.slots c.in_ok-read.ensures.rows in
-    batch_same _ _ _ _ _ _ _ _ c.loop.counter c.match-read.until _ _ _ _ _ c.loop.invariant.sent c.in_ok-empty.ensures.same read
-    _ c.send_rows.ensures
-
-pub returns-then-load-clause-shares : goal.returns-then-load-clause-shares
-returns-then-load-clause-shares g c = shares_on _ _ c.run_here.new.shares c.loop.invariant.shares c.run_here.ensures
 
 pub loop-preserved : goal.loop-preserved
 loop-preserved g c =

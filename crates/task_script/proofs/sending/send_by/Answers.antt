@@ -30,6 +30,7 @@ returns-clause-sent g c =
           (c.send_all-end.ensures.last (c.in_ok-end.was ∙ ap (λ (end : ReadEnd). Ok end) ended));
       few = subst (All (λ (s : BatchSender). length (sent_by s) ≤ 1000003)) all c.in_ok-end.ensures.few;
       failed = c.in_ok-end.ensures.failed;
+      over = c.in_ok-end.ensures.over;
       same = subst (λ (ss : List BatchSender). AllZip IsSameSender ss
           (take c.args.senders.len (news ++ drop (length news) c.args.senders.items))) c.as_mut_slice.ensures.value
           (subst (AllZip IsSameSender c.as_mut_slice.result.now) all c.in_ok-end.ensures.same);

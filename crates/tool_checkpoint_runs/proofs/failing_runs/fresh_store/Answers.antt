@@ -13,7 +13,7 @@ use Rattle.tool_watched_runs.specs.Failing.{calls_of}
 use Rattle.tool_checkpoint_runs.specs.Runs.{HaveCalls, running, starts_of}
 use Rattle.tool_checkpoint_runs.proofs.CallsMore.{each_more}
 use Rattle.tool_script_runs.specs.RunningDies.{HasEmptyLog, running_of}
-use Rattle.tool_script_runs.proofs.TextRuns.{empty_more, starts_more}
+use Rattle.tool_script_runs.proofs.TextRuns.{all_more, starts_more}
 use Rattle.tool_checkpoint_runs.proofs.failing_runs.fresh_store.Goals as goal
 
 pub loop-plan-preserved : goal.loop-plan-preserved
@@ -29,7 +29,7 @@ loop-plan-preserved c =
           c.in_ok-die.ensures.ok
           (ap (λ (plans : List DiePlan). starts_of c.loop-plan.dies.items ++ map fresh plans) (sym here) ∙ c.loop-plan.invariant.starts);
       empty = subst (λ (dies : List (Core (Fuse Memory))). All HasEmptyLog (running dies)) (sym pushed)
-          (empty_more running_of c.loop-plan.dies.items c.in_ok-die.die c.loop-plan.invariant.empty c.in_ok-die.ensures.log);
+          (all_more HasEmptyLog running_of c.loop-plan.dies.items c.in_ok-die.die c.loop-plan.invariant.empty c.in_ok-die.ensures.log);
       count = omega (
         arith,
         ap length pushed,

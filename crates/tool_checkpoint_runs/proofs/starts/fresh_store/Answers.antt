@@ -1,5 +1,5 @@
-use Rattle.std.proofs.Common.{rules, ◌≡◌, ◌++◌, ◌∷◌, [], List, ap, sym, subst, ◌∙◌, arith, length, length-append, map}
-use Rattle.std.proofs.lemmas.List.Elements.{All-rest}
+use Rattle.std.proofs.Common.{rules, ◌≡◌, ◌++◌, ◌∷◌, [], List, ap, sym, subst, false, ◌∙◌, arith, length, length-append, map}
+use Rattle.std.proofs.lemmas.List.Elements.{All-push, All-rest}
 use Rattle.std.specs.Prelude.{All}
 use Rattle.std.specs.Vec.Iter.{into_iter_items}
 use Rattle.slot_types.specs.declared.plans.DiePlan.{DiePlan}
@@ -9,7 +9,7 @@ use Rattle.flash_die.specs.Memory.{Memory}
 use Rattle.slot_core.specs.Core.{Core}
 use Rattle.tool_checkpoint_runs.specs.Runs.{running, starts_of}
 use Rattle.tool_script_runs.specs.RunningDies.{HasEmptyLog, running_of}
-use Rattle.tool_script_runs.proofs.TextRuns.{empty_more, starts_more}
+use Rattle.tool_script_runs.proofs.TextRuns.{all_more, starts_more}
 use Rattle.tool_checkpoint_runs.proofs.starts.fresh_store.Goals as goal
 
 pub loop-plan-preserved : goal.loop-plan-preserved
@@ -25,7 +25,10 @@ loop-plan-preserved c =
           c.in_ok-die.ensures.ok
           (ap (λ (plans : List DiePlan). starts_of c.loop-plan.dies.items ++ map fresh plans) (sym here) ∙ c.loop-plan.invariant.starts);
       empty = subst (λ (dies : List (Core Memory)). All HasEmptyLog (running dies)) (sym pushed)
-          (empty_more running_of c.loop-plan.dies.items c.in_ok-die.die c.loop-plan.invariant.empty c.in_ok-die.ensures.log);
+          (all_more HasEmptyLog running_of c.loop-plan.dies.items c.in_ok-die.die c.loop-plan.invariant.empty c.in_ok-die.ensures.log);
+      run = subst (All (λ (die : Core Memory). die.stopped ≡ false)) (sym pushed)
+          (All-push (λ (die : Core Memory). die.stopped ≡ false) c.loop-plan.dies.items c.in_ok-die.die c.loop-plan.invariant.run
+          c.in_ok-die.ensures.runs);
       count = omega (
         arith,
         ap length pushed,

@@ -1,4 +1,5 @@
-use Rattle.std.proofs.Common.{rules, ◌≡◌, ◌++◌, ◌∷◌, [], List, ap, sym, subst, ◌∙◌, arith, length, length-append}
+use Rattle.std.proofs.Common.{rules, ◌≡◌, ◌++◌, ◌∷◌, [], List, ap, sym, subst, false, ◌∙◌, arith, length, length-append}
+use Rattle.std.proofs.lemmas.List.Elements.{All-push}
 use Rattle.std.specs.Prelude.{All}
 use Rattle.std.specs.Vec.Iter.{into_iter_items}
 use Rattle.slot_types.specs.declared.plans.DiePlan.{DiePlan}
@@ -8,7 +9,7 @@ use Rattle.slot_core.specs.Core.{Core}
 use Rattle.tool_checkpoint_runs.specs.Runs.{running, starts_of}
 use Rattle.tool_checkpoint_runs.specs.SavedDies.{saved_start, saved_starts}
 use Rattle.tool_script_runs.specs.RunningDies.{HasEmptyLog, running_of}
-use Rattle.tool_script_runs.proofs.TextRuns.{empty_more, starts_more}
+use Rattle.tool_script_runs.proofs.TextRuns.{all_more, starts_more}
 use Rattle.tool_checkpoint_runs.proofs.starts.saved_store.Goals as goal
 
 pub loop-plan-preserved : goal.loop-plan-preserved
@@ -29,7 +30,10 @@ loop-plan-preserved c =
           ++ saved_starts (into_iter_items c.loop-plan.plan-iterator) l) (sym cut)
           ∙ c.loop-plan.invariant.starts);
       empty = subst (λ (dies : List (Core Memory)). All HasEmptyLog (running dies)) (sym pushed)
-          (empty_more running_of c.loop-plan.dies.items c.in_ok-die.die c.loop-plan.invariant.empty c.in_ok-die.ensures.log);
+          (all_more HasEmptyLog running_of c.loop-plan.dies.items c.in_ok-die.die c.loop-plan.invariant.empty c.in_ok-die.ensures.log);
+      run = subst (All (λ (die : Core Memory). die.stopped ≡ false)) (sym pushed)
+          (All-push (λ (die : Core Memory). die.stopped ≡ false) c.loop-plan.dies.items c.in_ok-die.die c.loop-plan.invariant.run
+          c.in_ok-die.ensures.runs);
       count = omega (
         arith,
         ap length pushed,

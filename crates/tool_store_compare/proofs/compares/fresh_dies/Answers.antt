@@ -4,7 +4,7 @@ use Rattle.std.specs.Prelude.{All}
 use Rattle.slot_types.specs.declared.plans.DiePlan.{DiePlan}
 use Rattle.die_log.specs.Model.Start.{fresh}
 use Rattle.tool_script_runs.specs.RunningDies.{HasEmptyLog, starts_of}
-use Rattle.tool_script_runs.proofs.TextRuns.{empty_more, starts_more}
+use Rattle.tool_script_runs.proofs.TextRuns.{all_more, starts_more}
 use Rattle.tool_store_compare.specs.Runs.{running}
 use Rattle.tool_store_compare.specs.declared.store_dies.StoreDie.{StoreDie}
 use Rattle.tool_store_compare.proofs.PlansLeft.{first_left}
@@ -29,5 +29,5 @@ loop-plan-preserved c =
           (c.in_ok-die.ensures.start ∙ ap fresh same)
           (ap (λ (l : List DiePlan). starts_of (map running dies) ++ map fresh l) (sym here) ∙ c.loop-plan.invariant.starts);
       empty = subst (λ (l : List (Box StoreDie)). All HasEmptyLog (map running l)) (sym pushed)
-          (empty_more running dies c.in_ok-die.die c.loop-plan.invariant.empty c.in_ok-die.ensures.log);
+          (all_more HasEmptyLog running dies c.in_ok-die.die c.loop-plan.invariant.empty c.in_ok-die.ensures.log);
     }

@@ -9,8 +9,8 @@ use Rattle.tool_watched_runs.specs.Runs.{running}
 use Rattle.tool_watched_runs.specs.declared.script_runs.Ran.{Ran}
 use Rattle.tool_watched_runs.proofs.script_runs.run_store.Goals as goal
 
-pub returns : goal.returns
-returns g c =
+pub returns-clause-ran : goal.returns-clause-ran
+returns-clause-ran g c =
     let left = script_left g.R.Read.remaining c.in_ok-script.script in
     both_ok c.run_lent.result
     (λ (ran : Ran) (begun : starts_of (map running ran.dies.items) ≡ map fresh c.args.plan)
