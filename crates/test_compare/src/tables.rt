@@ -109,7 +109,8 @@ fn compared(alloc: Global, from: u32, form: Form) -> Result<Vec<u8>, CompareFaul
         from,
         marks: MARKS,
     };
-    compare(alloc, &plan, SCRIPT.as_bytes(), measure, form)
+    let compared = compare(alloc, &plan, None, SCRIPT.as_bytes(), measure, form)?;
+    Ok(compared.text)
 }
 
 #[test]
@@ -189,7 +190,8 @@ fn a_script_that_is_at_fault_has_no_table(rt: HostRuntime) -> Result<(), Fail> {
         from: 0,
         marks: MARKS,
     };
-    let fault = compare(rt.alloc(), &plan, "at\n".as_bytes(), measure, Form::Csv).err();
+    let script = "at\n".as_bytes();
+    let fault = compare(rt.alloc(), &plan, None, script, measure, Form::Csv).err();
     let header = Refusal::ScriptRow {
         line: 1,
         cause: Cause::Header,

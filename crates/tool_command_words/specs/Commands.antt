@@ -2,7 +2,7 @@
 use Rattle.std.specs.Prelude.{ℕ, ◌&&◌, ◌||◌, ◌==◌, Bool, not, List, codes, Option, Some, None, is_some, if◌then◌else◌}
 use Rattle.std.specs.Str.{bytes_eq}
 use Rattle.clap.specs.Words.{Row, Text, all_of, first_of}
-use Rattle.tool_command_words.specs.RequestTexts.{CommandText, Explain, Fit, Design, Arrivals, Keeps, Wear, Report, Draw, Demand, Compare, Run, RequestText, Listed}
+use Rattle.tool_command_words.specs.RequestTexts.{CommandText, Explain, Fit, Design, Arrivals, Keeps, Wear, Report, Draw, Demand, Compare, Run, RunKept, RequestText, Listed}
 use Rattle.tool_command_words.specs.Together.{asked_together}
 use Rattle.tool_command_words.specs.Values.{◌>>=◌, fail_of, number_upto}
 use Rattle.tool_command_words.specs.declared.asked.ListCommand.{ListCommand}
@@ -143,8 +143,22 @@ run_from rows plan script slots = do
   if is_some fail && (is_some (first_of (codes "from") rows) || is_some (first_of (codes "to") rows)) then None
       else Some (Run plan script slots (first_of (codes "from") rows) (first_of (codes "to") rows) fail)
 
+abbrev pub run_plain_of : List Row → Option CommandText
+run_plain_of rows = on_script rows (run_from rows)
+
+-- dies that keep their plans begin fresh, and are neither saved nor fail
+abbrev pub run_kept_from : List Row → Text → Text → ℕ → Option CommandText
+run_kept_from rows plan script slots =
+    if is_some (first_of (codes "from") rows) || (is_some (first_of (codes "to") rows) || is_some (first_of (codes "fail-at") rows)) then None
+    else Some (RunKept plan script slots)
+
+abbrev pub run_kept_of : List Row → Option CommandText
+run_kept_of rows = on_script rows (run_kept_from rows)
+
 abbrev pub run_of : List Row → Option CommandText
-run_of rows = on_script rows (run_from rows)
+run_of rows = do
+  keep ← first_of (codes "keep") rows
+  if bytes_eq keep (codes "true") then run_kept_of rows else run_plain_of rows
 
 abbrev pub command_named : Text → List Row → Option CommandText
 command_named name rows =

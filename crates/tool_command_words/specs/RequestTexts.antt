@@ -23,6 +23,7 @@ pub data CommandText : Type 0 where
   Demand : (plan : Text) (die : ℕ) → CommandText
   Compare : (plan script : Text) (slots first pool : ℕ) (as_csv draws : Bool) (die task : ℕ) → CommandText
   Run : (plan script : Text) (slots : ℕ) (from to : Option Text) (fail : Option FailingDie) → CommandText
+  RunKept : (plan script : Text) (slots : ℕ) → CommandText
 
 -- what is asked for: a command on the files that it names, or one on several files of a kind
 pub data RequestText : Type 0 where
@@ -47,6 +48,7 @@ text_of_command (command.Demand plan die) = Demand plan.now die
 text_of_command (command.Compare plan script slots first pool as_csv draws die task) =
     Compare plan.now script.now slots first pool as_csv draws die task
 text_of_command (command.Run plan script slots from to fail) = Run plan.now script.now slots (name_of from) (name_of to) fail
+text_of_command (command.RunKept plan script slots) = RunKept plan.now script.now slots
 
 abbrev pub text_of_request : Request → RequestText
 text_of_request (request.One command) = One (text_of_command command)
@@ -61,6 +63,7 @@ FitsRun (command.Report plan script slots endurance slot_us as_csv fail) = slots
 FitsRun (command.Draw plan script slots die first end worst as_text all fail) = slots ≤ 1048576
 FitsRun (command.Compare plan script slots first pool as_csv draws die task) = slots ≤ 1048576
 FitsRun (command.Run plan script slots from to fail) = slots ≤ 1048576
+FitsRun (command.RunKept plan script slots) = slots ≤ 1048576
 FitsRun _ = ⊤
 
 abbrev pub RequestFits : Request → Type 0

@@ -147,8 +147,11 @@ compare_app = with_rule (with_rule compare_forms_app die_rule) (count_rule (code
 abbrev pub run_files_app : App
 run_files_app = on_files (new_app (codes "run"))
 
+abbrev pub run_saved_app : App
+run_saved_app = with_rule (with_rule (with_rule run_files_app slots_rule) (option_rule (codes "from"))) (option_rule (codes "to"))
+
 abbrev pub run_app : App
-run_app = with_rule (with_rule (with_rule (with_rule (with_rule run_files_app slots_rule) (option_rule (codes "from"))) (option_rule (codes "to"))) fail_rule) strict_rule
+run_app = with_rule (with_rule (with_rule run_saved_app fail_rule) (flag_rule (codes "keep"))) strict_rule
 
 abbrev pub audit_app : App
 audit_app = with_rule (with_rule (new_app (codes "audit")) (list_rule (codes "REPORT"))) strict_rule

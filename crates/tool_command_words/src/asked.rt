@@ -129,6 +129,13 @@ pub enum Command<'a> {
         /// With one, all dies are fresh, and no checkpoint is written.
         fail: Option<FailingDie>,
     },
+    /// Run a script on fresh dies that keep their plans.
+    RunKept {
+        plan: &'a str,
+        script: &'a str,
+        /// How many slots each die runs, from 0 to 1,048,576.
+        slots: u32,
+    },
 }
 
 /// What is done with several files of a kind.

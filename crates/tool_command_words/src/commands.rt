@@ -4,7 +4,8 @@ ghost use Rattle.std.specs.Prelude.{◌≡◌, ◌≤◌, ℕ, IfOk, IfSome, Opt
 ghost use Rattle.clap.specs.Words.{Text, found_of, rows_of};
 ghost use Rattle.tool_command_words.specs.RequestTexts.{CommandText, FitsRun, RequestFits, text_of_command, text_of_request};
 ghost use Rattle.tool_command_words.specs.Commands.{arrivals_of, audit_of, command_named, compare_of, demand_of, design_of, draw_of, draw_run_of, explain_of, fit_of};
-ghost use Rattle.tool_command_words.specs.Commands.{import_in, import_of, keeps_of, names_form, names_run, names_script, names_window, on_script, report_of, request_named, run_of, wear_of};
+ghost use Rattle.tool_command_words.specs.Commands.{import_in, import_of, keeps_of, names_form, names_run, names_script, names_window, on_script, report_of, request_named};
+ghost use Rattle.tool_command_words.specs.Commands.{run_kept_of, run_of, run_plain_of, wear_of};
 
 use crate::asked::{Command, ListCommand, Request};
 use crate::together::goes_together;
@@ -250,9 +251,28 @@ fn compare<'a>(met: &ArgMatches<'a>) -> Option<Command<'a>>
     })
 }
 
-/// The command `run` that was met.
-fn run<'a>(met: &ArgMatches<'a>) -> Option<Command<'a>>
-    ensures run { option_map text_of_command result ≡ run_of (rows_of (found_of met.now)) }
+/// The command `run --keep` that was met, whose dies begin fresh, and are neither saved nor fail.
+fn run_kept<'a>(met: &ArgMatches<'a>) -> Option<Command<'a>>
+    ensures run { option_map text_of_command result ≡ run_kept_of (rows_of (found_of met.now)) }
+    ensures fits { IfSome result FitsRun }
+{
+    let (plan, script, slots) = scripted(met)?;
+    let from = value(met, "from").is_some();
+    let to = value(met, "to").is_some();
+    let fail = value(met, "fail-at").is_some();
+    if from || (to || fail) {
+        return None;
+    }
+    Some(Command::RunKept {
+        plan,
+        script,
+        slots,
+    })
+}
+
+/// The command `run` that was met, whose dies take what comes.
+fn run_plain<'a>(met: &ArgMatches<'a>) -> Option<Command<'a>>
+    ensures run { option_map text_of_command result ≡ run_plain_of (rows_of (found_of met.now)) }
     ensures fits { IfSome result FitsRun }
 {
     let (plan, script, slots) = scripted(met)?;
@@ -270,6 +290,18 @@ fn run<'a>(met: &ArgMatches<'a>) -> Option<Command<'a>>
         to,
         fail,
     })
+}
+
+/// The command `run` that was met.
+fn run<'a>(met: &ArgMatches<'a>) -> Option<Command<'a>>
+    ensures run { option_map text_of_command result ≡ run_of (rows_of (found_of met.now)) }
+    ensures fits { IfSome result FitsRun }
+{
+    if value(met, "keep")? == "true" {
+        run_kept(met)
+    } else {
+        run_plain(met)
+    }
 }
 
 /// The command `audit` that was met.

@@ -158,12 +158,24 @@ fn in_report(words: &[String]) -> Option<Conflict<'_>> {
     worn.or(beside(words, "--slot-us", "no --endurance", why))
 }
 
+/// The options of `run` that don't go together with `--keep`.
+fn in_run(words: &[String]) -> Option<Conflict<'_>> {
+    if !has(words, "--keep") {
+        return None;
+    }
+    let why = "dies that keep their plans begin fresh, and are neither saved nor fail";
+    let begun = beside(words, "--from", "--keep", why);
+    let saved = begun.or(beside(words, "--to", "--keep", why));
+    saved.or(beside(words, "--fail-at", "--keep", why))
+}
+
 /// The first two options in the words that don't go together, where clap and the numbers have no fault.
 pub(crate) fn conflict_in(words: &[String]) -> Option<Conflict<'_>> {
     match words.get(1)?.as_str() {
         "draw" => in_draw(words),
         "compare" => in_compare(words),
         "report" => in_report(words),
+        "run" => in_run(words),
         _ => None,
     }
 }

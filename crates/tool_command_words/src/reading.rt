@@ -88,11 +88,12 @@ fn parsed<'a>(
 /// die 0, begins with slot 0, or ends with the run; `draw PLAN --demand --die D`, which takes no other option;
 /// `compare PLAN SCRIPT --slots N --from F --pool A --csv --draw --die D --task T`, where F, D and T are 0 and A is 4
 /// if left out; `import TRACE.. --slot-us U --due D --plan`, where D is 20 if left out; `run PLAN SCRIPT --slots N
-/// --from CHECKPOINT --to CHECKPOINT --fail-at DIE:K`, where the last goes with neither checkpoint; or `audit
-/// REPORT..`. A checkpoint may be left out, and so may `--fail-at`, with a call K from 1. A number is 1 to 10 decimal
-/// digits, and at most 1,048,576. The error is that of clap, which prints itself: a call for help, a fault of the
-/// words, or out of memory; and ValueValidation where there is no command, a number that is none or too great, or
-/// options don't go together: one of them would say nothing, or `draw` has nothing to draw.
+/// --from CHECKPOINT --to CHECKPOINT --fail-at DIE:K`, where the last goes with neither checkpoint; `run PLAN SCRIPT
+/// --slots N --keep`, which goes with none of these; or `audit REPORT..`. A checkpoint may be left out, and so may
+/// `--fail-at`, with a call K from 1. A number is 1 to 10 decimal digits, and at most 1,048,576. The error is that of
+/// clap, which prints itself: a call for help, a fault of the words, or out of memory; and ValueValidation where
+/// there is no command, a number that is none or too great, or options don't go together: one of them would say
+/// nothing, or `draw` has nothing to draw.
 #[tactic(auto, using(crate::proofs::KindLemmas::has_kind_in_first))]
 pub fn read_words<'a>(alloc: Global, words: &'a [String]) -> Result<Asked<'a>, Error>
     ensures ok { IfOk result (λ c.

@@ -26,7 +26,8 @@ fn failing_fault(alloc: Global, words: &[String]) -> Result<Option<String>, Allo
     let is_run = words
         .get(1)
         .is_some_and(|command| command.as_str() == "run");
-    if is_run {
+    let keeps = words.iter().any(|word| word.as_str() == "--keep");
+    if is_run && !keeps {
         return Ok(Some(format!(in alloc;
             "--fail-at is of fresh dies, and goes with neither --from nor --to"
         )?));

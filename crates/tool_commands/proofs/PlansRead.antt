@@ -1,6 +1,7 @@
 -- A plan was read, with terms or without.
 use Rattle.std.proofs.Common.{◌≡◌, ◌≤◌, ℕ, Bool, true, false, List, All, Option, Ok, length, sym, subst}
 use Rattle.std.specs.Prelude.{MatchBool}
+use Rattle.std.specs.List.{AllZip}
 use Rattle.slot_types.specs.declared.plans.DiePlan.{DiePlan}
 use Rattle.plan_rules.specs.Bound.{MeetsBound}
 use Rattle.plan_texts.specs.PlanReading.{IsStoreOf}
@@ -17,6 +18,8 @@ use Rattle.terms_texts.specs.Stores.{IsStore as IsTermsStore}
 use Rattle.terms_texts.specs.TermsText.{read_numbers}
 use Rattle.terms_texts.specs.declared.numbers.TermsNumbers.{TermsNumbers}
 use Rattle.terms_texts.proofs.TermsFronts.{store-front as terms-front}
+use Rattle.tool_kept_runs.specs.KeptPlans.{IsKeptPlan}
+use Rattle.tool_commands.specs.KeptActs.{KeepsTimes, ReadsKept}
 use Rattle.tool_commands.specs.PlanKinds.{ArePlansOf, ByKind, IsOfKind, IsReadOf, ReadsPlain, ReadsStore, ReadsTerms}
 
 -- what holds of a plan with terms, or of one without, holds by its kind
@@ -54,3 +57,12 @@ reads-plain plan text store read kind made some few bound = record {
   few = few;
   bound = bound;
 }
+
+-- the plans that dies keep, of a plan with terms and of one with times
+pub keeps-terms : (plan : Option (List ℕ)) (kept : List DieTerms) → ReadsTerms plan kept → ReadsKept plan kept
+keeps-terms plan kept read = with-terms plan (IsTermsStoreOf plan kept) (KeepsTimes plan kept) read.kind read.made
+
+pub keeps-times : (plan : Option (List ℕ)) (store : List DiePlan) (kept : List DieTerms) → ReadsPlain plan store → AllZip IsKeptPlan store kept
+    → ReadsKept plan kept
+keeps-times plan store kept read kept_are =
+    without-terms plan (IsTermsStoreOf plan kept) (KeepsTimes plan kept) read.kind (record { store = store; made = read.made; kept_are = kept_are })

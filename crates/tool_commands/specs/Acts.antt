@@ -10,6 +10,7 @@ use Rattle.slot_types.specs.declared.refusals.Refusal.TheVariants.{WriteFault}
 use Rattle.plan_texts.specs.PlanReading.{IsStoreOf}
 use Rattle.text_base.specs.Readings.{IsOutside}
 use Rattle.text_base.specs.Writing.{IsNotWhole}
+use Rattle.tool_commands.specs.KeptActs.{PrintsKeptRun}
 use Rattle.tool_watched_runs.specs.WearText.{IsWearText}
 use Rattle.tool_plan_arrivals.specs.PlannedScripts.{IsPlannedScript}
 use Rattle.tool_plan_design.specs.AcceptedPlans.{IsAccepted}
@@ -368,3 +369,5 @@ EndsSo contents has_failed (command.Run plan script slots from to None) text row
     EndsRun contents has_failed (PrintsRun text rows slots (is_none from) (is_some to)) (is_none to) old new status
 EndsSo contents has_failed (command.Run plan script slots from to (Some fail)) text rows old new status =
     Ends contents has_failed (PrintsFailing text rows slots) old new status
+EndsSo contents has_failed (command.RunKept plan script slots) text rows old new status =
+    Ends contents has_failed (PrintsKeptRun text rows slots) old new status

@@ -18,6 +18,7 @@ plan_name (command.Draw plan script slots die first end worst as_text all fail) 
 plan_name (command.Demand plan die) = plan.now
 plan_name (command.Compare plan script slots first pool as_csv draws die task) = plan.now
 plan_name (command.Run plan script slots from to fail) = plan.now
+plan_name (command.RunKept plan script slots) = plan.now
 
 -- that of its script, if it has one
 abbrev pub script_name : Command → Option (List ℕ)
@@ -27,6 +28,7 @@ script_name (command.Report plan script slots endurance slot_us as_csv fail) = S
 script_name (command.Draw plan script slots die first end worst as_text all fail) = Some script.now
 script_name (command.Compare plan script slots first pool as_csv draws die task) = Some script.now
 script_name (command.Run plan script slots from to fail) = Some script.now
+script_name (command.RunKept plan script slots) = Some script.now
 script_name _ = None
 
 -- a reader gives what the file of this name holds, where there is such a name and that is known

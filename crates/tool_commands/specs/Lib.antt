@@ -1,4 +1,5 @@
 pub mod PlanKinds
 pub mod Designing
+pub mod KeptActs
 pub mod Acts
 pub mod Files

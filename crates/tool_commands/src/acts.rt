@@ -12,6 +12,7 @@ use crate::designing::act_design;
 use crate::explaining::{act_explain, act_explain_from};
 use crate::fitting::act_fit;
 use crate::keeping::act_keeps;
+use crate::kept_acts::act_run_kept;
 use crate::runs::{act_draw, act_report, act_wear};
 use crate::shelves::Shelf;
 use std::alloc::Global;
@@ -100,8 +101,9 @@ fn begun<C: Drop>(from: Option<C>, begins_fresh: bool) -> Option<C>
 /// `draw --demand` prints the picture of what may be asked of a die, as [`act_demand`] says, and reads no script.
 /// `compare` prints the table, the records or the picture of [`compare`](tool_store_compare::compare), whole. `run`
 /// prints the report of dies that go on from a checkpoint, and has the checkpoint of their end written, as [`act_run`]
-/// says. Where a device is to fail, `err` gets a line that says in which slot it did, as `die 0 failed in slot 12, at
-/// call 7 of its device`, or that it didn't; the status stays, and rows that come later for its die are refused.
+/// says, and `run --keep` that of dies that keep their plans, as [`act_run_kept`] does. Where a device is to fail, `err`
+/// gets a line that says in which slot it did, as `die 0 failed in slot 12, at call 7 of its device`, or that it didn't;
+/// the status stays, and rows that come later for its die are refused.
 ///
 /// No more of the plan is read than 1,048,577 bytes. Where a text is refused, memory runs out, or a reader or `out`
 /// fails, that is reported in a line to `err`, as `error 21 ReadFault`, and the status is 1; where `out` fails nothing
@@ -226,5 +228,6 @@ pub fn act<P: Read + Drop, S: Read + Drop, C: Read + Drop, K: Shelf, W: Output, 
                 act_run(alloc, plan, script, begun, shelf, slots, to, out, err)
             }
         },
+        Command::RunKept { slots, .. } => act_run_kept(alloc, plan, script, slots, out, err),
     }
 }

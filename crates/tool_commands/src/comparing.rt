@@ -1,16 +1,22 @@
 //! A script on the store and on plain layers.
 
-ghost use Rattle.std.specs.Prelude.{◌≡◌, ◌≤◌, OnErr, OnOk, if◌then◌else◌, is_ok};
+ghost use Rattle.std.specs.Prelude.{◌≡◌, ◌≤◌, IfOk, IfSome, OnErr, OnOk, if◌then◌else◌, is_ok};
+ghost use Rattle.std.specs.List.{AllZip};
 ghost use Rattle.text_base.specs.Writing.{IsNotWhole};
+ghost use Rattle.tool_kept_runs.specs.KeptPlans.{IsKeptPlan};
 ghost use Rattle.tool_commands.specs.Acts.{Ends, PrintsCompared};
+ghost use Rattle.tool_commands.specs.KeptActs.{ReadsKept};
+ghost use Rattle.tool_commands.specs.PlanKinds.{ReadsStore};
 
 use crate::endings::end_refused;
 use crate::plan_faults::end_unread;
-use crate::stores::{Unread, store_of};
-use slot_types::{MAX_SLOT, Refusal};
+use crate::stores::{PlanRead, Unread, plan_in};
+use slot_types::{MAX_SLOT, Refusal, StorePlan};
 use std::alloc::Global;
 use std::io::{Read, Write};
+use terms_texts::{StoreTerms, plans_of};
 use text_base::{Output, write_whole};
+use tool_kept_runs::{KeptFault, kept_plans};
 use tool_store_compare::{CompareFault, Form, Measure, compare};
 
 /// Why there is no comparison.
@@ -38,7 +44,46 @@ impl From<Refusal> for Uncompared {
     }
 }
 
-/// Prints how late the jobs of a script were on the store and by plain layers.
+/// The plans of a store's dies, and those that dies keep, with terms or of times, if there are some.
+#[derive(Drop)]
+struct ComparedPlans {
+    store: StorePlan,
+    kept: Option<StoreTerms>,
+}
+
+/// The plans that dies keep of a plan without terms, if it has times. The only refusal is NoMemory.
+fn kept_of_times(alloc: Global, store: &StorePlan) -> Result<Option<StoreTerms>, Refusal>
+    ensures kept { IfOk result (λ kept. IfSome kept (AllZip IsKeptPlan store.now)) }
+{
+    match kept_plans(alloc, store) {
+        Ok(kept) => Ok(Some(kept)),
+        Err(Refusal::BadPlan) => Ok(None),
+        Err(refusal) => Err(refusal),
+    }
+}
+
+/// Reads both. It is refused as [`plan_in`] refuses it.
+fn plans_in<P: Read + Drop>(alloc: Global, plan: P) -> Result<ComparedPlans, Unread>
+    ensures store { IfOk result (λ plans. ReadsStore (P.remaining plan) plans.store) }
+    ensures kept { IfOk result (λ plans. IfSome plans.kept (ReadsKept (P.remaining plan))) }
+{
+    match plan_in(alloc, plan)? {
+        PlanRead::WithTerms(kept) => {
+            let store = plans_of(alloc, &kept)?;
+            Ok(ComparedPlans {
+                store,
+                kept: Some(kept),
+            })
+        }
+        PlanRead::Plain(store) => {
+            let kept = kept_of_times(alloc, &store)?;
+            Ok(ComparedPlans { store, kept })
+        }
+    }
+}
+
+/// Prints how late the jobs of a script were on the store, on dies that keep their plans and by plain layers. Answers
+/// why there are none that keep their plans, where the plan has times or terms.
 fn print_compared<P: Read + Drop, S: Read + Drop, W: Output>(
     alloc: Global,
     plan: P,
@@ -46,7 +91,7 @@ fn print_compared<P: Read + Drop, S: Read + Drop, W: Output>(
     measure: Measure,
     form: Form,
     out: &mut W,
-) -> Result<(), Uncompared>
+) -> Result<Option<KeptFault>, Uncompared>
     requires slots { measure.slots ≤ MAX_SLOT }
     ensures printed { OnOk result
         (PrintsCompared (P.remaining plan) (S.remaining script) measure.slots (W.contents out.old)
@@ -55,18 +100,22 @@ fn print_compared<P: Read + Drop, S: Read + Drop, W: Output>(
         (IsNotWhole W.contents W.has_failed
         (PrintsCompared (P.remaining plan) (S.remaining script) measure.slots) out.old out.new) }
 {
-    let store = store_of(alloc, plan)?;
-    let said = compare(alloc, &store, script, measure, form)?;
-    write_whole(out, &said)?;
-    Ok(())
+    let ComparedPlans { store, kept } = plans_in(alloc, plan)?;
+    let compared = compare(alloc, &store, kept, script, measure, form)?;
+    write_whole(out, &compared.text)?;
+    Ok(compared.unplanned)
 }
 
 /// Answers the status of a comparison, and reports why there is none. A writer that fails is passed over.
-fn end_compared<E: Write>(err: &mut E, compared: Result<(), Uncompared>) -> u8
+fn end_compared<E: Write>(err: &mut E, compared: Result<Option<KeptFault>, Uncompared>) -> u8
     ensures { result ≡ (if is_ok compared then 0 else 1) }
 {
     match compared {
-        Ok(()) => 0,
+        Ok(None) => 0,
+        Ok(Some(fault)) => {
+            let _ = writeln!(err, "not compared with dies that keep their plans: {fault}");
+            0
+        }
         Err(Uncompared::Unread(unread)) => end_unread(err, unread),
         Err(Uncompared::Compared(CompareFault::Refused(refusal))) => end_refused(err, refusal),
         Err(Uncompared::Compared(CompareFault::WrongLayer { policy, fault })) => {
@@ -80,8 +129,10 @@ fn end_compared<E: Write>(err: &mut E, compared: Result<(), Uncompared>) -> u8
     }
 }
 
-/// Prints how late the jobs of a script were on the store and by plain layers, whole. Answers the status: 0, or 1 where
-/// something was refused, which is reported: nothing was written then, or not the whole.
+/// Prints how late the jobs of a script were on the store, on dies that keep their plans where the plan has times or
+/// terms, and by plain layers, whole. Answers the status: 0, or 1 where something was refused, which is reported:
+/// nothing was written then, or not the whole. Where there are no dies that keep their plans, though the plan has times
+/// or terms, that is reported, too, and the status stays 0.
 #[tactic(auto, using(crate::proofs::EndedSo::ends))]
 pub fn act_compare<P: Read + Drop, S: Read + Drop, W: Output, E: Write>(
     alloc: Global,

@@ -11,6 +11,7 @@ pub mod endings;
 pub mod explaining;
 pub mod fitting;
 pub mod keeping;
+pub mod kept_acts;
 pub mod listed_acts;
 pub mod outputs;
 pub mod plan_faults;

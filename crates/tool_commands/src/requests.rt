@@ -34,7 +34,8 @@ fn files_of<'a>(command: Command<'a>) -> (&'a str, Option<&'a str>, Option<&'a s
         | Command::Wear { plan, script, .. }
         | Command::Report { plan, script, .. }
         | Command::Draw { plan, script, .. }
-        | Command::Compare { plan, script, .. } => (plan, Some(script), None),
+        | Command::Compare { plan, script, .. }
+        | Command::RunKept { plan, script, .. } => (plan, Some(script), None),
         Command::Run {
             plan,
             script,
@@ -121,7 +122,8 @@ pub fn slots_of(request: &Request<'_>) -> Option<u32> {
             | Command::Report { slots, .. }
             | Command::Draw { slots, .. }
             | Command::Compare { slots, .. }
-            | Command::Run { slots, .. },
+            | Command::Run { slots, .. }
+            | Command::RunKept { slots, .. },
         ) => Some(*slots),
         _ => None,
     }

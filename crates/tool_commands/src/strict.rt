@@ -150,7 +150,9 @@ pub fn amiss_of(
         return Ok(Some(Amiss::Refused));
     }
     match request {
-        Request::One(Command::Run { slots, .. }) => amiss_in_report(alloc, printed, *slots),
+        Request::One(Command::Run { slots, .. } | Command::RunKept { slots, .. }) => {
+            amiss_in_report(alloc, printed, *slots)
+        }
         Request::One(Command::Report { as_csv, .. }) => Ok(amiss_in_figures(printed, *as_csv)),
         Request::Listed(ListCommand::Audit, _) => Ok(amiss_in_audit(printed)),
         _ => Ok(None),

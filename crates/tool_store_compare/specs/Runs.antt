@@ -6,11 +6,11 @@ use Rattle.die_log.specs.Model.Start.{fresh}
 use Rattle.tool_script_runs.specs.RunningDies.{RunningDie, running_of}
 use Rattle.tool_script_runs.specs.ScriptRuns.{IsRunOf}
 use Rattle.tool_script_runs.specs.declared.refused.RefusedRow.{RefusedRow}
-use Rattle.tool_store_compare.specs.declared.store_dies.StoreDie.{StoreDie}
+use Rattle.tool_store_compare.specs.declared.compared_dies.ComparedDie.{ComparedDie}
 
 -- one of them, as one that runs the rows of a script
-abbrev pub running : Box StoreDie → RunningDie
-running die = running_of (box_value (box_value die).core)
+abbrev pub running : Box ComparedDie → RunningDie
+running die = running_of (box_value (box_value (box_value die).store).core)
 
 -- fresh dies of these plans ran a script, where its text is known, and so many slots: the store's rows are of these
 pub record HasStoreRun (plans : List DiePlan) (script : Option (List ℕ)) (slots : ℕ) : Type 0 where

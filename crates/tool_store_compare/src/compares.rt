@@ -8,11 +8,13 @@ ghost use Rattle.tool_script_runs.specs.RunningDies.{HasEmptyLog, starts_of};
 ghost use Rattle.tool_script_runs.specs.ScriptRuns.{IsRunOf, RanScript};
 ghost use Rattle.tool_store_compare.specs.Runs.{HasStoreRun, running};
 
+use crate::compared_dies::ComparedDie;
 use crate::curves::Curve;
 use crate::figures::End;
 use crate::forms::Form;
 use crate::pictures::{Caption, picture};
 use crate::plan_copies::plan_copy;
+use crate::planned_dies::{PlannedDie, planned_dies};
 use crate::plays::{Counted, Play};
 use crate::store_dies::{Carried, StoreDie};
 use crate::tables::{Sheet, put_die, put_header};
@@ -20,6 +22,8 @@ use script_texts::ScriptReader;
 use slot_types::{DiePlan, MAX_SLOT, Refusal, StorePlan};
 use std::alloc::Global;
 use std::io::Read;
+use terms_texts::StoreTerms;
+use tool_kept_runs::KeptFault;
 use tool_plain_layers::{Load, Marks, Policy, play};
 use tool_script_runs::{RefusedRow, run_dies};
 
@@ -52,8 +56,17 @@ impl From<Refusal> for CompareFault {
     }
 }
 
+/// A comparison.
+#[derive(Drop)]
+pub struct Compared {
+    /// The table, the records or the picture.
+    pub text: Vec<u8>,
+    /// Why the dies that keep their plans aren't in it, if they aren't.
+    pub unplanned: Option<KeptFault>,
+}
+
 /// Adds a die. The only refusal is NoMemory.
-fn push_die(dies: &mut Vec<Box<StoreDie>>, die: Box<StoreDie>) -> Result<(), Refusal>
+fn push_die(dies: &mut Vec<Box<ComparedDie>>, die: Box<ComparedDie>) -> Result<(), Refusal>
     ensures ok { OnOk result (dies.new.items ≡ dies.old.items ++ die ∷ []) }
     ensures refused { FailsForMemory result }
 {
@@ -61,15 +74,35 @@ fn push_die(dies: &mut Vec<Box<StoreDie>>, die: Box<StoreDie>) -> Result<(), Ref
     Ok(())
 }
 
-/// A fresh die for each plan. BadShape or BadPlan where one misses its bound; or NoMemory.
-fn fresh_dies(alloc: Global, plans: &StorePlan, from: u32) -> Result<Vec<Box<StoreDie>>, Refusal>
+/// A fresh die of a plan, and one that keeps its plan beside it, or none.
+fn fresh_die(
+    alloc: Global,
+    plan: DiePlan,
+    from: u32,
+    planned: Option<Box<PlannedDie>>,
+) -> Result<Box<ComparedDie>, Refusal>
+    ensures start { IfOk result (λ die. (running die).start ≡ fresh plan) }
+    ensures log { IfOk result (λ die. (running die).log ≡ []) }
+{
+    let store = StoreDie::new(alloc, plan, from)?;
+    Ok(Box::new(alloc, ComparedDie { store, planned })?)
+}
+
+/// A fresh die for each plan, and dies that keep these plans beside them, the last of which stands first; or none.
+/// BadShape or BadPlan where a plan misses its bound; or NoMemory.
+fn fresh_dies(
+    alloc: Global,
+    plans: &StorePlan,
+    mut planned: Vec<Box<PlannedDie>>,
+    from: u32,
+) -> Result<Vec<Box<ComparedDie>>, Refusal>
     ensures starts { IfOk result (λ dies. starts_of (map running dies.items) ≡ map fresh plans.now) }
     ensures empty { IfOk result (λ dies. All HasEmptyLog (map running dies.items)) }
 {
     let mut dies = Vec::new(alloc);
     for plan in plans.as_slice() {
         let own = plan_copy(alloc, plan)?;
-        let die = StoreDie::new(alloc, own, from)?;
+        let die = fresh_die(alloc, own, from, planned.pop())?;
         push_die(&mut dies, die)?;
     }
     Ok(dies)
@@ -78,7 +111,7 @@ fn fresh_dies(alloc: Global, plans: &StorePlan, from: u32) -> Result<Vec<Box<Sto
 /// Dies that ran a script, and which of its rows they refused.
 #[derive(Drop)]
 struct Ran {
-    dies: Vec<Box<StoreDie>>,
+    dies: Vec<Box<ComparedDie>>,
     refused: Vec<RefusedRow>,
 }
 
@@ -88,6 +121,7 @@ fn run_lent<R: Read + Drop>(
     alloc: Global,
     script: &mut ScriptReader<R>,
     plan: &StorePlan,
+    planned: Vec<Box<PlannedDie>>,
     measure: Measure,
 ) -> Result<Ran, Refusal>
     requires few { measure.slots ≤ MAX_SLOT }
@@ -97,7 +131,7 @@ fn run_lent<R: Read + Drop>(
     ensures ran { IfOk result (λ ran. RanScript (script_left R.remaining script.old) measure.slots
         ran.refused.items (map running ran.dies.items)) }
 {
-    let mut dies = fresh_dies(alloc, plan, measure.from)?;
+    let mut dies = fresh_dies(alloc, plan, planned, measure.from)?;
     let refused = run_dies(alloc, script, &mut dies, measure.slots)?;
     Ok(Ran { dies, refused })
 }
@@ -106,6 +140,7 @@ fn run_lent<R: Read + Drop>(
 fn run_store<R: Read + Drop>(
     alloc: Global,
     plan: &StorePlan,
+    planned: Vec<Box<PlannedDie>>,
     script: R,
     measure: Measure,
 ) -> Result<Ran, Refusal>
@@ -114,7 +149,7 @@ fn run_store<R: Read + Drop>(
         ran.refused.items (map running ran.dies.items)) }
 {
     let mut script = ScriptReader::new(alloc, script, plan, measure.slots)?;
-    run_lent(alloc, &mut script, plan, measure)
+    run_lent(alloc, &mut script, plan, planned, measure)
 }
 
 // What became of the jobs of a play.
@@ -257,11 +292,47 @@ fn add_stores(
     alloc: Global,
     teller: &mut Teller,
     plan: &StorePlan,
-    dies: &[Box<StoreDie>],
+    dies: &[Box<ComparedDie>],
 ) -> Result<(), Refusal> {
     let mut number: u32 = 0;
     for (plan, die) in plan.as_slice().iter().zip(dies) {
-        add_store(alloc, teller, plan, number, die)?;
+        add_store(alloc, teller, plan, number, &die.store)?;
+        number = number.saturating_add(1);
+    }
+    Ok(())
+}
+
+fn add_planned(
+    alloc: Global,
+    teller: &mut Teller,
+    plan: &DiePlan,
+    die: u32,
+    run: &ComparedDie,
+) -> Result<(), Refusal> {
+    let Some(planned) = &run.planned else {
+        return Ok(());
+    };
+    let ends = planned.ends(alloc)?;
+    let play = Play {
+        policy: "planned",
+        die,
+        tasks: tasks_of(plan),
+        load: &run.store.load,
+        ends: ends.as_slice(),
+        carried: planned.carried,
+    };
+    teller.add(alloc, &play)
+}
+
+fn add_all_planned(
+    alloc: Global,
+    teller: &mut Teller,
+    plan: &StorePlan,
+    dies: &[Box<ComparedDie>],
+) -> Result<(), Refusal> {
+    let mut number: u32 = 0;
+    for (plan, die) in plan.as_slice().iter().zip(dies) {
+        add_planned(alloc, teller, plan, number, die)?;
         number = number.saturating_add(1);
     }
     Ok(())
@@ -271,13 +342,21 @@ fn add_layers(
     alloc: Global,
     teller: &mut Teller,
     plan: &StorePlan,
-    dies: &[Box<StoreDie>],
+    dies: &[Box<ComparedDie>],
     policy: Policy,
     measure: Measure,
 ) -> Result<(), CompareFault> {
     let mut number: u32 = 0;
     for (plan, die) in plan.as_slice().iter().zip(dies) {
-        add_layer(alloc, teller, plan, number, &die.load, policy, measure)?;
+        add_layer(
+            alloc,
+            teller,
+            plan,
+            number,
+            &die.store.load,
+            policy,
+            measure,
+        )?;
         number = number.saturating_add(1);
     }
     Ok(())
@@ -295,29 +374,51 @@ fn check_form(plan: &StorePlan, form: Form) -> Result<(), Refusal> {
     }
 }
 
-/// Runs a script on a store of dies in memory, as `flashrec run` does, and its jobs once more by each plain policy; and tells how
-/// late they were, as a table or records by policy, die and task, or as a picture: what the store did is that of fresh dies
-/// that ran the script and so many slots. Counted are the jobs that are released from
-/// the first measured slot on and due within the slots of the run, and that the store takes or refuses for lack of tokens.
+// Fresh dies that keep these plans, if there are some, for the slots that are measured; or why there are none.
+fn wanted_dies(
+    alloc: Global,
+    kept: Option<StoreTerms>,
+    measure: Measure,
+) -> Result<(Vec<Box<PlannedDie>>, Option<KeptFault>), Refusal> {
+    let Some(plans) = kept else {
+        return Ok((Vec::new(alloc), None));
+    };
+    match planned_dies(alloc, plans, measure.slots, measure.from) {
+        Ok(dies) => Ok((dies, None)),
+        Err(KeptFault::Refused(Refusal::NoMemory)) => Err(Refusal::NoMemory),
+        Err(fault) => Ok((Vec::new(alloc), Some(fault))),
+    }
+}
+
+/// Runs a script on a store of dies in memory, as `flashrec run` does, on dies that keep these plans, if there are some,
+/// and its jobs once more by each plain policy; and tells how late they were, as a table or records by policy, die and
+/// task, or as a picture: what the store did is that of fresh dies that ran the script and so many slots. Counted are the
+/// jobs that are released from the first measured slot on and due within the slots of the run, and that the store takes or
+/// refuses for lack of tokens; those of them that a die refuses that keeps its plan are refused there. Where such a die
+/// can't run for so many slots, none is compared.
 ///
 /// A picture of a die or a task that isn't there is UnknownDie or UnknownTask.
 pub fn compare<R: Read + Drop>(
     alloc: Global,
     plan: &StorePlan,
+    kept: Option<StoreTerms>,
     script: R,
     measure: Measure,
     form: Form,
-) -> Result<Vec<u8>, CompareFault>
+) -> Result<Compared, CompareFault>
     requires { measure.slots ≤ MAX_SLOT }
     ensures { OnOk result (HasStoreRun plan.now (R.remaining script) measure.slots) }
 {
     check_form(plan, form)?;
-    let ran = run_store(alloc, plan, script, measure)?;
+    let (planned, unplanned) = wanted_dies(alloc, kept, measure)?;
+    let ran = run_store(alloc, plan, planned, script, measure)?;
     let dies = ran.dies;
     let mut teller = Teller::new(alloc, form, measure)?;
     add_stores(alloc, &mut teller, plan, dies.as_slice())?;
+    add_all_planned(alloc, &mut teller, plan, dies.as_slice())?;
     for policy in Policy::ALL {
         add_layers(alloc, &mut teller, plan, dies.as_slice(), policy, measure)?;
     }
-    Ok(teller.finish(alloc, measure.marks.pool)?)
+    let text = teller.finish(alloc, measure.marks.pool)?;
+    Ok(Compared { text, unplanned })
 }

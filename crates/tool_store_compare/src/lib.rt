@@ -5,16 +5,18 @@
 //! counted of one run, and of a plain layer nothing is proved.
 #![tactic(auto)]
 
+mod compared_dies;
 mod compares;
 mod curves;
 mod figures;
 mod forms;
 mod pictures;
 mod plan_copies;
+mod planned_dies;
 mod plays;
 mod shares;
 mod store_dies;
 mod tables;
 
-pub use compares::{CompareFault, Measure, compare};
+pub use compares::{CompareFault, Compared, Measure, compare};
 pub use forms::Form;

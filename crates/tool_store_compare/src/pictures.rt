@@ -52,6 +52,7 @@ path{fill:none;stroke-width:2}
 .c4{stroke:#1b9e47;stroke-width:2.3;stroke-dasharray:8 12}
 .c5{stroke:#222;stroke-width:2;stroke-dasharray:4 16}
 .c6{stroke:#00a0b0;stroke-width:2;stroke-dasharray:2 8}
+.c7{stroke:#8c6d1f;stroke-width:2;stroke-dasharray:2 18}
 @media screen and (prefers-color-scheme:dark){
 svg{background:#16181d}
 .back{fill:#16181d}
@@ -65,6 +66,7 @@ text{fill:#ddd}
 .c4{stroke:#6bd08a}
 .c5{stroke:#eee}
 .c6{stroke:#4fd0d8}
+.c7{stroke:#d8b860}
 }
 </style>";
 

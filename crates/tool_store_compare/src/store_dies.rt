@@ -35,7 +35,7 @@ impl Carried {
         idle: 0,
     };
 
-    fn add(&mut self, reply: &SlotReply) {
+    pub(crate) fn add(&mut self, reply: &SlotReply) {
         match reply.ran {
             None => self.idle = self.idle.saturating_add(1),
             Some((_, Act::Write { .. })) => self.written = self.written.saturating_add(1),

@@ -1,9 +1,28 @@
+use Rattle.std.proofs.Common.{inr, refl}
+use Rattle.text_base.proofs.WritingLaws.{on-error}
 use Rattle.tool_commands.proofs.comparing.print_compared.Goals as goal
 
 pub returns-clause-printed : goal.returns-clause-printed
 returns-clause-printed g c = record {
   store = c.in_ok-store.store;
   read = c.in_ok-store.ensures.store;
-  ran = c.in_ok-said.ensures;
-  text = (c.in_ok-said.said.items, rw c.deref.ensures.value at c.in_ok-write_whole.ensures.whole);
+  ran = c.in_ok-compared.ensures;
+  text = (c.in_ok-compared.compared.text.items, rw c.deref.ensures.value at c.in_ok-write_whole.ensures.whole);
 }
+
+pub returns-in_err-write_whole-clause-part : goal.returns-in_err-write_whole-clause-part
+returns-in_err-write_whole-clause-part g c =
+    on-error c.from_residual-in_err-write_whole.result _
+    (inr (
+      c.in_err-write_whole.ensures.failed,
+      (
+        c.in_ok-compared.compared.text.items,
+        record {
+          store = c.in_ok-store.store;
+          read = c.in_ok-store.ensures.store;
+          ran = c.in_ok-compared.ensures;
+          text = (c.in_ok-compared.compared.text.items, refl);
+        },
+        rw c.deref.ensures.value at c.in_err-write_whole.ensures.part,
+      ),
+    ))

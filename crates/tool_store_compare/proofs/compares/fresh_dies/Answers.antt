@@ -6,7 +6,7 @@ use Rattle.die_log.specs.Model.Start.{fresh}
 use Rattle.tool_script_runs.specs.RunningDies.{HasEmptyLog, starts_of}
 use Rattle.tool_script_runs.proofs.TextRuns.{empty_more, starts_more}
 use Rattle.tool_store_compare.specs.Runs.{running}
-use Rattle.tool_store_compare.specs.declared.store_dies.StoreDie.{StoreDie}
+use Rattle.tool_store_compare.specs.declared.compared_dies.ComparedDie.{ComparedDie}
 use Rattle.tool_store_compare.proofs.PlansLeft.{first_left}
 use Rattle.tool_store_compare.proofs.compares.fresh_dies.Goals as goal
 
@@ -24,10 +24,10 @@ loop-plan-preserved c =
     let same : c.in_ok-own.own ≡ item = search rules in
     let pushed = c.in_ok-push_die.ensures.ok in
     record {
-      starts = ap (λ (l : List (Box StoreDie)). starts_of (map running l) ++ map fresh left) pushed
+      starts = ap (λ (l : List (Box ComparedDie)). starts_of (map running l) ++ map fresh left) pushed
           ∙ starts_more running dies c.in_ok-die.die (fresh item) (map fresh left) (map fresh plans)
           (c.in_ok-die.ensures.start ∙ ap fresh same)
           (ap (λ (l : List DiePlan). starts_of (map running dies) ++ map fresh l) (sym here) ∙ c.loop-plan.invariant.starts);
-      empty = subst (λ (l : List (Box StoreDie)). All HasEmptyLog (map running l)) (sym pushed)
+      empty = subst (λ (l : List (Box ComparedDie)). All HasEmptyLog (map running l)) (sym pushed)
           (empty_more running dies c.in_ok-die.die c.loop-plan.invariant.empty c.in_ok-die.ensures.log);
     }

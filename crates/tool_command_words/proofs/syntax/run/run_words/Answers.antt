@@ -2,8 +2,6 @@ use Rattle.tool_command_words.proofs.syntax.run.run_words.Goals as goal
 
 pub returns : goal.returns
 returns c =
-    let long = c.with_arg-long.ensures _ _ c.run_files.ensures c.slots.ensures.rule in
-    let begun = c.with_arg-begun.ensures _ _ long c.begun_from.ensures.rule in
-    let ended = c.with_arg-ended.ensures _ _ begun c.saved_to.ensures.rule in
-    let failing = c.with_arg-failing.ensures _ _ ended c.fail_at.ensures.rule in
-    c.with_arg.ensures _ _ failing c.strict.ensures.rule
+    let failing = c.with_arg-failing.ensures _ _ c.run_saved.ensures c.fail_at.ensures.rule in
+    let keeping = c.with_arg-keeping.ensures _ _ failing c.keep.ensures.rule in
+    c.with_arg.ensures _ _ keeping c.strict.ensures.rule
