@@ -98,7 +98,7 @@ pub fn report_kind<E: Write>(err: &mut E, number: u8, count: u32) {
     }
 }
 
-/// Tells how many rows were refused, and the first of them, if there is one; and behind that, in a line a refusal, how many
+/// Tells how many rows were refused, and the first of them, if there is one; and after that, in a line a refusal, how many
 /// it refused. A writer that fails is passed over.
 fn report_refused<E: Write>(err: &mut E, count: &RunCount) {
     let Some((line, number)) = count.first else {
@@ -107,9 +107,9 @@ fn report_refused<E: Write>(err: &mut E, count: &RunCount) {
     let refused = count.refused;
     let _ = writeln!(err, "refused {refused} first line {line} with {number}");
     let mut number: u8 = 0;
-    for rows in count.kinds {
-        if rows > 0 {
-            report_kind(err, number, rows);
+    for rows in &count.kinds {
+        if *rows > 0 {
+            report_kind(err, number, *rows);
         }
         number = number.saturating_add(1);
     }
@@ -225,7 +225,7 @@ pub fn carry_out<R: Threads + Wait + Sync, F: Read + Drop, S: Read + Drop, W: Ou
 /// the same for any number of them. Without words the plan and the script are built in. On a die whose rows keep its
 /// plan, with times that pass their test, no lateness in the report is above 0, and no row is refused but out of
 /// memory, or after one that was. Where rows were refused, `err` gets a line, as `refused 1 first line 6 with 6`, and
-/// behind it one for each refusal, as `1 with 6 EmptyJob: a job has 1 to 64 operations, and it has none`.
+/// after it one for each refusal, as `1 with 6 EmptyJob: a job has 1 to 64 operations, and it has none`.
 ///
 /// `audit` prints for each die of the report the lateness and the job of its certificate, and whether it holds, as
 /// `die 0 worst -1 job 0 holds` or `die 0 worst 0 job 1 refused 5 EarlyRelease`, or that it has none, as

@@ -1,7 +1,7 @@
 //! What became of the rows of a script, and their counts.
 
-ghost use Rattle.std.specs.Prelude.{◌≡◌, ℕ, ◌+◌, ◌<◌, ◌^◌, [], get_or};
-ghost use Rattle.task_script.specs.RunCounts.{capped, count_of, counted_with, first_by, kind_with, rows_in, sum_of_counts, joined_first};
+ghost use Rattle.std.specs.Prelude.{◌≡◌, ℕ, ◌+◌, ◌<◌, ◌^◌, [], Some, get_or, length};
+ghost use Rattle.task_script.specs.RunCounts.{by_number, capped, count_of, counted_with, first_by, kind_with, rows_in, sum_of_counts, joined_first};
 
 use slot_types::Refusal;
 
@@ -53,24 +53,34 @@ fn joined_first(first: Option<(u32, u8)>, second: Option<(u32, u8)>) -> Option<(
     }
 }
 
-/// By the number of a refusal, how many rows it refused, with this row.
-fn kinds_with(kinds: [u32; NUMBERS], refusal: Option<Refusal>) -> [u32; NUMBERS]
-    ensures { (number : ℕ) → number < 25 → get_or result number 0 ≡ kind_with refusal kinds number }
+/// Counts with a refused row more, by the number of its refusal.
+fn with_one(kinds: [u32; NUMBERS], refusal: Refusal) -> [u32; NUMBERS]
+    ensures long { length result ≡ 25 }
+    ensures each { (number : ℕ) → number < 25
+        → get_or result number 0 ≡ kind_with (Some refusal) kinds number }
 {
     let mut kinds = kinds;
-    if let Some(refusal) = refusal {
-        let place = refusal.number() as usize;
-        if place < NUMBERS {
-            kinds[place] = kinds[place].saturating_add(1);
-        }
+    let place = refusal.number() as usize;
+    if place < NUMBERS {
+        kinds[place] = kinds[place].saturating_add(1);
     }
     kinds
 }
 
+/// By the number of a refusal, how many rows it refused, with this row.
+fn kinds_with(kinds: [u32; NUMBERS], refusal: Option<Refusal>) -> [u32; NUMBERS]
+    ensures { result ≡ by_number (kind_with refusal kinds) }
+{
+    match refusal {
+        Some(refusal) => with_one(kinds, refusal),
+        None => kinds,
+    }
+}
+
 /// By the number of a refusal, how many rows it refused, of those of two counts.
 fn sum_of_kinds(kinds: [u32; NUMBERS], more: &[u32; NUMBERS]) -> [u32; NUMBERS]
-    ensures { (number : ℕ) → number < 25 →
-        get_or result number 0 ≡ capped (get_or kinds number 0 + get_or more.now number 0) }
+    ensures { result
+        ≡ by_number (λ number. capped (get_or kinds number 0 + get_or more.now number 0)) }
 {
     let mut sum = kinds;
     for number in 0..NUMBERS {

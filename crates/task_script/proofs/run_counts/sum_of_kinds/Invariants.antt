@@ -4,7 +4,7 @@ use Rattle.task_script.specs.RunCounts.{capped}
 use Rattle.task_script.proofs.run_counts.sum_of_kinds.Given as goal
 
 abbrev pub invariant-loop-number : goal.invariant-loop-number
-invariant-loop-number l = record {
-  before : (number : ℕ) → number < l.number → get_or l.sum number 0 ≡ capped (get_or l.fn.kinds number 0 + get_or l.more number 0);
-  after : (number : ℕ) → l.number ≤ number → get_or l.sum number 0 ≡ get_or l.fn.kinds number 0;
-}
+invariant-loop-number l =
+    (length l.sum ≡ 25)
+    × ((k : ℕ) → k < l.number → get_or l.sum k 0 ≡ capped (get_or l.kinds k 0 + get_or l.more k 0))
+    × ((k : ℕ) → l.number ≤ k → get_or l.sum k 0 ≡ get_or l.kinds k 0)
