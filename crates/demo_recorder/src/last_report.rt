@@ -1,36 +1,37 @@
 //! The report of the last life, in a file for `flashplan audit`.
 
 use crate::plan::Device;
+use ongoing_die::OngoingDie;
 use report_texts::ReportText;
-use slot_core::DieCore;
-use slot_types::{MAX_DIES, Refusal};
+use slot_types::Refusal;
 use std::alloc::Global;
 use std::fs;
 use std::rt::Files;
 use task_script::add_die;
 use text_base::Flagged;
 
-/// What each closed die did since its log began, by its number: a row for each job and collection, and the certificate
+/// What both closed dies did in their last life, by their number: a row for each job and collection, and the certificate
 /// of the worst. It is read off the dies' logs, whatever their device is.
-fn report_of(alloc: Global, dies: &[DieCore<Device>]) -> Result<ReportText, Refusal> {
+fn report_of(
+    alloc: Global,
+    zero: &OngoingDie<Device>,
+    one: &OngoingDie<Device>,
+) -> Result<ReportText, Refusal> {
     let mut text = ReportText::new(alloc)?;
-    for number in 0..MAX_DIES {
-        match dies.get(number as usize) {
-            Some(die) => add_die(alloc, &mut text, number, die)?,
-            None => return Ok(text),
-        }
-    }
+    add_die(alloc, &mut text, 0, zero.die().core())?;
+    add_die(alloc, &mut text, 1, one.die().core())?;
     Ok(text)
 }
 
-/// Writes the report of dies into a file of this name, which is new or cut.
+/// Writes the report of both dies into a file of this name, which is new or cut.
 pub(crate) fn write_report<R: Files>(
     rt: &R,
     alloc: Global,
     name: &str,
-    dies: &[DieCore<Device>],
+    zero: &OngoingDie<Device>,
+    one: &OngoingDie<Device>,
 ) -> Result<(), Refusal> {
-    let text = report_of(alloc, dies)?;
+    let text = report_of(alloc, zero, one)?;
     match fs::create(rt, name) {
         Ok(file) => text.write(&mut Flagged::new(file)),
         Err(_) => Err(Refusal::WriteFault),

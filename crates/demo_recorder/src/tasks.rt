@@ -1,226 +1,187 @@
-//! A task of the recorder: what it asks of its die in a life, and what it is answered.
+//! A task of the recorder: what it asks its port for, and what it is answered. It waits for nobody.
 
 ghost use Rattle.std.specs.Prelude.{◌≡◌};
 
 use crate::plan::{CONTROL, LOGGER};
-use crate::timer::{ROUNDS, TICKS};
-use die_service::{Die, DiePass};
+use demand_rules::TaskTerms;
 use flash_die::Nand;
-use slot_core::Outcome;
-use slot_types::{JobNo, Op, OpList, PageData, Reads, Refusal, TaskNo, TaskTimes};
-use std::alloc::Global;
-use std::sync::{Barrier, Wait};
+use ongoing_die::{AskStop, Taken};
+use planned_ports::{AskRefused, SharedPlannedDie, TaskPort};
+use slot_types::{JobNo, Op, PageData};
+use std::alloc::{AllocError, Global};
+use std::sync::Wait;
+use std::thread;
 
-/// What a task asks for in a life: at each multiple of its period a job that reads a page and writes one, and at each
-/// of its collect period a collection.
-#[derive(Clone, Copy)]
+/// What a task asks for: so many jobs, each of which reads a page of its own and writes it anew.
+#[derive(Clone, Copy, Drop)]
 pub(crate) struct Task {
-    number: TaskNo,
-    times: TaskTimes,
-    life: u8,
-    reads: u32,
-    writes: u32,
+    pub(crate) terms: TaskTerms,
+    pub(crate) jobs: u32,
+    /// Its pages, which it takes by turns.
+    pub(crate) first_page: u32,
+    pub(crate) pages: u32,
 }
 
-/// The control reads and writes page 0.
-pub(crate) fn control(life: u8) -> Task {
-    Task {
-        number: TaskNo(0),
-        times: CONTROL,
-        life,
-        reads: 0,
-        writes: 0,
-    }
-}
+/// The control, with so many jobs that they take more than a hundred lives.
+pub(crate) const CONTROL_TASK: Task = Task {
+    terms: CONTROL,
+    jobs: 812,
+    first_page: 0,
+    pages: 1,
+};
 
-/// The logger has pages 1 to 5. In each life it writes the next one, and reads the one after that, which it wrote four
-/// lives before.
-pub(crate) fn logger(life: u8) -> Task {
-    let turn = u32::from(life);
-    Task {
-        number: TaskNo(1),
-        times: LOGGER,
-        life,
-        reads: 1 + (turn + 1) % 5,
-        writes: 1 + turn % 5,
-    }
-}
+/// The logger, with as many as that.
+pub(crate) const LOGGER_TASK: Task = Task {
+    terms: LOGGER,
+    jobs: 204,
+    first_page: 1,
+    pages: 5,
+};
 
 impl Task {
-    /// What the task writes in a round: the life and the round.
-    fn sample(&self, round: u32) -> PageData {
-        let mut bytes = [0; 16];
-        bytes[0] = self.life;
-        bytes[1] = u8::try_from(round).unwrap_or(u8::MAX);
-        PageData(bytes)
+    /// The page of its job of this number, from 1 on.
+    fn page(&self, job: u32) -> u32 {
+        let turn = job.checked_rem(self.pages).unwrap_or(0);
+        self.first_page.saturating_add(turn)
+    }
+
+    /// The operations of this job: what it writes is its number.
+    fn ops(&self, job: u32) -> [Op; 2] {
+        let page = self.page(job);
+        [Op::Read(page), Op::Write(page, sample(job))]
     }
 }
 
-/// What a task was answered in a life.
+/// What the job of this number writes.
+fn sample(job: u32) -> PageData {
+    let mut bytes = [0; 16];
+    let number = job.to_le_bytes();
+    bytes[0] = number[0];
+    bytes[1] = number[1];
+    bytes[2] = number[2];
+    bytes[3] = number[3];
+    PageData(bytes)
+}
+
+/// The number of the job that wrote a page: 0 of a page that was never written.
+pub(crate) fn job_in(page: PageData) -> u32 {
+    u32::from_le_bytes([page.0[0], page.0[1], page.0[2], page.0[3]])
+}
+
+/// An ask that was accepted: slots are those of the clock of all lives.
 #[derive(Clone, Copy, Drop)]
+pub(crate) struct Accepted {
+    pub(crate) release: u64,
+    pub(crate) due: u64,
+    /// Its number in the life of its release; none where it waited for that life.
+    pub(crate) job: Option<JobNo>,
+}
+
+/// What a task was answered.
+#[derive(Drop)]
 pub(crate) struct Diary {
-    /// How many jobs were done.
-    pub(crate) done: u32,
-    /// How many jobs still waited when they were asked for.
-    pub(crate) waiting: u32,
-    /// What the read of the job that was done last gave.
-    pub(crate) read: PageData,
-    /// How many calls were refused.
+    pub(crate) accepted: Vec<Accepted>,
     pub(crate) refused: u32,
-    /// Why the last of these was refused.
-    pub(crate) refusal: Option<Refusal>,
+    /// The last refusal.
+    pub(crate) refusal: Option<AskRefused>,
+    /// The die takes no more.
+    pub(crate) is_over: bool,
 }
 
 impl Diary {
-    fn new() -> Diary {
-        Diary {
-            done: 0,
-            waiting: 0,
-            read: PageData::BLANK,
+    /// An empty one, with room for all jobs of a task.
+    pub(crate) fn new(alloc: Global, task: &Task) -> Result<Diary, AllocError> {
+        let accepted = Vec::with_capacity(alloc, task.jobs as usize)?;
+        Ok(Diary {
+            accepted,
             refused: 0,
             refusal: None,
-        }
+            is_over: false,
+        })
     }
 
-    fn note_refusal(&mut self, refusal: Refusal) {
+    fn note_accepted(&mut self, release: u64, due: u64, job: Option<JobNo>) {
+        let accepted = Accepted { release, due, job };
+        // There is room for all.
+        let _ = self.accepted.push(accepted).is_ok();
+    }
+
+    fn note_refusal(&mut self, refused: AskRefused) {
         self.refused = self.refused.saturating_add(1);
-        self.refusal = Some(refusal);
+        self.refusal = Some(refused);
+        self.is_over = matches!(refused, AskRefused::Die(AskStop::Ended(_)));
     }
 
-    fn note_done(&mut self, reads: &Reads) {
-        self.done = self.done.saturating_add(1);
-        if let Some(bytes) = reads.get(0) {
-            self.read = *bytes;
-        }
-    }
-
-    fn note_outcome(&mut self, outcome: Result<Outcome, Refusal>) {
-        match outcome {
-            Ok(Outcome::Done { reads, .. }) => self.note_done(&reads),
-            Ok(_) => self.waiting = self.waiting.saturating_add(1),
-            Err(refusal) => self.note_refusal(refusal),
-        }
-    }
-
-    /// The number under which the die took a job or a collection, if it did.
-    fn note_taken(&mut self, taken: Result<JobNo, Refusal>) -> Option<JobNo> {
-        match taken {
-            Ok(job) => Some(job),
-            Err(refusal) => {
-                self.note_refusal(refusal);
-                None
+    /// Notes an answer. It answers in which slot the task may ask again, where it asked in this one.
+    fn note(&mut self, answer: Result<Taken, AskRefused>, task: &Task, slot: u64) -> u64 {
+        let period = u64::from(task.terms.period);
+        match answer {
+            Ok(
+                Taken::Enters {
+                    release,
+                    due,
+                    first,
+                    ..
+                },
+            ) => {
+                self.note_accepted(release, due, Some(first));
+                release.saturating_add(period)
+            }
+            Ok(Taken::Waits { release, due }) => {
+                self.note_accepted(release, due, None);
+                release.saturating_add(period)
+            }
+            Err(refused) => {
+                self.note_refusal(refused);
+                slot
             }
         }
     }
 }
 
-/// Whether a slot is a multiple of a period.
-fn comes_at(slot: u32, period: u32) -> bool {
-    slot.checked_rem(period) == Some(0)
-}
-
-/// Asks for the task's collection, which is released in this slot, and has its collect period until it is due.
-fn collect<N: Nand, R: Wait>(
+/// Asks for the next job, where the clock has come to this slot. It answers from which one on the task may ask then.
+fn ask_from<N: Nand, R: Wait>(
     rt: &R,
-    die: &Die<N>,
-    pass: &mut DiePass<N>,
+    die: &SharedPlannedDie<N>,
+    port: &mut TaskPort<N>,
     task: &Task,
-    slot: u32,
-) -> Result<JobNo, Refusal>
-    requires { pass.old.lock ≡ die.now }
-    ensures { pass.new.lock ≡ pass.old.lock }
-{
-    let due = slot.saturating_add(task.times.collect_period);
-    die.collect(rt, pass, task.number, slot, due)
-        .map_err(|refused| refused.refusal)
-}
-
-/// Asks for the task's job, which is released in this slot, and has its period until it is due.
-fn submit<N: Nand, R: Wait>(
-    rt: &R,
-    alloc: Global,
-    die: &Die<N>,
-    pass: &mut DiePass<N>,
-    task: &Task,
-    slot: u32,
-    sample: PageData,
-) -> Result<JobNo, Refusal>
-    requires { pass.old.lock ≡ die.now }
-    ensures { pass.new.lock ≡ pass.old.lock }
-{
-    let ops = [Op::Read(task.reads), Op::Write(task.writes, sample)];
-    let ops = OpList::from_vec(Vec::from_slice(alloc, &ops)?);
-    let due = slot.saturating_add(task.times.period);
-    die.submit(rt, pass, task.number, slot, due, ops)
-        .map_err(|refused| refused.refusal)
-}
-
-/// Asks what became of a job, if the die took it.
-fn hear<N: Nand, R: Wait>(
-    rt: &R,
-    die: &Die<N>,
-    pass: &mut DiePass<N>,
-    job: Option<JobNo>,
+    from: u64,
     diary: &mut Diary,
-)
-    requires { pass.old.lock ≡ die.now }
-    ensures { pass.new.lock ≡ pass.old.lock }
+) -> u64
+    requires { port.old.lock ≡ die.now }
+    ensures { port.new.lock ≡ die.now }
 {
-    if let Some(job) = job {
-        let outcome = die.outcome(rt, pass, job);
-        diary.note_outcome(outcome);
+    // A die that is stopped has no clock.
+    let slot = port.clock(rt, die).unwrap_or(u64::MAX);
+    if slot < from {
+        thread::yield_now();
+        return from;
     }
+    let job = u32::try_from(diary.accepted.len()).unwrap_or(u32::MAX);
+    let job = job.saturating_add(1);
+    let answer = port.ask(rt, die, &task.ops(job));
+    diary.note(answer, task, slot)
 }
 
-/// Asks for what the task's plan has in a round: its collection and its job, each where it comes.
-fn ask<N: Nand, R: Wait>(
-    rt: &R,
-    alloc: Global,
-    die: &Die<N>,
-    pass: &mut DiePass<N>,
-    task: &Task,
-    round: u32,
-    diary: &mut Diary,
-) -> Option<JobNo>
-    requires { pass.old.lock ≡ die.now }
-    ensures { pass.new.lock ≡ pass.old.lock }
-{
-    let slot = round.saturating_mul(TICKS);
-    if comes_at(slot, task.times.collect_period) {
-        let collection = collect(rt, die, pass, task, slot);
-        diary.note_taken(collection);
-    }
-    if !comes_at(slot, task.times.period) {
-        return None;
-    }
-    let job = submit(rt, alloc, die, pass, task, slot, task.sample(round));
-    diary.note_taken(job)
-}
-
-/// A task's thread. In each round it asks for what its plan has, lets the slots begin, asks what became of its job
-/// before while they are carried out, and waits for their end.
+/// A task's thread: it asks for each of its jobs as soon as its plan lets it, until all were accepted or the die takes
+/// no more.
 pub(crate) fn run_task<N: Nand, R: Wait>(
     rt: &R,
-    alloc: Global,
-    die: &Die<N>,
-    mut pass: DiePass<N>,
+    die: &SharedPlannedDie<N>,
+    port: TaskPort<N>,
     task: &Task,
-    rounds: &Barrier,
-) -> (DiePass<N>, Diary)
-    requires { pass.lock ≡ die.now }
+    diary: Diary,
+) -> (TaskPort<N>, Diary)
+    requires { port.lock ≡ die.now }
     ensures { result.0.lock ≡ die.now }
 {
-    let mut diary = Diary::new();
-    let mut last = None;
-    for round in 0..ROUNDS {
-        let job = ask(rt, alloc, die, &mut pass, task, round, &mut diary);
-        rounds.wait(rt);
-        if job.is_some() {
-            hear(rt, die, &mut pass, last, &mut diary);
-            last = job;
+    let (mut port, mut diary) = (port, diary);
+    let mut from = 0u64;
+    for _ in 0..u64::MAX {
+        if diary.is_over || diary.accepted.len() >= task.jobs as usize {
+            break;
         }
-        rounds.wait(rt);
+        from = ask_from(rt, die, &mut port, task, from, &mut diary);
     }
-    hear(rt, die, &mut pass, last, &mut diary);
-    (pass, diary)
+    (port, diary)
 }

@@ -1,0 +1,38 @@
+//! Which jobs were late, by what the timer and the tasks were answered.
+
+use crate::plan::LIFE;
+use crate::tasks::Accepted;
+use crate::timer::Ticked;
+
+/// The number of a job in the life of its release. What waited for that life has its first numbers there, in the order of
+/// the tasks: `before` is what the task before was accepted.
+fn number_of(asked: &Accepted, before: &[Accepted]) -> usize {
+    match asked.job {
+        Some(job) => job.0 as usize,
+        None => before
+            .iter()
+            .filter(|other| other.job.is_none() && other.release == asked.release)
+            .count(),
+    }
+}
+
+/// Whether the timer saw that this job was done by its deadline.
+fn was_in_time(asked: &Accepted, number: usize, ticked: &Ticked) -> bool {
+    ticked.finished.iter().any(|one| {
+        one.job.0 as usize == number
+            && one.slot / LIFE == asked.release / LIFE
+            && one.slot < asked.due
+    })
+}
+
+/// How many of a task's jobs weren't done by their deadline, of those whose deadline has gone by.
+pub(crate) fn late(accepted: &[Accepted], before: &[Accepted], ticked: &Ticked) -> u32 {
+    let mut late = 0u32;
+    for asked in accepted {
+        let number = number_of(asked, before);
+        if asked.due <= ticked.slots && !was_in_time(asked, number, ticked) {
+            late = late.saturating_add(1);
+        }
+    }
+    late
+}
