@@ -2,7 +2,8 @@
 
 ghost use Rattle.std.specs.Prelude.{◌≡◌};
 
-use crate::babbler::{Babble, babble};
+use crate::answers::Answers;
+use crate::babbler::run_babbler;
 use crate::plan::OWN_PAGES;
 use crate::ports::{Ports, Shared, closed, opened};
 use crate::stops::Stop;
@@ -24,10 +25,10 @@ pub(crate) struct Reported {
     pub(crate) ticked: Ticked,
     pub(crate) control: Diary,
     pub(crate) logger: Diary,
-    pub(crate) babble: Babble,
+    pub(crate) babbler: Answers,
 }
 
-/// Empty diaries, with room for all jobs of a task.
+/// What the timer and the tasks note down.
 #[derive(Drop)]
 struct Diaries {
     ticked: Ticked,
@@ -35,11 +36,22 @@ struct Diaries {
     logger: Diary,
 }
 
+impl Diaries {
+    /// Empty ones, with room for all jobs of a task, for a die whose lives have so many slots.
+    fn new(alloc: Global, life: u32) -> Result<Diaries, Stop> {
+        Ok(Diaries {
+            ticked: Ticked::new(alloc, life),
+            control: Diary::new(alloc, &CONTROL_TASK)?,
+            logger: Diary::new(alloc, &LOGGER_TASK)?,
+        })
+    }
+}
+
 /// What both tasks give back.
 type Asked<N> = ((TaskPort<N>, Diary), (TaskPort<N>, Diary));
 
 /// Both tasks, each in a thread.
-fn run_tasks<N: Nand + Send, R: Threads + Wait + Sync>(
+fn run_tasks<N: Nand + Send, R: Clock + Threads + Wait + Sync>(
     rt: &R,
     die: &SharedPlannedDie<N>,
     control: TaskPort<N>,
@@ -132,12 +144,12 @@ fn run_threads<N: Nand + Send, R: Clock + Threads + Wait + Sync>(
     } = ports;
     let is_last = AtomicBool::new(false);
     let is_last = &is_last;
-    let ((babbler, babble), ((timer, ticked), ((control, first), (logger, second)))) = thread::join(
+    let ((babbler, heard), ((timer, ticked), ((control, first), (logger, second)))) = thread::join(
         rt,
-        || -> (TaskPort<N>, Babble)
+        || -> (TaskPort<N>, Answers)
             requires { babbler.lock ≡ die.now }
             ensures { result.0.lock ≡ die.entry.now }
-        { babble(rt, die, babbler, is_last) },
+        { run_babbler(rt, die, babbler, is_last) },
         || -> Ran<N>
             requires { (timer.lock ≡ die.now) × (control.lock ≡ die.now) × (logger.lock ≡ die.now) }
             ensures { (result.0.0.lock ≡ die.entry.now) × (result.1.0.0.lock ≡ die.entry.now)
@@ -158,17 +170,9 @@ fn run_threads<N: Nand + Send, R: Clock + Threads + Wait + Sync>(
         ticked,
         control: first,
         logger: second,
-        babble,
+        babbler: heard,
     };
     (ports, reported)
-}
-
-fn diaries(alloc: Global) -> Result<Diaries, Stop> {
-    Ok(Diaries {
-        ticked: Ticked::new(alloc),
-        control: Diary::new(alloc, &CONTROL_TASK)?,
-        logger: Diary::new(alloc, &LOGGER_TASK)?,
-    })
 }
 
 /// Opens a die, runs its threads, and closes it.
@@ -177,7 +181,7 @@ pub(crate) fn run_die<N: Nand + Send, R: Clock + Threads + Wait + Sync>(
     alloc: Global,
     die: Box<OngoingDie<N>>,
 ) -> Result<(Box<OngoingDie<N>>, Reported), Stop> {
-    let diaries = diaries(alloc)?;
+    let diaries = Diaries::new(alloc, die.die().life())?;
     let Shared { die, ports, list } = opened(rt, alloc, die, &OWN_PAGES)?;
     let (ports, reported) = run_threads(rt, &die, ports, diaries);
     let die = closed(rt, alloc, Shared { die, ports, list })?;

@@ -1,11 +1,10 @@
-//! Which jobs were late, by what the timer and the tasks were answered.
+//! Which jobs were late, by what the timer and the tasks were answered, and without asking the die.
 
-use crate::plan::LIFE;
 use crate::tasks::Accepted;
 use crate::timer::Ticked;
 
 /// The number of a job in the life of its release. What waited for that life has its first numbers there, in the order of
-/// the tasks: `before` is what the task before was accepted.
+/// the tasks: `before` is what the tasks before were accepted.
 fn number_of(asked: &Accepted, before: &[Accepted]) -> usize {
     match asked.job {
         Some(job) => job.0 as usize,
@@ -18,9 +17,10 @@ fn number_of(asked: &Accepted, before: &[Accepted]) -> usize {
 
 /// Whether the timer saw that this job was done by its deadline.
 fn was_in_time(asked: &Accepted, number: usize, ticked: &Ticked) -> bool {
+    let life = ticked.lives_before(asked.release);
     ticked.finished.iter().any(|one| {
         one.job.0 as usize == number
-            && one.slot / LIFE == asked.release / LIFE
+            && ticked.lives_before(one.slot) == life
             && one.slot < asked.due
     })
 }

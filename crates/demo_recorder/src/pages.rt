@@ -65,13 +65,13 @@ fn given<N: Nand>(
     }
 }
 
-/// Opens a die whose life isn't over for so long, reads its six pages through the control's port, which may now use all,
-/// and closes it.
+/// Opens a die, reads its six pages through the control's port, which may now use all, and closes it. `NotRead`, where it
+/// takes no more jobs, or its life is over before these are done.
 pub(crate) fn read_pages<N: Nand, R: Wait>(
     rt: &R,
     alloc: Global,
     die: Box<OngoingDie<N>>,
-) -> Result<(Box<OngoingDie<N>>, [[PageData; 2]; 3]), Stop> {
+) -> Result<[[PageData; 2]; 3], Stop> {
     let Shared {
         die,
         mut ports,
@@ -81,10 +81,9 @@ pub(crate) fn read_pages<N: Nand, R: Wait>(
     let two = read_two(rt, &die, &mut ports.timer, &mut ports.control, [2, 3]);
     let three = read_two(rt, &die, &mut ports.timer, &mut ports.control, [4, 5]);
     let die = closed(rt, alloc, Shared { die, ports, list })?;
-    let read = [
+    Ok([
         given(alloc, &die, one)?,
         given(alloc, &die, two)?,
         given(alloc, &die, three)?,
-    ];
-    Ok((die, read))
+    ])
 }

@@ -4,7 +4,7 @@ ghost use Rattle.std.specs.Prelude.{◌≡◌, IfOk};
 ghost use Rattle.flash_die.specs.Flash.{IsFresh};
 
 use crate::nand::WearNand;
-use crate::stops::Stop;
+use crate::stops::{Stop, boxed};
 use demand_rules::{TaskTerms, Terms, TermsList};
 use flash_die::{MemoryNand, Nand};
 use ongoing_die::OngoingDie;
@@ -57,10 +57,9 @@ const BABBLER: TaskTerms = TaskTerms {
     collect_deadline: 64,
 };
 
-/// How many slots a life has at most. It has all of these, since the periods of all collections end there.
+/// How many slots a life has at most: few, so that a hundred lives are soon over. Without a limit a life has as many as
+/// there are numbers for (`MAX_SLOT` in its place); with this plan 149,760.
 const LONGEST: u32 = 64;
-
-pub(crate) const LIFE: u64 = LONGEST as u64;
 
 /// The control has page 0, the logger pages 1 to 5, and the babbler may read them all.
 pub(crate) const OWN_PAGES: [Option<PageRange>; 3] = [
@@ -104,14 +103,6 @@ fn device(alloc: Global, endurance: u32) -> Result<Device, Refusal>
 {
     let chip = MemoryNand::new(alloc, SHAPE)?;
     Ok(WearNand::new(alloc, chip, endurance)?)
-}
-
-/// Puts a value of any type into a box.
-pub(crate) fn boxed<T: Drop>(alloc: Global, value: T) -> Result<Box<T>, Stop> {
-    match Box::new(alloc, value) {
-        Ok(kept) => Ok(kept),
-        Err(_) => Err(Stop::Refused(Refusal::NoMemory)),
-    }
 }
 
 /// A new die, whose blocks last for so many erases.

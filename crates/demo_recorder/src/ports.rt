@@ -1,9 +1,8 @@
 //! A die of the recorder with its ports: opened, and closed again.
 
-ghost use Rattle.std.specs.Prelude.{◌≡◌, All, Ok, IfOk, IfSome};
+ghost use Rattle.std.specs.Prelude.{◌≡◌, All, IfOk, IfSome};
 
-use crate::plan::boxed;
-use crate::stops::Stop;
+use crate::stops::{Stop, boxed, or_stop};
 use flash_die::Nand;
 use ongoing_die::OngoingDie;
 use planned_ports::{ClockPort, Opened, PageRange, SharedPlannedDie, TaskPort, close, open};
@@ -24,7 +23,7 @@ pub(crate) struct Ports<N: Nand> {
 pub(crate) struct Shared<N: Nand> {
     pub(crate) die: SharedPlannedDie<N>,
     pub(crate) ports: Ports<N>,
-    /// Where the tasks' ports were, and will be.
+    /// The list that the tasks' ports came in, and in which they are given back: so a close takes no memory.
     pub(crate) list: Vec<TaskPort<N>>,
 }
 
@@ -76,17 +75,6 @@ fn of_three<N: Nand>(opened: Opened<N>) -> Option<Shared<N>>
         babbler,
     };
     Some(Shared { die, ports, list })
-}
-
-/// What is refused stops the recorder so. Of any types, since a die that is handed back would be proved through all its
-/// parts.
-fn or_stop<T, E: Drop>(answer: Result<T, E>, stop: Stop) -> Result<T, Stop>
-    ensures { IfOk result (λ value. answer ≡ Ok value) }
-{
-    match answer {
-        Ok(value) => Ok(value),
-        Err(_) => Err(stop),
-    }
 }
 
 /// Opens a die, each of whose tasks has these pages.

@@ -1,35 +1,33 @@
 //! What the recorder prints of its dies, once they are closed. It prints nothing that depends on which thread was first.
 
-use crate::babbler::Babble;
+use crate::answers::Answers;
 use crate::dies::Reported;
 use crate::in_time::late;
 use crate::nand::Tally;
-use crate::plan::LIFE;
 use crate::tasks::{Accepted, Diary, job_in};
 use crate::timer::Ticked;
-use ongoing_die::{AskStop, LifeStop, SlotStop};
+use ongoing_die::AskStop;
 use planned_ports::{AskRefused, SlotRefused};
 use slot_types::{PageData, Refusal};
 use std::io;
 use std::io::Write;
 
-/// How many lives a die had at least, of which the recorder says that they were more.
+/// How many lives a die has at least, of which the recorder says that it had more.
 const LIVES: u64 = 100;
 
-/// Why an ask was refused, where the whole die takes no more.
-fn ask_cause(refused: AskRefused) -> &'static str {
+/// Prints why a slot wasn't carried out.
+fn print_slot_cause<W: Write>(out: &mut W, refused: SlotRefused) -> io::Result<()> {
     match refused {
-        AskRefused::Die(AskStop::Ended(LifeStop::DieStopped)) => "DieStopped",
-        _ => "another cause",
+        SlotRefused::Die(stop) => write!(out, "{stop:?}"),
+        SlotRefused::LockFull => write!(out, "LockFull"),
     }
 }
 
-/// Why a slot wasn't carried out.
-fn slot_cause(refused: SlotRefused) -> &'static str {
+/// Prints why a task asks no more.
+fn print_ask_cause<W: Write>(out: &mut W, refused: AskRefused) -> io::Result<()> {
     match refused {
-        SlotRefused::Die(SlotStop::DeviceFault) => "DeviceFault",
-        SlotRefused::Die(SlotStop::Ended(LifeStop::DieStopped)) => "DieStopped",
-        _ => "another cause",
+        AskRefused::Die(AskStop::Ended(stop)) => write!(out, "{stop:?}"),
+        other => write!(out, "{other:?}"),
     }
 }
 
@@ -46,36 +44,55 @@ fn most_erases(tally: &Tally) -> u32 {
 
 /// Prints how long a die lived.
 fn print_lives<W: Write>(out: &mut W, ticked: &Ticked, tally: &Tally) -> io::Result<()> {
-    match ticked.stop {
-        Some(stop) => writeln!(
+    let life = ticked.life;
+    if let Some(stop) = ticked.stop {
+        write!(out, "stopped by ")?;
+        print_slot_cause(out, stop)?;
+        return writeln!(out, ": a block was erased {} times", most_erases(tally));
+    }
+    let lives = ticked.lives_before(ticked.slots);
+    if lives > LIVES {
+        writeln!(out, "more than {LIVES} lives of {life} slots")
+    } else {
+        writeln!(out, "{lives} lives of {life} slots")
+    }
+}
+
+/// Prints what a task was answered: how often, unless the die stopped meanwhile.
+fn print_answers<W: Write>(out: &mut W, answers: &Answers) -> io::Result<()> {
+    match answers.end {
+        Some(refused) => {
+            write!(out, "asked until ")?;
+            print_ask_cause(out, refused)
+        }
+        None => write!(
             out,
-            "stopped by {}: a block was erased {} times",
-            slot_cause(stop),
-            most_erases(tally)
+            "{} jobs accepted, {} refused",
+            answers.accepted,
+            answers.refused()
         ),
-        None if ticked.slots / LIFE > LIVES => writeln!(out, "more than {LIVES} lives"),
-        None => writeln!(out, "{} lives", ticked.slots / LIFE),
     }
 }
 
 /// Prints what a task was answered, and how many of its jobs were late.
 fn print_diary<W: Write>(out: &mut W, name: &str, diary: &Diary, late: u32) -> io::Result<()> {
     write!(out, "  {name}: ")?;
-    match diary.refusal {
-        Some(last) => write!(out, "asked until {}", ask_cause(last))?,
-        None => write!(out, "{} jobs accepted, 0 refused", diary.accepted.len())?,
-    }
+    print_answers(out, &diary.answers)?;
     writeln!(out, ", {late} late")
 }
 
-/// Prints what the babbler was answered.
-fn print_babble<W: Write>(out: &mut W, babble: &Babble) -> io::Result<()> {
-    match babble.refusal {
-        Some(last) => writeln!(out, "  babbler: asked until {}", ask_cause(last)),
-        None if babble.accepted > 0 && babble.too_soon > 0 => {
-            writeln!(out, "  babbler: accepted, and refused TooSoon")
+/// Prints what the babbler was answered. How often it was depends on which thread was first.
+fn print_babbler<W: Write>(out: &mut W, answers: &Answers) -> io::Result<()> {
+    write!(out, "  babbler: ")?;
+    match answers.end {
+        Some(_) => {
+            print_answers(out, answers)?;
+            writeln!(out)
         }
-        None => writeln!(out, "  babbler: not heard"),
+        None if answers.accepted > 0 && answers.too_soon > 0 => {
+            writeln!(out, "some jobs accepted, others refused TooSoon")
+        }
+        None => writeln!(out, "not heard"),
     }
 }
 
@@ -86,28 +103,20 @@ fn print_reported<W: Write>(
     said: &Reported,
     tally: &Tally,
 ) -> io::Result<()> {
-    let none: &[Accepted] = &[];
     let control = said.control.accepted.as_slice();
     let logger = said.logger.accepted.as_slice();
+    let none: &[Accepted] = &[];
+    let control_late = late(control, none, &said.ticked);
+    let logger_late = late(logger, control, &said.ticked);
     write!(out, "die {number}: ")?;
     print_lives(out, &said.ticked, tally)?;
-    print_diary(
-        out,
-        "control",
-        &said.control,
-        late(control, none, &said.ticked),
-    )?;
-    print_diary(
-        out,
-        "logger",
-        &said.logger,
-        late(logger, control, &said.ticked),
-    )?;
-    print_babble(out, &said.babble)
+    print_diary(out, "control", &said.control, control_late)?;
+    print_diary(out, "logger", &said.logger, logger_late)?;
+    print_babbler(out, &said.babbler)
 }
 
 /// A fault of the writer as a refusal.
-pub(crate) fn written(done: io::Result<()>) -> Result<(), Refusal> {
+fn written(done: io::Result<()>) -> Result<(), Refusal> {
     done.map_err(|_| Refusal::WriteFault)
 }
 

@@ -1,10 +1,10 @@
 //! Why the recorder stops early.
 
-ghost use Rattle.std.specs.Prelude.{◌≡◌, None};
+ghost use Rattle.std.specs.Prelude.{◌≡◌, None, Ok, IfOk};
 
 use ongoing_die::OngoingRefusal;
 use slot_types::Refusal;
-use std::alloc::AllocError;
+use std::alloc::{AllocError, Global};
 use std::fmt;
 use std::fmt::{Display, Formatter, Write};
 
@@ -53,5 +53,26 @@ impl Display for Stop {
             Stop::NotClosed(why) => write!(f, "a die isn't closed: {why}"),
             Stop::NotRead => write!(f, "a page isn't read"),
         }
+    }
+}
+
+// What is refused is dropped with all its parts, and what is boxed is moved. So these two are of any type: at a die they
+// would be proved through all of it.
+
+/// What is refused stops the recorder so.
+pub(crate) fn or_stop<T, E: Drop>(answer: Result<T, E>, stop: Stop) -> Result<T, Stop>
+    ensures { IfOk result (λ value. answer ≡ Ok value) }
+{
+    match answer {
+        Ok(value) => Ok(value),
+        Err(_) => Err(stop),
+    }
+}
+
+/// Puts a value into a box.
+pub(crate) fn boxed<T: Drop>(alloc: Global, value: T) -> Result<Box<T>, Stop> {
+    match Box::new(alloc, value) {
+        Ok(kept) => Ok(kept),
+        Err(_) => Err(Stop::Refused(Refusal::NoMemory)),
     }
 }

@@ -2,15 +2,20 @@
 
 ghost use Rattle.std.specs.Prelude.{◌≡◌};
 
+use crate::answers::{Answers, NONE_YET};
 use crate::plan::{CONTROL, LOGGER};
 use demand_rules::TaskTerms;
 use flash_die::Nand;
-use ongoing_die::{AskStop, Taken};
+use ongoing_die::Taken;
 use planned_ports::{AskRefused, SharedPlannedDie, TaskPort};
 use slot_types::{JobNo, Op, PageData};
 use std::alloc::{AllocError, Global};
 use std::sync::Wait;
 use std::thread;
+use std::time::{Clock, Duration};
+
+/// How far apart a task's looks at the clock are at least, in microseconds.
+const LOOK: u64 = 50;
 
 /// What a task asks for: so many jobs, each of which reads a page of its own and writes it anew.
 #[derive(Clone, Copy, Drop)]
@@ -30,7 +35,7 @@ pub(crate) const CONTROL_TASK: Task = Task {
     pages: 1,
 };
 
-/// The logger, with as many as that.
+/// The logger, with as many as take that long, too.
 pub(crate) const LOGGER_TASK: Task = Task {
     terms: LOGGER,
     jobs: 204,
@@ -77,15 +82,11 @@ pub(crate) struct Accepted {
     pub(crate) job: Option<JobNo>,
 }
 
-/// What a task was answered.
+/// What a task was answered, and which of its asks were accepted.
 #[derive(Drop)]
 pub(crate) struct Diary {
+    pub(crate) answers: Answers,
     pub(crate) accepted: Vec<Accepted>,
-    pub(crate) refused: u32,
-    /// The last refusal.
-    pub(crate) refusal: Option<AskRefused>,
-    /// The die takes no more.
-    pub(crate) is_over: bool,
 }
 
 impl Diary {
@@ -93,29 +94,15 @@ impl Diary {
     pub(crate) fn new(alloc: Global, task: &Task) -> Result<Diary, AllocError> {
         let accepted = Vec::with_capacity(alloc, task.jobs as usize)?;
         Ok(Diary {
+            answers: NONE_YET,
             accepted,
-            refused: 0,
-            refusal: None,
-            is_over: false,
         })
     }
 
-    fn note_accepted(&mut self, release: u64, due: u64, job: Option<JobNo>) {
-        let accepted = Accepted { release, due, job };
-        // There is room for all.
-        let _ = self.accepted.push(accepted).is_ok();
-    }
-
-    fn note_refusal(&mut self, refused: AskRefused) {
-        self.refused = self.refused.saturating_add(1);
-        self.refusal = Some(refused);
-        self.is_over = matches!(refused, AskRefused::Die(AskStop::Ended(_)));
-    }
-
-    /// Notes an answer. It answers in which slot the task may ask again, where it asked in this one.
-    fn note(&mut self, answer: Result<Taken, AskRefused>, task: &Task, slot: u64) -> u64 {
-        let period = u64::from(task.terms.period);
-        match answer {
+    /// Notes what the task was answered that asked in this slot. It answers from which slot on it may ask again.
+    fn note(&mut self, answer: Result<Taken, AskRefused>, slot: u64, period: u32) -> u64 {
+        self.answers.note(&answer);
+        let (release, due, job) = match answer {
             Ok(
                 Taken::Enters {
                     release,
@@ -123,24 +110,23 @@ impl Diary {
                     first,
                     ..
                 },
-            ) => {
-                self.note_accepted(release, due, Some(first));
-                release.saturating_add(period)
-            }
-            Ok(Taken::Waits { release, due }) => {
-                self.note_accepted(release, due, None);
-                release.saturating_add(period)
-            }
-            Err(refused) => {
-                self.note_refusal(refused);
-                slot
-            }
-        }
+            ) => (release, due, Some(first)),
+            Ok(Taken::Waits { release, due }) => (release, due, None),
+            Err(_) => return slot.saturating_add(1),
+        };
+        // There is room for all.
+        let _ = self.accepted.push(Accepted { release, due, job }).is_ok();
+        release.saturating_add(u64::from(period))
+    }
+
+    /// All jobs of the task were accepted, or it is to ask no more.
+    fn is_full(&self, task: &Task) -> bool {
+        self.answers.end.is_some() || self.accepted.len() >= task.jobs as usize
     }
 }
 
-/// Asks for the next job, where the clock has come to this slot. It answers from which one on the task may ask then.
-fn ask_from<N: Nand, R: Wait>(
+/// Asks for the next job, where the clock has come to the slot `from`. It answers from which one on the task may ask then.
+fn ask_from<N: Nand, R: Clock + Wait>(
     rt: &R,
     die: &SharedPlannedDie<N>,
     port: &mut TaskPort<N>,
@@ -151,21 +137,21 @@ fn ask_from<N: Nand, R: Wait>(
     requires { port.old.lock ≡ die.now }
     ensures { port.new.lock ≡ die.now }
 {
-    // A die that is stopped has no clock.
+    // A die that is stopped has no clock: then the task asks, and ends with the answer.
     let slot = port.clock(rt, die).unwrap_or(u64::MAX);
     if slot < from {
-        thread::yield_now();
+        let _ = thread::sleep(rt, Duration::from_micros(LOOK));
         return from;
     }
-    let job = u32::try_from(diary.accepted.len()).unwrap_or(u32::MAX);
-    let job = job.saturating_add(1);
-    let answer = port.ask(rt, die, &task.ops(job));
-    diary.note(answer, task, slot)
+    let done = u32::try_from(diary.accepted.len()).unwrap_or(u32::MAX);
+    let ops = task.ops(done.saturating_add(1));
+    let answer = port.ask(rt, die, &ops);
+    diary.note(answer, slot, task.terms.period)
 }
 
-/// A task's thread: it asks for each of its jobs as soon as its plan lets it, until all were accepted or the die takes
-/// no more.
-pub(crate) fn run_task<N: Nand, R: Wait>(
+/// A task's thread: it looks at the clock now and then, and asks for the next job once its plan lets it, until all were
+/// accepted or the die takes no more.
+pub(crate) fn run_task<N: Nand, R: Clock + Wait>(
     rt: &R,
     die: &SharedPlannedDie<N>,
     port: TaskPort<N>,
@@ -178,7 +164,7 @@ pub(crate) fn run_task<N: Nand, R: Wait>(
     let (mut port, mut diary) = (port, diary);
     let mut from = 0u64;
     for _ in 0..u64::MAX {
-        if diary.is_over || diary.accepted.len() >= task.jobs as usize {
+        if diary.is_full(task) {
             break;
         }
         from = ask_from(rt, die, &mut port, task, from, &mut diary);

@@ -2,7 +2,6 @@
 
 ghost use Rattle.std.specs.Prelude.{◌≡◌};
 
-use crate::plan::LIFE;
 use flash_die::Nand;
 use planned_ports::{ClockPort, SharedPlannedDie, SlotRefused};
 use slot_types::{JobNo, SlotReply};
@@ -25,6 +24,8 @@ pub(crate) struct Finished {
 /// What came of the ticks.
 #[derive(Drop)]
 pub(crate) struct Ticked {
+    /// How many slots a life has.
+    pub(crate) life: u32,
     /// How many slots were carried out.
     pub(crate) slots: u64,
     pub(crate) finished: Vec<Finished>,
@@ -33,12 +34,18 @@ pub(crate) struct Ticked {
 }
 
 impl Ticked {
-    pub(crate) fn new(alloc: Global) -> Ticked {
+    pub(crate) fn new(alloc: Global, life: u32) -> Ticked {
         Ticked {
+            life,
             slots: 0,
             finished: Vec::new(alloc),
             stop: None,
         }
+    }
+
+    /// How many lives were over in this slot of the clock of all lives.
+    pub(crate) fn lives_before(&self, slot: u64) -> u64 {
+        slot.checked_div(u64::from(self.life)).unwrap_or(0)
     }
 
     fn note(&mut self, reply: &SlotReply) {
@@ -68,13 +75,13 @@ impl Ticked {
 
     /// The middle of the next life: what was asked for up to now is due by then.
     fn last_slot(&self) -> u64 {
-        (self.slots / LIFE)
-            .saturating_mul(LIFE)
-            .saturating_add(LIFE + LIFE / 2)
+        let life = u64::from(self.life);
+        let lives = self.lives_before(self.slots).saturating_add(1);
+        lives.saturating_mul(life).saturating_add(life / 2)
     }
 }
 
-/// The timer's thread: it ticks until the tasks have ended and the next life is half over, or the die takes no more.
+/// The timer's thread: it ticks until the tasks have ended and the next life is half over, or the die carries out no more.
 pub(crate) fn run_timer<N: Nand, R: Clock + Wait>(
     rt: &R,
     die: &SharedPlannedDie<N>,
