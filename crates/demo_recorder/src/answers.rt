@@ -1,7 +1,50 @@
-//! What a task was answered, counted by cause.
+//! What a task was answered: what was accepted, and all of it counted by cause.
 
 use ongoing_die::{AskRefusal, AskStop, Taken};
 use planned_ports::AskRefused;
+use slot_types::JobNo;
+
+/// An ask that was accepted: slots are those of the clock of all lives.
+#[derive(Clone, Copy, Drop)]
+pub(crate) struct Accepted {
+    pub(crate) release: u64,
+    pub(crate) due: u64,
+    /// It waited for the life of its release.
+    pub(crate) waited: bool,
+    /// Its number in that life; 0 where it waited, since none was told.
+    pub(crate) job: JobNo,
+}
+
+/// What was accepted.
+fn accepted_as(taken: Taken) -> Accepted {
+    match taken {
+        Taken::Enters {
+            release,
+            due,
+            first,
+            ..
+        } => Accepted {
+            release,
+            due,
+            waited: false,
+            job: first,
+        },
+        Taken::Waits { release, due } => Accepted {
+            release,
+            due,
+            waited: true,
+            job: JobNo(0),
+        },
+    }
+}
+
+/// What was accepted, unless the ask was refused.
+pub(crate) fn accepted_in(answer: Result<Taken, AskRefused>) -> Option<Accepted> {
+    match answer {
+        Ok(taken) => Some(accepted_as(taken)),
+        Err(_) => None,
+    }
+}
 
 /// How often a task was answered how.
 #[derive(Clone, Copy, Drop)]

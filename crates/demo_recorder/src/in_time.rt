@@ -1,17 +1,18 @@
 //! Which jobs were late, by what the timer and the tasks were answered, and without asking the die.
 
-use crate::tasks::Accepted;
+use crate::answers::Accepted;
 use crate::timer::Ticked;
 
 /// The number of a job in the life of its release. What waited for that life has its first numbers there, in the order of
 /// the tasks: `before` is what the tasks before were accepted.
 fn number_of(asked: &Accepted, before: &[Accepted]) -> usize {
-    match asked.job {
-        Some(job) => job.0 as usize,
-        None => before
+    if asked.waited {
+        before
             .iter()
-            .filter(|other| other.job.is_none() && other.release == asked.release)
-            .count(),
+            .filter(|other| other.waited && other.release == asked.release)
+            .count()
+    } else {
+        asked.job.0 as usize
     }
 }
 

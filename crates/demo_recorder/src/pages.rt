@@ -2,10 +2,11 @@
 
 ghost use Rattle.std.specs.Prelude.{◌≡◌};
 
+use crate::answers::accepted_in;
 use crate::ports::{Shared, closed, opened};
 use crate::stops::Stop;
 use flash_die::Nand;
-use ongoing_die::{OngoingDie, Taken};
+use ongoing_die::OngoingDie;
 use planned_ports::{ClockPort, SharedPlannedDie, TaskPort};
 use slot_core::Outcome;
 use slot_types::{JobNo, Op, PageData};
@@ -40,9 +41,10 @@ fn read_two<N: Nand, R: Wait>(
     ensures port { port.new.lock ≡ die.now }
 {
     let answer = port.ask(rt, die, &[Op::Read(pages[0]), Op::Read(pages[1])]);
+    let accepted = accepted_in(answer);
     carry(rt, die, timer);
-    match answer {
-        Ok(Taken::Enters { first, .. }) => Some(first),
+    match accepted {
+        Some(accepted) if !accepted.waited => Some(accepted.job),
         _ => None,
     }
 }

@@ -1,10 +1,10 @@
 //! What the recorder prints of its dies, once they are closed. It prints nothing that depends on which thread was first.
 
-use crate::answers::Answers;
+use crate::answers::{Accepted, Answers};
 use crate::dies::Reported;
 use crate::in_time::late;
 use crate::nand::Tally;
-use crate::tasks::{Accepted, Diary, job_in};
+use crate::tasks::{Diary, job_in};
 use crate::timer::Ticked;
 use ongoing_die::AskStop;
 use planned_ports::{AskRefused, SlotRefused};

@@ -2,13 +2,13 @@
 
 ghost use Rattle.std.specs.Prelude.{◌≡◌};
 
-use crate::answers::{Answers, NONE_YET};
+use crate::answers::{Accepted, Answers, NONE_YET, accepted_in};
 use crate::plan::{CONTROL, LOGGER};
 use demand_rules::TaskTerms;
 use flash_die::Nand;
 use ongoing_die::Taken;
 use planned_ports::{AskRefused, SharedPlannedDie, TaskPort};
-use slot_types::{JobNo, Op, PageData};
+use slot_types::{Op, PageData};
 use std::alloc::{AllocError, Global};
 use std::sync::Wait;
 use std::thread;
@@ -73,13 +73,12 @@ pub(crate) fn job_in(page: PageData) -> u32 {
     u32::from_le_bytes([page.0[0], page.0[1], page.0[2], page.0[3]])
 }
 
-/// An ask that was accepted: slots are those of the clock of all lives.
-#[derive(Clone, Copy, Drop)]
-pub(crate) struct Accepted {
-    pub(crate) release: u64,
-    pub(crate) due: u64,
-    /// Its number in the life of its release; none where it waited for that life.
-    pub(crate) job: Option<JobNo>,
+/// From which slot on a task may ask again that asked in this one: a period after the release of what was accepted.
+fn next_after(accepted: &Option<Accepted>, slot: u64, period: u32) -> u64 {
+    match accepted {
+        Some(accepted) => accepted.release.saturating_add(u64::from(period)),
+        None => slot.saturating_add(1),
+    }
 }
 
 /// What a task was answered, and which of its asks were accepted.
@@ -99,24 +98,21 @@ impl Diary {
         })
     }
 
+    /// Notes what was accepted, if something was.
+    fn keep(&mut self, accepted: Option<Accepted>) {
+        if let Some(accepted) = accepted {
+            // There is room for all.
+            let _ = self.accepted.push(accepted).is_ok();
+        }
+    }
+
     /// Notes what the task was answered that asked in this slot. It answers from which slot on it may ask again.
     fn note(&mut self, answer: Result<Taken, AskRefused>, slot: u64, period: u32) -> u64 {
         self.answers.note(&answer);
-        let (release, due, job) = match answer {
-            Ok(
-                Taken::Enters {
-                    release,
-                    due,
-                    first,
-                    ..
-                },
-            ) => (release, due, Some(first)),
-            Ok(Taken::Waits { release, due }) => (release, due, None),
-            Err(_) => return slot.saturating_add(1),
-        };
-        // There is room for all.
-        let _ = self.accepted.push(Accepted { release, due, job }).is_ok();
-        release.saturating_add(u64::from(period))
+        let accepted = accepted_in(answer);
+        let next = next_after(&accepted, slot, period);
+        self.keep(accepted);
+        next
     }
 
     /// All jobs of the task were accepted, or it is to ask no more.
