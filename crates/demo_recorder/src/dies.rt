@@ -1,133 +1,189 @@
-//! The threads of a die: one for each of its tasks, and one for its timer.
+//! The threads of a die: one for its timer, and one for each of its tasks. None of them waits for another.
 
-ghost use Rattle.std.specs.Prelude.{◌≡◌, map, IfOk, Ok};
+ghost use Rattle.std.specs.Prelude.{◌≡◌};
 
-use crate::tasks::{Diary, control, logger, run_task};
-use crate::timer::{Carried, run_timer};
-use die_service::{Die, DiePass, Store};
+use crate::answers::Answers;
+use crate::babbler::run_babbler;
+use crate::plan::OWN_PAGES;
+use crate::ports::{Ports, Shared, closed, opened};
+use crate::stops::Stop;
+use crate::tasks::{CONTROL_TASK, Diary, LOGGER_TASK, run_task};
+use crate::timer::{Ticked, run_timer};
 use flash_die::Nand;
-use slot_types::Refusal;
+use ongoing_die::OngoingDie;
+use planned_ports::{ClockPort, SharedPlannedDie, TaskPort};
 use std::alloc::Global;
-use std::sync::{Barrier, Wait};
+use std::sync::Wait;
+use std::sync::atomic::{AtomicBool, Ordering};
 use std::thread;
 use std::thread::Threads;
+use std::time::Clock;
 
-/// What the threads of a die were answered in a life.
-#[derive(Clone, Copy, Drop)]
+/// What the threads of a die were answered.
+#[derive(Drop)]
 pub(crate) struct Reported {
+    pub(crate) ticked: Ticked,
     pub(crate) control: Diary,
     pub(crate) logger: Diary,
-    pub(crate) carried: Carried,
+    pub(crate) babbler: Answers,
 }
 
-/// Runs both tasks of a die for a life, each in a thread with a pass of its own.
-fn run_tasks<N: Nand + Send, R: Threads + Wait + Sync>(
+/// What the timer and the tasks note down.
+#[derive(Drop)]
+struct Diaries {
+    ticked: Ticked,
+    control: Diary,
+    logger: Diary,
+}
+
+impl Diaries {
+    /// Empty ones, with room for all jobs of a task, for a die whose lives have so many slots.
+    fn new(alloc: Global, life: u32) -> Result<Diaries, Stop> {
+        Ok(Diaries {
+            ticked: Ticked::new(alloc, life),
+            control: Diary::new(alloc, &CONTROL_TASK)?,
+            logger: Diary::new(alloc, &LOGGER_TASK)?,
+        })
+    }
+}
+
+/// What both tasks give back.
+type Asked<N> = ((TaskPort<N>, Diary), (TaskPort<N>, Diary));
+
+/// Both tasks, each in a thread.
+fn run_tasks<N: Nand + Send, R: Clock + Threads + Wait + Sync>(
     rt: &R,
-    alloc: Global,
-    die: &Die<N>,
-    first: DiePass<N>,
-    second: DiePass<N>,
-    life: u8,
-    rounds: &Barrier,
-) -> ((DiePass<N>, Diary), (DiePass<N>, Diary))
-    requires first { first.lock ≡ die.now }
-    requires second { second.lock ≡ die.now }
-    ensures first { result.0.0.lock ≡ die.now }
-    ensures second { result.1.0.lock ≡ die.now }
+    die: &SharedPlannedDie<N>,
+    control: TaskPort<N>,
+    logger: TaskPort<N>,
+    first: Diary,
+    second: Diary,
+) -> Asked<N>
+    requires control { control.lock ≡ die.now }
+    requires logger { logger.lock ≡ die.now }
+    ensures control { result.0.0.lock ≡ die.now }
+    ensures logger { result.1.0.lock ≡ die.now }
 {
-    let control = control(life);
-    let logger = logger(life);
     thread::join(
         rt,
-        || -> (DiePass<N>, Diary)
-            requires { first.lock ≡ die.now }
+        || -> (TaskPort<N>, Diary)
+            requires { control.lock ≡ die.now }
             ensures { result.0.lock ≡ die.entry.now }
-        { run_task(rt, alloc, die, first, &control, rounds) },
-        || -> (DiePass<N>, Diary)
-            requires { second.lock ≡ die.now }
+        { run_task(rt, die, control, &CONTROL_TASK, first) },
+        || -> (TaskPort<N>, Diary)
+            requires { logger.lock ≡ die.now }
             ensures { result.0.lock ≡ die.entry.now }
-        { run_task(rt, alloc, die, second, &logger, rounds) },
+        { run_task(rt, die, logger, &LOGGER_TASK, second) },
     )
 }
 
-/// Runs the tasks of a die beside its timer for a life. The passes of the tasks are joined into the timer's, which is
-/// handed back.
-pub(crate) fn run_die<N: Nand + Send, R: Threads + Wait + Sync>(
+/// What the timer and both tasks give back.
+type Ran<N> = ((ClockPort<N>, Ticked), Asked<N>);
+
+/// The timer beside both tasks, in a thread.
+fn run_beside<N: Nand + Send, R: Clock + Threads + Wait + Sync>(
     rt: &R,
-    alloc: Global,
-    die: &Die<N>,
-    mut pass: DiePass<N>,
-    life: u8,
-) -> Result<(DiePass<N>, Reported), Refusal>
-    requires { pass.lock ≡ die.now }
-    ensures { IfOk result (λ made. made.0.lock ≡ die.now) }
+    die: &SharedPlannedDie<N>,
+    timer: ClockPort<N>,
+    control: TaskPort<N>,
+    logger: TaskPort<N>,
+    diaries: Diaries,
+) -> Ran<N>
+    requires timer { timer.lock ≡ die.now }
+    requires control { control.lock ≡ die.now }
+    requires logger { logger.lock ≡ die.now }
+    ensures timer { result.0.0.lock ≡ die.now }
+    ensures control { result.1.0.0.lock ≡ die.now }
+    ensures logger { result.1.1.0.lock ≡ die.now }
 {
-    let first = die.split_pass(rt, &mut pass)?;
-    let second = die.split_pass(rt, &mut pass)?;
-    let rounds = Barrier::new(3);
-    let rounds = &rounds;
-    let (((first, control), (second, logger)), (mut pass, carried)) = thread::join(
+    let Diaries {
+        ticked,
+        control: first,
+        logger: second,
+    } = diaries;
+    let have_ended = AtomicBool::new(false);
+    let have_ended = &have_ended;
+    thread::join(
         rt,
-        || -> ((DiePass<N>, Diary), (DiePass<N>, Diary))
-            requires { (first.lock ≡ die.now) × (second.lock ≡ die.now) }
-            ensures { (result.0.0.lock ≡ die.entry.now) × (result.1.0.lock ≡ die.entry.now) }
-        { run_tasks(rt, alloc, die, first, second, life, rounds) },
-        || -> (DiePass<N>, Carried)
-            requires { pass.lock ≡ die.now }
+        || -> (ClockPort<N>, Ticked)
+            requires { timer.lock ≡ die.now }
             ensures { result.0.lock ≡ die.entry.now }
-        { run_timer(rt, die, pass, rounds) },
-    );
-    die.join_pass(&mut pass, first);
-    die.join_pass(&mut pass, second);
-    let said = Reported {
+        { run_timer(rt, die, timer, ticked, have_ended) },
+        || -> Asked<N>
+            requires { (control.lock ≡ die.now) × (logger.lock ≡ die.now) }
+            ensures { (result.0.0.lock ≡ die.entry.now) × (result.1.0.lock ≡ die.entry.now) }
+        {
+            let asked = run_tasks(rt, die, control, logger, first, second);
+            have_ended.store(true, Ordering::SeqCst);
+            asked
+        },
+    )
+}
+
+/// All threads of a die, with the babbler's.
+fn run_threads<N: Nand + Send, R: Clock + Threads + Wait + Sync>(
+    rt: &R,
+    die: &SharedPlannedDie<N>,
+    ports: Ports<N>,
+    diaries: Diaries,
+) -> (Ports<N>, Reported)
+    requires timer { ports.timer.lock ≡ die.now }
+    requires control { ports.control.lock ≡ die.now }
+    requires logger { ports.logger.lock ≡ die.now }
+    requires babbler { ports.babbler.lock ≡ die.now }
+    ensures timer { result.0.timer.lock ≡ die.now }
+    ensures control { result.0.control.lock ≡ die.now }
+    ensures logger { result.0.logger.lock ≡ die.now }
+    ensures babbler { result.0.babbler.lock ≡ die.now }
+{
+    let Ports {
+        timer,
         control,
         logger,
-        carried,
+        babbler,
+    } = ports;
+    let is_last = AtomicBool::new(false);
+    let is_last = &is_last;
+    let ((babbler, heard), ((timer, ticked), ((control, first), (logger, second)))) = thread::join(
+        rt,
+        || -> (TaskPort<N>, Answers)
+            requires { babbler.lock ≡ die.now }
+            ensures { result.0.lock ≡ die.entry.now }
+        { run_babbler(rt, die, babbler, is_last) },
+        || -> Ran<N>
+            requires { (timer.lock ≡ die.now) × (control.lock ≡ die.now) × (logger.lock ≡ die.now) }
+            ensures { (result.0.0.lock ≡ die.entry.now) × (result.1.0.0.lock ≡ die.entry.now)
+                × (result.1.1.0.lock ≡ die.entry.now) }
+        {
+            let ran = run_beside(rt, die, timer, control, logger, diaries);
+            is_last.store(true, Ordering::SeqCst);
+            ran
+        },
+    );
+    let ports = Ports {
+        timer,
+        control,
+        logger,
+        babbler,
     };
-    Ok((pass, said))
+    let reported = Reported {
+        ticked,
+        control: first,
+        logger: second,
+        babbler: heard,
+    };
+    (ports, reported)
 }
 
-/// Both of two answers. Where one was refused, so are both.
-fn both<A: Drop, B: Drop>(
-    one: Result<A, Refusal>,
-    other: Result<B, Refusal>,
-) -> Result<(A, B), Refusal>
-    ensures { IfOk result (λ made. (one ≡ Ok made.0) × (other ≡ Ok made.1)) }
-{
-    Ok((one?, other?))
-}
-
-/// Runs both dies of a store at once for a life, and hands their passes back, in order.
-pub(crate) fn run_dies<N: Nand + Send, R: Threads + Wait + Sync>(
+/// Opens a die, runs its threads, and closes it.
+pub(crate) fn run_die<N: Nand + Send, R: Clock + Threads + Wait + Sync>(
     rt: &R,
     alloc: Global,
-    store: &Store<N>,
-    passes: Vec<DiePass<N>>,
-    life: u8,
-) -> Result<(Vec<DiePass<N>>, [Reported; 2]), Refusal>
-    requires { map (λ pass. pass.lock) passes.items ≡ store.now }
-    ensures { IfOk result (λ made. map (λ pass. pass.lock) made.0.items ≡ store.now) }
-{
-    let mut passes = passes;
-    let (Some(one_pass), Some(zero_pass), None) = (passes.pop(), passes.pop(), passes.pop()) else {
-        return Err(Refusal::UnknownDie);
-    };
-    let zero = store.die(0)?;
-    let one = store.die(1)?;
-    let mut back = Vec::with_capacity(alloc, 2)?;
-    let (zero, one) = thread::join(
-        rt,
-        || -> Result<(DiePass<N>, Reported), Refusal>
-            requires { zero_pass.lock ≡ zero.now }
-            ensures { IfOk result (λ made. made.0.lock ≡ zero.entry.now) }
-        { run_die(rt, alloc, zero, zero_pass, life) },
-        || -> Result<(DiePass<N>, Reported), Refusal>
-            requires { one_pass.lock ≡ one.now }
-            ensures { IfOk result (λ made. made.0.lock ≡ one.entry.now) }
-        { run_die(rt, alloc, one, one_pass, life) },
-    );
-    let ((zero_pass, zero_reported), (one_pass, one_reported)) = both(zero, one)?;
-    back.push_reserved(zero_pass);
-    back.push_reserved(one_pass);
-    Ok((back, [zero_reported, one_reported]))
+    die: Box<OngoingDie<N>>,
+) -> Result<(Box<OngoingDie<N>>, Reported), Stop> {
+    let diaries = Diaries::new(alloc, die.die().life())?;
+    let Shared { die, ports, list } = opened(rt, alloc, die, &OWN_PAGES)?;
+    let (ports, reported) = run_threads(rt, &die, ports, diaries);
+    let die = closed(rt, alloc, Shared { die, ports, list })?;
+    Ok((die, reported))
 }

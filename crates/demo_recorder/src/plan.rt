@@ -1,72 +1,99 @@
-//! What the recorder's dies are planned for, and the store that is made of them.
+//! What the recorder's dies are planned for, and a new one.
 
-ghost use Rattle.std.specs.Prelude.{◌≡◌, map, All, IfOk};
+ghost use Rattle.std.specs.Prelude.{◌≡◌, IfOk};
 ghost use Rattle.flash_die.specs.Flash.{IsFresh};
 
 use crate::nand::WearNand;
-use die_service::{DiePass, Store};
+use crate::stops::{Stop, boxed};
+use demand_rules::{TaskTerms, Terms, TermsList};
 use flash_die::{MemoryNand, Nand};
-use plan_rules::{bound, plan_test};
-use slot_types::{Caps, DiePlan, Refusal, Shape, StorePlan, TaskTimes, Times, TimesList};
+use ongoing_die::OngoingDie;
+use planned_ports::PageRange;
+use slot_types::{Caps, DiePlan, Refusal, Shape};
 use std::alloc::Global;
 
 /// The device of each die.
 pub(crate) type Device = WearNand<MemoryNand>;
 
 const SHAPE: Shape = Shape {
-    blocks: 10,
+    blocks: 11,
     pages: 4,
     erase_slots: 3,
 };
 
 /// After how many erases a block of each die is worn out. The first die's blocks don't last.
-const ENDURANCES: [u32; 2] = [2, 1000];
+pub(crate) const ENDURANCES: [u32; 2] = [2, 1_000_000];
 
-pub(crate) const CONTROL: TaskTimes = TaskTimes {
+/// In 8 slots a job that reads a page and writes one, due 8 slots later.
+pub(crate) const CONTROL: TaskTerms = TaskTerms {
     period: 8,
+    deadline: 8,
+    held: 8,
+    work: 2,
+    writes: 1,
     collect_period: 16,
-    work: 2,
-    writes: 1,
+    collect_deadline: 16,
 };
 
-pub(crate) const LOGGER: TaskTimes = TaskTimes {
+/// In 32 slots such a job, due 32 slots later.
+pub(crate) const LOGGER: TaskTerms = TaskTerms {
     period: 32,
-    collect_period: 64,
+    deadline: 32,
+    held: 32,
     work: 2,
     writes: 1,
+    collect_period: 64,
+    collect_deadline: 64,
 };
 
-/// How many slots a life has: a multiple of each collect period, by which all that was asked for is due.
-pub(crate) const LIFE: u32 = 64;
+/// In 32 slots a read.
+const BABBLER: TaskTerms = TaskTerms {
+    period: 32,
+    deadline: 32,
+    held: 32,
+    work: 1,
+    writes: 0,
+    collect_period: 64,
+    collect_deadline: 64,
+};
 
-fn times(alloc: Global) -> Result<Times, Refusal> {
-    let tasks = TimesList::from_vec(Vec::from_slice(alloc, &[CONTROL, LOGGER])?);
-    Ok(Times {
-        common: LIFE,
-        tasks,
+/// How many slots a life has at most: few, so that a hundred lives are soon over. Without a limit a life has as many as
+/// there are numbers for (`MAX_SLOT` in its place); with this plan 149,760.
+const LONGEST: u32 = 64;
+
+/// The control has page 0, the logger pages 1 to 5, and the babbler may read them all.
+pub(crate) const OWN_PAGES: [Option<PageRange>; 3] = [
+    Some(PageRange { first: 0, count: 1 }),
+    Some(PageRange { first: 1, count: 5 }),
+    None,
+];
+
+fn terms(alloc: Global) -> Result<Terms, Refusal> {
+    Ok(Terms {
+        tasks: TermsList::from_vec(Vec::from_slice(alloc, &[CONTROL, LOGGER, BABBLER])?),
     })
 }
 
-/// Whether a plan is accepted, and passes its test; the refusal is that of the first of both which it fails.
-fn check_plan(plan: &DiePlan) -> Result<(), Refusal> {
-    bound(plan)?;
-    plan_test(plan)?;
-    Ok(())
-}
-
-/// Two tasks, each with tokens for six free pages at most. Refused where the plan doesn't pass its test.
-pub(crate) fn die_plan(alloc: Global) -> Result<DiePlan, Refusal> {
-    let times = Some(times(alloc)?);
-    let caps = Caps::from_vec(vec![in alloc; 6; 2]?);
-    let plan = DiePlan {
+fn die_plan(alloc: Global) -> Result<DiePlan, Refusal> {
+    Ok(DiePlan {
         shape: SHAPE,
         logical: 6,
         alpha: 2,
-        caps,
-        times,
-    };
-    check_plan(&plan)?;
-    Ok(plan)
+        caps: Caps::from_vec(Vec::from_slice(alloc, &[6, 6, 4])?),
+        times: None,
+    })
+}
+
+/// A die with this device. Refused where the plan doesn't pass its test.
+fn die_on<N: Nand>(alloc: Global, device: N) -> Result<OngoingDie<N>, Stop>
+    requires { IsFresh (N.shape_of device) (N.blocks device) (N.failures device) }
+{
+    let plan = die_plan(alloc)?;
+    let terms = terms(alloc)?;
+    match OngoingDie::new(alloc, plan, terms, LONGEST, device) {
+        Ok(die) => Ok(die),
+        Err(refusal) => Err(Stop::NoDie(refusal)),
+    }
 }
 
 fn device(alloc: Global, endurance: u32) -> Result<Device, Refusal>
@@ -78,38 +105,8 @@ fn device(alloc: Global, endurance: u32) -> Result<Device, Refusal>
     Ok(WearNand::new(alloc, chip, endurance)?)
 }
 
-/// Adds a plan of the recorder's.
-fn add_plan(alloc: Global, plans: &mut StorePlan) -> Result<(), Refusal> {
-    plans.push(die_plan(alloc)?)?;
-    Ok(())
-}
-
-/// The plans of both dies.
-fn store_plan(alloc: Global) -> Result<StorePlan, Refusal> {
-    let mut plans = StorePlan::new(alloc);
-    add_plan(alloc, &mut plans)?;
-    add_plan(alloc, &mut plans)?;
-    Ok(plans)
-}
-
-/// The fresh devices of both dies.
-fn devices(alloc: Global) -> Result<Vec<Device>, Refusal>
-    ensures { IfOk result (λ nands. All (λ nand.
-        IsFresh (⟦<Device as Nand>⟧.shape_of nand)
-        (⟦<Device as Nand>⟧.blocks nand)
-        (⟦<Device as Nand>⟧.failures nand)) nands.items) }
-{
-    let mut nands = Vec::with_capacity(alloc, 2)?;
-    nands.push_reserved(device(alloc, ENDURANCES[0])?);
-    nands.push_reserved(device(alloc, ENDURANCES[1])?);
-    Ok(nands)
-}
-
-/// The store of two dies, with the first pass of each.
-pub(crate) fn new_store(alloc: Global) -> Result<(Store<Device>, Vec<DiePass<Device>>), Refusal>
-    ensures { IfOk result (λ made. map (λ pass. pass.lock) made.1.items ≡ made.0) }
-{
-    let plan = store_plan(alloc)?;
-    let nands = devices(alloc)?;
-    Store::new(alloc, plan, nands)
+/// A new die, whose blocks last for so many erases.
+pub(crate) fn new_die(alloc: Global, endurance: u32) -> Result<Box<OngoingDie<Device>>, Stop> {
+    let device = device(alloc, endurance)?;
+    boxed(alloc, die_on(alloc, device)?)
 }

@@ -1,226 +1,169 @@
-//! A task of the recorder: what it asks of its die in a life, and what it is answered.
+//! A task of the recorder: what it asks its port for, and what it is answered. It waits for nobody.
 
 ghost use Rattle.std.specs.Prelude.{◌≡◌};
 
+use crate::answers::{Accepted, Answers, NONE_YET, accepted_in};
 use crate::plan::{CONTROL, LOGGER};
-use crate::timer::{ROUNDS, TICKS};
-use die_service::{Die, DiePass};
+use demand_rules::TaskTerms;
 use flash_die::Nand;
-use slot_core::Outcome;
-use slot_types::{JobNo, Op, OpList, PageData, Reads, Refusal, TaskNo, TaskTimes};
-use std::alloc::Global;
-use std::sync::{Barrier, Wait};
+use ongoing_die::Taken;
+use planned_ports::{AskRefused, SharedPlannedDie, TaskPort};
+use slot_types::{Op, PageData};
+use std::alloc::{AllocError, Global};
+use std::sync::Wait;
+use std::thread;
+use std::time::{Clock, Duration};
 
-/// What a task asks for in a life: at each multiple of its period a job that reads a page and writes one, and at each
-/// of its collect period a collection.
-#[derive(Clone, Copy)]
+/// How far apart a task's looks at the clock are at least, in microseconds.
+const LOOK: u64 = 50;
+
+/// What a task asks for: so many jobs, each of which reads a page of its own and writes it anew.
+#[derive(Clone, Copy, Drop)]
 pub(crate) struct Task {
-    number: TaskNo,
-    times: TaskTimes,
-    life: u8,
-    reads: u32,
-    writes: u32,
+    pub(crate) terms: TaskTerms,
+    pub(crate) jobs: u32,
+    /// Its pages, which it takes by turns.
+    pub(crate) first_page: u32,
+    pub(crate) pages: u32,
 }
 
-/// The control reads and writes page 0.
-pub(crate) fn control(life: u8) -> Task {
-    Task {
-        number: TaskNo(0),
-        times: CONTROL,
-        life,
-        reads: 0,
-        writes: 0,
-    }
-}
+/// The control, with so many jobs that they take more than a hundred lives.
+pub(crate) const CONTROL_TASK: Task = Task {
+    terms: CONTROL,
+    jobs: 812,
+    first_page: 0,
+    pages: 1,
+};
 
-/// The logger has pages 1 to 5. In each life it writes the next one, and reads the one after that, which it wrote four
-/// lives before.
-pub(crate) fn logger(life: u8) -> Task {
-    let turn = u32::from(life);
-    Task {
-        number: TaskNo(1),
-        times: LOGGER,
-        life,
-        reads: 1 + (turn + 1) % 5,
-        writes: 1 + turn % 5,
-    }
-}
+/// The logger, with as many as take that long, too.
+pub(crate) const LOGGER_TASK: Task = Task {
+    terms: LOGGER,
+    jobs: 204,
+    first_page: 1,
+    pages: 5,
+};
 
 impl Task {
-    /// What the task writes in a round: the life and the round.
-    fn sample(&self, round: u32) -> PageData {
-        let mut bytes = [0; 16];
-        bytes[0] = self.life;
-        bytes[1] = u8::try_from(round).unwrap_or(u8::MAX);
-        PageData(bytes)
+    /// The page of its job of this number, from 1 on.
+    fn page(&self, job: u32) -> u32 {
+        let turn = job.checked_rem(self.pages).unwrap_or(0);
+        self.first_page.saturating_add(turn)
+    }
+
+    /// The operations of this job: what it writes is its number.
+    fn ops(&self, job: u32) -> [Op; 2] {
+        let page = self.page(job);
+        [Op::Read(page), Op::Write(page, sample(job))]
     }
 }
 
-/// What a task was answered in a life.
-#[derive(Clone, Copy, Drop)]
+/// What the job of this number writes.
+fn sample(job: u32) -> PageData {
+    let mut bytes = [0; 16];
+    let number = job.to_le_bytes();
+    bytes[0] = number[0];
+    bytes[1] = number[1];
+    bytes[2] = number[2];
+    bytes[3] = number[3];
+    PageData(bytes)
+}
+
+/// The number of the job that wrote a page: 0 of a page that was never written.
+pub(crate) fn job_in(page: PageData) -> u32 {
+    u32::from_le_bytes([page.0[0], page.0[1], page.0[2], page.0[3]])
+}
+
+/// From which slot on a task may ask again that asked in this one: a period after the release of what was accepted.
+fn next_after(accepted: &Option<Accepted>, slot: u64, period: u32) -> u64 {
+    match accepted {
+        Some(accepted) => accepted.release.saturating_add(u64::from(period)),
+        None => slot.saturating_add(1),
+    }
+}
+
+/// What a task was answered, and which of its asks were accepted.
+#[derive(Drop)]
 pub(crate) struct Diary {
-    /// How many jobs were done.
-    pub(crate) done: u32,
-    /// How many jobs still waited when they were asked for.
-    pub(crate) waiting: u32,
-    /// What the read of the job that was done last gave.
-    pub(crate) read: PageData,
-    /// How many calls were refused.
-    pub(crate) refused: u32,
-    /// Why the last of these was refused.
-    pub(crate) refusal: Option<Refusal>,
+    pub(crate) answers: Answers,
+    pub(crate) accepted: Vec<Accepted>,
 }
 
 impl Diary {
-    fn new() -> Diary {
-        Diary {
-            done: 0,
-            waiting: 0,
-            read: PageData::BLANK,
-            refused: 0,
-            refusal: None,
+    /// An empty one, with room for all jobs of a task.
+    pub(crate) fn new(alloc: Global, task: &Task) -> Result<Diary, AllocError> {
+        let accepted = Vec::with_capacity(alloc, task.jobs as usize)?;
+        Ok(Diary {
+            answers: NONE_YET,
+            accepted,
+        })
+    }
+
+    /// Notes what was accepted, if something was.
+    fn keep(&mut self, accepted: Option<Accepted>) {
+        if let Some(accepted) = accepted {
+            // There is room for all.
+            let _ = self.accepted.push(accepted).is_ok();
         }
     }
 
-    fn note_refusal(&mut self, refusal: Refusal) {
-        self.refused = self.refused.saturating_add(1);
-        self.refusal = Some(refusal);
+    /// Notes what the task was answered that asked in this slot. It answers from which slot on it may ask again.
+    fn note(&mut self, answer: Result<Taken, AskRefused>, slot: u64, period: u32) -> u64 {
+        self.answers.note(&answer);
+        let accepted = accepted_in(answer);
+        let next = next_after(&accepted, slot, period);
+        self.keep(accepted);
+        next
     }
 
-    fn note_done(&mut self, reads: &Reads) {
-        self.done = self.done.saturating_add(1);
-        if let Some(bytes) = reads.get(0) {
-            self.read = *bytes;
-        }
-    }
-
-    fn note_outcome(&mut self, outcome: Result<Outcome, Refusal>) {
-        match outcome {
-            Ok(Outcome::Done { reads, .. }) => self.note_done(&reads),
-            Ok(_) => self.waiting = self.waiting.saturating_add(1),
-            Err(refusal) => self.note_refusal(refusal),
-        }
-    }
-
-    /// The number under which the die took a job or a collection, if it did.
-    fn note_taken(&mut self, taken: Result<JobNo, Refusal>) -> Option<JobNo> {
-        match taken {
-            Ok(job) => Some(job),
-            Err(refusal) => {
-                self.note_refusal(refusal);
-                None
-            }
-        }
+    /// All jobs of the task were accepted, or it is to ask no more.
+    fn is_full(&self, task: &Task) -> bool {
+        self.answers.end.is_some() || self.accepted.len() >= task.jobs as usize
     }
 }
 
-/// Whether a slot is a multiple of a period.
-fn comes_at(slot: u32, period: u32) -> bool {
-    slot.checked_rem(period) == Some(0)
-}
-
-/// Asks for the task's collection, which is released in this slot, and has its collect period until it is due.
-fn collect<N: Nand, R: Wait>(
+/// Asks for the next job, where the clock has come to the slot `from`. It answers from which one on the task may ask then.
+fn ask_from<N: Nand, R: Clock + Wait>(
     rt: &R,
-    die: &Die<N>,
-    pass: &mut DiePass<N>,
+    die: &SharedPlannedDie<N>,
+    port: &mut TaskPort<N>,
     task: &Task,
-    slot: u32,
-) -> Result<JobNo, Refusal>
-    requires { pass.old.lock ≡ die.now }
-    ensures { pass.new.lock ≡ pass.old.lock }
-{
-    let due = slot.saturating_add(task.times.collect_period);
-    die.collect(rt, pass, task.number, slot, due)
-        .map_err(|refused| refused.refusal)
-}
-
-/// Asks for the task's job, which is released in this slot, and has its period until it is due.
-fn submit<N: Nand, R: Wait>(
-    rt: &R,
-    alloc: Global,
-    die: &Die<N>,
-    pass: &mut DiePass<N>,
-    task: &Task,
-    slot: u32,
-    sample: PageData,
-) -> Result<JobNo, Refusal>
-    requires { pass.old.lock ≡ die.now }
-    ensures { pass.new.lock ≡ pass.old.lock }
-{
-    let ops = [Op::Read(task.reads), Op::Write(task.writes, sample)];
-    let ops = OpList::from_vec(Vec::from_slice(alloc, &ops)?);
-    let due = slot.saturating_add(task.times.period);
-    die.submit(rt, pass, task.number, slot, due, ops)
-        .map_err(|refused| refused.refusal)
-}
-
-/// Asks what became of a job, if the die took it.
-fn hear<N: Nand, R: Wait>(
-    rt: &R,
-    die: &Die<N>,
-    pass: &mut DiePass<N>,
-    job: Option<JobNo>,
+    from: u64,
     diary: &mut Diary,
-)
-    requires { pass.old.lock ≡ die.now }
-    ensures { pass.new.lock ≡ pass.old.lock }
+) -> u64
+    requires { port.old.lock ≡ die.now }
+    ensures { port.new.lock ≡ die.now }
 {
-    if let Some(job) = job {
-        let outcome = die.outcome(rt, pass, job);
-        diary.note_outcome(outcome);
+    // A die that is stopped has no clock: then the task asks, and ends with the answer.
+    let slot = port.clock(rt, die).unwrap_or(u64::MAX);
+    if slot < from {
+        let _ = thread::sleep(rt, Duration::from_micros(LOOK));
+        return from;
     }
+    let done = u32::try_from(diary.accepted.len()).unwrap_or(u32::MAX);
+    let ops = task.ops(done.saturating_add(1));
+    let answer = port.ask(rt, die, &ops);
+    diary.note(answer, slot, task.terms.period)
 }
 
-/// Asks for what the task's plan has in a round: its collection and its job, each where it comes.
-fn ask<N: Nand, R: Wait>(
+/// A task's thread: it looks at the clock now and then, and asks for the next job once its plan lets it, until all were
+/// accepted or the die takes no more.
+pub(crate) fn run_task<N: Nand, R: Clock + Wait>(
     rt: &R,
-    alloc: Global,
-    die: &Die<N>,
-    pass: &mut DiePass<N>,
+    die: &SharedPlannedDie<N>,
+    port: TaskPort<N>,
     task: &Task,
-    round: u32,
-    diary: &mut Diary,
-) -> Option<JobNo>
-    requires { pass.old.lock ≡ die.now }
-    ensures { pass.new.lock ≡ pass.old.lock }
-{
-    let slot = round.saturating_mul(TICKS);
-    if comes_at(slot, task.times.collect_period) {
-        let collection = collect(rt, die, pass, task, slot);
-        diary.note_taken(collection);
-    }
-    if !comes_at(slot, task.times.period) {
-        return None;
-    }
-    let job = submit(rt, alloc, die, pass, task, slot, task.sample(round));
-    diary.note_taken(job)
-}
-
-/// A task's thread. In each round it asks for what its plan has, lets the slots begin, asks what became of its job
-/// before while they are carried out, and waits for their end.
-pub(crate) fn run_task<N: Nand, R: Wait>(
-    rt: &R,
-    alloc: Global,
-    die: &Die<N>,
-    mut pass: DiePass<N>,
-    task: &Task,
-    rounds: &Barrier,
-) -> (DiePass<N>, Diary)
-    requires { pass.lock ≡ die.now }
+    diary: Diary,
+) -> (TaskPort<N>, Diary)
+    requires { port.lock ≡ die.now }
     ensures { result.0.lock ≡ die.now }
 {
-    let mut diary = Diary::new();
-    let mut last = None;
-    for round in 0..ROUNDS {
-        let job = ask(rt, alloc, die, &mut pass, task, round, &mut diary);
-        rounds.wait(rt);
-        if job.is_some() {
-            hear(rt, die, &mut pass, last, &mut diary);
-            last = job;
+    let (mut port, mut diary) = (port, diary);
+    let mut from = 0u64;
+    for _ in 0..u64::MAX {
+        if diary.is_full(task) {
+            break;
         }
-        rounds.wait(rt);
+        from = ask_from(rt, die, &mut port, task, from, &mut diary);
     }
-    hear(rt, die, &mut pass, last, &mut diary);
-    (pass, diary)
+    (port, diary)
 }

@@ -1,62 +1,108 @@
-//! The recorder's timer: each of its ticks carries out a slot of a die.
+//! The recorder's timer: each of its ticks carries out a slot of a die. It waits for its ticks, and for no task.
 
 ghost use Rattle.std.specs.Prelude.{◌≡◌};
 
-use crate::plan::LIFE;
-use die_service::{Die, DiePass};
 use flash_die::Nand;
-use slot_types::Refusal;
-use std::sync::{Barrier, Wait};
+use planned_ports::{ClockPort, SharedPlannedDie, SlotRefused};
+use slot_types::{JobNo, SlotReply};
+use std::alloc::Global;
+use std::sync::Wait;
+use std::sync::atomic::{AtomicBool, Ordering};
+use std::thread;
+use std::time::{Clock, Duration};
 
-/// How many ticks, and so slots, a round has.
-pub(crate) const TICKS: u32 = 8;
+/// How far apart the ticks are at least, in microseconds.
+const TICK: u64 = 10;
 
-/// How many rounds a life has.
-pub(crate) const ROUNDS: u32 = LIFE / TICKS;
-
-/// How many slots of a die were carried out, and the first refusal of one, if there was any.
+/// A job or a collection that was done in this slot of the clock of all lives, with its number in the life of that.
 #[derive(Clone, Copy, Drop)]
-pub(crate) struct Carried {
-    pub(crate) slots: u32,
-    pub(crate) stop: Option<Refusal>,
+pub(crate) struct Finished {
+    pub(crate) slot: u64,
+    pub(crate) job: JobNo,
 }
 
-impl Carried {
-    /// One tick: the die carries out its present slot. Once a slot was refused, no more are asked for.
-    fn tick<N: Nand, R: Wait>(&mut self, rt: &R, die: &Die<N>, pass: &mut DiePass<N>)
-        requires { pass.old.lock ≡ die.now }
-        ensures { pass.new.lock ≡ pass.old.lock }
+/// What came of the ticks.
+#[derive(Drop)]
+pub(crate) struct Ticked {
+    /// How many slots a life has.
+    pub(crate) life: u32,
+    /// How many slots were carried out.
+    pub(crate) slots: u64,
+    pub(crate) finished: Vec<Finished>,
+    /// Why a slot wasn't, where one wasn't.
+    pub(crate) stop: Option<SlotRefused>,
+}
+
+impl Ticked {
+    pub(crate) fn new(alloc: Global, life: u32) -> Ticked {
+        Ticked {
+            life,
+            slots: 0,
+            finished: Vec::new(alloc),
+            stop: None,
+        }
+    }
+
+    /// How many lives were over in this slot of the clock of all lives.
+    pub(crate) fn lives_before(&self, slot: u64) -> u64 {
+        slot.checked_div(u64::from(self.life)).unwrap_or(0)
+    }
+
+    fn note(&mut self, reply: &SlotReply) {
+        if let Some(job) = reply.finished {
+            let slot = self.slots;
+            // Where memory is refused it isn't noted, and found late.
+            let _ = self.finished.push(Finished { slot, job }).is_ok();
+        }
+        self.slots = self.slots.saturating_add(1);
+    }
+
+    /// One tick: the die carries out its present slot.
+    fn tick<N: Nand, R: Wait>(
+        &mut self,
+        rt: &R,
+        die: &SharedPlannedDie<N>,
+        clock: &mut ClockPort<N>,
+    )
+        requires { clock.old.lock ≡ die.now }
+        ensures { clock.new.lock ≡ die.now }
     {
-        if self.stop.is_some() {
-            return;
+        match clock.slot(rt, die) {
+            Ok(reply) => self.note(&reply),
+            Err(refused) => self.stop = Some(refused),
         }
-        match die.slot(rt, pass) {
-            Ok(_) => self.slots = self.slots.saturating_add(1),
-            Err(refused) => self.stop = Some(refused.refusal),
-        }
+    }
+
+    /// The middle of the next life: what was asked for up to now is due by then.
+    fn last_slot(&self) -> u64 {
+        let life = u64::from(self.life);
+        let lives = self.lives_before(self.slots).saturating_add(1);
+        lives.saturating_mul(life).saturating_add(life / 2)
     }
 }
 
-/// The timer's thread: in each round it waits for the tasks, ticks, and tells them that the round is over.
-pub(crate) fn run_timer<N: Nand, R: Wait>(
+/// The timer's thread: it ticks until the tasks have ended and the next life is half over, or the die carries out no more.
+pub(crate) fn run_timer<N: Nand, R: Clock + Wait>(
     rt: &R,
-    die: &Die<N>,
-    mut pass: DiePass<N>,
-    rounds: &Barrier,
-) -> (DiePass<N>, Carried)
-    requires { pass.lock ≡ die.now }
+    die: &SharedPlannedDie<N>,
+    clock: ClockPort<N>,
+    ticked: Ticked,
+    have_ended: &AtomicBool,
+) -> (ClockPort<N>, Ticked)
+    requires { clock.lock ≡ die.now }
     ensures { result.0.lock ≡ die.now }
 {
-    let mut carried = Carried {
-        slots: 0,
-        stop: None,
-    };
-    for _ in 0..ROUNDS {
-        rounds.wait(rt);
-        for _ in 0..TICKS {
-            carried.tick(rt, die, &mut pass);
+    let (mut clock, mut ticked) = (clock, ticked);
+    let mut last = u64::MAX;
+    for _ in 0..u64::MAX {
+        if ticked.stop.is_some() || ticked.slots >= last {
+            break;
         }
-        rounds.wait(rt);
+        if last == u64::MAX && have_ended.load(Ordering::SeqCst) {
+            last = ticked.last_slot();
+        }
+        let _ = thread::sleep(rt, Duration::from_micros(TICK));
+        ticked.tick(rt, die, &mut clock);
     }
-    (pass, carried)
+    (clock, ticked)
 }

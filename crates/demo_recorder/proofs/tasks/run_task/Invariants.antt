@@ -1,5 +1,5 @@
 use Rattle.std.proofs.Common.{◌≡◌}
 use Rattle.demo_recorder.proofs.tasks.run_task.Given as goal
 
-abbrev pub invariant-loop-round : goal.invariant-loop-round
-invariant-loop-round g l = l.pass.lock ≡ l.fn.die
+abbrev pub invariant-loop : goal.invariant-loop
+invariant-loop g l = l.port.lock ≡ l.fn.die
