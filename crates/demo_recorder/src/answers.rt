@@ -11,7 +11,7 @@ pub(crate) struct Accepted {
     pub(crate) due: u64,
     /// It waited for the life of its release.
     pub(crate) waited: bool,
-    /// Its number in that life; 0 where it waited, since none was told.
+    /// Its number in that life; 0 where it waited, since it had none yet.
     pub(crate) job: JobNo,
 }
 
