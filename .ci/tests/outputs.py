@@ -242,6 +242,15 @@ class Planned(Case):
         self.refused("compare one_die.toml one_die.csv --slots 3 --draw --task 14", "error 5 UnknownTask",
                      "one_die.toml, die 0: --task is 14; there is task 0 alone")
 
+    def test_a_fault_of_one_of_several_reports_is_reported_with_its_place(self):
+        report = (DATA / "two_dies.report.csv").read_text()
+        (self.at / "good.csv").write_text(report)
+        (self.at / "bad.csv").write_text(report.replace("job,0,1", "job,0,2", 1))
+        status, _, err = self.run_words("audit good.csv bad.csv")
+        self.assertEqual((status, err.splitlines()), (1, [
+            "bad.csv: error 20 ReportText 3",
+            "bad.csv, line 3 (record 3): `job` is 2, and has to be 1: the rows of a die are numbered from 0, one after the other"]))
+
     def test_refused_rows_are_named_by_kind_and_by_place(self):
         (self.at / "rows.csv").write_text((self.at / "refused_rows.csv").read_text().replace("ops\n", "ops\n\n\n", 1))
         status, _, err = self.run_words("wear refused_rows.toml rows.csv --slots 4")
@@ -275,6 +284,58 @@ class Recorded(Case):
             self.assertIn(old, text)
             (self.at / "s.csv").write_text(text.replace(old, new, 1))
             self.refused("run one_die.toml s.csv --slots 10", f"error 19 ScriptRow {cause}", f"s.csv, {sentence}")
+
+    def test_each_fault_of_a_report_is_reported_with_its_value_and_what_would_be_right(self):
+        header = "row,die,job,task,release,due,work,completion,lateness,given,items"
+        lines = (DATA / "two_dies.report.csv").read_text().splitlines()
+        jobs = "the rows of a die are numbered from 0, one after the other"
+        worst = "a certificate is of its die's worst row"
+        for at, old, new, sentence in [
+            (1, "row", "raw", f"it has to be {header}"),
+            (1, ",", ";", f"commas stand between fields, and it has others: {header}"),
+            (2, ",,f", ",f", f"it has 10 fields, and a record has 11: {header}"),
+            (2, "job", "jobs\u001b[2J", "`row` is \"jobs\\u{1b}[2J\", and has to be job, collect, waived or cert"),
+            (2, "job,0", "job,9", "`die` is 9, and has to be a whole number from 0 to 7"),
+            (2, "job,0,0,0", "job,0,0,x", "`task` is \"x\", and has to be a whole number from 0 to 15"),
+            (2, "2,5,", "6,5,", "`due` is 5, and has to be above `release`, which is 6"),
+            (2, "2,5,", "2,1048577,", "`due` is 1048577, and has to be a whole number from 1 to 1048576"),
+            (2, "-1,", "-2,", "`lateness` is -2, and has to be -1: it is `completion` less `due`"),
+            (2, "4,-1,", "1048577,1048572,", "`completion` is 1048577, and has to be a whole number from 0 to 1048576, or empty"),
+            (2, "-1,", "-1,4", "`given` is 4, and has to be empty: the row is a job's"),
+            (2, "4,-1,,", ",,,", "`items` is \"ffffffffffffffffffffffffffffffff fffffff\".., and has to be empty: the row has no completion"),
+            (2, " ff", " gf", "`items` is \"ffffffffffffffffffffffffffffffff gffffff\".., and has to be the 0 to 64 pages that its "
+             "reads gave, of 32 hexadecimal digits each, with a space between two"),
+            (3, "job,0,1", "job,0,3", f"`job` is 3, and has to be 1: {jobs}"),
+            (3, "5,3,5,0,", "5,0,5,0,", "`work` is 0, and has to be a whole number from 1 to 4294967295"),
+            (6, "job,1,2", "job,0,2", "`die` is 0, and has to be at least 1: the rows stand by die"),
+            (5, "waived,1,1,0,1,4,0", "waived,1,1,0,1,4,1", "`work` is 1, and has to be 0: the collection was waived"),
+            (5, "waived,1,1,0,1,4,0,,,1,", "waived,1,1,0,1,4,0,3,,1,", "`completion` is 3, and has to be empty: the collection was waived"),
+            (7, "cert,0,1", "cert,0,0", f"`job` is 0, and has to be 1: {worst}"),
+            (7, "cert,0", "cert,1", "`die` is 1, and has to be 0: that is the next die with a done row"),
+            (7, "5,,5", "5,3,5", "`work` is 3, and has to be empty: the row is a certificate's"),
+            (7, "0 1", "0 q", "`items` is \"0 q\", and has to be numbers of jobs, with a space between two"),
+            (8, "cert,1", "job,1", "`row` is \"job\", and has to be cert: after the first of these no row may stand"),
+        ]:
+            changed = list(lines)
+            self.assertIn(old, changed[at - 1])
+            changed[at - 1] = changed[at - 1].replace(old, new, -1 if old == "," else 1)
+            (self.at / "r.csv").write_text("\n".join(changed) + "\n")
+            self.refused("audit r.csv", f"error 20 ReportText {at}", f"r.csv, line {at} (record {at}): {sentence}")
+        for changed, record, sentence in [
+            (lines[:7], 8, "record 8: the report ends before it, and die 1 has a done row, so its certificate has to stand here"),
+            (lines + lines[7:], 9, "line 9 (record 9): no record may stand here: each die with a done row has its certificate"),
+            ([], 1, f"record 1: the report has no record, and its first has to be {header}"),
+            (["", ""] + lines[:2] + lines[:1], 3, "line 5 (record 3): `row` is \"row\", and has to be job, collect, waived or cert"),
+        ]:
+            (self.at / "r.csv").write_text("".join(line + "\n" for line in changed))
+            self.refused("audit r.csv", f"error 20 ReportText {record}", f"r.csv, {sentence}")
+
+    def test_a_report_that_is_not_read_again_has_its_form(self):
+        done = subprocess.run([PROGRAM, "audit", "-"], cwd=self.at, capture_output=True, check=False,
+                              input=(DATA / "two_dies.report.csv").read_bytes().replace(b"job,0", b"jobs,0", 1))
+        self.assertEqual(done.stderr.decode().splitlines(), [
+            "error 20 ReportText 2", "standard input, record 2: a record has 11 fields, row,die,job,task,release,due,work,completion,"
+            "lateness,given,items; man maulgreen-texts has the form"])
 
     def test_a_script_that_is_not_read_again_has_its_bounds(self):
         done = subprocess.run([PROGRAM, *"run one_die.toml - --slots 0".split()], cwd=self.at, capture_output=True, check=False,

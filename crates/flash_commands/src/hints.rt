@@ -4,6 +4,7 @@ use crate::files::{inputs_among, inputs_in, path_of};
 use crate::plan_hints::{report_dies, report_tasks};
 use crate::record_lines::line_of_record;
 use crate::refusal_names::refusal_name;
+use crate::report_hints::report_of_report;
 use crate::script_hints::report_row;
 use crate::values::{shown_name, shown_word};
 use std::alloc::Global;
@@ -57,7 +58,7 @@ const SHEET_BYTES: u64 = 1_048_576;
 pub(crate) const FORM: &str = "man maulgreen-texts has the form";
 
 /// The line in which a record of a file begins; none where the file isn't there any more as it was read, as a pipe.
-fn line_in<R: Files>(files: &R, name: &str, record: u64) -> Option<u64> {
+pub(crate) fn line_in<R: Files>(files: &R, name: &str, record: u64) -> Option<u64> {
     let path = path_of(name);
     if !fs::metadata(files, path).ok()?.is_file() {
         return None;
@@ -222,7 +223,9 @@ fn report_line<R: Files, W: Write>(
         ["error", "19", _, record, cause, ..] => {
             report_row(files, alloc, err, texts, record, cause);
         }
-        ["error", "20", _, record, ..] => report_record(files, err, texts.report, record, FORM),
+        ["error", "20", _, record, ..] => {
+            report_of_report(files, alloc, err, texts.report, record);
+        }
         ["error", "21", ..] => report_files(files, err, texts),
         ["refused", _, "first", "line", record, _, number] => {
             report_refused(files, err, texts.script, record, number);

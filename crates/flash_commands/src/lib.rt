@@ -16,6 +16,8 @@ mod plan_hints;
 mod progress;
 mod record_lines;
 mod refusal_names;
+mod report_hints;
+mod report_needs;
 mod run_numbers;
 mod script_hints;
 pub mod syntax;
