@@ -135,9 +135,9 @@ impl Before {
     /// The next die that has a done row and no certificate, and its worst row.
     pub(crate) fn next_cert(&self) -> Option<(u32, Finish)> {
         let mut die: u32 = 0;
-        for worst in self.worst {
+        for worst in &self.worst {
             if let Some(worst) = worst {
-                return Some((die, worst));
+                return Some((die, *worst));
             }
             die = die.saturating_add(1);
         }
@@ -323,7 +323,7 @@ fn row_need(fields: &ByteRecord) -> Option<(usize, Need)> {
     }
 }
 
-/// What of a row is wrong behind the rows before it.
+/// What of a row is wrong after the rows before it.
 fn order_need(before: &Before, fields: &ByteRecord) -> Option<(usize, Need)> {
     let (die, rows) = (before.die, before.rows);
     if !is_whole(fields, 1, die, u32::MAX) {
