@@ -432,6 +432,32 @@ def run_die(plan, rows, slots):
     return die, refused
 
 
+# What a refused row is called by the number of its refusal, and what is told of it.
+NAMES = {
+    5: "UnknownTask: its die has no such task",
+    6: "EmptyJob: a job has 1 to 64 operations, and it has none",
+    7: "TooManyOps: a job has 1 to 64 operations, and it has more",
+    8: "BadPage: one of its pages isn't below `logical`",
+    9: "ReleasePast: its `release` is below its `at`",
+    10: "BadDue: its `due` isn't above its `release`, or is above 1048576",
+    11: "JobsFull: its die has taken 65536 jobs and collections, which is a life",
+    12: "NoTokens: it has more writes than its task has tokens: collect more often, or write less",
+    13: "CollectorBusy: a collection of its task is neither done nor waived yet",
+    14: "ClockEnd: its slot is the last one of a life",
+}
+
+
+def told_of(refused):
+    """What is told of refused rows, each its record and the number of its refusal: how many there are and the first one, and
+    then a line a refusal, by number."""
+    if not refused:
+        return ""
+    line, number = min(refused)
+    numbers = [number for _, number in refused]
+    kinds = [f"{numbers.count(number)} with {number} {NAMES[number]}\n" for number in sorted(set(numbers))]
+    return f"refused {len(refused)} first line {line} with {number}\n" + "".join(kinds)
+
+
 def joined(items):
     return " ".join(items)
 
@@ -465,11 +491,7 @@ def run(plan_text, script_text, slots):
             start, listed = die.certificate(worst)
             report.append(f"cert,{at},{worst.number},,{start},{worst.due},,{worst.completion},"
                           f"{worst.completion - worst.due},,{joined(map(str, listed))}\n")
-    told = ""
-    if refused:
-        line, refusal = min(refused)
-        told = f"refused {len(refused)} first line {line} with {refusal}\n"
-    return "".join(report), told, dies
+    return "".join(report), told_of(refused), dies
 
 
 # Reports

@@ -370,7 +370,11 @@ class Recorded(Case):
     def test_a_refused_row_is_named_by_its_place(self):
         status, _, err = self.run_words("run refused_rows.toml refused_rows.csv --slots 4")
         self.assertEqual((status, err.splitlines()), (0, [
-            "refused 4 first line 3 with 8", "refused_rows.csv, line 3 (record 3): one of its pages isn't below `logical`"]))
+            "refused 4 first line 3 with 8", "1 with 8 BadPage: one of its pages isn't below `logical`",
+            "1 with 9 ReleasePast: its `release` is below its `at`",
+            "1 with 10 BadDue: its `due` isn't above its `release`, or is above 1048576",
+            "1 with 13 CollectorBusy: a collection of its task is neither done nor waived yet",
+            "refused_rows.csv, line 3 (record 3): one of its pages isn't below `logical`"]))
 
     def test_a_number_out_of_its_range_is_reported_with_its_option(self):
         for words, line in [

@@ -12,6 +12,7 @@ use crate::audits::audit_by_threads;
 use crate::commands::Command;
 use crate::faults::{Fault, end};
 use crate::figures::figures_text;
+use crate::refusal_names::refusal_name;
 use example_texts::built_in;
 use plan_texts::read_plan_from;
 use report_texts::ReportReader;
@@ -89,11 +90,28 @@ fn print_run<R: Threads + Wait + Sync, F: Read + Drop, S: Read + Drop, W: Output
     Ok(count)
 }
 
-/// Tells how many rows were refused, and the first of them, if there is one. A writer that fails is passed over.
+/// Tells how many rows were refused with the refusal of a number, by its name. A writer that fails is passed over.
+pub fn report_kind<E: Write>(err: &mut E, number: u8, count: u32) {
+    if let Some(named) = refusal_name(number) {
+        let (name, meaning) = (named.name, named.meaning);
+        let _ = writeln!(err, "{count} with {number} {name}: {meaning}");
+    }
+}
+
+/// Tells how many rows were refused, and the first of them, if there is one; and after that, in a line a refusal, how many
+/// it refused. A writer that fails is passed over.
 fn report_refused<E: Write>(err: &mut E, count: &RunCount) {
-    if let Some((line, number)) = count.first {
-        let refused = count.refused;
-        let _ = writeln!(err, "refused {refused} first line {line} with {number}");
+    let Some((line, number)) = count.first else {
+        return;
+    };
+    let refused = count.refused;
+    let _ = writeln!(err, "refused {refused} first line {line} with {number}");
+    let mut number: u8 = 0;
+    for rows in &count.kinds {
+        if *rows > 0 {
+            report_kind(err, number, *rows);
+        }
+        number = number.saturating_add(1);
     }
 }
 
@@ -206,7 +224,8 @@ pub fn carry_out<R: Threads + Wait + Sync, F: Read + Drop, S: Read + Drop, W: Ou
 /// `run` runs the script on the store of the plan by its workers, and prints the report of what became of it, which is
 /// the same for any number of them. Without words the plan and the script are built in. On a die whose rows keep its
 /// plan, with times that pass their test, no lateness in the report is above 0, and no row is refused but out of
-/// memory, or after one that was. Where rows were refused, `err` gets a line, as `refused 1 first line 6 with 6`.
+/// memory, or after one that was. Where rows were refused, `err` gets a line, as `refused 1 first line 6 with 6`, and
+/// after it one for each refusal, as `1 with 6 EmptyJob: a job has 1 to 64 operations, and it has none`.
 ///
 /// `audit` prints for each die of the report the lateness and the job of its certificate, and whether it holds, as
 /// `die 0 worst -1 job 0 holds` or `die 0 worst 0 job 1 refused 5 EarlyRelease`, or that it has none, as

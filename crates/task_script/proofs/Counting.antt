@@ -1,68 +1,86 @@
 -- Counts of rows: row by row, and one after the other.
-use Rattle.std.proofs.Common.{◌≡◌, ℕ, suc, ◌+◌, nat_lt, Bool, true, false, cond, List, [], ◌∷◌, ◌++◌, refl, ap, sym, ◌∙◌}
-use Rattle.std.proofs.Common.{length, arith, Option, Some, None, ◌==◌}
-use Rattle.std.specs.Prelude.{count_by, if◌then◌else◌, is_none, is_some}
+use Rattle.std.proofs.Common.{◌≡◌, ℕ, suc, ◌+◌, ◌<◌, nat_lt, Bool, true, false, cond, List, [], ◌∷◌, ◌++◌, refl, ap, sym, ◌∙◌}
+use Rattle.std.proofs.Common.{length, arith, append_assoc, Option, Some, None, ◌==◌}
+use Rattle.std.specs.Prelude.{count_by, get_or, if◌then◌else◌, is_none, is_some}
+use Rattle.std.proofs.lemmas.List.{append-nil, ext_get_or}
+use Rattle.std.proofs.lemmas.List.FromFn.{get_or-map-range_with_len, length-map-range_with_len}
 use Rattle.std.proofs.lemmas.Bool.{ltb-true, ltb-false, lt-ltb, le-ltb}
-use Rattle.std.proofs.lemmas.List.Sums.{sum_by-cons}
+use Rattle.std.proofs.lemmas.List.Sums.{sum_by-append, sum_by-cons}
 use Rattle.slot_types.specs.Refusal.{number_of}
 use Rattle.slot_types.specs.declared.refusals.Refusal.{Refusal}
 use Rattle.die_service.specs.declared.ends.RefusedEvent.{RefusedEvent}
 use Rattle.task_script.specs.RowEnds.{ends_from, row_end, taken_at}
 use Rattle.task_script.specs.RunCounts.{count_of, counted_with, counted_after, first_after, first_by, first_refused, sum_of_counts, joined_first}
-use Rattle.task_script.specs.RunCounts.{or_earlier, rows_in, was_accepted, was_refused}
+use Rattle.task_script.specs.RunCounts.{by_number, capped, has_number, kind_with, or_earlier, refused_with, rows_in, was_accepted, was_refused}
 use Rattle.task_script.specs.declared.run_counts.RowEnd.{RowEnd}
 use Rattle.task_script.specs.declared.run_counts.RunCount.{RunCount}
 
 -- Row by row
 
-pub counted_in_parts : (count : RunCount) (xs ys : List RowEnd)
-    → counted_after count (xs ++ ys) ≡ counted_after (counted_after count xs) ys
-counted_in_parts count [] ys = refl
-counted_in_parts count (x ∷ xs) ys = counted_in_parts (counted_with count x) xs ys
+-- what each refusal has is known by its numbers
+pub by_numbers : (kinds : List ℕ) (f : ℕ → ℕ) → length kinds ≡ 25 → ((number : ℕ) → number < 25 → get_or kinds number 0 ≡ f number)
+    → kinds ≡ by_number f
+by_numbers kinds f long are = ext_get_or 0 kinds (by_number f) (long ∙ sym (length-map-range_with_len f 0 25))
+    (λ number within.
+    let below : number < 25 = omega (arith, within, long) in
+    are number below ∙ sym (get_or-map-range_with_len f 0 25 number number 0 below refl))
 
-accepted_more : (n : ℕ) (end : RowEnd) (ends : List RowEnd)
-    → (n + (if was_accepted end then 1 else 0)) + count_by was_accepted ends ≡ n + count_by was_accepted (end ∷ ends)
-accepted_more n end ends =
-    let c : count_by was_accepted (end ∷ ends) ≡ (if was_accepted end then 1 else 0) + count_by was_accepted ends =
-    sum_by-cons (λ (e : RowEnd). if was_accepted e then 1 else 0) end ends in
+numbered : (f : ℕ → ℕ) (number : ℕ) → number < 25 → get_or (by_number f) number 0 ≡ f number
+numbered f number below = get_or-map-range_with_len f 0 25 number number 0 below refl
+
+same_by_number : (f g : ℕ → ℕ) → ((number : ℕ) → number < 25 → f number ≡ g number) → by_number f ≡ by_number g
+same_by_number f g same = by_numbers (by_number f) g (length-map-range_with_len f 0 25)
+    (λ number below. numbered f number below ∙ same number below)
+
+one_more : (b : Bool) (n : ℕ) → (if b then capped (capped n + 1) else capped n) ≡ capped (n + (if b then 1 else 0))
+one_more true n = omega arith
+one_more false n = omega arith
+
+both_capped : (n m : ℕ) → capped (capped n + capped m) ≡ capped (n + m)
+both_capped n m = omega arith
+
+counts_after : (p : RowEnd → Bool) (xs ys : List RowEnd) → count_by p (xs ++ ys) ≡ count_by p xs + count_by p ys
+counts_after p xs ys = sum_by-append (λ (e : RowEnd). if p e then 1 else 0) xs ys
+
+one_counted : (p : RowEnd → Bool) (end : RowEnd) → count_by p (end ∷ []) ≡ (if p end then 1 else 0)
+one_counted p end =
+    let c : count_by p (end ∷ []) ≡ (if p end then 1 else 0) + count_by p [] = sum_by-cons (λ (e : RowEnd). if p e then 1 else 0) end [] in
     omega (arith, c)
 
-refused_more : (n : ℕ) (end : RowEnd) (ends : List RowEnd)
-    → (n + (if was_refused end then 1 else 0)) + count_by was_refused ends ≡ n + count_by was_refused (end ∷ ends)
-refused_more n end ends =
-    let c : count_by was_refused (end ∷ ends) ≡ (if was_refused end then 1 else 0) + count_by was_refused ends =
-    sum_by-cons (λ (e : RowEnd). if was_refused e then 1 else 0) end ends in
-    omega (arith, c)
+one_behind : (p : RowEnd → Bool) (xs : List RowEnd) (end : RowEnd) → count_by p xs + (if p end then 1 else 0) ≡ count_by p (xs ++ end ∷ [])
+one_behind p xs end = ap (λ (n : ℕ). count_by p xs + n) (sym (one_counted p end)) ∙ sym (counts_after p xs (end ∷ []))
 
-counted_from : (count : RunCount) (ends : List RowEnd) → counted_after count ends ≡ record {
-  accepted = count.accepted + count_by was_accepted ends;
-  refused = count.refused + count_by was_refused ends;
-  first = first_after count.first ends;
+first_behind : (first : Option (ℕ × ℕ)) (xs : List RowEnd) (end : RowEnd)
+    → first_by end.line end.refusal (first_after first xs) ≡ first_after first (xs ++ end ∷ [])
+first_behind first [] end = refl
+first_behind first (x ∷ xs) end = first_behind (first_by x.line x.refusal first) xs end
+
+kind_behind : (xs : List RowEnd) (end : RowEnd) (number : ℕ) → number < 25
+    → kind_with end.refusal (by_number (refused_with xs)) number ≡ refused_with (xs ++ end ∷ []) number
+kind_behind xs end number below =
+    let p : RowEnd → Bool = λ (e : RowEnd). has_number number e.refusal in
+    ap (λ (n : ℕ). if p end then capped (n + 1) else n) (numbered (refused_with xs) number below)
+    ∙ one_more (p end) (count_by p xs) ∙ ap capped (one_behind p xs end)
+
+-- the counts of rows, with one row more
+count_with : (xs : List RowEnd) (end : RowEnd) → counted_with (count_of xs) end ≡ count_of (xs ++ end ∷ [])
+count_with xs end = λ i. record {
+  accepted = one_behind was_accepted xs end i;
+  refused = one_behind was_refused xs end i;
+  first = first_behind None xs end i;
+  kinds = same_by_number (kind_with end.refusal (by_number (refused_with xs))) (refused_with (xs ++ end ∷ []))
+      (kind_behind xs end) i;
 }
-counted_from count [] = λ i. record {
-  accepted = sym (plus_none count.accepted) i;
-  refused = sym (plus_none count.refused) i;
-  first =
-      count.first;
-}
-  where
-    plus_none : (n : ℕ) → n + 0 ≡ n
-    plus_none n = omega arith
-counted_from count (end ∷ ends) =
-    counted_from (counted_with count end) ends
-    ∙ λ i. record {
-      accepted = accepted_more count.accepted end ends i;
-      refused = refused_more count.refused end ends i;
-      first = first_after count.first (end ∷ ends);
-    }
+
+-- rows are counted after others
+pub counts_more : (xs ys : List RowEnd) → counted_after (count_of xs) ys ≡ count_of (xs ++ ys)
+counts_more xs [] = ap count_of (sym (append-nil xs))
+counts_more xs (y ∷ ys) = ap (λ (c : RunCount). counted_after c ys) (count_with xs y)
+    ∙ (counts_more (xs ++ y ∷ []) ys ∙ ap count_of (append_assoc xs (y ∷ []) ys))
 
 -- rows that are counted one by one are counted
 pub counted_is : (ends : List RowEnd) → counted_after (count_of []) ends ≡ count_of ends
-counted_is ends = counted_from (count_of []) ends ∙ λ i. record
-    { accepted = none_plus (count_by was_accepted ends) i; refused = none_plus (count_by was_refused ends) i; first = first_refused ends }
-  where
-    none_plus : (n : ℕ) → 0 + n ≡ n
-    none_plus n = omega arith
+counted_is ends = counts_more [] ends
 
 -- one row more
 taken_is : (place line : ℕ) (lines : List ℕ) (refused : List RefusedEvent)
@@ -83,11 +101,6 @@ taken_is place line lines (r ∷ refused) = by (r.place == place)
     by false = refl
 
 -- Rows after others
-
--- rows are counted after others
-pub counts_more : (xs ys : List RowEnd) → counted_after (count_of xs) ys ≡ count_of (xs ++ ys)
-counts_more xs ys = ap (λ (c : RunCount). counted_after c ys) (sym (counted_is xs))
-    ∙ (sym (counted_in_parts (count_of []) xs ys) ∙ counted_is (xs ++ ys))
 
 earlier_joined : (line : ℕ) (refusal : Refusal) (first : Option (ℕ × ℕ)) → or_earlier line refusal first
     ≡ joined_first first (Some (line, number_of refusal))
@@ -131,15 +144,27 @@ first_joined f (y ∷ ys) = first_joined (first_by y.line y.refusal f) ys
     ∙ (first_joins y.line y.refusal f (first_after None ys)
     ∙ ap (joined_first f) (sym (first_joined (first_by y.line y.refusal None) ys)))
 
+first_in_parts : (first : Option (ℕ × ℕ)) (xs ys : List RowEnd) → first_after first (xs ++ ys) ≡ first_after (first_after first xs) ys
+first_in_parts first [] ys = refl
+first_in_parts first (x ∷ xs) ys = first_in_parts (first_by x.line x.refusal first) xs ys
+
+kinds_joined : (xs ys : List RowEnd) (number : ℕ) → number < 25
+    → capped (get_or (by_number (refused_with xs)) number 0 + get_or (by_number (refused_with ys)) number 0) ≡ refused_with (xs ++ ys) number
+kinds_joined xs ys number below =
+    let p : RowEnd → Bool = λ (e : RowEnd). has_number number e.refusal in
+    ap (λ (n : ℕ). capped (n + get_or (by_number (refused_with ys)) number 0)) (numbered (refused_with xs) number below)
+    ∙ ap (λ (n : ℕ). capped (refused_with xs number + n)) (numbered (refused_with ys) number below)
+    ∙ both_capped (count_by p xs) (count_by p ys) ∙ ap capped (sym (counts_after p xs ys))
+
 -- the counts of rows and of those after them
 pub counts_join : (xs ys : List RowEnd) → sum_of_counts (count_of xs) (count_of ys) ≡ count_of (xs ++ ys)
-counts_join xs ys =
-    (λ i. record {
-      accepted = count_by was_accepted xs + count_by was_accepted ys;
-      refused = count_by was_refused xs + count_by was_refused ys;
-      first = sym (first_joined (first_refused xs) ys) i;
-    })
-    ∙ (sym (counted_from (count_of xs) ys) ∙ counts_more xs ys)
+counts_join xs ys = λ i. record {
+  accepted = sym (counts_after was_accepted xs ys) i;
+  refused = sym (counts_after was_refused xs ys) i;
+  first = (sym (first_joined (first_refused xs) ys) ∙ sym (first_in_parts None xs ys)) i;
+  kinds = same_by_number (λ number. capped (get_or (count_of xs).kinds number 0 + get_or (count_of ys).kinds number 0)) (refused_with (xs ++ ys))
+      (kinds_joined xs ys) i;
+}
 
 -- How many rows are counted
 

@@ -1,7 +1,7 @@
 //! What became of the rows of a script, and their counts.
 
-ghost use Rattle.std.specs.Prelude.{◌≡◌, ◌+◌, ◌<◌, ◌^◌, []};
-ghost use Rattle.task_script.specs.RunCounts.{count_of, counted_with, first_by, rows_in, sum_of_counts, joined_first};
+ghost use Rattle.std.specs.Prelude.{◌≡◌, ℕ, ◌+◌, ◌<◌, ◌^◌, [], Some, get_or, length};
+ghost use Rattle.task_script.specs.RunCounts.{by_number, capped, count_of, counted_with, first_by, kind_with, rows_in, sum_of_counts, joined_first};
 
 use slot_types::Refusal;
 
@@ -14,6 +14,9 @@ pub struct RowEnd {
     pub refusal: Option<Refusal>,
 }
 
+/// One more than the greatest number of a refusal.
+pub const NUMBERS: usize = 25;
+
 /// How many rows of a script were accepted and refused.
 #[derive(Clone, Copy, PartialEq, Eq, Debug, Drop)]
 pub struct RunCount {
@@ -22,6 +25,8 @@ pub struct RunCount {
     /// Of the refused row of the smallest record the record's number, the header being 1, and the number of the
     /// refusal.
     pub first: Option<(u32, u8)>,
+    /// By the number of a refusal, how many rows it refused; 4,294,967,295 where there are more.
+    pub kinds: [u32; NUMBERS],
 }
 
 /// The first refused row, of an earlier one and this row.
@@ -48,6 +53,42 @@ fn joined_first(first: Option<(u32, u8)>, second: Option<(u32, u8)>) -> Option<(
     }
 }
 
+/// Counts with a refused row more, by the number of its refusal.
+fn with_one(kinds: [u32; NUMBERS], refusal: Refusal) -> [u32; NUMBERS]
+    ensures long { length result ≡ 25 }
+    ensures each { (number : ℕ) → number < 25
+        → get_or result number 0 ≡ kind_with (Some refusal) kinds number }
+{
+    let mut kinds = kinds;
+    let place = refusal.number() as usize;
+    if place < NUMBERS {
+        kinds[place] = kinds[place].saturating_add(1);
+    }
+    kinds
+}
+
+/// By the number of a refusal, how many rows it refused, with this row.
+fn kinds_with(kinds: [u32; NUMBERS], refusal: Option<Refusal>) -> [u32; NUMBERS]
+    ensures { result ≡ by_number (kind_with refusal kinds) }
+{
+    match refusal {
+        Some(refusal) => with_one(kinds, refusal),
+        None => kinds,
+    }
+}
+
+/// By the number of a refusal, how many rows it refused, of those of two counts.
+fn sum_of_kinds(kinds: [u32; NUMBERS], more: &[u32; NUMBERS]) -> [u32; NUMBERS]
+    ensures { result
+        ≡ by_number (λ number. capped (get_or kinds number 0 + get_or more.now number 0)) }
+{
+    let mut sum = kinds;
+    for number in 0..NUMBERS {
+        sum[number] = sum[number].saturating_add(more[number]);
+    }
+    sum
+}
+
 impl RunCount {
     /// No row was counted.
     pub fn none() -> RunCount
@@ -57,6 +98,7 @@ impl RunCount {
             accepted: 0,
             refused: 0,
             first: None,
+            kinds: [0; NUMBERS],
         }
     }
 
@@ -70,6 +112,7 @@ impl RunCount {
             Some(_) => self.refused += 1,
         }
         self.first = first_by(&end, self.first);
+        self.kinds = kinds_with(self.kinds, end.refusal);
     }
 
     /// Counts the rows of another count after these.
@@ -80,5 +123,6 @@ impl RunCount {
         self.accepted += more.accepted;
         self.refused += more.refused;
         self.first = joined_first(self.first, more.first);
+        self.kinds = sum_of_kinds(self.kinds, &more.kinds);
     }
 }

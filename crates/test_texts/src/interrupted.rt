@@ -132,6 +132,7 @@ fn an_interrupted_run_writes_its_report(rt: HostRuntime) {
         accepted: 5,
         refused: 0,
         first: None,
+        kinds: [0; 25],
     };
     assert_eq!(rt; ended, Ok(count));
     assert_eq!(rt; text.as_slice(), TWO_REPORT.as_bytes());
