@@ -234,6 +234,49 @@ class Planned(Case):
         self.assertEqual(((self.at / "r").read_bytes(), (self.at / "r.part").read_bytes()), (report, first))
         self.assertEqual(self.run_words(f"{run} --to - -o r"), (0, first, ""))
 
+    def records(self, name, kind):
+        """The fields of a checkpoint's records of a kind, without the kind."""
+        lines = (self.at / name).read_text().splitlines()
+        return [line.split(",")[1:] for line in lines if line.startswith(f"{kind},")]
+
+    def test_full_dies_are_left_behind_lives(self):
+        status, out, err = self.run_words("fill planned.toml --to full.ck --lives 2")
+        self.assertEqual((status, err), (0, "the dies are full behind 2 lives\n"))
+        self.assertEqual(len(self.records("full.ck", "page")), 4)
+        self.assertTrue(all(block and page for block, page, _ in self.records("full.ck", "page")))
+        self.assertTrue(self.text("explain planned.toml --from full.ck").endswith(out))
+        for die in 0, 1:
+            self.assertIn(f"die {die}: 2 of 2 logical pages lie in cells; ", out.decode())
+        self.refused("fill one_die.toml --to x.ck", "error 3 BadPlan",
+                     "fill wants a plan that is accepted, with times (version 2): flashplan explain says more",
+                     "one_die.toml: flashplan explain one_die.toml says what is wrong, and what would mend it")
+        self.refused("fill planned.toml --to planned.toml", "error 22 WriteFault",
+                     "--to planned.toml and the plan planned.toml are one file: name another for one of them")
+        self.assertFalse((self.at / "x.ck").exists())
+
+    def test_what_is_watched_goes_on_from_a_checkpoint(self):
+        """What a run from a checkpoint wears is what the blocks of the one at its end were erased more, and its figures begin with
+        the pages that are spare there."""
+        write = "W1=000102030405060708090a0b0c0d0e0f"
+        (self.at / "small.csv").write_text(f"at,die,task,kind,release,due,ops\n0,0,0,job,0,10,{write}\n0,1,0,job,0,10,{write}\n")
+        self.text("run planned.toml small.csv --slots 5 --to small.ck")
+        status, script, err = self.run_words("arrivals planned.toml --slots 3000 --from small.ck -o script.csv")
+        self.assertEqual((status, script), (0, b""))
+        self.assertRegex(err, r"\Adie 0 is full from slot [0-9]+ on\ndie 1 is full from slot [0-9]+ on\n\Z")
+        self.text("run planned.toml script.csv --slots 3000 --from small.ck --to end.ck")
+        worn = [line.split(",") for line in self.text("wear planned.toml script.csv --slots 3000 --from small.ck").decode().splitlines()]
+        before, after = ([int(erases) for _, erases in self.records(name, "block")] for name in ("small.ck", "end.ck"))
+        self.assertEqual([int(row[3]) for row in worn if row[0] == "block"], [b - a for a, b in zip(before, after)])
+        self.assertGreater(sum(after), sum(before))
+        (self.at / "none.csv").write_text("at,die,task,kind,release,due,ops\n")
+        figures = self.text("report planned.toml none.csv --slots 7 --from end.ck --csv").decode().splitlines()
+        names = figures[0].split(",")
+        spare = [row.split(",")[names.index("least_spare")] for row in figures[1:] if row.split(",")[1] == ""]
+        self.assertEqual(spare, [spare for _, spare in self.records("end.ck", "die")])
+        self.assertIn("slots 0 to 7", self.text("draw planned.toml none.csv --slots 7 --text --checkpoint end.ck").decode())
+        self.refused("report one_die.toml none.csv --slots 7 --from end.ck", "error: the checkpoint has 2 dies, and the plan has 1")
+        self.refused("draw one_die.toml none.csv --slots 7 --checkpoint end.ck", "error: the checkpoint has 2 dies, and the plan has 1")
+
     def test_a_name_of_a_die_is_reported_with_how_many_there_are(self):
         self.refused("draw two_dies.toml two_dies.csv --slots 5 --die 3", "error 4 UnknownDie",
                      "two_dies.toml: --die is 3; there are 2 dies, numbered from 0")

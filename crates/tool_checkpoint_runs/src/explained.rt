@@ -147,6 +147,21 @@ fn explain_die(
     }
 }
 
+/// That what was saved of dies fits the plans of a store; that pages have bytes isn't asked for.
+///
+/// Refused as [`run_script`](crate::run_script) is of what was saved, but that pages may have no bytes.
+pub fn check_store(alloc: Global, plan: &StorePlan, saved: &SavedStore) -> Result<(), RunFault> {
+    same_store(plan.len(), saved)?;
+    let mut first = FIRST_LINE;
+    let mut number: u32 = 0;
+    for (own, die) in plan.as_slice().iter().zip(saved.as_slice()) {
+        check_die(alloc, own, die, number, first)?;
+        first = first.saturating_add(lines_of(die));
+        number = number.saturating_add(1);
+    }
+    Ok(())
+}
+
 /// Adds sentences to a text: what a checkpoint says of the dies of a plan, which it has to fit: the pages, the balances, whether the
 /// plan's work goes on from there, and how often blocks were erased (the mean to the hundredth below).
 ///

@@ -10,8 +10,8 @@ has_slots first slots = first == 0 || nat_lt first slots
 -- length what it is for; the picture of the worst has its own window, and each window has a slot; a picture has no
 -- records, and a die and a task are those of a picture
 abbrev pub goes_together : CommandText → Bool
-goes_together (Report plan script slots endurance slot_us as_csv fail) = if endurance == 0 then slot_us == 0 else nat_lt 0 slot_us
-goes_together (Draw plan script slots die first end worst as_text all fail) =
+goes_together (Report plan script slots endurance slot_us as_csv fail from) = if endurance == 0 then slot_us == 0 else nat_lt 0 slot_us
+goes_together (Draw plan script slots die first end worst as_text all fail checkpoint) =
     (not worst || (first == 0 && end == 1048576)) && (nat_lt first end && has_slots first slots)
 goes_together (Compare plan script slots first pool as_csv draws die task) =
     not (as_csv && draws) && ((draws || (die == 0 && task == 0)) && has_slots first slots)

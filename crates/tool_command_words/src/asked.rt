@@ -43,6 +43,18 @@ pub enum Command<'a> {
         /// How many slots a job comes late at most, and how many of a hundred jobs come.
         jitter: u32,
         load: u32,
+        /// The checkpoint from which the dies go on, which says which pages lie in cells.
+        from: Option<&'a str>,
+    },
+    /// Run the dies of a plan until each of their pages is written, and save them.
+    Fill {
+        plan: &'a str,
+        /// How many lives they have at least.
+        lives: u32,
+        /// What draws the operations and their pages.
+        seed: u32,
+        /// The file that gets their checkpoint.
+        to: &'a str,
     },
     /// Tell whether a script keeps the plans of its dies.
     Keeps {
@@ -59,6 +71,8 @@ pub enum Command<'a> {
         script: &'a str,
         /// How many slots each die runs, from 0 to 1,048,576.
         slots: u32,
+        /// The checkpoint from which the dies go on; fresh ones begin where there is none.
+        from: Option<&'a str>,
     },
     /// Run a script, and tell what it came to.
     Report {
@@ -72,6 +86,8 @@ pub enum Command<'a> {
         /// Whether it is printed as CSV.
         as_csv: bool,
         fail: Option<FailingDie>,
+        /// The checkpoint from which the dies go on; fresh ones begin where there is none.
+        from: Option<&'a str>,
     },
     /// Run a script, and draw what a die did.
     Draw {
@@ -92,6 +108,8 @@ pub enum Command<'a> {
         /// Whether all slots are drawn, however many they are.
         all: bool,
         fail: Option<FailingDie>,
+        /// The checkpoint from which the die goes on; a fresh one begins where there is none.
+        checkpoint: Option<&'a str>,
     },
     /// Draw what the tasks of a die may ask for.
     Demand {

@@ -3,7 +3,7 @@
 ghost use Rattle.std.specs.Prelude.{◌≡◌, ◌≤◌, ℕ, IfOk, IfSome, Option, option_and_then, option_map};
 ghost use Rattle.clap.specs.Words.{Text, found_of, rows_of};
 ghost use Rattle.tool_command_words.specs.RequestTexts.{CommandText, FitsRun, RequestFits, text_of_command, text_of_request};
-ghost use Rattle.tool_command_words.specs.Commands.{arrivals_of, audit_of, command_named, compare_of, demand_of, design_of, draw_of, draw_run_of, explain_of, fit_of};
+ghost use Rattle.tool_command_words.specs.Commands.{arrivals_of, audit_of, command_named, compare_of, demand_of, design_of, draw_of, draw_run_of, explain_of, fill_of, fit_of};
 ghost use Rattle.tool_command_words.specs.Commands.{import_in, import_of, keeps_of, names_form, names_run, names_script, names_window, on_script, report_of, request_named};
 ghost use Rattle.tool_command_words.specs.Commands.{run_kept_of, run_of, run_plain_of, wear_of};
 
@@ -62,6 +62,7 @@ fn arrivals<'a>(met: &ArgMatches<'a>) -> Option<Command<'a>>
     let phases = value(met, "phases")? == "true";
     let jitter = number_at(met, "jitter")?;
     let load = number_at(met, "load")?;
+    let from = value(met, "from");
     Some(Command::Arrivals {
         plan,
         slots,
@@ -70,6 +71,24 @@ fn arrivals<'a>(met: &ArgMatches<'a>) -> Option<Command<'a>>
         phases,
         jitter,
         load,
+        from,
+    })
+}
+
+/// The command `fill` that was met.
+fn fill<'a>(met: &ArgMatches<'a>) -> Option<Command<'a>>
+    ensures fill { option_map text_of_command result ≡ fill_of (rows_of (found_of met.now)) }
+    ensures fits { IfSome result FitsRun }
+{
+    let plan = value(met, "PLAN")?;
+    let lives = number_at(met, "lives")?;
+    let seed = number_at(met, "seed")?;
+    let to = value(met, "to")?;
+    Some(Command::Fill {
+        plan,
+        lives,
+        seed,
+        to,
     })
 }
 
@@ -107,10 +126,12 @@ fn wear<'a>(met: &ArgMatches<'a>) -> Option<Command<'a>>
     ensures fits { IfSome result FitsRun }
 {
     let (plan, script, slots) = scripted(met)?;
+    let from = value(met, "from");
     Some(Command::Wear {
         plan,
         script,
         slots,
+        from,
     })
 }
 
@@ -124,6 +145,7 @@ fn report<'a>(met: &ArgMatches<'a>) -> Option<Command<'a>>
     let slot_us = number_at(met, "slot-us")?;
     let as_csv = value(met, "csv")? == "true";
     let fail = fail(met)?;
+    let from = value(met, "from");
     Some(Command::Report {
         plan,
         script,
@@ -132,17 +154,19 @@ fn report<'a>(met: &ArgMatches<'a>) -> Option<Command<'a>>
         slot_us,
         as_csv,
         fail,
+        from,
     })
 }
 
-/// Whether a script is named, or how long it runs, or a device that is to fail.
+/// Whether a script is named, or how long it runs, or from which checkpoint, or a device that is to fail.
 fn names_script(met: &ArgMatches<'_>) -> bool
     ensures { result ≡ names_script (rows_of (found_of met.now)) }
 {
     let script = value(met, "SCRIPT").is_some();
     let slots = value(met, "slots").is_some();
     let fail = value(met, "fail-at").is_some();
-    script || (slots || fail)
+    let checkpoint = value(met, "checkpoint").is_some();
+    script || (slots || (fail || checkpoint))
 }
 
 /// Whether other slots are named than all.
@@ -200,6 +224,7 @@ fn draw_run<'a>(met: &ArgMatches<'a>) -> Option<Command<'a>>
     let as_text = value(met, "text")? == "true";
     let all = value(met, "all")? == "true";
     let fail = fail(met)?;
+    let checkpoint = value(met, "checkpoint");
     Some(Command::Draw {
         plan,
         script,
@@ -211,6 +236,7 @@ fn draw_run<'a>(met: &ArgMatches<'a>) -> Option<Command<'a>>
         as_text,
         all,
         fail,
+        checkpoint,
     })
 }
 
@@ -359,6 +385,8 @@ fn command_named<'a>(name: &str, met: &ArgMatches<'a>) -> Option<Command<'a>>
         design(met)
     } else if name == "arrivals" {
         arrivals(met)
+    } else if name == "fill" {
+        fill(met)
     } else if name == "keeps" {
         keeps(met)
     } else if name == "wear" {

@@ -76,7 +76,7 @@ fn between<'a>(
 }
 
 /// The options of `draw` that say something of a run alone, those with a value first.
-const OF_RUNS: [&str; 4] = ["--slots", "--from", "--to", "--fail-at"];
+const OF_RUNS: [&str; 5] = ["--slots", "--from", "--to", "--fail-at", "--checkpoint"];
 
 const OF_RUNS_ALONE: [&str; 4] = ["--worst", "--text", "--all", "--strict"];
 

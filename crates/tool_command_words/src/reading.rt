@@ -81,10 +81,10 @@ fn parsed<'a>(
 /// left out, and `--quiet`; `wear`, `report`, `draw`, `run` and `audit` take `--strict`.
 ///
 /// The words are `explain PLAN --from CHECKPOINT --slot-us U --page-bytes B`, `fit DATASHEET`, `design DATASHEET`,
-/// `arrivals PLAN --slots N --seed S --fill --phases --jitter J --load L`, where S and J are 0 and L is 100 if left
-/// out, `keeps PLAN SCRIPT --slots N --slot-us U`, `wear PLAN SCRIPT --slots N`, `report PLAN SCRIPT --slots N
-/// --endurance E --slot-us U --csv --fail-at DIE:K`, where E and U are 0 if left out, `draw PLAN SCRIPT --slots N
-/// --die D --from A --to B --worst --text --fail-at DIE:K`, where D, A and B may be left out: the picture is then of
+/// `arrivals PLAN --slots N --seed S --fill --phases --jitter J --load L --from CHECKPOINT`, where S and J are 0 and L is
+/// 100 if left out, `fill PLAN --lives L --seed S --to CHECKPOINT`, where L and S are 0 if left out, `keeps PLAN SCRIPT --slots N --slot-us U`, `wear PLAN SCRIPT --slots N --from CHECKPOINT`, `report PLAN SCRIPT --slots N
+/// --endurance E --slot-us U --csv --fail-at DIE:K --from CHECKPOINT`, where E and U are 0 if left out, `draw PLAN SCRIPT --slots N
+/// --die D --from A --to B --worst --text --fail-at DIE:K --checkpoint CHECKPOINT`, where D, A and B may be left out: the picture is then of
 /// die 0, begins with slot 0, or ends with the run; `draw PLAN --demand --die D`, which takes no other option;
 /// `compare PLAN SCRIPT --slots N --from F --pool A --csv --draw --die D --task T`, where F, D and T are 0 and A is 4
 /// if left out; `import TRACE.. --slot-us U --due D --plan`, where D is 20 if left out; `run PLAN SCRIPT --slots N

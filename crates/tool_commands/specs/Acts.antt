@@ -11,7 +11,7 @@ use Rattle.plan_texts.specs.PlanReading.{IsStoreOf}
 use Rattle.text_base.specs.Readings.{IsOutside}
 use Rattle.text_base.specs.Writing.{IsNotWhole}
 use Rattle.tool_commands.specs.KeptActs.{PrintsKeptRun}
-use Rattle.tool_watched_runs.specs.WearText.{IsWearText}
+use Rattle.tool_watched_runs.specs.WearText.{IsWearFrom}
 use Rattle.tool_plan_arrivals.specs.PlannedScripts.{IsPlannedScript}
 use Rattle.tool_plan_design.specs.AcceptedPlans.{IsAccepted}
 use Rattle.tool_plan_design.specs.Explanations.{IsExplanation}
@@ -43,8 +43,10 @@ use Rattle.tool_script_runs.specs.declared.counted.RefusedRows.{RefusedRows}
 use Rattle.tool_store_compare.specs.Runs.{HasStoreRun}
 use Rattle.tool_watched_runs.specs.declared.script_runs.Reported.{Reported}
 use Rattle.die_log.specs.Model.Start.{fresh}
-use Rattle.tool_watched_runs.specs.Runs.{IsDrawingOf, IsReportOf as ReportsRun}
+use Rattle.tool_watched_runs.specs.Runs.{IsDrawingFrom, IsReportFrom}
 use Rattle.tool_watched_runs.specs.declared.failing.FailAt.{FailAt}
+use Rattle.tool_full_dies.specs.FullDies.{AreFilled}
+use Rattle.tool_full_dies.specs.declared.fills.Filled.{Filled}
 use Rattle.tool_command_words.specs.declared.asked.FailingDie.{FailingDie}
 use Rattle.tool_command_words.specs.declared.asked.Command.{Command}
 use Rattle.tool_command_words.specs.declared.asked.Command.TheVariants as command
@@ -170,14 +172,16 @@ pub record BreaksTerms (plan script : Option (List ℕ)) (slots : ℕ) : Type 0 
   pub broken : BreaksTermsOf store slots text die breach
   pub before : KeepsBelow store slots text die
 
--- what dies wore is printed that began fresh by the plans of the store that was read, and ran the whole script that was
--- read and so many slots
-pub record PrintsWear (plan script : Option (List ℕ)) (slots : ℕ) (old new : Option (List ℕ)) : Type 0 where
+-- what dies wore is printed that began fresh by the plans of the store that was read, or as they were saved, if that was asked
+-- for, and ran the whole script that was read and so many slots
+pub record PrintsWear (plan script : Option (List ℕ)) (slots : ℕ) (begins_fresh : Bool) (old new : Option (List ℕ)) : Type 0 where
   pub store : List DiePlan
   pub read : ReadsStore plan store
+  pub saved : Option (List SavedDie)
+  pub begun : begins_fresh ≡ true → saved ≡ None
   pub counts : RefusedRows
   pub text : List ℕ
-  pub worn : IsWearText store script slots counts text
+  pub worn : IsWearFrom (starts_by store saved) script slots counts text
   pub written : Appends old new text
 
 -- the device that is to fail, as a run takes it
@@ -188,20 +192,25 @@ abbrev pub failing_in : Option FailingDie → Option FailAt
 failing_in fail = option_map failing fail
 
 -- the report of such a run is printed, of which one device may be to fail: as CSV its figures, and as a table some text
-pub record PrintsRunFigures (plan script : Option (List ℕ)) (slots : ℕ) (fail : Option FailAt) (as_csv : Bool) (old new : Option (List ℕ))
-    : Type 0 where
+pub record PrintsRunFigures (plan script : Option (List ℕ)) (slots : ℕ) (fail : Option FailAt) (as_csv begins_fresh : Bool)
+    (old new : Option (List ℕ)) : Type 0 where
   pub store : List DiePlan
   pub read : ReadsStore plan store
+  pub saved : Option (List SavedDie)
+  pub begun : begins_fresh ≡ true → saved ≡ None
   pub said : Reported
-  pub ran : ReportsRun store script slots fail as_csv said
+  pub ran : IsReportFrom (starts_by store saved) script slots fail as_csv said
   pub written : Appends old new said.text.items
 
 -- a picture is printed of a run of the die of this number
-pub record PrintsDrawing (plan script : Option (List ℕ)) (slots die : ℕ) (fail : Option FailAt) (old new : Option (List ℕ)) : Type 0 where
+pub record PrintsDrawing (plan script : Option (List ℕ)) (slots die : ℕ) (fail : Option FailAt) (begins_fresh : Bool)
+    (old new : Option (List ℕ)) : Type 0 where
   pub store : List DiePlan
   pub read : ReadsStore plan store
+  pub saved : Option (List SavedDie)
+  pub begun : begins_fresh ≡ true → saved ≡ None
   pub said : Reported
-  pub ran : IsDrawingOf store script slots die fail said
+  pub ran : IsDrawingFrom (starts_by store saved) script slots die fail said
   pub written : Appends old new said.text.items
 
 -- a comparison is printed of such a run with runs of plain layers, of which nothing is said
@@ -343,6 +352,20 @@ abbrev pub EndsRun : {W : Type 0} → (W → Option (List ℕ)) → (W → Optio
 EndsRun contents has_failed prints alone old new status =
     (prints (contents old) (contents new) × IsRunStatus alone status) ⊎ IsRefused contents has_failed prints old new status
 
+-- what stands on full dies of the plans that were read, behind so many lives at least, is printed
+pub record PrintsFilled (plan : Option (List ℕ)) (lives : ℕ) (old new : Option (List ℕ)) : Type 0 where
+  pub store : List DiePlan
+  pub read : ReadsStore plan store
+  pub filled : Filled
+  pub full : AreFilled store lives filled
+  pub text : PrintsText old new
+
+-- so it is, whatever becomes of their checkpoint
+abbrev pub EndsFill : {W : Type 0} → (W → Option (List ℕ)) → (W → Option Bool) → Option (List ℕ) → ℕ → W → W → ℕ → Type 0
+EndsFill contents has_failed plan lives old new status =
+    (PrintsFilled plan lives (contents old) (contents new) × IsRunStatus false status)
+    ⊎ IsRefused contents has_failed (PrintsFilled plan lives) old new status
+
 -- how a command ends
 abbrev pub EndsSo : {W : Type 0} → (W → Option (List ℕ)) → (W → Option Bool) → Command → Option (List ℕ) → Option (List ℕ) → W → W → ℕ
     → Type 0
@@ -352,16 +375,18 @@ EndsSo contents has_failed (command.Explain plan (Some from) slot_us page_bytes)
     EndsSaying contents has_failed (ExplainsMore (unless_zero slot_us) text) accepted_status old new status
 EndsSo contents has_failed (command.Fit sheet) text rows old new status = EndsFit contents has_failed text old new status
 EndsSo contents has_failed (command.Design sheet) text rows old new status = EndsDesign contents has_failed text old new status
-EndsSo contents has_failed (command.Arrivals plan slots seed fills phases jitter load) text rows old new status =
+EndsSo contents has_failed (command.Arrivals plan slots seed fills phases jitter load from) text rows old new status =
     Ends contents has_failed (PrintsArrivals text slots) old new status
+EndsSo contents has_failed (command.Fill plan lives seed to) text rows old new status =
+    EndsFill contents has_failed text lives old new status
 EndsSo contents has_failed (command.Keeps plan script slots slot_us) text rows old new status =
     EndsSaying contents has_failed (PrintsKept text rows slots) verdict_status old new status
-EndsSo contents has_failed (command.Wear plan script slots) text rows old new status =
-    Ends contents has_failed (PrintsWear text rows slots) old new status
-EndsSo contents has_failed (command.Report plan script slots endurance slot_us as_csv fail) text rows old new status =
-    Ends contents has_failed (PrintsRunFigures text rows slots (failing_in fail) as_csv) old new status
-EndsSo contents has_failed (command.Draw plan script slots die first end worst as_text all fail) text rows old new status =
-    Ends contents has_failed (PrintsDrawing text rows slots die (failing_in fail)) old new status
+EndsSo contents has_failed (command.Wear plan script slots from) text rows old new status =
+    Ends contents has_failed (PrintsWear text rows slots (is_none from)) old new status
+EndsSo contents has_failed (command.Report plan script slots endurance slot_us as_csv fail from) text rows old new status =
+    Ends contents has_failed (PrintsRunFigures text rows slots (failing_in fail) as_csv (is_none from)) old new status
+EndsSo contents has_failed (command.Draw plan script slots die first end worst as_text all fail checkpoint) text rows old new status =
+    Ends contents has_failed (PrintsDrawing text rows slots die (failing_in fail) (is_none checkpoint)) old new status
 EndsSo contents has_failed (command.Demand plan die) text rows old new status = Ends contents has_failed PrintsText old new status
 EndsSo contents has_failed (command.Compare plan script slots first pool as_csv draws die task) text rows old new status =
     Ends contents has_failed (PrintsCompared text rows slots) old new status

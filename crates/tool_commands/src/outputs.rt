@@ -48,6 +48,7 @@ pub fn written_path(name: &str) -> &str {
 pub(crate) fn saved_to<'a>(request: &Request<'a>) -> Option<&'a str> {
     match request {
         Request::One(Command::Run { to, .. }) => *to,
+        Request::One(Command::Fill { to, .. }) => Some(*to),
         _ => None,
     }
 }

@@ -1,39 +1,40 @@
 //! Runs of a script: what they wear, what they come to, and what is drawn of them.
 
-ghost use Rattle.std.specs.Prelude.{◌≡◌, ◌≤◌, OnErr, OnOk, if◌then◌else◌, is_ok};
+ghost use Rattle.std.specs.Prelude.{◌≡◌, ◌≤◌, OnErr, OnOk, if◌then◌else◌, is_none, is_ok};
 ghost use Rattle.text_base.specs.Writing.{IsNotWhole};
 ghost use Rattle.tool_commands.specs.Acts.{Ends, PrintsDrawing, PrintsRunFigures, PrintsWear};
 
+use crate::checkpoint_acts::{Unprinted, begun_in, end_ran, end_unprinted};
 use crate::endings::report_failure;
-use crate::plan_faults::{end_run, end_unread};
-use crate::stores::{Unread, store_of};
+use crate::stores::store_of;
 use slot_types::MAX_SLOT;
 use std::alloc::Global;
 use std::io::{Read, Write};
 use text_base::{Output, write_whole};
+use tool_checkpoint_runs::{draw_from, report_from, wear_from};
 use tool_run_figures::Life;
-use tool_watched_runs::{
-    FailAt, Failure, MOST_SLOTS, RefusedRows, Shown, Sights, TooMany, draw, report, wear,
-};
+use tool_watched_runs::{FailAt, Failure, MOST_SLOTS, RefusedRows, Shown, Sights, TooMany};
 
 /// Prints what a run wore.
-fn print_wear<P: Read + Drop, S: Read + Drop, W: Output>(
+fn print_wear<P: Read + Drop, S: Read + Drop, C: Read + Drop, W: Output>(
     alloc: Global,
     plan: P,
     script: S,
+    from: Option<C>,
     slots: u32,
     out: &mut W,
-) -> Result<RefusedRows, Unread>
+) -> Result<RefusedRows, Unprinted>
     requires slots { slots ≤ MAX_SLOT }
     ensures printed { OnOk result
-        (PrintsWear (P.remaining plan) (S.remaining script) slots (W.contents out.old)
+        (PrintsWear (P.remaining plan) (S.remaining script) slots (is_none from) (W.contents out.old)
         (W.contents out.new)) }
     ensures part { OnErr result
-        (IsNotWhole W.contents W.has_failed (PrintsWear (P.remaining plan) (S.remaining script) slots)
+        (IsNotWhole W.contents W.has_failed (PrintsWear (P.remaining plan) (S.remaining script) slots (is_none from))
         out.old out.new) }
 {
     let store = store_of(alloc, plan)?;
-    let worn = wear(alloc, store, script, slots)?;
+    let from = begun_in(alloc, from)?;
+    let worn = wear_from(alloc, store, from, script, slots)?;
     write_whole(out, &worn.text)?;
     Ok(worn.refused)
 }
@@ -41,67 +42,71 @@ fn print_wear<P: Read + Drop, S: Read + Drop, W: Output>(
 /// Prints what a run wore, whole. Answers the status: 0, or 1 where something was refused, which is reported: nothing
 /// was written then, or not the whole.
 #[tactic(auto, using(crate::proofs::EndedSo::ends))]
-pub fn act_wear<P: Read + Drop, S: Read + Drop, W: Output, E: Write>(
+pub fn act_wear<P: Read + Drop, S: Read + Drop, C: Read + Drop, W: Output, E: Write>(
     alloc: Global,
     plan: P,
     script: S,
+    from: Option<C>,
     slots: u32,
     out: &mut W,
     err: &mut E,
 ) -> u8
     requires slots { slots ≤ MAX_SLOT }
     ensures { Ends W.contents W.has_failed
-        (PrintsWear (P.remaining plan) (S.remaining script) slots) out.old out.new result }
+        (PrintsWear (P.remaining plan) (S.remaining script) slots (is_none from)) out.old out.new result }
 {
-    let ran = print_wear(alloc, plan, script, slots, out);
-    end_run(err, ran)
+    let ran = print_wear(alloc, plan, script, from, slots, out);
+    end_ran(err, ran)
 }
 
 /// Prints what a run came to.
-fn print_report<P: Read + Drop, S: Read + Drop, W: Output>(
+fn print_report<P: Read + Drop, S: Read + Drop, C: Read + Drop, W: Output>(
     alloc: Global,
     plan: P,
     script: S,
+    from: Option<C>,
     slots: u32,
     life: Life,
     as_csv: bool,
     fail: Option<FailAt>,
     out: &mut W,
-) -> Result<(RefusedRows, Option<Failure>), Unread>
+) -> Result<(RefusedRows, Option<Failure>), Unprinted>
     requires slots { slots ≤ MAX_SLOT }
     ensures printed { OnOk result
-        (PrintsRunFigures (P.remaining plan) (S.remaining script) slots fail as_csv
+        (PrintsRunFigures (P.remaining plan) (S.remaining script) slots fail as_csv (is_none from)
         (W.contents out.old) (W.contents out.new)) }
     ensures part { OnErr result
         (IsNotWhole W.contents W.has_failed
-        (PrintsRunFigures (P.remaining plan) (S.remaining script) slots fail as_csv) out.old out.new) }
+        (PrintsRunFigures (P.remaining plan) (S.remaining script) slots fail as_csv (is_none from)) out.old out.new) }
 {
     let store = store_of(alloc, plan)?;
-    let said = report(alloc, store, script, slots, life, as_csv, fail)?;
+    let from = begun_in(alloc, from)?;
+    let said = report_from(alloc, store, from, script, slots, life, as_csv, fail)?;
     write_whole(out, &said.text)?;
     Ok((said.refused, said.failure))
 }
 
 /// Reports what came of a report's run, and answers the status.
-fn end_report<E: Write>(err: &mut E, ran: Result<(RefusedRows, Option<Failure>), Unread>) -> u8
+fn end_report<E: Write>(err: &mut E, ran: Result<(RefusedRows, Option<Failure>), Unprinted>) -> u8
     ensures { result ≡ (if is_ok ran then 0 else 1) }
 {
     match ran {
         Ok((refused, failure)) => {
             report_failure(err, failure);
-            end_run(err, Ok(refused))
+            end_ran(err, Ok(refused))
         }
-        Err(unread) => end_unread(err, unread),
+        Err(unprinted) => end_unprinted(err, unprinted),
     }
 }
 
 /// Prints what a run came to, whole. Answers the status: 0, or 1 where something was refused, which is reported: nothing
 /// was written then, or not the whole.
 #[tactic(auto, using(crate::proofs::EndedSo::ends))]
-pub fn act_report<P: Read + Drop, S: Read + Drop, W: Output, E: Write>(
+pub fn act_report<P: Read + Drop, S: Read + Drop, C: Read + Drop, W: Output, E: Write>(
     alloc: Global,
     plan: P,
     script: S,
+    from: Option<C>,
     slots: u32,
     life: Life,
     as_csv: bool,
@@ -111,10 +116,10 @@ pub fn act_report<P: Read + Drop, S: Read + Drop, W: Output, E: Write>(
 ) -> u8
     requires slots { slots ≤ MAX_SLOT }
     ensures { Ends W.contents W.has_failed
-        (PrintsRunFigures (P.remaining plan) (S.remaining script) slots fail as_csv) out.old out.new
+        (PrintsRunFigures (P.remaining plan) (S.remaining script) slots fail as_csv (is_none from)) out.old out.new
         result }
 {
-    let ran = print_report(alloc, plan, script, slots, life, as_csv, fail, out);
+    let ran = print_report(alloc, plan, script, from, slots, life, as_csv, fail, out);
     end_report(err, ran)
 }
 
@@ -127,26 +132,28 @@ struct Drawn {
 }
 
 /// Prints the picture of what the slots of a die carried.
-fn print_drawn<P: Read + Drop, S: Read + Drop, W: Output>(
+fn print_drawn<P: Read + Drop, S: Read + Drop, C: Read + Drop, W: Output>(
     alloc: Global,
     plan: P,
     script: S,
+    from: Option<C>,
     slots: u32,
     die: u32,
     shown: Shown,
     fail: Option<FailAt>,
     out: &mut W,
-) -> Result<Drawn, Unread>
+) -> Result<Drawn, Unprinted>
     requires slots { slots ≤ MAX_SLOT }
     ensures printed { OnOk result
-        (PrintsDrawing (P.remaining plan) (S.remaining script) slots die fail (W.contents out.old)
+        (PrintsDrawing (P.remaining plan) (S.remaining script) slots die fail (is_none from) (W.contents out.old)
         (W.contents out.new)) }
     ensures part { OnErr result
         (IsNotWhole W.contents W.has_failed
-        (PrintsDrawing (P.remaining plan) (S.remaining script) slots die fail) out.old out.new) }
+        (PrintsDrawing (P.remaining plan) (S.remaining script) slots die fail (is_none from)) out.old out.new) }
 {
     let store = store_of(alloc, plan)?;
-    let drawn = draw(alloc, store, script, slots, die, shown, fail)?;
+    let from = begun_in(alloc, from)?;
+    let drawn = draw_from(alloc, store, from, script, slots, die, shown, fail)?;
     write_whole(out, &drawn.text)?;
     Ok(Drawn {
         refused: drawn.refused,
@@ -160,14 +167,15 @@ fn print_drawn<P: Read + Drop, S: Read + Drop, W: Output>(
 enum Undrawn {
     /// The picture would have too many slots.
     TooMany(TooMany),
-    Unread(Unread),
+    Unprinted(Unprinted),
 }
 
 /// Prints the picture of what the slots of a die carried, unless it would have too many: then nothing is read.
-fn print_bounded<P: Read + Drop, S: Read + Drop, W: Output>(
+fn print_bounded<P: Read + Drop, S: Read + Drop, C: Read + Drop, W: Output>(
     alloc: Global,
     plan: P,
     script: S,
+    from: Option<C>,
     slots: u32,
     die: u32,
     shown: Shown,
@@ -176,18 +184,18 @@ fn print_bounded<P: Read + Drop, S: Read + Drop, W: Output>(
 ) -> Result<Drawn, Undrawn>
     requires slots { slots ≤ MAX_SLOT }
     ensures printed { OnOk result
-        (PrintsDrawing (P.remaining plan) (S.remaining script) slots die fail (W.contents out.old)
+        (PrintsDrawing (P.remaining plan) (S.remaining script) slots die fail (is_none from) (W.contents out.old)
         (W.contents out.new)) }
     ensures part { OnErr result
         (IsNotWhole W.contents W.has_failed
-        (PrintsDrawing (P.remaining plan) (S.remaining script) slots die fail) out.old out.new) }
+        (PrintsDrawing (P.remaining plan) (S.remaining script) slots die fail (is_none from)) out.old out.new) }
 {
     if let Some(many) = shown.too_many(slots) {
         return Err(Undrawn::TooMany(many));
     }
-    match print_drawn(alloc, plan, script, slots, die, shown, fail, out) {
+    match print_drawn(alloc, plan, script, from, slots, die, shown, fail, out) {
         Ok(drawn) => Ok(drawn),
-        Err(unread) => Err(Undrawn::Unread(unread)),
+        Err(unprinted) => Err(Undrawn::Unprinted(unprinted)),
     }
 }
 
@@ -233,9 +241,9 @@ fn end_drawn<E: Write>(err: &mut E, slots: u32, drawn: Result<Drawn, Undrawn>) -
         Ok(drawn) => {
             warn_many(err, slots, drawn.sights);
             report_failure(err, drawn.failure);
-            end_run(err, Ok(drawn.refused))
+            end_ran(err, Ok(drawn.refused))
         }
-        Err(Undrawn::Unread(unread)) => end_unread(err, unread),
+        Err(Undrawn::Unprinted(unprinted)) => end_unprinted(err, unprinted),
         Err(Undrawn::TooMany(many)) => end_many(err, many),
     }
 }
@@ -253,10 +261,11 @@ fn many_of(shown: Shown, slots: u32) -> u32 {
 /// which is reported: nothing was written then, or not the whole. A picture that would have too many slots is refused
 /// before anything is read.
 #[tactic(auto, using(crate::proofs::EndedSo::ends))]
-pub fn act_draw<P: Read + Drop, S: Read + Drop, W: Output, E: Write>(
+pub fn act_draw<P: Read + Drop, S: Read + Drop, C: Read + Drop, W: Output, E: Write>(
     alloc: Global,
     plan: P,
     script: S,
+    from: Option<C>,
     slots: u32,
     die: u32,
     shown: Shown,
@@ -266,9 +275,9 @@ pub fn act_draw<P: Read + Drop, S: Read + Drop, W: Output, E: Write>(
 ) -> u8
     requires slots { slots ≤ MAX_SLOT }
     ensures { Ends W.contents W.has_failed
-        (PrintsDrawing (P.remaining plan) (S.remaining script) slots die fail) out.old out.new result }
+        (PrintsDrawing (P.remaining plan) (S.remaining script) slots die fail (is_none from)) out.old out.new result }
 {
     let many = many_of(shown, slots);
-    let drawn = print_bounded(alloc, plan, script, slots, die, shown, fail, out);
+    let drawn = print_bounded(alloc, plan, script, from, slots, die, shown, fail, out);
     end_drawn(err, many, drawn)
 }

@@ -4,5 +4,6 @@ pub mod Levels
 pub mod Ends
 pub mod Ranks
 pub mod Wearing
+pub mod Lasting
 pub mod Records
 pub mod Csv

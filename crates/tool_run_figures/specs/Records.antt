@@ -4,6 +4,8 @@ use Rattle.tool_run_figures.specs.Ends.{AreEndCounts, lateness_in}
 use Rattle.tool_run_figures.specs.Ranks.{IsRanked}
 use Rattle.tool_run_figures.specs.declared.counts.DieCounts.{DieCounts}
 use Rattle.tool_run_figures.specs.declared.ends.JobEnd.{JobEnd}
+use Rattle.tool_run_figures.specs.Lasting.{IsLasting}
+use Rattle.tool_run_figures.specs.declared.lives.Life.{Life}
 use Rattle.tool_run_figures.specs.declared.lives.Wearing.{Wearing}
 use Rattle.tool_run_figures.specs.declared.records.Figures.{Figures}
 use Rattle.tool_run_figures.specs.declared.records.OwnFigures.{OwnFigures}
@@ -18,10 +20,12 @@ pub record AreFigures (task : Option ℕ) (ends : List JobEnd) (slots : SlotCoun
   pub lateness_is : IsRanked (lateness_in task ends) figures.lateness
   pub slots_are : figures.slots ≡ slots
 
--- a die's own: the idle slots, and what its blocks wore. The fewest spare pages are some number, and so are the years.
+-- a die's own: the idle slots, what its blocks wore, and how long they last, by some endurance and length of a slot. The fewest
+-- spare pages are some number.
 pub record AreOwn (idle : ℕ) (wearing : Wearing) (own : OwnFigures) : Type 0 where
   pub idle_is : own.idle ≡ idle
   pub wearing_is : own.wearing ≡ wearing
+  pub lasting_is : IfSome own.lasting (λ lasting. (life : Life) × IsLasting wearing life lasting)
 
 -- a task has none
 pub record AreOfTask (task : ℕ) (ends : List JobEnd) (slots : SlotCounts) (figures : Figures) : Type 0 where

@@ -42,7 +42,11 @@ fn put_level_names(text: &mut Vec<u8>) -> io::Result<()>
 fn put_wear_names(text: &mut Vec<u8>) -> io::Result<()>
     ensures { OnOk result (text.new.items ≡ text.old.items ++ wear_names) }
 {
-    write!(text, ",erases,least_erases,mean_erases,most_erases,years")
+    write!(text, ",erases,least_erases,mean_erases,most_erases")?;
+    write!(
+        text,
+        ",run_s,mean_a_day,mean_days,most_a_day,most_days,years"
+    )
 }
 
 /// Adds the header of the CSV.

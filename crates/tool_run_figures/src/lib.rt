@@ -19,7 +19,7 @@ pub use csv::put_csv;
 pub use ends::{EndCounts, Ended, JobEnd};
 pub use figures::Figure;
 pub use levels::{Levels, Low, Tokens};
-pub use lives::{Life, Wearing};
+pub use lives::{FEWEST_ERASES, Lasting, Life, Rate, Wearing};
 pub use ranks::{mean, nearest_rank};
 pub use records::{DieFigures, Figures, Lateness, OwnFigures, Records, records_of};
 pub use slot_counts::SlotCounts;

@@ -9,7 +9,7 @@ ghost use Rattle.tool_run_figures.specs.Records.{AreOfDie, AreOfTask, AreOfTasks
 use crate::counts::DieCounts;
 use crate::ends::{EndCounts, JobEnd, counts_of, rising_of};
 use crate::levels::{Levels, Low};
-use crate::lives::{Life, Wearing};
+use crate::lives::{Lasting, Life, Wearing};
 use crate::ranks::{mean, nearest_rank};
 use crate::slot_counts::SlotCounts;
 use slot_types::Refusal;
@@ -34,8 +34,8 @@ pub struct OwnFigures {
     /// The fewest spare pages.
     pub least_spare: Low,
     pub wearing: Wearing,
-    /// In hundredths, after how many years a block is worn out, if that is asked for.
-    pub years: Option<i64>,
+    /// How long its blocks last, if that is asked for.
+    pub lasting: Option<Lasting>,
 }
 
 /// The figures of a task, or of a die.
@@ -86,17 +86,11 @@ fn lateness_of(alloc: Global, ends: &[JobEnd], task: Option<u32>) -> Result<Late
 fn own_of(die: &DieFigures<'_>) -> OwnFigures
     ensures { AreOwn die.now.counts.now.idle die.now.wearing result }
 {
-    let life = die.life;
-    let years = if life.endurance > 0 && life.slot_us > 0 {
-        die.wearing.years(life)
-    } else {
-        None
-    };
     OwnFigures {
         idle: die.counts.idle,
         least_spare: die.levels.least_spare,
         wearing: die.wearing,
-        years,
+        lasting: die.wearing.lasting(die.life),
     }
 }
 

@@ -1,22 +1,26 @@
 //! Runs whose figures are printed.
 
-ghost use Rattle.std.specs.Prelude.{◌≡◌, ◌≤◌, ◌++◌, ◌∷◌, [], true, All, IfOk, OnOk, length, map};
+ghost use Rattle.std.specs.Prelude.{◌≡◌, ℕ, ◌≤◌, ◌++◌, ◌∷◌, [], List, Option, true, All, IfOk, OnOk, length, map};
 ghost use Rattle.std.specs.Box.{box_value};
 ghost use Rattle.slot_types.specs.Refusal.{FailsForMemory};
 ghost use Rattle.plan_rules.specs.Bound.{MeetsBound};
 ghost use Rattle.tool_run_figures.specs.Csv.{csv_text};
-ghost use Rattle.tool_script_runs.specs.RunningDies.{running_of};
+ghost use Rattle.script_texts.specs.ScriptLeft.{dies_of, script_left, slots_of};
+ghost use Rattle.tool_script_runs.specs.RunningDies.{HasEmptyLog, running_of, starts_of};
+ghost use Rattle.tool_script_runs.specs.ScriptRuns.{script_in};
 ghost use Rattle.tool_watched_runs.specs.Ends.{end_in, ended_in, ends_of, refused_end, refused_ends};
 ghost use Rattle.tool_watched_runs.specs.Failing.{IsBeyond};
 ghost use Rattle.tool_watched_runs.specs.Figures.{AreFiguresOf, HaveFigures};
-ghost use Rattle.tool_watched_runs.specs.Runs.{IsReportOf, Tells, running};
+ghost use Rattle.tool_watched_runs.specs.Runs.{IsReportFrom, IsReportOf, Tells, begun, running};
 
 use crate::die_runs::DieRun;
 use crate::failing::{FailAt, RunNand, check_failing};
 use crate::overloads::put_lateness;
-use crate::script_runs::{Ran, Reported, Sights, failure_of, run_store};
+use crate::script_runs::{Ran, Reported, Sights, failure_of, run_started};
+use crate::started_dies::{StartedDie, fresh_dies};
 use die_log::exact_keeps_limits;
 use late_cert::lateness;
+use script_texts::ScriptReader;
 use slot_core::{DieCore, Job, Stage};
 use slot_types::{JobNo, MAX_JOBS, MAX_SLOT, Refusal, StorePlan};
 use std::alloc::Global;
@@ -223,12 +227,39 @@ fn reported(
     })
 }
 
-/// Runs a script on a store of dies in memory, and tells what it came to, by die and task: as a table for eyes, or as
-/// CSV. With an endurance and the length of a slot above 0, it tells when a block will be worn out. One device may be to
-/// fail: its die stays in that slot, and refuses all later rows.
+/// Runs a script on dies that were started, and tells what it came to, by die and task: as a table for eyes, or as CSV.
+/// With an endurance and the length of a slot above 0, it tells when a block will be worn out. The device that is to fail
+/// is that of a started die: its die stays in that slot, and refuses all later rows. The script is lent, since a reader is
+/// large to free where a row stops the run.
 ///
-/// Refused with UnknownDie where there is no such die; with the first fault of the script, as
-/// [`ScriptReader`](script_texts::ScriptReader) tells it; or with ReadFault or NoMemory.
+/// Refused with the first fault of the script, as [`ScriptReader`](script_texts::ScriptReader) tells it; or with ReadFault
+/// or NoMemory.
+pub fn report_of<R: Read + Drop>(
+    alloc: Global,
+    script: &mut ScriptReader<R>,
+    dies: Vec<StartedDie>,
+    slots: u32,
+    life: Life,
+    as_csv: bool,
+    fail: Option<FailAt>,
+) -> Result<Reported, Refusal>
+    requires few { slots ≤ MAX_SLOT }
+    requires slots { slots_of script.old ≡ slots }
+    requires dies { dies_of script.old ≡ length dies.items }
+    requires empty { All HasEmptyLog (map begun dies.items) }
+    ensures ran { (text : Option (List ℕ)) →
+        script_left R.remaining script.old ≡ script_in (length dies.items) slots text →
+        IfOk result (λ reported.
+        IsReportFrom (starts_of (map begun dies.items)) text slots fail as_csv reported) }
+{
+    let ran = run_started(alloc, script, dies, slots)?;
+    reported(alloc, ran, life, as_csv, fail)
+}
+
+/// Runs a script on a store of fresh dies in memory, and tells what it came to, as [`report_of`] does. One device may be to
+/// fail.
+///
+/// Refused with UnknownDie where there is no such die; else as there.
 pub fn report<R: Read + Drop>(
     alloc: Global,
     plan: StorePlan,
@@ -245,6 +276,7 @@ pub fn report<R: Read + Drop>(
         IsReportOf plan (R.remaining script) slots fail as_csv reported) }
 {
     check_failing(fail, plan.len())?;
-    let ran = run_store(alloc, plan, script, slots, fail)?;
-    reported(alloc, ran, life, as_csv, fail)
+    let mut script = ScriptReader::new(alloc, script, &plan, slots)?;
+    let dies = fresh_dies(alloc, plan, fail)?;
+    report_of(alloc, &mut script, dies, slots, life, as_csv, fail)
 }

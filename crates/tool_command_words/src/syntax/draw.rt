@@ -107,6 +107,19 @@ fn all<'a>(alloc: Global) -> Arg<'a>
     )
 }
 
+/// The checkpoint from which the die goes on; `--from` is the first slot that is drawn.
+fn checkpoint<'a>(alloc: Global) -> Arg<'a>
+    ensures rule { rule_of result ≡ option_rule (codes "checkpoint") }
+    ensures local { result.global ≡ false }
+{
+    option(
+        alloc,
+        "checkpoint",
+        "CHECKPOINT",
+        "The checkpoint from which the die goes on, a CSV file; - is standard input",
+    )
+}
+
 /// Whether what may be asked for is drawn.
 fn demand<'a>(alloc: Global) -> Arg<'a>
     ensures rule { rule_of result ≡ flag_rule (codes "demand") }
@@ -167,6 +180,7 @@ fn draw_failing<'a>(alloc: Global) -> Result<Command<'a>, AllocError>
 pub(crate) fn draw_words<'a>(alloc: Global) -> Result<Command<'a>, AllocError>
     ensures { IfOk result (λ c. IsCommand c draw_app) }
 {
-    let asked = with_arg(draw_failing(alloc), demand(alloc));
+    let begun = with_arg(draw_failing(alloc), checkpoint(alloc));
+    let asked = with_arg(begun, demand(alloc));
     with_arg(asked, strict(alloc))
 }

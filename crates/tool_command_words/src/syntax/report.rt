@@ -5,7 +5,7 @@ ghost use Rattle.clap.specs.Words.{rule_of};
 ghost use Rattle.tool_command_words.specs.Syntax.{IsCommand, count_rule, report_app, report_files_app, report_run_app, report_timed_app};
 
 use crate::syntax::parts::{command, on_files, with_arg};
-use crate::syntax::shared::{csv, fail_at, strict};
+use crate::syntax::shared::{begun_from, csv, fail_at, strict};
 use clap::{Arg, Command};
 use command_arguments::{defaulted, slots};
 use std::alloc::{AllocError, Global};
@@ -20,7 +20,7 @@ fn endurance<'a>(alloc: Global) -> Arg<'a>
         "endurance",
         "E",
         "0",
-        "How often a block may be erased, from 0 to 1048576; with --slot-us, tells in how many years one wears out",
+        "How often a block may be erased, from 0 to 1048576; with --slot-us, tells how long blocks last",
     )
 }
 
@@ -69,5 +69,6 @@ pub(crate) fn report_words<'a>(alloc: Global) -> Result<Command<'a>, AllocError>
     ensures { IfOk result (λ c. IsCommand c report_app) }
 {
     let failing = with_arg(report_timed(alloc), fail_at(alloc));
-    with_arg(failing, strict(alloc))
+    let begun = with_arg(failing, begun_from(alloc));
+    with_arg(begun, strict(alloc))
 }

@@ -38,6 +38,20 @@ pub(crate) fn begun_from<'a>(alloc: Global) -> Arg<'a>
     )
 }
 
+/// What is left to chance.
+pub(crate) fn seed<'a>(alloc: Global) -> Arg<'a>
+    ensures rule { rule_of result ≡ count_rule (codes "seed") }
+    ensures local { result.global ≡ false }
+{
+    defaulted(
+        alloc,
+        "seed",
+        "S",
+        "0",
+        "Another one draws other pages and operations, from 0 to 1048576",
+    )
+}
+
 /// How long a slot of a plan takes.
 pub(crate) fn slot_us<'a>(alloc: Global) -> Arg<'a>
     ensures rule { rule_of result ≡ count_rule (codes "slot-us") }

@@ -6,6 +6,8 @@ pub returns-clause-printed : goal.returns-clause-printed
 returns-clause-printed g c = record {
   store = c.in_ok-store.store;
   read = c.in_ok-store.ensures.store;
+  saved = c.in_ok-from.from;
+  begun = c.in_ok-from.ensures;
   said = c.in_ok-drawn.drawn;
   ran = c.in_ok-drawn.ensures.ran;
   written = rw c.deref.ensures.value at c.in_ok-write_whole.ensures.whole;
@@ -21,6 +23,8 @@ returns-in_err-write_whole-clause-part g c =
         record {
           store = c.in_ok-store.store;
           read = c.in_ok-store.ensures.store;
+          saved = c.in_ok-from.from;
+          begun = c.in_ok-from.ensures;
           said = c.in_ok-drawn.drawn;
           ran = c.in_ok-drawn.ensures.ran;
           written = refl;
