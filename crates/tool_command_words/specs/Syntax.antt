@@ -149,7 +149,7 @@ abbrev pub compare_forms_app : App
 compare_forms_app = with_rule (with_rule compare_run_app (flag_rule (codes "csv"))) (flag_rule (codes "draw"))
 
 abbrev pub compare_app : App
-compare_app = with_rule (with_rule compare_forms_app die_rule) (count_rule (codes "task"))
+compare_app = with_rule (with_rule (with_rule compare_forms_app die_rule) (count_rule (codes "task"))) strict_rule
 
 abbrev pub run_files_app : App
 run_files_app = on_files (new_app (codes "run"))

@@ -78,7 +78,7 @@ fn parsed<'a>(
 }
 
 /// What the words ask for, the first of them being the program's name. Each command takes `-o FILE`, which is `-` if
-/// left out, and `--quiet`; `wear`, `report`, `draw`, `run` and `audit` take `--strict`.
+/// left out, and `--quiet`; `wear`, `report`, `draw`, `compare`, `run` and `audit` take `--strict`.
 ///
 /// The words are `explain PLAN --from CHECKPOINT --slot-us U --page-bytes B`, `fit DATASHEET`, `design DATASHEET`,
 /// `arrivals PLAN --slots N --seed S --fill --phases --jitter J --load L --from CHECKPOINT`, where S and J are 0 and L is

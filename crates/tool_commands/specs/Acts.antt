@@ -217,7 +217,8 @@ pub record PrintsDrawing (plan script : Option (List ℕ)) (slots die : ℕ) (fa
 pub record PrintsCompared (plan script : Option (List ℕ)) (slots : ℕ) (old new : Option (List ℕ)) : Type 0 where
   pub store : List DiePlan
   pub read : ReadsStore plan store
-  pub ran : HasStoreRun store script slots
+  pub counts : RefusedRows
+  pub ran : HasStoreRun store script slots counts
   pub text : PrintsText old new
 
 -- a script's text keeps plans with times, or breaks one

@@ -8,7 +8,7 @@ ghost use Rattle.tool_commands.specs.Acts.{Ends, PrintsCompared};
 ghost use Rattle.tool_commands.specs.KeptActs.{ReadsKept};
 ghost use Rattle.tool_commands.specs.PlanKinds.{ReadsStore};
 
-use crate::endings::end_refused;
+use crate::endings::{end_refused, report_refused};
 use crate::plan_faults::end_unread;
 use crate::stores::{PlanRead, Unread, plan_in};
 use slot_types::{MAX_SLOT, Refusal, StorePlan};
@@ -18,6 +18,7 @@ use terms_texts::{StoreTerms, plans_of};
 use text_base::{Output, write_whole};
 use tool_kept_runs::{KeptFault, kept_plans};
 use tool_store_compare::{CompareFault, Form, Measure, compare};
+use tool_watched_runs::RefusedRows;
 
 /// Why there is no comparison.
 #[derive(Clone, Copy, Drop)]
@@ -82,8 +83,16 @@ fn plans_in<P: Read + Drop>(alloc: Global, plan: P) -> Result<ComparedPlans, Unr
     }
 }
 
-/// Prints how late the jobs of a script were on the store, on dies that keep their plans and by plain layers. Answers
-/// why there are none that keep their plans, where the plan has times or terms.
+/// What is reported beside a comparison.
+#[derive(Clone, Copy, Drop)]
+struct Beside {
+    /// The rows that the store refused.
+    refused: RefusedRows,
+    /// Why there are no dies that keep their plans, where the plan has times or terms.
+    unplanned: Option<KeptFault>,
+}
+
+/// Prints how late the jobs of a script were on the store, on dies that keep their plans and by plain layers.
 fn print_compared<P: Read + Drop, S: Read + Drop, W: Output>(
     alloc: Global,
     plan: P,
@@ -91,7 +100,7 @@ fn print_compared<P: Read + Drop, S: Read + Drop, W: Output>(
     measure: Measure,
     form: Form,
     out: &mut W,
-) -> Result<Option<KeptFault>, Uncompared>
+) -> Result<Beside, Uncompared>
     requires slots { measure.slots ≤ MAX_SLOT }
     ensures printed { OnOk result
         (PrintsCompared (P.remaining plan) (S.remaining script) measure.slots (W.contents out.old)
@@ -103,17 +112,28 @@ fn print_compared<P: Read + Drop, S: Read + Drop, W: Output>(
     let ComparedPlans { store, kept } = plans_in(alloc, plan)?;
     let compared = compare(alloc, &store, kept, script, measure, form)?;
     write_whole(out, &compared.text)?;
-    Ok(compared.unplanned)
+    Ok(Beside {
+        refused: compared.refused,
+        unplanned: compared.unplanned,
+    })
 }
 
-/// Answers the status of a comparison, and reports why there is none. A writer that fails is passed over.
-fn end_compared<E: Write>(err: &mut E, compared: Result<Option<KeptFault>, Uncompared>) -> u8
+/// Reports the rows that the store refused, and why no dies that keep their plans are compared. A writer that fails is
+/// passed over.
+fn report_beside<E: Write>(err: &mut E, beside: Beside) {
+    report_refused(err, beside.refused);
+    if let Some(fault) = beside.unplanned {
+        let _ = writeln!(err, "not compared with dies that keep their plans: {fault}");
+    }
+}
+
+/// Answers the status of a comparison, and reports what stands beside it, or why there is none. A writer that fails is passed over.
+fn end_compared<E: Write>(err: &mut E, compared: Result<Beside, Uncompared>) -> u8
     ensures { result ≡ (if is_ok compared then 0 else 1) }
 {
     match compared {
-        Ok(None) => 0,
-        Ok(Some(fault)) => {
-            let _ = writeln!(err, "not compared with dies that keep their plans: {fault}");
+        Ok(beside) => {
+            report_beside(err, beside);
             0
         }
         Err(Uncompared::Unread(unread)) => end_unread(err, unread),
@@ -131,8 +151,8 @@ fn end_compared<E: Write>(err: &mut E, compared: Result<Option<KeptFault>, Uncom
 
 /// Prints how late the jobs of a script were on the store, on dies that keep their plans where the plan has times or
 /// terms, and by plain layers, whole. Answers the status: 0, or 1 where something was refused, which is reported:
-/// nothing was written then, or not the whole. Where there are no dies that keep their plans, though the plan has times
-/// or terms, that is reported, too, and the status stays 0.
+/// nothing was written then, or not the whole. The rows that the store refused are reported, and why there are no dies
+/// that keep their plans, where the plan has times or terms; the status stays 0.
 #[tactic(auto, using(crate::proofs::EndedSo::ends))]
 pub fn act_compare<P: Read + Drop, S: Read + Drop, W: Output, E: Write>(
     alloc: Global,

@@ -25,7 +25,7 @@ use std::io::Read;
 use terms_texts::StoreTerms;
 use tool_kept_runs::KeptFault;
 use tool_plain_layers::{Load, Marks, Policy, play};
-use tool_script_runs::{RefusedRow, run_dies};
+use tool_script_runs::{RefusedRow, RefusedRows, run_dies};
 
 /// What is measured.
 #[derive(Clone, Copy, PartialEq, Eq, Debug, Drop)]
@@ -63,6 +63,8 @@ pub struct Compared {
     pub text: Vec<u8>,
     /// Why the dies that keep their plans aren't in it, if they aren't.
     pub unplanned: Option<KeptFault>,
+    /// Which rows the store refused.
+    pub refused: RefusedRows,
 }
 
 /// Adds a die. The only refusal is NoMemory.
@@ -395,7 +397,7 @@ fn wanted_dies(
 /// task, or as a picture: what the store did is that of fresh dies that ran the script and so many slots. Counted are the
 /// jobs that are released from the first measured slot on and due within the slots of the run, and that the store takes or
 /// refuses for lack of tokens; those of them that a die refuses that keeps its plan are refused there. Where such a die
-/// can't run for so many slots, none is compared.
+/// can't run for so many slots, none is compared. The rows that the store refused are counted by their refusals, too.
 ///
 /// A picture of a die or a task that isn't there is UnknownDie or UnknownTask.
 pub fn compare<R: Read + Drop>(
@@ -407,12 +409,12 @@ pub fn compare<R: Read + Drop>(
     form: Form,
 ) -> Result<Compared, CompareFault>
     requires { measure.slots ≤ MAX_SLOT }
-    ensures { OnOk result (HasStoreRun plan.now (R.remaining script) measure.slots) }
+    ensures { IfOk result (λ compared.
+        HasStoreRun plan.now (R.remaining script) measure.slots compared.refused) }
 {
     check_form(plan, form)?;
     let (planned, unplanned) = wanted_dies(alloc, kept, measure)?;
-    let ran = run_store(alloc, plan, planned, script, measure)?;
-    let dies = ran.dies;
+    let Ran { dies, refused } = run_store(alloc, plan, planned, script, measure)?;
     let mut teller = Teller::new(alloc, form, measure)?;
     add_stores(alloc, &mut teller, plan, dies.as_slice())?;
     add_all_planned(alloc, &mut teller, plan, dies.as_slice())?;
@@ -420,5 +422,9 @@ pub fn compare<R: Read + Drop>(
         add_layers(alloc, &mut teller, plan, dies.as_slice(), policy, measure)?;
     }
     let text = teller.finish(alloc, measure.marks.pool)?;
-    Ok(Compared { text, unplanned })
+    Ok(Compared {
+        text,
+        unplanned,
+        refused: RefusedRows::of(&refused),
+    })
 }

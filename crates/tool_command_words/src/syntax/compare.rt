@@ -6,7 +6,7 @@ ghost use Rattle.command_arguments.specs.Arguments.{flag_rule};
 ghost use Rattle.tool_command_words.specs.Syntax.{IsCommand, compare_app, compare_files_app, compare_forms_app, compare_run_app, count_rule, from_rule, pool_rule};
 
 use crate::syntax::parts::{command, on_files, with_arg};
-use crate::syntax::shared::{csv, die};
+use crate::syntax::shared::{csv, die, strict};
 use clap::{Arg, Command};
 use command_arguments::{defaulted, flag, slots};
 use std::alloc::{AllocError, Global};
@@ -101,5 +101,6 @@ pub(crate) fn compare_words<'a>(alloc: Global) -> Result<Command<'a>, AllocError
     ensures { IfOk result (λ c. IsCommand c compare_app) }
 {
     let of_a_die = with_arg(compare_forms(alloc), die(alloc));
-    with_arg(of_a_die, task(alloc))
+    let of_a_task = with_arg(of_a_die, task(alloc));
+    with_arg(of_a_task, strict(alloc))
 }

@@ -6,6 +6,7 @@ pub returns-clause-printed : goal.returns-clause-printed
 returns-clause-printed g c = record {
   store = c.in_ok-store.field-0.store;
   read = c.in_ok-store.ensures.store;
+  counts = c.in_ok-compared.compared.refused;
   ran = c.in_ok-compared.ensures;
   text = (c.in_ok-compared.compared.text.items, rw c.deref.ensures.value at c.in_ok-write_whole.ensures.whole);
 }
@@ -20,6 +21,7 @@ returns-in_err-write_whole-clause-part g c =
         record {
           store = c.in_ok-store.field-0.store;
           read = c.in_ok-store.ensures.store;
+          counts = c.in_ok-compared.compared.refused;
           ran = c.in_ok-compared.ensures;
           text = (c.in_ok-compared.compared.text.items, refl);
         },
