@@ -23,6 +23,7 @@ use slot_types::{DiePlan, MAX_SLOT, Refusal, StorePlan};
 use std::alloc::Global;
 use std::io::Read;
 use tool_run_figures::{Levels, Life};
+use tool_slot_times::Units;
 use tool_watched_runs::{
     FailAt, Reported, RunNand, Shown, StartedDie, calls_of, check_failing, draw_of, fresh_dies,
     push_started, report_of, wear_of,
@@ -157,6 +158,7 @@ pub fn report_from<R: Read + Drop>(
     script: R,
     slots: u32,
     life: Life,
+    units: Units,
     as_csv: bool,
     fail: Option<FailAt>,
 ) -> Result<Reported, RunFault>
@@ -170,7 +172,7 @@ pub fn report_from<R: Read + Drop>(
     check_failing(fail, plan.len())?;
     let mut script = ScriptReader::new(alloc, script, &plan, slots)?;
     let dies = started_dies(alloc, plan, from, fail)?;
-    let said = report_of(alloc, &mut script, dies, slots, life, as_csv, fail)?;
+    let said = report_of(alloc, &mut script, dies, slots, life, units, as_csv, fail)?;
     Ok(said)
 }
 

@@ -70,9 +70,10 @@ abbrev pub report_from : List Row → Text → Text → ℕ → Option CommandTe
 report_from rows plan script slots = do
   endurance ← first_of (codes "endurance") rows >>= number_upto
   slot_us ← first_of (codes "slot-us") rows >>= number_upto
+  page_bytes ← first_of (codes "page-bytes") rows >>= number_upto
   as_csv ← first_of (codes "csv") rows
   fail ← fail_of rows
-  Some (Report plan script slots endurance slot_us (bytes_eq as_csv (codes "true")) fail (first_of (codes "from") rows))
+  Some (Report plan script slots endurance slot_us page_bytes (bytes_eq as_csv (codes "true")) fail (first_of (codes "from") rows))
 
 abbrev pub report_of : List Row → Option CommandText
 report_of rows = on_script rows (report_from rows)
@@ -82,11 +83,13 @@ draw_from rows plan script slots = do
   die ← first_of (codes "die") rows >>= number_upto
   first ← first_of (codes "from") rows >>= number_upto
   end ← first_of (codes "to") rows >>= number_upto
+  slot_us ← first_of (codes "slot-us") rows >>= number_upto
+  page_bytes ← first_of (codes "page-bytes") rows >>= number_upto
   worst ← first_of (codes "worst") rows
   as_text ← first_of (codes "text") rows
   all ← first_of (codes "all") rows
   fail ← fail_of rows
-  Some (Draw plan script slots die first end (bytes_eq worst (codes "true")) (bytes_eq as_text (codes "true"))
+  Some (Draw plan script slots die first end slot_us page_bytes (bytes_eq worst (codes "true")) (bytes_eq as_text (codes "true"))
       (bytes_eq all (codes "true")) fail (first_of (codes "checkpoint") rows))
 
 abbrev pub draw_run_of : List Row → Option CommandText
@@ -114,12 +117,20 @@ names_form rows = do
   strict ← first_of (codes "strict") rows
   Some (bytes_eq worst (codes "true") || (bytes_eq as_text (codes "true") || (bytes_eq all (codes "true") || bytes_eq strict (codes "true"))))
 
+-- whether it is said how long a slot is, or how many bytes a page has
+abbrev pub names_units : List Row → Option Bool
+names_units rows = do
+  slot_us ← first_of (codes "slot-us") rows >>= number_upto
+  page_bytes ← first_of (codes "page-bytes") rows >>= number_upto
+  Some (not (slot_us == 0 && page_bytes == 0))
+
 -- whether an option is given that says something of the picture of a run alone
 abbrev pub names_run : List Row → Option Bool
 names_run rows = do
   window ← names_window rows
+  units ← names_units rows
   form ← names_form rows
-  Some (names_script rows || (window || form))
+  Some (names_script rows || (window || (units || form)))
 
 abbrev pub demand_of : List Row → Option CommandText
 demand_of rows = do
@@ -137,11 +148,13 @@ abbrev pub compare_from : List Row → Text → Text → ℕ → Option CommandT
 compare_from rows plan script slots = do
   first ← first_of (codes "from") rows >>= number_upto
   pool ← first_of (codes "pool") rows >>= number_upto
+  slot_us ← first_of (codes "slot-us") rows >>= number_upto
+  page_bytes ← first_of (codes "page-bytes") rows >>= number_upto
   as_csv ← first_of (codes "csv") rows
   draws ← first_of (codes "draw") rows
   die ← first_of (codes "die") rows >>= number_upto
   task ← first_of (codes "task") rows >>= number_upto
-  Some (Compare plan script slots first pool (bytes_eq as_csv (codes "true")) (bytes_eq draws (codes "true")) die task)
+  Some (Compare plan script slots first pool slot_us page_bytes (bytes_eq as_csv (codes "true")) (bytes_eq draws (codes "true")) die task)
 
 abbrev pub compare_of : List Row → Option CommandText
 compare_of rows = on_script rows (compare_from rows)

@@ -54,6 +54,10 @@ list_rule id = record (required_rule id) { action = Some Append }
 abbrev pub fail_rule : Rule
 fail_rule = option_rule (codes "fail-at")
 
+-- `--page-bytes B`, which is 0 where it isn't there
+abbrev pub page_rule : Rule
+page_rule = count_rule (codes "page-bytes")
+
 -- `--strict`
 abbrev pub strict_rule : Rule
 strict_rule = flag_rule (codes "strict")
@@ -66,7 +70,7 @@ abbrev pub explain_files_app : App
 explain_files_app = with_rule (with_rule (new_app (codes "explain")) (required_rule (codes "PLAN"))) (option_rule (codes "from"))
 
 abbrev pub explain_app : App
-explain_app = with_rule (with_rule explain_files_app (count_rule (codes "slot-us"))) (count_rule (codes "page-bytes"))
+explain_app = with_rule (with_rule explain_files_app (count_rule (codes "slot-us"))) page_rule
 
 abbrev pub fit_app : App
 fit_app = with_rule (new_app (codes "fit")) (required_rule (codes "DATASHEET"))
@@ -115,7 +119,7 @@ abbrev pub report_run_app : App
 report_run_app = with_rule (with_rule report_files_app slots_rule) (flag_rule (codes "csv"))
 
 abbrev pub report_timed_app : App
-report_timed_app = with_rule (with_rule report_run_app (count_rule (codes "endurance"))) (count_rule (codes "slot-us"))
+report_timed_app = with_rule (with_rule (with_rule report_run_app (count_rule (codes "endurance"))) (count_rule (codes "slot-us"))) page_rule
 
 abbrev pub report_app : App
 report_app = with_rule (with_rule (with_rule report_timed_app fail_rule) (option_rule (codes "from"))) strict_rule
@@ -136,8 +140,11 @@ draw_forms_app = with_rule (with_rule draw_window_app (flag_rule (codes "worst")
 abbrev pub draw_failing_app : App
 draw_failing_app = with_rule (with_rule draw_forms_app (flag_rule (codes "all"))) fail_rule
 
+abbrev pub draw_timed_app : App
+draw_timed_app = with_rule (with_rule draw_failing_app (count_rule (codes "slot-us"))) page_rule
+
 abbrev pub draw_app : App
-draw_app = with_rule (with_rule (with_rule draw_failing_app (option_rule (codes "checkpoint"))) (flag_rule (codes "demand"))) strict_rule
+draw_app = with_rule (with_rule (with_rule draw_timed_app (option_rule (codes "checkpoint"))) (flag_rule (codes "demand"))) strict_rule
 
 abbrev pub compare_files_app : App
 compare_files_app = on_files (new_app (codes "compare"))
@@ -148,8 +155,11 @@ compare_run_app = with_rule (with_rule (with_rule compare_files_app slots_rule) 
 abbrev pub compare_forms_app : App
 compare_forms_app = with_rule (with_rule compare_run_app (flag_rule (codes "csv"))) (flag_rule (codes "draw"))
 
+abbrev pub compare_timed_app : App
+compare_timed_app = with_rule (with_rule compare_forms_app (count_rule (codes "slot-us"))) page_rule
+
 abbrev pub compare_app : App
-compare_app = with_rule (with_rule (with_rule compare_forms_app die_rule) (count_rule (codes "task"))) strict_rule
+compare_app = with_rule (with_rule (with_rule compare_timed_app die_rule) (count_rule (codes "task"))) strict_rule
 
 abbrev pub run_files_app : App
 run_files_app = on_files (new_app (codes "run"))

@@ -80,9 +80,11 @@ pub enum Command<'a> {
         script: &'a str,
         /// How many slots each die runs, from 0 to 1,048,576.
         slots: u32,
-        /// How often a block may be erased, and how many microseconds a slot takes; 0 where it isn't said.
+        /// How often a block may be erased; 0 where it isn't said.
         endurance: u32,
+        /// How many microseconds a slot takes, and how many bytes of a page are a job's; 0 where it isn't said.
         slot_us: u32,
+        page_bytes: u32,
         /// Whether it is printed as CSV.
         as_csv: bool,
         fail: Option<FailingDie>,
@@ -101,6 +103,9 @@ pub enum Command<'a> {
         from: u32,
         /// The slot before which the picture ends.
         to: u32,
+        /// How many microseconds a slot takes, and how many bytes of a page are a job's; 0 where it isn't said.
+        slot_us: u32,
+        page_bytes: u32,
         /// Whether the busy interval of the worst is drawn.
         worst: bool,
         /// Whether lines for a terminal are written.
@@ -127,6 +132,9 @@ pub enum Command<'a> {
         from: u32,
         /// With fewer wholly free blocks a plain layer collects in idle slots.
         pool: u32,
+        /// How many microseconds a slot takes, and how many bytes of a page are a job's; 0 where it isn't said.
+        slot_us: u32,
+        page_bytes: u32,
         /// Whether it is written as CSV.
         as_csv: bool,
         /// Whether a task of a die is drawn, and which one.

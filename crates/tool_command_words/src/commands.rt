@@ -4,7 +4,7 @@ ghost use Rattle.std.specs.Prelude.{◌≡◌, ◌≤◌, ℕ, IfOk, IfSome, Opt
 ghost use Rattle.clap.specs.Words.{Text, found_of, rows_of};
 ghost use Rattle.tool_command_words.specs.RequestTexts.{CommandText, FitsRun, RequestFits, text_of_command, text_of_request};
 ghost use Rattle.tool_command_words.specs.Commands.{arrivals_of, audit_of, command_named, compare_of, demand_of, design_of, draw_of, draw_run_of, explain_of, fill_of, fit_of};
-ghost use Rattle.tool_command_words.specs.Commands.{import_in, import_of, keeps_of, names_form, names_run, names_script, names_window, on_script, report_of, request_named};
+ghost use Rattle.tool_command_words.specs.Commands.{import_in, import_of, keeps_of, names_form, names_run, names_script, names_units, names_window, on_script, report_of, request_named};
 ghost use Rattle.tool_command_words.specs.Commands.{run_kept_of, run_of, run_plain_of, wear_of};
 
 use crate::asked::{Command, ListCommand, Request};
@@ -143,6 +143,7 @@ fn report<'a>(met: &ArgMatches<'a>) -> Option<Command<'a>>
     let (plan, script, slots) = scripted(met)?;
     let endurance = number_at(met, "endurance")?;
     let slot_us = number_at(met, "slot-us")?;
+    let page_bytes = number_at(met, "page-bytes")?;
     let as_csv = value(met, "csv")? == "true";
     let fail = fail(met)?;
     let from = value(met, "from");
@@ -152,6 +153,7 @@ fn report<'a>(met: &ArgMatches<'a>) -> Option<Command<'a>>
         slots,
         endurance,
         slot_us,
+        page_bytes,
         as_csv,
         fail,
         from,
@@ -189,13 +191,23 @@ fn names_form(met: &ArgMatches<'_>) -> Option<bool>
     Some(worst || (as_text || (all || strict)))
 }
 
+/// Whether it is said how long a slot is, or how many bytes a page has.
+fn names_units(met: &ArgMatches<'_>) -> Option<bool>
+    ensures { result ≡ names_units (rows_of (found_of met.now)) }
+{
+    let slot_us = number_at(met, "slot-us")?;
+    let page_bytes = number_at(met, "page-bytes")?;
+    Some(!(slot_us == 0 && page_bytes == 0))
+}
+
 /// Whether an option is given that says something of the picture of a run alone.
 fn names_run(met: &ArgMatches<'_>) -> Option<bool>
     ensures { result ≡ names_run (rows_of (found_of met.now)) }
 {
     let window = names_window(met)?;
+    let units = names_units(met)?;
     let form = names_form(met)?;
-    Some(names_script(met) || (window || form))
+    Some(names_script(met) || (window || (units || form)))
 }
 
 /// The command `draw --demand` that was met, which runs nothing.
@@ -220,6 +232,8 @@ fn draw_run<'a>(met: &ArgMatches<'a>) -> Option<Command<'a>>
     let die = number_at(met, "die")?;
     let from = number_at(met, "from")?;
     let to = number_at(met, "to")?;
+    let slot_us = number_at(met, "slot-us")?;
+    let page_bytes = number_at(met, "page-bytes")?;
     let worst = value(met, "worst")? == "true";
     let as_text = value(met, "text")? == "true";
     let all = value(met, "all")? == "true";
@@ -232,6 +246,8 @@ fn draw_run<'a>(met: &ArgMatches<'a>) -> Option<Command<'a>>
         die,
         from,
         to,
+        slot_us,
+        page_bytes,
         worst,
         as_text,
         all,
@@ -260,6 +276,8 @@ fn compare<'a>(met: &ArgMatches<'a>) -> Option<Command<'a>>
     let (plan, script, slots) = scripted(met)?;
     let from = number_at(met, "from")?;
     let pool = number_at(met, "pool")?;
+    let slot_us = number_at(met, "slot-us")?;
+    let page_bytes = number_at(met, "page-bytes")?;
     let as_csv = value(met, "csv")? == "true";
     let draws = value(met, "draw")? == "true";
     let die = number_at(met, "die")?;
@@ -270,6 +288,8 @@ fn compare<'a>(met: &ArgMatches<'a>) -> Option<Command<'a>>
         slots,
         from,
         pool,
+        slot_us,
+        page_bytes,
         as_csv,
         draws,
         die,

@@ -75,8 +75,45 @@ fn between<'a>(
     })
 }
 
+/// Why records are said in no other units.
+const NO_UNITS: &str = "records count slots and pages";
+
+/// An option with a number other than 0 beside a flag.
+fn some_beside<'a>(
+    words: &'a [String],
+    option: &'static str,
+    flag: &'static str,
+    why: &'static str,
+) -> Option<Conflict<'a>> {
+    let named = beside(words, option, flag, why)?;
+    if number_in(named.value)? == 0 {
+        return None;
+    }
+    Some(named)
+}
+
+/// The units of a comparison that say nothing in records, or in a picture.
+fn in_compared_units(words: &[String]) -> Option<Conflict<'_>> {
+    if has(words, "--draw") {
+        return some_beside(words, "--page-bytes", "--draw", "a picture has no pages");
+    }
+    if !has(words, "--csv") {
+        return None;
+    }
+    let times = some_beside(words, "--slot-us", "--csv", NO_UNITS);
+    times.or(some_beside(words, "--page-bytes", "--csv", NO_UNITS))
+}
+
 /// The options of `draw` that say something of a run alone, those with a value first.
-const OF_RUNS: [&str; 5] = ["--slots", "--from", "--to", "--fail-at", "--checkpoint"];
+const OF_RUNS: [&str; 7] = [
+    "--slots",
+    "--from",
+    "--to",
+    "--fail-at",
+    "--checkpoint",
+    "--slot-us",
+    "--page-bytes",
+];
 
 const OF_RUNS_ALONE: [&str; 4] = ["--worst", "--text", "--all", "--strict"];
 
@@ -148,14 +185,20 @@ fn in_compare(words: &[String]) -> Option<Conflict<'_>> {
             return alone;
         }
     }
-    between(words, "--from", "--slots", "no slot is left to count")
+    let units = in_compared_units(words);
+    units.or(between(words, "--from", "--slots", "no slot is left to count"))
 }
 
 /// The options of `report` that don't go together.
 fn in_report(words: &[String]) -> Option<Conflict<'_>> {
-    let why = "years come of both, or of neither";
-    let worn = beside(words, "--endurance", "no --slot-us", why);
-    worn.or(beside(words, "--slot-us", "no --endurance", why))
+    if !has(words, "--csv") {
+        return None;
+    }
+    let rates = some_beside(words, "--page-bytes", "--csv", NO_UNITS);
+    if value_in(words, "--endurance").unwrap_or("0") != "0" {
+        return rates;
+    }
+    rates.or(some_beside(words, "--slot-us", "--csv", NO_UNITS))
 }
 
 /// The options of `run` that don't go together with `--keep`.

@@ -384,12 +384,12 @@ EndsSo contents has_failed (command.Keeps plan script slots slot_us) text rows o
     EndsSaying contents has_failed (PrintsKept text rows slots) verdict_status old new status
 EndsSo contents has_failed (command.Wear plan script slots from) text rows old new status =
     Ends contents has_failed (PrintsWear text rows slots (is_none from)) old new status
-EndsSo contents has_failed (command.Report plan script slots endurance slot_us as_csv fail from) text rows old new status =
+EndsSo contents has_failed (command.Report plan script slots endurance slot_us page_bytes as_csv fail from) text rows old new status =
     Ends contents has_failed (PrintsRunFigures text rows slots (failing_in fail) as_csv (is_none from)) old new status
-EndsSo contents has_failed (command.Draw plan script slots die first end worst as_text all fail checkpoint) text rows old new status =
+EndsSo contents has_failed (command.Draw plan script slots die first end slot_us page_bytes worst as_text all fail checkpoint) text rows old new status =
     Ends contents has_failed (PrintsDrawing text rows slots die (failing_in fail) (is_none checkpoint)) old new status
 EndsSo contents has_failed (command.Demand plan die) text rows old new status = Ends contents has_failed PrintsText old new status
-EndsSo contents has_failed (command.Compare plan script slots first pool as_csv draws die task) text rows old new status =
+EndsSo contents has_failed (command.Compare plan script slots first pool slot_us page_bytes as_csv draws die task) text rows old new status =
     Ends contents has_failed (PrintsCompared text rows slots) old new status
 EndsSo contents has_failed (command.Run plan script slots from to None) text rows old new status =
     EndsRun contents has_failed (PrintsRun text rows slots (is_none from) (is_some to)) (is_none to) old new status

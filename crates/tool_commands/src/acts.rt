@@ -14,7 +14,7 @@ use crate::filling::act_fill;
 use crate::fitting::act_fit;
 use crate::keeping::act_keeps;
 use crate::kept_acts::act_run_kept;
-use crate::runs::{act_draw, act_report, act_wear};
+use crate::runs::{Told, act_draw, act_report, act_wear};
 use crate::shelves::Shelf;
 use std::alloc::Global;
 use std::io::{Read, Write};
@@ -22,7 +22,6 @@ use text_base::Output;
 use tool_command_words::{Command, FailingDie};
 use tool_plain_layers::Marks;
 use tool_plan_arrivals::Manner;
-use tool_run_figures::Life;
 use tool_slot_times::Units;
 use tool_store_compare::{Form, Measure};
 use tool_watched_runs::{FailAt, Shown};
@@ -180,16 +179,21 @@ pub fn act<P: Read + Drop, S: Read + Drop, C: Read + Drop, K: Shelf, W: Output, 
             slots,
             endurance,
             slot_us,
+            page_bytes,
             as_csv,
             fail,
             from,
             ..
         } => {
-            let life = Life { endurance, slot_us };
+            let told = Told {
+                endurance,
+                units: units_of(slot_us, page_bytes),
+                as_csv,
+            };
             let fail = failing_in(fail);
             let begun = begun(kept.from, from.is_none());
             act_report(
-                alloc, plan, script, begun, slots, life, as_csv, fail, out, err,
+                alloc, plan, script, begun, slots, told, fail, out, err,
             )
         }
         Command::Draw {
@@ -197,6 +201,8 @@ pub fn act<P: Read + Drop, S: Read + Drop, C: Read + Drop, K: Shelf, W: Output, 
             die,
             from,
             to,
+            slot_us,
+            page_bytes,
             worst,
             as_text,
             all,
@@ -210,6 +216,7 @@ pub fn act<P: Read + Drop, S: Read + Drop, C: Read + Drop, K: Shelf, W: Output, 
                 worst,
                 as_text,
                 all,
+                units: units_of(slot_us, page_bytes),
             };
             let fail = failing_in(fail);
             let begun = begun(kept.from, checkpoint.is_none());
@@ -222,6 +229,8 @@ pub fn act<P: Read + Drop, S: Read + Drop, C: Read + Drop, K: Shelf, W: Output, 
             slots,
             from,
             pool,
+            slot_us,
+            page_bytes,
             as_csv,
             draws,
             die,
@@ -232,7 +241,12 @@ pub fn act<P: Read + Drop, S: Read + Drop, C: Read + Drop, K: Shelf, W: Output, 
                 low: LOW,
                 pool: pool as usize,
             };
-            let measure = Measure { slots, from, marks };
+            let measure = Measure {
+                slots,
+                from,
+                marks,
+                units: units_of(slot_us, page_bytes),
+            };
             let form = form_of(as_csv, draws, die, task);
             act_compare(alloc, plan, script, measure, form, out, err)
         }

@@ -10,13 +10,15 @@ ghost use Rattle.tool_commands.specs.PlanKinds.{ReadsStore};
 
 use crate::endings::{end_refused, report_refused};
 use crate::plan_faults::end_unread;
-use crate::stores::{PlanRead, Unread, plan_in};
+use crate::slot_lengths::{report_unsaid, units_with};
+use crate::stores::{PlanRead, TimedPlan, Unread, timed_plan_in};
 use slot_types::{MAX_SLOT, Refusal, StorePlan};
 use std::alloc::Global;
 use std::io::{Read, Write};
 use terms_texts::{StoreTerms, plans_of};
 use text_base::{Output, write_whole};
 use tool_kept_runs::{KeptFault, kept_plans};
+use tool_slot_times::Units;
 use tool_store_compare::{CompareFault, Form, Measure, compare};
 use tool_watched_runs::RefusedRows;
 
@@ -50,6 +52,8 @@ impl From<Refusal> for Uncompared {
 struct ComparedPlans {
     store: StorePlan,
     kept: Option<StoreTerms>,
+    /// How many us a slot takes, where that is known.
+    slot_us: Option<u32>,
 }
 
 /// The plans that dies keep of a plan without terms, if it has times. The only refusal is NoMemory.
@@ -63,22 +67,32 @@ fn kept_of_times(alloc: Global, store: &StorePlan) -> Result<Option<StoreTerms>,
     }
 }
 
-/// Reads both. It is refused as [`plan_in`] refuses it.
-fn plans_in<P: Read + Drop>(alloc: Global, plan: P) -> Result<ComparedPlans, Unread>
+/// Reads both. It is refused as [`timed_plan_in`] refuses it.
+fn plans_in<P: Read + Drop>(
+    alloc: Global,
+    plan: P,
+    asked: Option<u32>,
+) -> Result<ComparedPlans, Unread>
     ensures store { IfOk result (λ plans. ReadsStore (P.remaining plan) plans.store) }
     ensures kept { IfOk result (λ plans. IfSome plans.kept (ReadsKept (P.remaining plan))) }
 {
-    match plan_in(alloc, plan)? {
+    let TimedPlan { plan, slot_us } = timed_plan_in(alloc, plan, asked)?;
+    match plan {
         PlanRead::WithTerms(kept) => {
             let store = plans_of(alloc, &kept)?;
             Ok(ComparedPlans {
                 store,
                 kept: Some(kept),
+                slot_us,
             })
         }
         PlanRead::Plain(store) => {
             let kept = kept_of_times(alloc, &store)?;
-            Ok(ComparedPlans { store, kept })
+            Ok(ComparedPlans {
+                store,
+                kept,
+                slot_us,
+            })
         }
     }
 }
@@ -90,6 +104,18 @@ struct Beside {
     refused: RefusedRows,
     /// Why there are no dies that keep their plans, where the plan has times or terms.
     unplanned: Option<KeptFault>,
+    /// How many us a slot takes, where that is known.
+    slot_us: Option<u32>,
+}
+
+/// What is measured, where a slot takes so long, if that is known.
+fn timed_measure(measure: Measure, slot_us: Option<u32>) -> Measure
+    ensures { result.slots ≡ measure.slots }
+{
+    Measure {
+        units: units_with(measure.units, slot_us),
+        ..measure
+    }
 }
 
 /// Prints how late the jobs of a script were on the store, on dies that keep their plans and by plain layers.
@@ -109,12 +135,18 @@ fn print_compared<P: Read + Drop, S: Read + Drop, W: Output>(
         (IsNotWhole W.contents W.has_failed
         (PrintsCompared (P.remaining plan) (S.remaining script) measure.slots) out.old out.new) }
 {
-    let ComparedPlans { store, kept } = plans_in(alloc, plan)?;
-    let compared = compare(alloc, &store, kept, script, measure, form)?;
+    let ComparedPlans {
+        store,
+        kept,
+        slot_us,
+    } = plans_in(alloc, plan, measure.units.slot_us)?;
+    let timed = timed_measure(measure, slot_us);
+    let compared = compare(alloc, &store, kept, script, timed, form)?;
     write_whole(out, &compared.text)?;
     Ok(Beside {
         refused: compared.refused,
         unplanned: compared.unplanned,
+        slot_us,
     })
 }
 
@@ -128,11 +160,17 @@ fn report_beside<E: Write>(err: &mut E, beside: Beside) {
 }
 
 /// Answers the status of a comparison, and reports what stands beside it, or why there is none. A writer that fails is passed over.
-fn end_compared<E: Write>(err: &mut E, compared: Result<Beside, Uncompared>) -> u8
+fn end_compared<E: Write>(err: &mut E, units: Units, compared: Result<Beside, Uncompared>) -> u8
     ensures { result ≡ (if is_ok compared then 0 else 1) }
 {
     match compared {
         Ok(beside) => {
+            report_unsaid(
+                err,
+                "--page-bytes",
+                units.page_bytes.is_some(),
+                beside.slot_us,
+            );
             report_beside(err, beside);
             0
         }
@@ -168,5 +206,5 @@ pub fn act_compare<P: Read + Drop, S: Read + Drop, W: Output, E: Write>(
         (PrintsCompared (P.remaining plan) (S.remaining script) measure.slots) out.old out.new result }
 {
     let compared = print_compared(alloc, plan, script, measure, form, out);
-    end_compared(err, compared)
+    end_compared(err, measure.units, compared)
 }

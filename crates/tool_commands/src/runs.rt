@@ -6,13 +6,15 @@ ghost use Rattle.tool_commands.specs.Acts.{Ends, PrintsDrawing, PrintsRunFigures
 
 use crate::checkpoint_acts::{Unprinted, begun_in, end_ran, end_unprinted};
 use crate::endings::report_failure;
-use crate::stores::store_of;
+use crate::slot_lengths::{report_unsaid, units_with};
+use crate::stores::{store_of, timed_store_of};
 use slot_types::MAX_SLOT;
 use std::alloc::Global;
 use std::io::{Read, Write};
 use text_base::{Output, write_whole};
 use tool_checkpoint_runs::{draw_from, report_from, wear_from};
 use tool_run_figures::Life;
+use tool_slot_times::Units;
 use tool_watched_runs::{FailAt, Failure, MOST_SLOTS, RefusedRows, Shown, Sights, TooMany};
 
 /// Prints what a run wore.
@@ -59,6 +61,34 @@ pub fn act_wear<P: Read + Drop, S: Read + Drop, C: Read + Drop, W: Output, E: Wr
     end_ran(err, ran)
 }
 
+/// How it is told what a run came to.
+#[derive(Clone, Copy, Drop)]
+pub struct Told {
+    /// How often a block may be erased; 0 where it isn't said.
+    pub endurance: u32,
+    /// What is asked for of a slot and of a page.
+    pub units: Units,
+    /// Whether it is printed as CSV.
+    pub as_csv: bool,
+}
+
+/// What is reported of a run whose figures were printed.
+#[derive(Clone, Copy, Drop)]
+struct Figured {
+    refused: RefusedRows,
+    failure: Option<Failure>,
+    /// How many us a slot takes, where that is known.
+    slot_us: Option<u32>,
+}
+
+/// How long a part lives, where a slot takes so long, if that is known.
+fn life_of(endurance: u32, slot_us: Option<u32>) -> Life {
+    Life {
+        endurance,
+        slot_us: slot_us.unwrap_or(0),
+    }
+}
+
 /// Prints what a run came to.
 fn print_report<P: Read + Drop, S: Read + Drop, C: Read + Drop, W: Output>(
     alloc: Global,
@@ -66,34 +96,59 @@ fn print_report<P: Read + Drop, S: Read + Drop, C: Read + Drop, W: Output>(
     script: S,
     from: Option<C>,
     slots: u32,
-    life: Life,
-    as_csv: bool,
+    told: Told,
     fail: Option<FailAt>,
     out: &mut W,
-) -> Result<(RefusedRows, Option<Failure>), Unprinted>
+) -> Result<Figured, Unprinted>
     requires slots { slots ≤ MAX_SLOT }
     ensures printed { OnOk result
-        (PrintsRunFigures (P.remaining plan) (S.remaining script) slots fail as_csv (is_none from)
+        (PrintsRunFigures (P.remaining plan) (S.remaining script) slots fail told.as_csv (is_none from)
         (W.contents out.old) (W.contents out.new)) }
     ensures part { OnErr result
         (IsNotWhole W.contents W.has_failed
-        (PrintsRunFigures (P.remaining plan) (S.remaining script) slots fail as_csv (is_none from)) out.old out.new) }
+        (PrintsRunFigures (P.remaining plan) (S.remaining script) slots fail told.as_csv (is_none from)) out.old
+        out.new) }
 {
-    let store = store_of(alloc, plan)?;
+    let timed = timed_store_of(alloc, plan, told.units.slot_us)?;
     let from = begun_in(alloc, from)?;
-    let said = report_from(alloc, store, from, script, slots, life, as_csv, fail)?;
+    let slot_us = timed.slot_us;
+    let units = units_with(told.units, slot_us);
+    let life = life_of(told.endurance, slot_us);
+    let said = report_from(
+        alloc,
+        timed.store,
+        from,
+        script,
+        slots,
+        life,
+        units,
+        told.as_csv,
+        fail,
+    )?;
     write_whole(out, &said.text)?;
-    Ok((said.refused, said.failure))
+    Ok(Figured {
+        refused: said.refused,
+        failure: said.failure,
+        slot_us,
+    })
 }
 
-/// Reports what came of a report's run, and answers the status.
-fn end_report<E: Write>(err: &mut E, ran: Result<(RefusedRows, Option<Failure>), Unprinted>) -> u8
+/// Reports what came of a report's run, and which options said nothing of it, and answers the status.
+fn end_report<E: Write>(err: &mut E, told: Told, ran: Result<Figured, Unprinted>) -> u8
     ensures { result ≡ (if is_ok ran then 0 else 1) }
 {
     match ran {
-        Ok((refused, failure)) => {
-            report_failure(err, failure);
-            end_ran(err, Ok(refused))
+        Ok(figured) => {
+            let slot_us = figured.slot_us;
+            report_unsaid(err, "--endurance", told.endurance > 0, slot_us);
+            report_unsaid(
+                err,
+                "--page-bytes",
+                told.units.page_bytes.is_some(),
+                slot_us,
+            );
+            report_failure(err, figured.failure);
+            end_ran(err, Ok(figured.refused))
         }
         Err(unprinted) => end_unprinted(err, unprinted),
     }
@@ -108,19 +163,18 @@ pub fn act_report<P: Read + Drop, S: Read + Drop, C: Read + Drop, W: Output, E: 
     script: S,
     from: Option<C>,
     slots: u32,
-    life: Life,
-    as_csv: bool,
+    told: Told,
     fail: Option<FailAt>,
     out: &mut W,
     err: &mut E,
 ) -> u8
     requires slots { slots ≤ MAX_SLOT }
     ensures { Ends W.contents W.has_failed
-        (PrintsRunFigures (P.remaining plan) (S.remaining script) slots fail as_csv (is_none from)) out.old out.new
-        result }
+        (PrintsRunFigures (P.remaining plan) (S.remaining script) slots fail told.as_csv (is_none from)) out.old
+        out.new result }
 {
-    let ran = print_report(alloc, plan, script, from, slots, life, as_csv, fail, out);
-    end_report(err, ran)
+    let ran = print_report(alloc, plan, script, from, slots, told, fail, out);
+    end_report(err, told, ran)
 }
 
 /// What is reported of a run that was drawn.
@@ -129,6 +183,16 @@ struct Drawn {
     refused: RefusedRows,
     sights: Sights,
     failure: Option<Failure>,
+    /// How many us a slot takes, where that is known.
+    slot_us: Option<u32>,
+}
+
+/// Which slots are drawn, and in which units, where a slot takes so long, if that is known.
+fn shown_with(shown: Shown, slot_us: Option<u32>) -> Shown {
+    Shown {
+        units: units_with(shown.units, slot_us),
+        ..shown
+    }
 }
 
 /// Prints the picture of what the slots of a die carried.
@@ -151,14 +215,19 @@ fn print_drawn<P: Read + Drop, S: Read + Drop, C: Read + Drop, W: Output>(
         (IsNotWhole W.contents W.has_failed
         (PrintsDrawing (P.remaining plan) (S.remaining script) slots die fail (is_none from)) out.old out.new) }
 {
-    let store = store_of(alloc, plan)?;
+    let timed = timed_store_of(alloc, plan, shown.units.slot_us)?;
     let from = begun_in(alloc, from)?;
-    let drawn = draw_from(alloc, store, from, script, slots, die, shown, fail)?;
+    let slot_us = timed.slot_us;
+    let timed_shown = shown_with(shown, slot_us);
+    let drawn = draw_from(
+        alloc, timed.store, from, script, slots, die, timed_shown, fail,
+    )?;
     write_whole(out, &drawn.text)?;
     Ok(Drawn {
         refused: drawn.refused,
         sights: drawn.sights,
         failure: drawn.failure,
+        slot_us,
     })
 }
 
@@ -234,12 +303,18 @@ fn warn_many<E: Write>(err: &mut E, slots: u32, sights: Sights) {
 }
 
 /// Reports what was drawn, and answers the status.
-fn end_drawn<E: Write>(err: &mut E, slots: u32, drawn: Result<Drawn, Undrawn>) -> u8
+fn end_drawn<E: Write>(err: &mut E, slots: u32, units: Units, drawn: Result<Drawn, Undrawn>) -> u8
     ensures { result ≡ (if is_ok drawn then 0 else 1) }
 {
     match drawn {
         Ok(drawn) => {
             warn_many(err, slots, drawn.sights);
+            report_unsaid(
+                err,
+                "--page-bytes",
+                units.page_bytes.is_some(),
+                drawn.slot_us,
+            );
             report_failure(err, drawn.failure);
             end_ran(err, Ok(drawn.refused))
         }
@@ -279,5 +354,5 @@ pub fn act_draw<P: Read + Drop, S: Read + Drop, C: Read + Drop, W: Output, E: Wr
 {
     let many = many_of(shown, slots);
     let drawn = print_bounded(alloc, plan, script, from, slots, die, shown, fail, out);
-    end_drawn(err, many, drawn)
+    end_drawn(err, many, shown.units, drawn)
 }

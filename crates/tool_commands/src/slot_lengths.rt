@@ -6,7 +6,8 @@ ghost use Rattle.tool_commands.specs.Acts.{IsSlotFor};
 
 use slot_types::Refusal;
 use std::alloc::Global;
-use tool_slot_times::slot_in;
+use std::io::Write;
+use tool_slot_times::{Units, slot_in};
 
 /// How long a slot of a plan takes: as asked for, or as its text begins, if it does. The only refusal is NoMemory.
 pub(crate) fn slot_for(
@@ -20,5 +21,29 @@ pub(crate) fn slot_for(
     match asked {
         Some(slot_us) => Ok(Some(slot_us)),
         None => slot_in(alloc, plan),
+    }
+}
+
+/// What is asked for of a slot and of a page, where a slot takes so many us, if that is known.
+pub(crate) fn units_with(asked: Units, slot_us: Option<u32>) -> Units {
+    Units {
+        slot_us,
+        page_bytes: asked.page_bytes,
+    }
+}
+
+/// Reports an option that says nothing where it isn't known how long a slot is. A writer that fails is passed over.
+pub(crate) fn report_unsaid<E: Write>(
+    err: &mut E,
+    option: &str,
+    is_asked: bool,
+    slot_us: Option<u32>,
+) {
+    if is_asked && slot_us.is_none() {
+        let _ = writeln!(
+            err,
+            "{option} says nothing: it isn't known how long a slot is, which --slot-us tells, or the plan's first line as fit \
+             writes it"
+        );
     }
 }

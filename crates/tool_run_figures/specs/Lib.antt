@@ -1,4 +1,5 @@
 pub mod FigureTexts
+pub mod Quantities
 pub mod SlotCounts
 pub mod Levels
 pub mod Ends

@@ -26,6 +26,7 @@ use terms_texts::StoreTerms;
 use tool_kept_runs::KeptFault;
 use tool_plain_layers::{Load, Marks, Policy, play};
 use tool_script_runs::{RefusedRow, RefusedRows, run_dies};
+use tool_slot_times::Units;
 
 /// What is measured.
 #[derive(Clone, Copy, PartialEq, Eq, Debug, Drop)]
@@ -36,6 +37,8 @@ pub struct Measure {
     pub from: u32,
     /// How many wholly free blocks a plain layer wants.
     pub marks: Marks,
+    /// In which units slots and pages are said, but for those of records.
+    pub units: Units,
 }
 
 /// Why there is no table.
@@ -170,6 +173,7 @@ struct Teller {
     form: Form,
     counted: Counted,
     sheet: Sheet,
+    units: Units,
     curves: Vec<Curve>,
 }
 
@@ -181,7 +185,13 @@ impl Teller {
                 from: measure.from,
                 slots: measure.slots,
             },
-            sheet: Sheet::new(alloc, form == Form::Csv),
+            sheet: Sheet::new(
+                alloc,
+                form == Form::Csv,
+                measure.units,
+                measure.slots.saturating_sub(measure.from),
+            ),
+            units: measure.units,
             curves: Vec::new(alloc),
         };
         match form {
@@ -214,6 +224,7 @@ impl Teller {
             form,
             counted,
             sheet,
+            units,
             curves,
         } = self;
         match form {
@@ -228,6 +239,7 @@ impl Teller {
                     from: counted.from,
                     slots: counted.slots,
                     pool,
+                    units,
                 };
                 picture(alloc, caption, curves.as_slice())
             }
@@ -248,7 +260,12 @@ fn add_layer(
     policy: Policy,
     measure: Measure,
 ) -> Result<(), CompareFault> {
-    let Measure { slots, from, marks } = measure;
+    let Measure {
+        slots,
+        from,
+        marks,
+        ..
+    } = measure;
     let played = match play(alloc, plan, load, policy, marks, slots, from) {
         Ok(played) => played,
         Err(tool_plain_layers::Fault::NoMemory) => return Err(Refusal::NoMemory.into()),

@@ -22,6 +22,7 @@ use slot_types::{JobNo, MAX_JOBS, MAX_SLOT, Refusal, StorePlan};
 use std::alloc::Global;
 use std::io::Read;
 use tool_script_runs::{RefusedRow, RefusedRows, run_die};
+use tool_slot_times::Units;
 
 /// The collections that were waived in a window, by number, each with the slot. The only refusal is NoMemory.
 fn waivers_of(alloc: Global, window: &Window) -> Result<Vec<(u32, u32)>, Refusal>
@@ -158,6 +159,7 @@ fn picture_of(
         rows: &rows,
         worst,
         failed: failed_in(&run.core),
+        units: frame.shown.units,
     };
     if frame.shown.as_text {
         lines(alloc, &scene)
@@ -166,7 +168,7 @@ fn picture_of(
     }
 }
 
-/// Which slots are drawn.
+/// Which slots are drawn, and how.
 #[derive(Clone, Copy, Drop)]
 pub struct Shown {
     /// The first one, and the one before which the picture ends.
@@ -178,6 +180,8 @@ pub struct Shown {
     pub as_text: bool,
     /// Whether all of them are drawn, however many they are.
     pub all: bool,
+    /// In which units slots and pages are said.
+    pub units: Units,
 }
 
 /// The most slots of a picture, unless all that are asked for are drawn.

@@ -29,6 +29,7 @@ use tool_run_figures::{
     DieFigures, Ended, JobEnd, Life, Records, Wearing, put_csv, put_table, records_of,
 };
 use tool_script_runs::{RefusedRow, RefusedRows};
+use tool_slot_times::Units;
 
 /// What became of a job or a collection of this stage, of a die that carried out so many slots. One
 /// that waits can't be done before the end of the next slot.
@@ -173,16 +174,17 @@ fn tables_of(
     alloc: Global,
     all: &[Records],
     dies: &mut Vec<Box<DieRun>>,
+    units: Units,
 ) -> Result<Vec<u8>, Refusal>
     ensures { FailsForMemory result }
 {
     let mut text = Vec::new(alloc);
     for die in 0..all.len() {
-        if put_table(alloc, &mut text, die, &all[die]).is_err() {
+        if put_table(alloc, &mut text, die, &all[die], units).is_err() {
             return Err(Refusal::NoMemory);
         }
         if die < dies.len() {
-            put_lateness(alloc, &mut text, die, &mut dies[die])?;
+            put_lateness(alloc, &mut text, die, &mut dies[die], units)?;
         }
     }
     Ok(text)
@@ -193,6 +195,7 @@ fn text_of(
     alloc: Global,
     all: &[Records],
     dies: &mut Vec<Box<DieRun>>,
+    units: Units,
     as_csv: bool,
 ) -> Result<Vec<u8>, Refusal>
     ensures text { IfOk result (λ text. as_csv ≡ true → text.items ≡ csv_text all.now) }
@@ -201,7 +204,7 @@ fn text_of(
     if as_csv {
         csv_of(alloc, all)
     } else {
-        tables_of(alloc, all, dies)
+        tables_of(alloc, all, dies, units)
     }
 }
 
@@ -210,6 +213,7 @@ fn reported(
     alloc: Global,
     ran: Ran,
     life: Life,
+    units: Units,
     as_csv: bool,
     fail: Option<FailAt>,
 ) -> Result<Reported, Refusal>
@@ -218,7 +222,7 @@ fn reported(
     let Ran { mut dies, refused } = ran;
     let figures = all_figures(alloc, &dies, &refused, life)?;
     let failure = failure_of(fail, dies.as_slice());
-    let text = text_of(alloc, &figures, &mut dies, as_csv)?;
+    let text = text_of(alloc, &figures, &mut dies, units, as_csv)?;
     Ok(Reported {
         text,
         refused: RefusedRows::of(&refused),
@@ -228,9 +232,10 @@ fn reported(
 }
 
 /// Runs a script on dies that were started, and tells what it came to, by die and task: as a table for eyes, or as CSV.
-/// With an endurance and the length of a slot above 0, it tells when a block will be worn out. The device that is to fail
-/// is that of a started die: its die stays in that slot, and refuses all later rows. The script is lent, since a reader is
-/// large to free where a row stops the run.
+/// With an endurance and the length of a slot above 0, it tells how long blocks last. For eyes each number of slots is
+/// followed by its time, and each of pages by how many bytes a second that is, where the units are known. The device that
+/// is to fail is that of a started die: its die stays in that slot, and refuses all later rows. The script is lent, since a
+/// reader is large to free where a row stops the run.
 ///
 /// Refused with the first fault of the script, as [`ScriptReader`](script_texts::ScriptReader) tells it; or with ReadFault
 /// or NoMemory.
@@ -240,6 +245,7 @@ pub fn report_of<R: Read + Drop>(
     dies: Vec<StartedDie>,
     slots: u32,
     life: Life,
+    units: Units,
     as_csv: bool,
     fail: Option<FailAt>,
 ) -> Result<Reported, Refusal>
@@ -253,7 +259,7 @@ pub fn report_of<R: Read + Drop>(
         IsReportFrom (starts_of (map begun dies.items)) text slots fail as_csv reported) }
 {
     let ran = run_started(alloc, script, dies, slots)?;
-    reported(alloc, ran, life, as_csv, fail)
+    reported(alloc, ran, life, units, as_csv, fail)
 }
 
 /// Runs a script on a store of fresh dies in memory, and tells what it came to, as [`report_of`] does. One device may be to
@@ -266,6 +272,7 @@ pub fn report<R: Read + Drop>(
     script: R,
     slots: u32,
     life: Life,
+    units: Units,
     as_csv: bool,
     fail: Option<FailAt>,
 ) -> Result<Reported, Refusal>
@@ -278,5 +285,5 @@ pub fn report<R: Read + Drop>(
     check_failing(fail, plan.len())?;
     let mut script = ScriptReader::new(alloc, script, &plan, slots)?;
     let dies = fresh_dies(alloc, plan, fail)?;
-    report_of(alloc, &mut script, dies, slots, life, as_csv, fail)
+    report_of(alloc, &mut script, dies, slots, life, units, as_csv, fail)
 }

@@ -3,10 +3,10 @@
 ghost use Rattle.std.specs.Prelude.{◌≡◌, false, codes, IfOk};
 ghost use Rattle.clap.specs.Words.{rule_of};
 ghost use Rattle.command_arguments.specs.Arguments.{flag_rule};
-ghost use Rattle.tool_command_words.specs.Syntax.{IsCommand, compare_app, compare_files_app, compare_forms_app, compare_run_app, count_rule, from_rule, pool_rule};
+ghost use Rattle.tool_command_words.specs.Syntax.{IsCommand, compare_app, compare_files_app, compare_forms_app, compare_run_app, compare_timed_app, count_rule, from_rule, pool_rule};
 
 use crate::syntax::parts::{command, on_files, with_arg};
-use crate::syntax::shared::{csv, die, strict};
+use crate::syntax::shared::{csv, die, page_bytes, slot_us, strict};
 use clap::{Arg, Command};
 use command_arguments::{defaulted, flag, slots};
 use std::alloc::{AllocError, Global};
@@ -96,11 +96,19 @@ fn compare_forms<'a>(alloc: Global) -> Result<Command<'a>, AllocError>
     with_arg(told, drawn(alloc))
 }
 
+/// The command `compare`, with what times come of.
+fn compare_timed<'a>(alloc: Global) -> Result<Command<'a>, AllocError>
+    ensures { IfOk result (λ c. IsCommand c compare_timed_app) }
+{
+    let timed = with_arg(compare_forms(alloc), slot_us(alloc));
+    with_arg(timed, page_bytes(alloc))
+}
+
 /// The command `compare`.
 pub(crate) fn compare_words<'a>(alloc: Global) -> Result<Command<'a>, AllocError>
     ensures { IfOk result (λ c. IsCommand c compare_app) }
 {
-    let of_a_die = with_arg(compare_forms(alloc), die(alloc));
+    let of_a_die = with_arg(compare_timed(alloc), die(alloc));
     let of_a_task = with_arg(of_a_die, task(alloc));
     with_arg(of_a_task, strict(alloc))
 }

@@ -3,7 +3,7 @@
 ghost use Rattle.std.specs.Prelude.{◌≡◌, false, codes};
 ghost use Rattle.clap.specs.Words.{rule_of};
 ghost use Rattle.command_arguments.specs.Arguments.{flag_rule, option_rule};
-ghost use Rattle.tool_command_words.specs.Syntax.{count_rule, die_rule, list_rule};
+ghost use Rattle.tool_command_words.specs.Syntax.{count_rule, die_rule, list_rule, page_rule};
 
 use clap::{Arg, ArgAction};
 use command_arguments::{defaulted, flag, option, required};
@@ -63,6 +63,20 @@ pub(crate) fn slot_us<'a>(alloc: Global) -> Arg<'a>
         "U",
         "0",
         "How many microseconds a slot takes, from 0 to 1048576; 0 is as the plan's first line says, if it does",
+    )
+}
+
+/// How many bytes of a page are a job's.
+pub(crate) fn page_bytes<'a>(alloc: Global) -> Arg<'a>
+    ensures rule { rule_of result ≡ page_rule }
+    ensures local { result.global ≡ false }
+{
+    defaulted(
+        alloc,
+        "page-bytes",
+        "B",
+        "0",
+        "How many bytes a page has, from 0 to 1048576; 0 is unknown. With it, rates are told in MB/s",
     )
 }
 

@@ -1,5 +1,5 @@
 use Rattle.tool_design_pages.proofs.PlanBounds.{bound-in}
-use Rattle.tool_commands.proofs.stores.store_of.Goals as goal
+use Rattle.tool_commands.proofs.stores.timed_store_of.Goals as goal
 
 pub returns-in_ok-plans-in-WithTerms-clause-bound : goal.returns-in_ok-plans-in-WithTerms-clause-bound
 returns-in_ok-plans-in-WithTerms-clause-bound g c =
