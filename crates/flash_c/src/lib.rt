@@ -4,19 +4,19 @@
 
 pub mod audits;
 pub mod checkpoints;
-pub mod codes;
+mod codes;
 mod counts;
 pub mod entries;
 pub mod exports;
-pub mod handles;
+mod handles;
 mod lists;
 mod loose;
-pub mod mount_handles;
+mod mount_handles;
 pub mod mounts;
 mod names;
 mod plans;
 pub mod queries;
-pub mod recoveries;
+mod recoveries;
 mod said;
 pub mod shapes;
 mod slots;

@@ -2,15 +2,15 @@
 //! ask that comes too late for the present life waits for the next one.
 #![tactic(auto)]
 
-pub mod answers;
-pub mod asks;
-pub mod die_asks;
-pub mod lengths;
-pub mod next_life;
-pub mod ongoing_die;
-pub mod refusals;
-pub mod slots;
-pub mod waiting;
+mod answers;
+mod asks;
+mod die_asks;
+mod lengths;
+mod next_life;
+mod ongoing_die;
+mod refusals;
+mod slots;
+mod waiting;
 
 pub use answers::Taken;
 pub use ongoing_die::OngoingDie;

@@ -1,20 +1,20 @@
 //! A die that keeps its plan itself: its tasks ask, it enters its collections, and what it accepts is done in time.
 #![tactic(auto)]
 
-pub mod all_asks;
-pub mod asks;
-pub mod burst_jobs;
-pub mod bursts;
-pub mod collections;
-pub mod life;
-pub mod memory;
-pub mod planned_die;
-pub mod refusals;
-pub mod renewals;
-pub mod rooms;
-pub mod slots;
-pub mod task_asks;
-pub mod terms;
+mod all_asks;
+mod asks;
+mod burst_jobs;
+mod bursts;
+mod collections;
+mod life;
+mod memory;
+mod planned_die;
+mod refusals;
+mod renewals;
+mod rooms;
+mod slots;
+mod task_asks;
+mod terms;
 
 pub use bursts::Burst;
 pub use memory::AskedJob;

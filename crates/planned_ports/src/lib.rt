@@ -4,15 +4,15 @@
 #![tactic(auto)]
 
 mod as_opened;
-pub mod book;
-pub mod calls;
-pub mod closing;
+mod book;
+mod calls;
+mod closing;
 mod history;
 pub mod laws;
-pub mod opening;
-pub mod pages;
-pub mod ports;
-pub mod refusals;
+mod opening;
+mod pages;
+mod ports;
+mod refusals;
 
 pub use calls::{Granted, Refused, Request};
 pub use closing::{StillOpen, close};
