@@ -192,9 +192,7 @@ pub fn act<P: Read + Drop, S: Read + Drop, C: Read + Drop, K: Shelf, W: Output, 
             };
             let fail = failing_in(fail);
             let begun = begun(kept.from, from.is_none());
-            act_report(
-                alloc, plan, script, begun, slots, told, fail, out, err,
-            )
+            act_report(alloc, plan, script, begun, slots, told, fail, out, err)
         }
         Command::Draw {
             slots,

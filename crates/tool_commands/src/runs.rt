@@ -220,7 +220,14 @@ fn print_drawn<P: Read + Drop, S: Read + Drop, C: Read + Drop, W: Output>(
     let slot_us = timed.slot_us;
     let timed_shown = shown_with(shown, slot_us);
     let drawn = draw_from(
-        alloc, timed.store, from, script, slots, die, timed_shown, fail,
+        alloc,
+        timed.store,
+        from,
+        script,
+        slots,
+        die,
+        timed_shown,
+        fail,
     )?;
     write_whole(out, &drawn.text)?;
     Ok(Drawn {
