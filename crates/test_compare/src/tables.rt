@@ -5,6 +5,7 @@ use std::alloc::Global;
 use std::str;
 use std::test::Fail;
 use tool_plain_layers::Marks;
+use tool_slot_times::Units;
 use tool_store_compare::{CompareFault, Form, Measure, compare};
 
 const MARKS: Marks = Marks { low: 2, pool: 4 };
@@ -108,6 +109,7 @@ fn compared(alloc: Global, from: u32, form: Form) -> Result<Vec<u8>, CompareFaul
         slots: 10,
         from,
         marks: MARKS,
+        units: Units::NONE,
     };
     let compared = compare(alloc, &plan, None, SCRIPT.as_bytes(), measure, form)?;
     Ok(compared.text)
@@ -189,6 +191,7 @@ fn a_script_that_is_at_fault_has_no_table(rt: HostRuntime) -> Result<(), Fail> {
         slots: 10,
         from: 0,
         marks: MARKS,
+        units: Units::NONE,
     };
     let script = "at\n".as_bytes();
     let fault = compare(rt.alloc(), &plan, None, script, measure, Form::Csv).err();

@@ -20,6 +20,6 @@ pub use explained::{check_store, explain};
 pub use failing_runs::{FailingRun, run_failing};
 pub use faults::{RunFault, Unsaved};
 pub use saving::save_dies;
-pub use store_runs::{StoreRun, run_script};
+pub use store_runs::{StoreRun, run_script, started_store};
 pub use texts::save;
 pub use watched_runs::{draw_from, report_from, wear_from};

@@ -141,6 +141,8 @@ pub enum Command<'a> {
         draws: bool,
         die: u32,
         task: u32,
+        /// The checkpoint from which the dies go on; fresh ones begin where there is none.
+        checkpoint: Option<&'a str>,
     },
     /// Run a script, from a checkpoint and to one.
     Run {

@@ -282,6 +282,7 @@ fn compare<'a>(met: &ArgMatches<'a>) -> Option<Command<'a>>
     let draws = value(met, "draw")? == "true";
     let die = number_at(met, "die")?;
     let task = number_at(met, "task")?;
+    let checkpoint = value(met, "checkpoint");
     Some(Command::Compare {
         plan,
         script,
@@ -294,6 +295,7 @@ fn compare<'a>(met: &ArgMatches<'a>) -> Option<Command<'a>>
         draws,
         die,
         task,
+        checkpoint,
     })
 }
 

@@ -17,7 +17,7 @@ plan_name (command.Wear plan script slots from) = plan.now
 plan_name (command.Report plan script slots endurance slot_us page_bytes as_csv fail from) = plan.now
 plan_name (command.Draw plan script slots die first end slot_us page_bytes worst as_text all fail checkpoint) = plan.now
 plan_name (command.Demand plan die) = plan.now
-plan_name (command.Compare plan script slots first pool slot_us page_bytes as_csv draws die task) = plan.now
+plan_name (command.Compare plan script slots first pool slot_us page_bytes as_csv draws die task checkpoint) = plan.now
 plan_name (command.Run plan script slots from to fail) = plan.now
 plan_name (command.RunKept plan script slots) = plan.now
 
@@ -27,7 +27,7 @@ script_name (command.Keeps plan script slots slot_us) = Some script.now
 script_name (command.Wear plan script slots from) = Some script.now
 script_name (command.Report plan script slots endurance slot_us page_bytes as_csv fail from) = Some script.now
 script_name (command.Draw plan script slots die first end slot_us page_bytes worst as_text all fail checkpoint) = Some script.now
-script_name (command.Compare plan script slots first pool slot_us page_bytes as_csv draws die task) = Some script.now
+script_name (command.Compare plan script slots first pool slot_us page_bytes as_csv draws die task checkpoint) = Some script.now
 script_name (command.Run plan script slots from to fail) = Some script.now
 script_name (command.RunKept plan script slots) = Some script.now
 script_name _ = None

@@ -233,8 +233,10 @@ pub fn act<P: Read + Drop, S: Read + Drop, C: Read + Drop, K: Shelf, W: Output, 
             draws,
             die,
             task,
+            checkpoint,
             ..
         } => {
+            let begun = begun(kept.from, checkpoint.is_none());
             let marks = Marks {
                 low: LOW,
                 pool: pool as usize,
@@ -246,7 +248,7 @@ pub fn act<P: Read + Drop, S: Read + Drop, C: Read + Drop, K: Shelf, W: Output, 
                 units: units_of(slot_us, page_bytes),
             };
             let form = form_of(as_csv, draws, die, task);
-            act_compare(alloc, plan, script, measure, form, out, err)
+            act_compare(alloc, plan, script, begun, measure, form, out, err)
         }
         Command::Run {
             slots,

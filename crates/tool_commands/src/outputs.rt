@@ -98,7 +98,7 @@ fn over_texts<'a, K: Shelf>(shelf: &K, written: Named<'a>, texts: Texts<'a>) -> 
 fn over_others<'a, K: Shelf>(shelf: &K, written: Named<'a>, texts: Texts<'a>) -> Option<Clash<'a>> {
     let others = [
         over_texts(shelf, written, texts),
-        read_and_written(shelf, written, "--from", texts.checkpoint),
+        read_and_written(shelf, written, "the checkpoint", texts.checkpoint),
         read_and_written(shelf, written, "the datasheet", texts.sheet),
         among(shelf, written, "the report", texts.reports),
         among(shelf, written, "the trace", texts.traces),

@@ -31,9 +31,9 @@ fn files_of<'a>(command: Command<'a>) -> (&'a str, Option<&'a str>, Option<&'a s
         | Command::Fill { plan, .. }
         | Command::Demand { plan, .. } => (plan, None, None),
         Command::Arrivals { plan, from, .. } => (plan, None, from),
-        Command::Keeps { plan, script, .. }
-        | Command::Compare { plan, script, .. }
-        | Command::RunKept { plan, script, .. } => (plan, Some(script), None),
+        Command::Keeps { plan, script, .. } | Command::RunKept { plan, script, .. } => {
+            (plan, Some(script), None)
+        }
         Command::Wear {
             plan,
             script,
@@ -47,6 +47,12 @@ fn files_of<'a>(command: Command<'a>) -> (&'a str, Option<&'a str>, Option<&'a s
             ..
         }
         | Command::Draw {
+            plan,
+            script,
+            checkpoint: from,
+            ..
+        }
+        | Command::Compare {
             plan,
             script,
             checkpoint: from,

@@ -6,7 +6,7 @@ ghost use Rattle.command_arguments.specs.Arguments.{flag_rule, option_rule};
 ghost use Rattle.tool_command_words.specs.Syntax.{IsCommand, draw_app, draw_failing_app, draw_files_app, draw_forms_app, draw_run_app, draw_timed_app, draw_window_app, from_rule, to_rule};
 
 use crate::syntax::parts::{command, with_arg};
-use crate::syntax::shared::{die, fail_at, page_bytes, slot_us, strict};
+use crate::syntax::shared::{checkpoint, die, fail_at, page_bytes, slot_us, strict};
 use clap::{Arg, Command};
 use command_arguments::{defaulted, flag, option, plan_file};
 use std::alloc::{AllocError, Global};
@@ -104,19 +104,6 @@ fn all<'a>(alloc: Global) -> Arg<'a>
         alloc,
         "all",
         "Draw all slots that are asked for, and not 20000 at most",
-    )
-}
-
-/// The checkpoint from which the die goes on; `--from` is the first slot that is drawn.
-fn checkpoint<'a>(alloc: Global) -> Arg<'a>
-    ensures rule { rule_of result ≡ option_rule (codes "checkpoint") }
-    ensures local { result.global ≡ false }
-{
-    option(
-        alloc,
-        "checkpoint",
-        "CHECKPOINT",
-        "The checkpoint from which the die goes on, a CSV file; - is standard input",
     )
 }
 

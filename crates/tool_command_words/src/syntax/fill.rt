@@ -17,7 +17,7 @@ const FILL_HELP: &str =
 numbers last, all that their tasks may ask for, as arrivals --fill makes it: each page is written once, in order, before
 any is drawn. How many lives they had is reported on standard error.
 
-report, wear, arrivals, run and explain go on from there with --from CHECKPOINT, and draw with --checkpoint CHECKPOINT.
+report, wear, arrivals, run and explain go on from there with --from CHECKPOINT, draw and compare with --checkpoint.
 
 Example: flashplan fill plan.toml --to full.csv
          flashplan arrivals plan.toml --slots 1000 --from full.csv > script.csv

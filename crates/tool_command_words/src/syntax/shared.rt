@@ -38,6 +38,19 @@ pub(crate) fn begun_from<'a>(alloc: Global) -> Arg<'a>
     )
 }
 
+/// The checkpoint from which dies go on, where `--from` is the first slot that is asked for.
+pub(crate) fn checkpoint<'a>(alloc: Global) -> Arg<'a>
+    ensures rule { rule_of result ≡ option_rule (codes "checkpoint") }
+    ensures local { result.global ≡ false }
+{
+    option(
+        alloc,
+        "checkpoint",
+        "CHECKPOINT",
+        "The checkpoint from which the dies go on, a CSV file; - is standard input",
+    )
+}
+
 /// What is left to chance.
 pub(crate) fn seed<'a>(alloc: Global) -> Arg<'a>
     ensures rule { rule_of result ≡ count_rule (codes "seed") }

@@ -6,6 +6,8 @@ pub returns-clause-printed : goal.returns-clause-printed
 returns-clause-printed g c = record {
   store = c.in_ok-store.field-0.store;
   read = c.in_ok-store.ensures.store;
+  saved = c.in_ok-saved.saved;
+  begun = c.in_ok-saved.ensures;
   counts = c.in_ok-compared.compared.refused;
   ran = c.in_ok-compared.ensures;
   text = (c.in_ok-compared.compared.text.items, rw c.deref.ensures.value at c.in_ok-write_whole.ensures.whole);
@@ -21,6 +23,8 @@ returns-in_err-write_whole-clause-part g c =
         record {
           store = c.in_ok-store.field-0.store;
           read = c.in_ok-store.ensures.store;
+          saved = c.in_ok-saved.saved;
+          begun = c.in_ok-saved.ensures;
           counts = c.in_ok-compared.compared.refused;
           ran = c.in_ok-compared.ensures;
           text = (c.in_ok-compared.compared.text.items, refl);

@@ -5,10 +5,11 @@ use Rattle.slot_types.specs.declared.plans.DiePlan.{DiePlan}
 use Rattle.die_log.specs.Model.Start.{fresh}
 use Rattle.tool_script_runs.specs.RunningDies.{HasEmptyLog, starts_of}
 use Rattle.tool_script_runs.proofs.TextRuns.{empty_more, starts_more}
-use Rattle.tool_store_compare.specs.Runs.{running}
-use Rattle.tool_store_compare.specs.declared.compared_dies.ComparedDie.{ComparedDie}
+use Rattle.tool_store_compare.specs.Runs.{begun}
+use Rattle.flash_die.specs.Memory.{Memory}
+use Rattle.slot_core.specs.Core.{Core}
 use Rattle.tool_store_compare.proofs.PlansLeft.{first_left}
-use Rattle.tool_store_compare.proofs.compares.fresh_dies.Goals as goal
+use Rattle.tool_store_compare.proofs.started_dies.fresh_dies.Goals as goal
 
 pub loop-plan-preserved : goal.loop-plan-preserved
 loop-plan-preserved c =
@@ -22,12 +23,12 @@ loop-plan-preserved c =
     let left : List DiePlan = drop (i + 1) plans in
     let here : drop i plans ≡ item ∷ left = first_left plans i item below at in
     let same : c.in_ok-own.own ≡ item = search rules in
-    let pushed = c.in_ok-push_die.ensures.ok in
+    let pushed = c.in_ok-push_started.ensures.ok in
     record {
-      starts = ap (λ (l : List (Box ComparedDie)). starts_of (map running l) ++ map fresh left) pushed
-          ∙ starts_more running dies c.in_ok-die.die (fresh item) (map fresh left) (map fresh plans)
+      starts = ap (λ (l : List (Box (Core Memory))). starts_of (map begun l) ++ map fresh left) pushed
+          ∙ starts_more begun dies c.in_ok-die.die (fresh item) (map fresh left) (map fresh plans)
           (c.in_ok-die.ensures.start ∙ ap fresh same)
-          (ap (λ (l : List DiePlan). starts_of (map running dies) ++ map fresh l) (sym here) ∙ c.loop-plan.invariant.starts);
-      empty = subst (λ (l : List (Box ComparedDie)). All HasEmptyLog (map running l)) (sym pushed)
-          (empty_more running dies c.in_ok-die.die c.loop-plan.invariant.empty c.in_ok-die.ensures.log);
+          (ap (λ (l : List DiePlan). starts_of (map begun dies) ++ map fresh l) (sym here) ∙ c.loop-plan.invariant.starts);
+      empty = subst (λ (l : List (Box (Core Memory))). All HasEmptyLog (map begun l)) (sym pushed)
+          (empty_more begun dies c.in_ok-die.die c.loop-plan.invariant.empty c.in_ok-die.ensures.log);
     }
