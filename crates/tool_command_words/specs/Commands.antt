@@ -2,7 +2,8 @@
 use Rattle.std.specs.Prelude.{ℕ, ◌&&◌, ◌||◌, ◌==◌, Bool, not, List, codes, Option, Some, None, is_some, if◌then◌else◌}
 use Rattle.std.specs.Str.{bytes_eq}
 use Rattle.clap.specs.Words.{Row, Text, all_of, first_of}
-use Rattle.tool_command_words.specs.RequestTexts.{CommandText, Explain, Fit, Design, Arrivals, Fill, Keeps, Wear, Report, Draw, Demand, Compare, Run, RunKept, RequestText, Listed}
+use Rattle.tool_command_words.specs.RequestTexts.{CommandText, Explain, Fit, Design, Arrivals, Fill, Keeps, Wear, Report}
+use Rattle.tool_command_words.specs.RequestTexts.{Draw, Demand, Compare, Run, RunKept, RequestText, Listed}
 use Rattle.tool_command_words.specs.Together.{asked_together}
 use Rattle.tool_command_words.specs.Values.{◌>>=◌, fail_of, number_upto}
 use Rattle.tool_command_words.specs.declared.asked.ListCommand.{ListCommand}
@@ -34,7 +35,8 @@ arrivals_of rows = do
   phases ← first_of (codes "phases") rows
   jitter ← first_of (codes "jitter") rows >>= number_upto
   load ← first_of (codes "load") rows >>= number_upto
-  Some (Arrivals plan slots seed (bytes_eq fills (codes "true")) (bytes_eq phases (codes "true")) jitter load (first_of (codes "from") rows))
+  Some (Arrivals plan slots seed (bytes_eq fills (codes "true")) (bytes_eq phases (codes "true")) jitter load
+      (first_of (codes "from") rows))
 
 abbrev pub fill_of : List Row → Option CommandText
 fill_of rows = do
@@ -73,7 +75,8 @@ report_from rows plan script slots = do
   page_bytes ← first_of (codes "page-bytes") rows >>= number_upto
   as_csv ← first_of (codes "csv") rows
   fail ← fail_of rows
-  Some (Report plan script slots endurance slot_us page_bytes (bytes_eq as_csv (codes "true")) fail (first_of (codes "from") rows))
+  Some (Report plan script slots endurance slot_us page_bytes (bytes_eq as_csv (codes "true")) fail
+      (first_of (codes "from") rows))
 
 abbrev pub report_of : List Row → Option CommandText
 report_of rows = on_script rows (report_from rows)
@@ -89,8 +92,8 @@ draw_from rows plan script slots = do
   as_text ← first_of (codes "text") rows
   all ← first_of (codes "all") rows
   fail ← fail_of rows
-  Some (Draw plan script slots die first end slot_us page_bytes (bytes_eq worst (codes "true")) (bytes_eq as_text (codes "true"))
-      (bytes_eq all (codes "true")) fail (first_of (codes "checkpoint") rows))
+  Some (Draw plan script slots die first end slot_us page_bytes (bytes_eq worst (codes "true"))
+      (bytes_eq as_text (codes "true")) (bytes_eq all (codes "true")) fail (first_of (codes "checkpoint") rows))
 
 abbrev pub draw_run_of : List Row → Option CommandText
 draw_run_of rows = on_script rows (draw_from rows)
@@ -154,8 +157,8 @@ compare_from rows plan script slots = do
   draws ← first_of (codes "draw") rows
   die ← first_of (codes "die") rows >>= number_upto
   task ← first_of (codes "task") rows >>= number_upto
-  Some (Compare plan script slots first pool slot_us page_bytes (bytes_eq as_csv (codes "true")) (bytes_eq draws (codes "true")) die task
-      (first_of (codes "checkpoint") rows))
+  Some (Compare plan script slots first pool slot_us page_bytes (bytes_eq as_csv (codes "true"))
+      (bytes_eq draws (codes "true")) die task (first_of (codes "checkpoint") rows))
 
 abbrev pub compare_of : List Row → Option CommandText
 compare_of rows = on_script rows (compare_from rows)

@@ -19,9 +19,10 @@ pub data CommandText : Type 0 where
   Fill : (plan : Text) (lives seed : ℕ) (to : Text) → CommandText
   Keeps : (plan script : Text) (slots slot_us : ℕ) → CommandText
   Wear : (plan script : Text) (slots : ℕ) (from : Option Text) → CommandText
-  Report : (plan script : Text) (slots endurance slot_us page_bytes : ℕ) (as_csv : Bool) (fail : Option FailingDie) (from : Option Text) → CommandText
-  Draw : (plan script : Text) (slots die first end slot_us page_bytes : ℕ) (worst as_text all : Bool) (fail : Option FailingDie)
-      (checkpoint : Option Text) → CommandText
+  Report : (plan script : Text) (slots endurance slot_us page_bytes : ℕ) (as_csv : Bool) (fail : Option FailingDie)
+      (from : Option Text) → CommandText
+  Draw : (plan script : Text) (slots die first end slot_us page_bytes : ℕ) (worst as_text all : Bool)
+      (fail : Option FailingDie) (checkpoint : Option Text) → CommandText
   Demand : (plan : Text) (die : ℕ) → CommandText
   Compare : (plan script : Text) (slots first pool slot_us page_bytes : ℕ) (as_csv draws : Bool) (die task : ℕ)
       (checkpoint : Option Text) → CommandText
@@ -66,8 +67,10 @@ FitsRun (command.Arrivals plan slots seed fills phases jitter load from) = slots
 FitsRun (command.Keeps plan script slots slot_us) = slots ≤ 1048576
 FitsRun (command.Wear plan script slots from) = slots ≤ 1048576
 FitsRun (command.Report plan script slots endurance slot_us page_bytes as_csv fail from) = slots ≤ 1048576
-FitsRun (command.Draw plan script slots die first end slot_us page_bytes worst as_text all fail checkpoint) = slots ≤ 1048576
-FitsRun (command.Compare plan script slots first pool slot_us page_bytes as_csv draws die task checkpoint) = slots ≤ 1048576
+FitsRun (command.Draw plan script slots die first end slot_us page_bytes worst as_text all fail checkpoint) =
+    slots ≤ 1048576
+FitsRun (command.Compare plan script slots first pool slot_us page_bytes as_csv draws die task checkpoint) =
+    slots ≤ 1048576
 FitsRun (command.Run plan script slots from to fail) = slots ≤ 1048576
 FitsRun (command.RunKept plan script slots) = slots ≤ 1048576
 FitsRun _ = ⊤

@@ -85,11 +85,12 @@ abbrev pub arrivals_drawn_app : App
 arrivals_drawn_app = with_rule (with_rule arrivals_run_app (count_rule (codes "seed"))) (flag_rule (codes "fill"))
 
 abbrev pub arrivals_app : App
-arrivals_app = with_rule (with_rule (with_rule (with_rule arrivals_drawn_app (flag_rule (codes "phases"))) (count_rule (codes "jitter"))) load_rule)
-    (option_rule (codes "from"))
+arrivals_app = with_rule (with_rule (with_rule (with_rule arrivals_drawn_app
+    (flag_rule (codes "phases"))) (count_rule (codes "jitter"))) load_rule) (option_rule (codes "from"))
 
 abbrev pub fill_lives_app : App
-fill_lives_app = with_rule (with_rule (new_app (codes "fill")) (required_rule (codes "PLAN"))) (count_rule (codes "lives"))
+fill_lives_app =
+    with_rule (with_rule (new_app (codes "fill")) (required_rule (codes "PLAN"))) (count_rule (codes "lives"))
 
 abbrev pub fill_app : App
 fill_app = with_rule (with_rule fill_lives_app (count_rule (codes "seed"))) (needed_rule (codes "to"))
@@ -119,7 +120,8 @@ abbrev pub report_run_app : App
 report_run_app = with_rule (with_rule report_files_app slots_rule) (flag_rule (codes "csv"))
 
 abbrev pub report_timed_app : App
-report_timed_app = with_rule (with_rule (with_rule report_run_app (count_rule (codes "endurance"))) (count_rule (codes "slot-us"))) page_rule
+report_timed_app =
+    with_rule (with_rule (with_rule report_run_app (count_rule (codes "endurance"))) (count_rule (codes "slot-us"))) page_rule
 
 abbrev pub report_app : App
 report_app = with_rule (with_rule (with_rule report_timed_app fail_rule) (option_rule (codes "from"))) strict_rule
@@ -144,7 +146,8 @@ abbrev pub draw_timed_app : App
 draw_timed_app = with_rule (with_rule draw_failing_app (count_rule (codes "slot-us"))) page_rule
 
 abbrev pub draw_app : App
-draw_app = with_rule (with_rule (with_rule draw_timed_app (option_rule (codes "checkpoint"))) (flag_rule (codes "demand"))) strict_rule
+draw_app =
+    with_rule (with_rule (with_rule draw_timed_app (option_rule (codes "checkpoint"))) (flag_rule (codes "demand"))) strict_rule
 
 abbrev pub compare_files_app : App
 compare_files_app = on_files (new_app (codes "compare"))

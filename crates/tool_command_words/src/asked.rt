@@ -17,7 +17,7 @@ pub enum Command<'a> {
         plan: &'a str,
         /// The checkpoint from which its dies go on.
         from: Option<&'a str>,
-        /// How many microseconds a slot takes, and how many bytes a page has for a job; 0 where it isn't said.
+        /// How many microseconds a slot takes, and how many bytes a page has; 0 where it isn't said.
         slot_us: u32,
         page_bytes: u32,
     },
@@ -82,7 +82,7 @@ pub enum Command<'a> {
         slots: u32,
         /// How often a block may be erased; 0 where it isn't said.
         endurance: u32,
-        /// How many microseconds a slot takes, and how many bytes of a page are a job's; 0 where it isn't said.
+        /// How many microseconds a slot takes, and how many bytes a page has; 0 where it isn't said.
         slot_us: u32,
         page_bytes: u32,
         /// Whether it is printed as CSV.
@@ -103,7 +103,7 @@ pub enum Command<'a> {
         from: u32,
         /// The slot before which the picture ends.
         to: u32,
-        /// How many microseconds a slot takes, and how many bytes of a page are a job's; 0 where it isn't said.
+        /// How many microseconds a slot takes, and how many bytes a page has; 0 where it isn't said.
         slot_us: u32,
         page_bytes: u32,
         /// Whether the busy interval of the worst is drawn.
@@ -132,7 +132,7 @@ pub enum Command<'a> {
         from: u32,
         /// With fewer wholly free blocks a plain layer collects in idle slots.
         pool: u32,
-        /// How many microseconds a slot takes, and how many bytes of a page are a job's; 0 where it isn't said.
+        /// How many microseconds a slot takes, and how many bytes a page has; 0 where it isn't said.
         slot_us: u32,
         page_bytes: u32,
         /// Whether it is written as CSV.

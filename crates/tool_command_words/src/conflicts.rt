@@ -75,9 +75,6 @@ fn between<'a>(
     })
 }
 
-/// Why records are said in no other units.
-const NO_UNITS: &str = "records count slots and pages";
-
 /// An option with a number other than 0 beside a flag.
 fn some_beside<'a>(
     words: &'a [String],
@@ -91,6 +88,9 @@ fn some_beside<'a>(
     }
     Some(named)
 }
+
+/// Why records are said in no other units.
+const NO_UNITS: &str = "records count slots and pages";
 
 /// The units of a comparison that say nothing in records, or in a picture.
 fn in_compared_units(words: &[String]) -> Option<Conflict<'_>> {
@@ -147,7 +147,7 @@ fn in_draw(words: &[String]) -> Option<Conflict<'_>> {
     }
     if has(words, "--worst") {
         let why = "the picture of the worst has its own slots";
-        let from = beside(words, "--from", "--worst", why);
+        let from = some_beside(words, "--from", "--worst", why);
         return from.or(beside(words, "--to", "--worst", why));
     }
     let (from, to) = (
@@ -179,8 +179,8 @@ fn in_compare(words: &[String]) -> Option<Conflict<'_>> {
     }
     let why = "a die and a task are those of the picture, which --draw draws";
     if !has(words, "--draw") {
-        let task = beside(words, "--task", "no --draw", why);
-        let alone = task.or(beside(words, "--die", "no --draw", why));
+        let task = some_beside(words, "--task", "no --draw", why);
+        let alone = task.or(some_beside(words, "--die", "no --draw", why));
         if alone.is_some() {
             return alone;
         }
@@ -195,10 +195,17 @@ fn in_report(words: &[String]) -> Option<Conflict<'_>> {
         return None;
     }
     let rates = some_beside(words, "--page-bytes", "--csv", NO_UNITS);
-    if value_in(words, "--endurance").unwrap_or("0") != "0" {
-        return rates;
+    let why = "without --endurance records have no times";
+    rates.or(some_beside(words, "--slot-us", "--csv", why))
+}
+
+/// The options of `arrivals` that don't go together.
+fn in_arrivals(words: &[String]) -> Option<Conflict<'_>> {
+    if !has(words, "--fill") {
+        return None;
     }
-    rates.or(some_beside(words, "--slot-us", "--csv", NO_UNITS))
+    let why = "pages that lie in no cell of the checkpoint are filled anyway";
+    beside(words, "--from", "--fill", why)
 }
 
 /// The options of `run` that don't go together with `--keep`.
@@ -215,6 +222,7 @@ fn in_run(words: &[String]) -> Option<Conflict<'_>> {
 /// The first two options in the words that don't go together, where clap and the numbers have no fault.
 pub(crate) fn conflict_in(words: &[String]) -> Option<Conflict<'_>> {
     match words.get(1)?.as_str() {
+        "arrivals" => in_arrivals(words),
         "draw" => in_draw(words),
         "compare" => in_compare(words),
         "report" => in_report(words),

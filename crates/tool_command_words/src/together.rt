@@ -26,6 +26,7 @@ pub(crate) fn goes_together(command: Command<'_>) -> bool
     ensures { result ≡ goes_together (text_of_command command.entry) }
 {
     match command {
+        Command::Arrivals { fills, from, .. } => !(fills && from.is_some()),
         Command::Report {
             endurance,
             slot_us,

@@ -17,11 +17,11 @@ const ARRIVALS_HELP: &str =
 A collection of each task comes at each multiple of its collect_period, a job at each multiple of its period.
 A job has `work` operations, of which `writes` are writes; the seed draws which, and their pages.
 Of a task that writes one in eight of the others is a trim, the rest are reads.
-Of a plan with terms it is asked for in jobs of at most 64 operations, which are due `deadline` slots later; --fill, --phases,
---jitter and --load are for plans with times alone.
+Of a plan with terms it is asked for in jobs of at most 64 operations, which are due `deadline` slots later; --fill,
+--phases, --jitter, --load and --from are for plans with times alone.
 The pages of task t of n tasks are t, t + n, t + 2n and so on; a task beyond the last page has page t modulo `logical`.
 With --fill the writing tasks share all pages, and each first writes its own once, in order; nothing is trimmed.
-With --from a checkpoint says which pages lie in cells: the others are filled, and these aren't written a first time.
+With --from the pages that lie in no cell of the checkpoint are filled likewise, without --fill.
 A task that fills its pages begins in slot 0, and leaves no job out and none late until it has.
 What is written says where it comes from: slot, task, page and place in the job, each in 8 digits.
 

@@ -11,11 +11,12 @@ use clap::{Arg, Command};
 use command_arguments::{defaulted, needed, plan_file};
 use std::alloc::{AllocError, Global};
 
-/// What is behind full dies.
+/// How dies are filled, and what goes on from there.
 const FILL_HELP: &str =
-    "The plan has to have times (version 2), and to pass its test. The dies run life after life, each for as many slots as their
-numbers last, all that their tasks may ask for, as arrivals --fill makes it: each page is written once, in order, before
-any is drawn. How many lives they had is reported on standard error.
+    "The plan has to have times (version 2), and to pass its test. The dies run life after life, each for as many slots
+as their numbers last, all that their tasks may ask for, as arrivals --fill makes it: each page is written once, in
+order, before any is drawn. What stands on them is printed, as explain --from says it, and how many lives they had is
+reported on standard error.
 
 report, wear, arrivals, run and explain go on from there with --from CHECKPOINT, draw and compare with --checkpoint.
 
@@ -33,7 +34,7 @@ fn lives<'a>(alloc: Global) -> Arg<'a>
         "lives",
         "L",
         "0",
-        "Let the dies have so many lives, and more until they are full, from 0 to 1048576; at most 1000 are run",
+        "How many lives the dies have at least, from 0 to 1048576; more until they are full, and 1000 at most",
     )
 }
 
@@ -46,7 +47,7 @@ fn saved_to<'a>(alloc: Global) -> Arg<'a>
         alloc,
         "to",
         "CHECKPOINT",
-        "The file to which the checkpoint of the full dies is written, whole or not at all; - is standard output (required)",
+        "The file that gets the checkpoint of the full dies, whole or not at all; - is standard output (required)",
     )
 }
 

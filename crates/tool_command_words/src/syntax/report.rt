@@ -20,7 +20,7 @@ fn endurance<'a>(alloc: Global) -> Arg<'a>
         "endurance",
         "E",
         "0",
-        "How often a block may be erased, from 0 to 1048576; where a slot's length is known, tells how long blocks last",
+        "How often a block may be erased, from 0 to 1048576; where a slot's length is known, says how long blocks last",
     )
 }
 

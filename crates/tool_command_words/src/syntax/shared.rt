@@ -79,7 +79,7 @@ pub(crate) fn slot_us<'a>(alloc: Global) -> Arg<'a>
     )
 }
 
-/// How many bytes of a page are a job's.
+/// How many bytes a page has.
 pub(crate) fn page_bytes<'a>(alloc: Global) -> Arg<'a>
     ensures rule { rule_of result ≡ page_rule }
     ensures local { result.global ≡ false }
@@ -87,9 +87,9 @@ pub(crate) fn page_bytes<'a>(alloc: Global) -> Arg<'a>
     defaulted(
         alloc,
         "page-bytes",
-        "B",
+        "P",
         "0",
-        "How many bytes a page has, from 0 to 1048576; 0 is unknown. With it, rates are told in MB/s",
+        "How many bytes a page has, from 0 to 1048576; 0 is unknown. With it, rates are reported in MB/s",
     )
 }
 
