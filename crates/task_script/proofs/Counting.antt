@@ -1,9 +1,9 @@
 -- Counts of rows: row by row, and one after the other.
 use Rattle.std.proofs.Common.{◌≡◌, ℕ, suc, ◌+◌, ◌<◌, nat_lt, Bool, true, false, cond, List, [], ◌∷◌, ◌++◌, refl, ap, sym, ◌∙◌}
-use Rattle.std.proofs.Common.{length, arith, append_assoc, Option, Some, None, ◌==◌}
+use Rattle.std.proofs.Common.{length, zero-add, arith, append_assoc, Option, Some, None, ◌==◌}
 use Rattle.std.specs.Prelude.{count_by, get_or, if◌then◌else◌, is_none, is_some}
-use Rattle.std.proofs.lemmas.List.{append-nil, ext_get_or}
-use Rattle.std.proofs.lemmas.List.FromFn.{get_or-map-range_with_len, length-map-range_with_len}
+use Rattle.std.proofs.lemmas.List.{append-nil}
+use Rattle.std.proofs.lemmas.List.FromFn.{fill_by_all, get_or-map-range_with_len, length-map-range_with_len}
 use Rattle.std.proofs.lemmas.Bool.{ltb-true, ltb-false, lt-ltb, le-ltb}
 use Rattle.std.proofs.lemmas.List.Sums.{sum_by-append, sum_by-cons}
 use Rattle.slot_types.specs.Refusal.{number_of}
@@ -20,16 +20,19 @@ use Rattle.task_script.specs.declared.run_counts.RunCount.{RunCount}
 -- what each refusal has is known by its numbers
 pub by_numbers : (kinds : List ℕ) (f : ℕ → ℕ) → length kinds ≡ 25 → ((number : ℕ) → number < 25 → get_or kinds number 0 ≡ f number)
     → kinds ≡ by_number f
-by_numbers kinds f long are = ext_get_or 0 kinds (by_number f) (long ∙ sym (length-map-range_with_len f 0 25))
-    (λ number within.
-    let below : number < 25 = omega (arith, within, long) in
-    are number below ∙ sym (get_or-map-range_with_len f 0 25 number number 0 below refl))
+unfolding by_number
+by_numbers kinds f long are = fill_by_all f kinds 25 0 long are
 
 numbered : (f : ℕ → ℕ) (number : ℕ) → number < 25 → get_or (by_number f) number 0 ≡ f number
-numbered f number below = get_or-map-range_with_len f 0 25 number number 0 below refl
+unfolding by_number
+numbered f number below = get_or-map-range_with_len f 0 25 number number 0 below (zero-add number)
+
+long : (f : ℕ → ℕ) → length (by_number f) ≡ 25
+unfolding by_number
+long f = length-map-range_with_len f 0 25
 
 same_by_number : (f g : ℕ → ℕ) → ((number : ℕ) → number < 25 → f number ≡ g number) → by_number f ≡ by_number g
-same_by_number f g same = by_numbers (by_number f) g (length-map-range_with_len f 0 25)
+same_by_number f g same = by_numbers (by_number f) g (long f)
     (λ number below. numbered f number below ∙ same number below)
 
 one_more : (b : Bool) (n : ℕ) → (if b then capped (capped n + 1) else capped n) ≡ capped (n + (if b then 1 else 0))

@@ -47,7 +47,7 @@ abbrev pub refused_with : List RowEnd → ℕ → ℕ
 refused_with ends number = capped (count_by (λ (end : RowEnd). has_number number end.refusal) ends)
 
 -- what each refusal has, by its number from 0 to 24
-abbrev pub by_number : (ℕ → ℕ) → List ℕ
+unfoldable pub by_number : (ℕ → ℕ) → List ℕ
 by_number f = map f (range_with_len 0 25)
 
 -- Counts

@@ -91,6 +91,7 @@ fn sum_of_kinds(kinds: [u32; NUMBERS], more: &[u32; NUMBERS]) -> [u32; NUMBERS]
 
 impl RunCount {
     /// No row was counted.
+    #[tactic(auto, unfolding(crate::specs::RunCounts::by_number))]
     pub fn none() -> RunCount
         ensures { result ≡ count_of [] }
     {
