@@ -7,8 +7,9 @@ use Rattle.slot_types.specs.declared.events.Op.{Op}
 use Rattle.slot_types.specs.declared.events.Event.TheVariants as events
 use Rattle.plan_rules.specs.Keeping.{TaskArrival, arrivals}
 use Rattle.demand_keeping.specs.declared.windows.Count.{Count}
+use Rattle.demand_keeping.specs.BySlot.{CountsNothing, CountsOne}
 use Rattle.demand_keeping.specs.Planned.{job_of}
-use Rattle.demand_keeping.specs.Windows.{slot_of, amount_of, is_in, amount, amount_in, CountsNothing, CountsOne}
+use Rattle.demand_keeping.specs.Windows.{slot_of, amount_of, is_in, amount_in}
 
 module _ (c : Count) (task : ℕ) where
   pub counts_job : (now other release due : ℕ) (ops : List Op) → other ≡ task
@@ -18,13 +19,11 @@ module _ (c : Count) (task : ℕ) where
       let a : TaskArrival = job_of now other release due ops in
       let is : (other == task) ≡ true = eq-eqb other task same in
       record {
-        all = omega (arith, sum_by-cons (amount c task) a [], ap (λ b. cond (not false && b) (amount_of c a) 0) is);
         inside = λ start end. omega (
           arith,
           sum_by-cons (amount_in c task start end) a [],
           ap (λ b. cond ((not false && b) && is_in start end (slot_of c a)) (amount_of c a) 0) is,
         );
-        each = (refl, tt);
       }
 
   pub counts_other : (now other release due : ℕ) (ops : List Op) → (other ≡ task → ⊥)
@@ -33,17 +32,15 @@ module _ (c : Count) (task : ℕ) where
       let a : TaskArrival = job_of now other release due ops in
       let is : (other == task) ≡ false = ne_eqb other task differ in
       record {
-        all = omega (arith, sum_by-cons (amount c task) a [], ap (λ b. cond (not false && b) (amount_of c a) 0) is);
         inside = λ start end. omega (
           arith,
           sum_by-cons (amount_in c task start end) a [],
           ap (λ b. cond ((not false && b) && is_in start end (slot_of c a)) (amount_of c a) 0) is,
         );
-        each = (ap (λ b. not false && b) is, tt);
       }
 
   pub counts_collection : (now other release due : ℕ) → CountsNothing c task (arrivals now (events.Collect other release due ∷ []))
-  counts_collection now other release due = record { all = refl; inside = λ start end. refl; each = (refl, tt) }
+  counts_collection now other release due = record { inside = λ start end. refl }
 
   pub counts_slot : (now : ℕ) → CountsNothing c task (arrivals now (events.Slot ∷ []))
-  counts_slot now = record { all = refl; inside = λ start end. refl; each = tt }
+  counts_slot now = record { inside = λ start end. refl }

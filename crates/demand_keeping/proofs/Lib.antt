@@ -1,7 +1,8 @@
 pub mod Taking
-pub mod Ends
-pub mod Finding
-pub mod Steps
+pub mod Between
+pub mod Slides
+pub mod Collected
 pub mod Counting
+pub mod Found
 pub mod Breaking
 pub mod SlotBySlot

@@ -1,4 +1,5 @@
 pub mod Windows
+pub mod BySlot
 pub mod Sliding
 pub mod Overfull
 pub mod Planned

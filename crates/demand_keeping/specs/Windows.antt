@@ -1,6 +1,5 @@
 -- What the jobs of a task ask of a window of slots.
-use Rattle.std.specs.Prelude.{ℕ, ◌≡◌, ◌+◌, ◌-◌, ◌≤◌, ◌&&◌, ◌==◌, not, nat_le, nat_lt, Bool, false, if◌then◌else◌, List, length, sum_by}
-use Rattle.std.specs.List.{AllByRecursion}
+use Rattle.std.specs.Prelude.{ℕ, ◌+◌, ◌-◌, ◌≤◌, ◌&&◌, ◌==◌, not, nat_le, nat_lt, Bool, if◌then◌else◌, List, length, sum_by}
 use Rattle.slot_types.specs.declared.events.Event.{Event}
 use Rattle.slot_types.specs.Operations.{writes}
 use Rattle.plan_rules.specs.Keeping.{TaskArrival, arrivals}
@@ -22,15 +21,9 @@ is_job_of task a = not a.collects && (a.task == task)
 abbrev pub is_in : ℕ → ℕ → ℕ → Bool
 is_in start end slot = nat_le start slot && nat_lt slot end
 
--- what is counted of a job, in all and in the slots from `start` on, `end` not among them
-abbrev pub amount : Count → ℕ → TaskArrival → ℕ
-amount c task a = if is_job_of task a then amount_of c a else 0
-
+-- what is counted of a job in the slots from `start` on, `end` not among them
 abbrev pub amount_in : Count → ℕ → ℕ → ℕ → TaskArrival → ℕ
 amount_in c task start end a = if is_job_of task a && is_in start end (slot_of c a) then amount_of c a else 0
-
-abbrev pub total : Count → ℕ → List TaskArrival → ℕ
-total c task all = sum_by (amount c task) all
 
 abbrev pub window : Count → ℕ → ℕ → ℕ → List TaskArrival → ℕ
 window c task start end all = sum_by (amount_in c task start end) all
@@ -42,15 +35,3 @@ KeepsLimit c task period limit all = (start : ℕ) → window c task start (star
 -- where the first window of a period begins that has this slot
 abbrev pub first_with : (period slot : ℕ) → ℕ
 first_with period slot = slot - (period - 1)
-
--- there is no job of the task among these
-pub record CountsNothing (c : Count) (task : ℕ) (came : List TaskArrival) : Type 0 where
-  pub all : total c task came ≡ 0
-  pub inside : (start end : ℕ) → window c task start end came ≡ 0
-  pub each : AllByRecursion (λ a. is_job_of task a ≡ false) came
-
--- there is one, and so much is counted of it, in this slot
-pub record CountsOne (c : Count) (task : ℕ) (came : List TaskArrival) (slot own : ℕ) : Type 0 where
-  pub all : total c task came ≡ own
-  pub inside : (start end : ℕ) → window c task start end came ≡ (if is_in start end slot then own else 0)
-  pub each : AllByRecursion (λ a. slot_of c a ≡ slot) came

@@ -1,6 +1,7 @@
 //! Whether events keep to a plan, and else what breaks it.
 
-ghost use Rattle.std.specs.Prelude.{◌≡◌, ℕ, ◌+◌, ◌<◌, ◌≤◌, ◌↔◌, [], ◌∷◌, length, All, IsOk, IfErr, IfSome, IsNone};
+ghost use Rattle.std.specs.Prelude.{◌≡◌, ℕ, ◌+◌, ◌<◌, ◌≤◌, ◌↔◌, [], ◌∷◌, length, All, IsOk, IfErr, IfOk, IfSome, IsNone};
+ghost use Rattle.slot_types.specs.Refusal.{FailsForMemory};
 ghost use Rattle.slot_types.specs.declared.limits.TheConstants.{MAX_SLOT};
 ghost use Rattle.plan_rules.specs.Keeping.{arrivals, slots};
 ghost use Rattle.demand_rules.specs.Demand.{HasTerms};
@@ -8,11 +9,12 @@ ghost use Rattle.demand_rules.specs.Keeping.{IsDemanded, KeepsDemandPlan};
 ghost use Rattle.demand_keeping.specs.Breaches.{AreKeptBelow, ArePlanned, AreTasksKept, BreaksAlone, IsFirstBreach, IsInLimits, IsTaskKept};
 
 use crate::collecting::wrong_collection;
+use crate::overfull::window_above;
 use crate::planning::{CollectionRule, JobRule, broken_of_collection, broken_of_job, task_terms};
-use crate::sliding::window_above;
 use crate::windows::{Count, Limit, slots_in};
 use demand_rules::{LimitFault, Terms, limits_test};
-use slot_types::{DiePlan, Event, MAX_JOBS, MAX_SLOT};
+use slot_types::{DiePlan, Event, MAX_JOBS, MAX_SLOT, Refusal};
+use std::alloc::Global;
 
 /// The first condition of a plan that doesn't hold of events, in the order in which these stand here.
 #[derive(Clone, Copy, PartialEq, Eq, Debug, Drop)]
@@ -101,19 +103,22 @@ fn first_broken(plan: &DiePlan, terms: &Terms, end: u32, events: &[Event]) -> Op
     None
 }
 
-// What breaks the plan of a task's operations, its writes or its collections, the first of these.
+// What breaks the plan of a task's operations, its writes or its collections, the first of these. The only refusal is
+// NoMemory.
 fn broken_of_task(
+    alloc: Global,
     plan: &DiePlan,
     terms: &Terms,
     task: u32,
     end: u32,
     events: &[Event],
-) -> Option<Breach>
+) -> Result<Option<Breach>, Refusal>
     requires kept { AreKeptBelow plan.now terms.now events.now task }
     requires end { end ≡ slots events.now }
     requires few { end ≤ 1048576 }
-    ensures none { IsNone result → IsTaskKept terms.now task events.now }
-    ensures first { IfSome result (IsFirstBreach plan.now terms.now events.now) }
+    ensures none { IfOk result (λ found. IsNone found → IsTaskKept terms.now task events.now) }
+    ensures first { IfOk result (λ found. IfSome found (IsFirstBreach plan.now terms.now events.now)) }
+    ensures refused { FailsForMemory result }
 {
     let own = task_terms(terms, task as usize);
     let operations = Limit {
@@ -122,8 +127,8 @@ fn broken_of_task(
         period: own.period,
         limit: own.work,
     };
-    if let Some(start) = window_above(operations, events) {
-        return Some(Breach::Operations { task, start });
+    if let Some(start) = window_above(alloc, operations, events)? {
+        return Ok(Some(Breach::Operations { task, start }));
     }
     let writes = Limit {
         count: Count::Writes,
@@ -131,59 +136,74 @@ fn broken_of_task(
         period: own.period,
         limit: own.writes,
     };
-    if let Some(start) = window_above(writes, events) {
-        return Some(Breach::Writes { task, start });
+    if let Some(start) = window_above(alloc, writes, events)? {
+        return Ok(Some(Breach::Writes { task, start }));
     }
     if let Some(slot) = wrong_collection(plan, terms, task, &own, end, events) {
-        return Some(Breach::Collections { task, slot });
+        return Ok(Some(Breach::Collections { task, slot }));
     }
-    None
+    Ok(None)
 }
 
-fn first_broken_task(plan: &DiePlan, terms: &Terms, end: u32, events: &[Event]) -> Option<Breach>
+// What breaks the plan of the first task of which anything does. The only refusal is NoMemory.
+fn first_broken_task(
+    alloc: Global,
+    plan: &DiePlan,
+    terms: &Terms,
+    end: u32,
+    events: &[Event],
+) -> Result<Option<Breach>, Refusal>
     requires few_tasks { length plan.now.caps ≤ 16 }
     requires end { end ≡ slots events.now }
     requires few { end ≤ 1048576 }
     requires planned { ArePlanned plan.now terms.now events.now events.now }
-    ensures none { IsNone result → AreTasksKept terms.now (length plan.now.caps) events.now }
-    ensures first { IfSome result (IsFirstBreach plan.now terms.now events.now) }
+    ensures none { IfOk result (λ found.
+        IsNone found → AreTasksKept terms.now (length plan.now.caps) events.now) }
+    ensures first { IfOk result (λ found. IfSome found (IsFirstBreach plan.now terms.now events.now)) }
+    ensures refused { FailsForMemory result }
 {
     for task in 0..plan.caps.len() {
-        if let Some(breach) = broken_of_task(plan, terms, task as u32, end, events) {
-            return Some(breach);
+        if let Some(breach) = broken_of_task(alloc, plan, terms, task as u32, end, events)? {
+            return Ok(Some(breach));
         }
     }
-    None
+    Ok(None)
 }
 
 /// Whether events keep to a plan with deadlines and bursts; else the first condition that doesn't hold. It takes any plan of
-/// at most 16 tasks, any terms and events, and no memory.
+/// at most 16 tasks, any terms and events. The only refusal is NoMemory.
 ///
 /// It looks at the terms, the numbers of slots and of jobs and collections, each event by itself, and then task by task at
-/// what is released in a period, what comes in one, and at its collections. It takes time linear in the events for each
-/// task, where the jobs of each task are released in the order in which they come; else, of such a task, at most twice as
-/// often that as it has jobs.
-pub fn keeps_demand_plan(plan: &DiePlan, terms: &Terms, events: &[Event]) -> Result<(), Breach>
+/// what is released in a period, what comes in one, and at its collections. For each task it takes time linear in the events,
+/// and that of sorting the task's jobs by slot; and memory for what is counted of these: 24 bytes for each, and up to three
+/// times that while the list of them grows and is sorted.
+pub fn keeps_demand_plan(
+    alloc: Global,
+    plan: &DiePlan,
+    terms: &Terms,
+    events: &[Event],
+) -> Result<Result<(), Breach>, Refusal>
     requires { length plan.now.caps ≤ 16 }
-    ensures keeps { IsOk result ↔ KeepsDemandPlan plan.now terms.now events.now }
-    ensures breach { IfErr result (IsFirstBreach plan.now terms.now events.now) }
+    ensures keeps { IfOk result (λ kept. IsOk kept ↔ KeepsDemandPlan plan.now terms.now events.now) }
+    ensures breach { IfOk result (λ kept. IfErr kept (IsFirstBreach plan.now terms.now events.now)) }
+    ensures refused { FailsForMemory result }
 {
     if let Err(fault) = limits_test(plan, terms) {
-        return Err(Breach::Limits(fault));
+        return Ok(Err(Breach::Limits(fault)));
     }
     let slots = slots_of(events);
     if slots > MAX_SLOT as usize {
-        return Err(Breach::Slots);
+        return Ok(Err(Breach::Slots));
     }
     if events.len() - slots > MAX_JOBS as usize {
-        return Err(Breach::Arrivals);
+        return Ok(Err(Breach::Arrivals));
     }
     let end = slots as u32;
     if let Some(breach) = first_broken(plan, terms, end, events) {
-        return Err(breach);
+        return Ok(Err(breach));
     }
-    match first_broken_task(plan, terms, end, events) {
-        Some(breach) => Err(breach),
-        None => Ok(()),
+    match first_broken_task(alloc, plan, terms, end, events)? {
+        Some(breach) => Ok(Err(breach)),
+        None => Ok(Ok(())),
     }
 }

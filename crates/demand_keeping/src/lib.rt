@@ -1,6 +1,7 @@
 //! Whether events keep to a plan with deadlines and bursts, and where they break it.
 #![tactic(auto)]
 
+mod by_slot;
 mod collecting;
 mod keeping;
 mod overfull;

@@ -1,72 +1,58 @@
-//! The first window that gets more than a limit, where windows have to be counted one by one.
+//! The first window that gets more than a limit, as the events come one by one.
 
-ghost use Rattle.std.specs.Prelude.{ℕ, ◌+◌, ◌<◌, ◌≤◌, length, take, IsNone, IfSome};
-ghost use Rattle.plan_rules.specs.Keeping.{arrivals, slots};
-ghost use Rattle.demand_keeping.specs.Overfull.{IsFirstOverfull, IsOverfull};
-ghost use Rattle.demand_keeping.specs.Windows.{KeepsLimit, window};
+ghost use Rattle.std.specs.Prelude.{◌≤◌, IsNone, IfOk, IfSome};
+ghost use Rattle.std.specs.List.Sorted.{IsNonDecreasingBy};
+ghost use Rattle.slot_types.specs.Refusal.{FailsForMemory};
+ghost use Rattle.plan_rules.specs.Keeping.{slots};
+ghost use Rattle.demand_keeping.specs.BySlot.{HaveRoom, IsFirstOfAll};
+ghost use Rattle.demand_keeping.specs.Overfull.{IsFirstOverfull};
+ghost use Rattle.demand_keeping.specs.Windows.{KeepsLimit};
 
-use crate::windows::{Limit, count_of, event_above, slots_in, start_with};
-use slot_types::Event;
+use crate::by_slot::by_slot;
+use crate::sliding::first_above;
+use crate::windows::{Counted, Limit};
+use slot_types::{Event, Refusal};
+use std::alloc::Global;
 
-/// A window that gets more than the limit with the event at an index.
-#[derive(Clone, Copy)]
-pub(crate) struct Overfull {
-    index: usize,
-    start: u32,
-}
-
-// The first event with which a window gets more than the limit, and such a window. Only those that end with a job are looked
-// at: each other one that counts anything counts no more than one of them.
-fn first_event_above(of: Limit, events: &[Event]) -> Option<Overfull>
-    requires { slots events.now ≤ 1048576 }
-    ensures none { IsNone result → KeepsLimit of.count of.task of.period of.limit events.now }
-    ensures some { IfSome result (IsOverfull of.count of.task of.period of.limit events.now) }
+// Where the window begins that gets more than the limit first, of `all` events. What a window has only grows with the events,
+// so the first one with which a window has too much is found by halves.
+fn first_of_all(of: Limit, jobs: &[Counted], all: usize) -> Option<u32>
+    requires some { 1 ≤ of.period }
+    requires rising { IsNonDecreasingBy (λ job. job.slot) jobs.now }
+    ensures none { IsNone result → HaveRoom of.period of.limit all jobs.now }
+    ensures some { IfSome result (IsFirstOfAll of.period of.limit jobs.now) }
 {
-    let mut found: Option<Overfull> = None;
-    let mut seen = events.len();
-    let mut now: u32 = 0;
-    for i in 0..events.len() {
-        if let Some(own) = count_of(of, now, &events[i]) {
-            let start = start_with(of, own.slot);
-            if let Some(index) = event_above(of, start, events, seen) {
-                found = Some(Overfull { index, start });
-                seen = index;
+    let mut found = first_above(of, jobs, all)?;
+    let mut few = 0;
+    let mut many = all;
+    while many - few > 1 {
+        let seen = few + (many - few) / 2;
+        match first_above(of, jobs, seen) {
+            Some(start) => {
+                found = start;
+                many = seen;
             }
+            None => few = seen,
         }
-        now += slots_in(&events[i]);
     }
-    found
+    Some(found)
 }
 
-// Of the windows that have more than the limit with that event, where the one begins that begins first.
-fn first_start(of: Limit, events: &[Event], found: Overfull) -> u32
+/// Where the first window begins that gets more than the limit, if there is one. The only refusal is NoMemory. It takes time
+/// linear in the events, and that of sorting the task's jobs by slot; and memory for what is counted of these.
+pub(crate) fn window_above(
+    alloc: Global,
+    of: Limit,
+    events: &[Event],
+) -> Result<Option<u32>, Refusal>
+    requires some { 1 ≤ of.period }
     requires few { slots events.now ≤ 1048576 }
-    requires overfull { IsOverfull of.count of.task of.period of.limit events.now found }
-    ensures { IsFirstOverfull of.count of.task of.period of.limit events.now result }
+    ensures none { IfOk result (λ found.
+        IsNone found → KeepsLimit of.count of.task of.period of.limit events.now) }
+    ensures some { IfOk result (λ found.
+        IfSome found (IsFirstOverfull of.count of.task of.period of.limit events.now)) }
+    ensures refused { FailsForMemory result }
 {
-    let seen = found.index + 1;
-    let mut start = found.start;
-    let mut now: u32 = 0;
-    for i in 0..seen {
-        if let Some(own) = count_of(of, now, &events[i]) {
-            let other = start_with(of, own.slot);
-            if other < start && event_above(of, other, events, seen).is_some() {
-                start = other;
-            }
-        }
-        now += slots_in(&events[i]);
-    }
-    start
-}
-
-/// Where the first window begins that gets more than the limit. Each window that ends with a job is counted, twice at most.
-pub(crate) fn first_overfull(of: Limit, events: &[Event]) -> Option<u32>
-    requires { slots events.now ≤ 1048576 }
-    ensures none { IsNone result → KeepsLimit of.count of.task of.period of.limit events.now }
-    ensures some { IfSome result (IsFirstOverfull of.count of.task of.period of.limit events.now) }
-{
-    match first_event_above(of, events) {
-        Some(found) => Some(first_start(of, events, found)),
-        None => None,
-    }
+    let jobs = by_slot(alloc, of, events)?;
+    Ok(first_of_all(of, jobs.as_slice(), events.len()))
 }

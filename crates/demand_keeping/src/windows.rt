@@ -1,10 +1,10 @@
-//! What a task's jobs ask of a window of slots, counted over the events.
+//! What is counted of a task's jobs, and in which slot.
 
-ghost use Rattle.std.specs.Prelude.{◌≡◌, ℕ, ◌+◌, ◌<◌, ◌≤◌, ◌↔◌, [], ◌∷◌, length, take, count_by, IsTrue, IsNone, IfSome};
+ghost use Rattle.std.specs.Prelude.{◌≡◌, ◌≤◌, [], ◌∷◌, count_by, IsNone, IfSome};
 ghost use Rattle.slot_types.specs.Operations.{is_write};
 ghost use Rattle.plan_rules.specs.Keeping.{arrivals, slots};
-ghost use Rattle.demand_keeping.specs.Overfull.{GetsTooMuch};
-ghost use Rattle.demand_keeping.specs.Windows.{CountsNothing, CountsOne, first_with, window};
+ghost use Rattle.demand_keeping.specs.BySlot.{CountsNothing, CountsOne};
+ghost use Rattle.demand_keeping.specs.Windows.{first_with};
 
 use slot_types::{Event, Op};
 
@@ -26,9 +26,10 @@ pub(crate) struct Limit {
     pub limit: u32,
 }
 
-/// What is counted of a job, and in which slot.
-#[derive(Clone, Copy)]
+/// What is counted of a job, in which slot, and which of the events it is.
+#[derive(Clone, Copy, Drop)]
 pub(crate) struct Counted {
+    pub index: usize,
     pub slot: u32,
     pub amount: usize,
 }
@@ -60,10 +61,11 @@ pub(crate) fn start_with(of: Limit, slot: u32) -> u32
 }
 
 /// What is counted of a job of the task, if the event that comes in slot `now` is one.
-pub(crate) fn count_of(of: Limit, now: u32, event: &Event) -> Option<Counted>
+pub(crate) fn count_of(of: Limit, index: usize, now: u32, event: &Event) -> Option<Counted>
     ensures none { IsNone result → CountsNothing of.count of.task (arrivals now (event.now ∷ [])) }
     ensures some { IfSome result (λ own.
         CountsOne of.count of.task (arrivals now (event.now ∷ [])) own.slot own.amount) }
+    ensures index { IfSome result (λ own. own.index ≡ index) }
 {
     if let Event::Submit {
         task: other,
@@ -75,52 +77,17 @@ pub(crate) fn count_of(of: Limit, now: u32, event: &Event) -> Option<Counted>
         if other.0 == of.task {
             return Some(match of.count {
                 Count::Operations => Counted {
+                    index,
                     slot: *release,
                     amount: ops.len(),
                 },
                 Count::Writes => Counted {
+                    index,
                     slot: now,
                     amount: writes(ops.as_slice()),
                 },
             });
         }
-    }
-    None
-}
-
-/// What is counted of a job in a window, if the event that comes in slot `now` is one of the task; 0 if it isn't.
-fn amount_in(of: Limit, start: u32, now: u32, event: &Event) -> usize
-    ensures { result ≡ window of.count of.task start (start + of.period) (arrivals now (event.now ∷ [])) }
-{
-    match count_of(of, now, event) {
-        Some(own) => {
-            if start <= own.slot && u64::from(own.slot) < u64::from(start) + u64::from(of.period) {
-                own.amount
-            } else {
-                0
-            }
-        }
-        None => 0,
-    }
-}
-
-/// The index of the event, one of the first `seen`, with which a window gets more than the limit.
-pub(crate) fn event_above(of: Limit, start: u32, events: &[Event], seen: usize) -> Option<usize>
-    requires few { slots events.now ≤ 1048576 }
-    requires within { seen ≤ length events.now }
-    ensures none { IsNone result →
-        window of.count of.task start (start + of.period) (arrivals 0 (take seen events.now)) ≤ of.limit }
-    ensures some { IfSome result (GetsTooMuch of.count of.task of.period of.limit events.now seen start) }
-{
-    let mut sum: usize = 0;
-    let mut now: u32 = 0;
-    for i in 0..seen {
-        let amount = amount_in(of, start, now, &events[i]);
-        if amount > of.limit as usize - sum {
-            return Some(i);
-        }
-        sum += amount;
-        now += slots_in(&events[i]);
     }
     None
 }

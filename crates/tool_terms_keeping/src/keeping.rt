@@ -30,7 +30,7 @@ fn die_breach(
 {
     let own = &store.as_slice()[die as usize];
     let events = events_on(alloc, text, plans, slots, die)?;
-    match keeps_demand_plan(&own.plan, &own.terms, events.as_slice()) {
+    match keeps_demand_plan(alloc, &own.plan, &own.terms, events.as_slice())? {
         Ok(()) => Ok(None),
         Err(breach) => Ok(Some(breach)),
     }

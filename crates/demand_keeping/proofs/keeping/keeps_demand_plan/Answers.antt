@@ -1,7 +1,9 @@
 use Rattle.std.proofs.Common.{refl, sym, arith}
 use Rattle.std.proofs.lemmas.Bool.{true≢false}
 use Rattle.plan_rules.proofs.Walking.{how_many}
+use Rattle.demand_keeping.specs.Breaches.{IsFirstBreach}
 use Rattle.demand_keeping.proofs.Breaking.{breaks, keeps_if}
+use Rattle.demand_keeping.proofs.Found.{none_is, some_is}
 use Rattle.demand_keeping.proofs.keeping.keeps_demand_plan.Goals as goal
 
 pub returns-then-slots-clause-breach : goal.returns-then-slots-clause-breach
@@ -42,15 +44,17 @@ returns-in-Some-clause-keeps c = (
   λ keeps. absurd (breaks c.args.plan.now c.args.terms.now c.args.events.now c.in-Some.breach c.in-Some.ensures.first keeps),
 )
 
-pub returns-in-Some-first_broken_task-clause-keeps : goal.returns-in-Some-first_broken_task-clause-keeps
-returns-in-Some-first_broken_task-clause-keeps c = (
+pub returns-in-Some-2-clause-keeps : goal.returns-in-Some-2-clause-keeps
+returns-in-Some-2-clause-keeps c = (
   λ ok. absurd (true≢false (sym ok)),
-  λ keeps. absurd (breaks c.args.plan.now c.args.terms.now c.args.events.now c.in-Some-first_broken_task.breach
-      c.in-Some-first_broken_task.ensures.first keeps),
+  λ keeps. absurd (breaks c.args.plan.now c.args.terms.now c.args.events.now c.in-Some-2.breach
+      (some_is (IsFirstBreach c.args.plan.now c.args.terms.now c.args.events.now) _ c.in-Some-2.breach c.in-Some-2.is
+      c.in_ok-breach.ensures.first) keeps),
 )
 
 pub returns-in-None-clause-keeps : goal.returns-in-None-clause-keeps
 returns-in-None-clause-keeps c = (
-  λ ok. keeps_if c.args.plan.now c.args.terms.now c.args.events.now (c.in_default-first_broken.ensures.none refl) (c.in-None.ensures.none refl),
+  λ ok. keeps_if c.args.plan.now c.args.terms.now c.args.events.now (c.in_default-first_broken.ensures.none refl)
+      (c.in_ok-breach.ensures.none (none_is _ c.in-None.is)),
   λ keeps. refl,
 )
