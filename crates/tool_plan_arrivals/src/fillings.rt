@@ -45,7 +45,8 @@ fn put_dies(fillings: &mut Vec<Filling>, plan: &StorePlan) -> Result<(), AllocEr
     Ok(())
 }
 
-/// By die, how its tasks fill it, where these pages lie in cells already, by die and page.
+/// By die, how its tasks fill it, where these pages lie in cells already, by die and page: one all of whose pages do is full
+/// from slot 0 on. The only refusal is NoMemory.
 pub fn fillings_from(
     alloc: Global,
     plan: &StorePlan,
@@ -62,7 +63,7 @@ pub fn fillings_from(
     Ok(fillings)
 }
 
-/// By die, how its tasks fill it from the first page on.
+/// By die, how its tasks fill it from the first page on. The only refusal is NoMemory.
 pub fn fillings_of(alloc: Global, plan: &StorePlan) -> Result<Vec<Filling>, Fault> {
     fillings_from(alloc, plan, &[])
 }

@@ -1,5 +1,7 @@
 //! The jobs of a task, as the most that its plan lets it ask for.
 
+ghost use Rattle.std.specs.Prelude.{◌≡◌, false, get_or};
+
 use crate::chances::Chance;
 use crate::ops::{put_other, put_write};
 use crate::pages::Share;
@@ -26,8 +28,10 @@ pub struct Asker<'a> {
     pub next: u32,
 }
 
-/// Whether a page lies in a cell already.
-fn is_held(held: &[bool], page: u32) -> bool {
+/// Whether a page lies in a cell already; one beyond those that are known doesn't.
+fn is_held(held: &[bool], page: u32) -> bool
+    ensures { result ≡ get_or held.now page false }
+{
     held.get(page as usize).copied().unwrap_or(false)
 }
 

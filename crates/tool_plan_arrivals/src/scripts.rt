@@ -71,7 +71,11 @@ pub fn arrivals(
 }
 
 /// A script as [`arrivals`] makes it, for dies some of whose pages lie in cells already, by die and page: where the tasks
-/// fill a die, each of the writing ones writes those of its pages once, in order, that don't.
+/// fill a die, each of the writing ones writes those of its pages once, in order, that don't. A die or a page beyond those
+/// that are given has none in a cell.
+///
+/// The rows keep the plan of their die all the same. Its run refuses none of them and is never late where the tasks of each
+/// die have the tokens that the plan's work needs, as those of fresh dies do.
 pub fn arrivals_from(
     alloc: Global,
     plan: &StorePlan,
