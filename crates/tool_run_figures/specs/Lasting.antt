@@ -1,5 +1,5 @@
 -- How long the blocks of a die last.
-use Rattle.std.specs.Prelude.{◌≡◌, ◌<◌, ℕ, ◌*◌, ◌/◌, pos, Option, None, IfSome}
+use Rattle.std.specs.Prelude.{◌≡◌, ◌<◌, ◌≤◌, ℕ, ◌*◌, ◌/◌, pos, None, IfSome}
 use Rattle.tool_run_figures.specs.declared.lives.Lasting.{Lasting}
 use Rattle.tool_run_figures.specs.declared.lives.Life.{Life}
 use Rattle.tool_run_figures.specs.declared.lives.Rate.{Rate}
@@ -24,6 +24,10 @@ pub record IsRate (erases blocks us endurance : ℕ) (rate : Rate) : Type 0 wher
   pub a_day_is : rate.a_day ≡ pos (a_day erases blocks us)
   pub days_are : rate.days ≡ pos (lasts DAY erases blocks us endurance)
   pub years_are : rate.years ≡ pos (lasts YEAR erases blocks us endurance)
+
+-- how often a block may be erased, and how long a slot takes, are known
+abbrev pub IsLife : Life → Type 0
+IsLife life = (1 ≤ life.endurance) × (1 ≤ life.slot_us)
 
 -- the microseconds of a run
 abbrev pub time_of : Wearing → Life → ℕ

@@ -8,3 +8,4 @@ pub mod Wearing
 pub mod Lasting
 pub mod Records
 pub mod Csv
+pub mod Tables

@@ -35,9 +35,12 @@ timed_text us bytes unit.Slot f = time_after us f
 timed_text us bytes (unit.Page slots) f = page_text slots us bytes f
 
 -- and nothing where that isn't known
+abbrev pub known_text : (us bytes : Option ℕ) → Unit → Figure → List ℕ
+known_text None bytes u f = []
+known_text (Some us) bytes u f = timed_text us bytes u f
+
 abbrev pub unit_text : Units → Unit → Figure → List ℕ
-unit_text (record { slot_us = None; page_bytes = bytes }) u f = []
-unit_text (record { slot_us = Some us; page_bytes = bytes }) u f = timed_text us bytes u f
+unit_text units u f = known_text units.slot_us units.page_bytes u f
 
 abbrev pub quantity_text : Quantity → List ℕ
 quantity_text q = figure_text q.figure ++ unit_text q.units q.unit q.figure

@@ -83,7 +83,7 @@ fn put_columns(text: &mut Vec<u8>, figures: &Figures) -> io::Result<()>
 }
 
 /// The task of a record, as a field; nothing of a die's own.
-fn task_figure(task: Option<u32>) -> Figure
+pub(crate) fn task_figure(task: Option<u32>) -> Figure
     ensures { figure_text result ≡ task_text task }
 {
     match task {

@@ -7,12 +7,14 @@ mod counts;
 mod csv;
 mod ends;
 mod figures;
+mod lasting_rows;
 mod levels;
 mod lives;
 mod quantities;
 mod ranks;
 mod records;
 mod slot_counts;
+mod table_cells;
 mod tables;
 
 pub use counts::DieCounts;

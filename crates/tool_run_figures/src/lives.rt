@@ -1,7 +1,7 @@
 //! How long a part lives.
 
-ghost use Rattle.std.specs.Prelude.{◌≡◌, ◌<◌, ◌⊎◌, ◌/◌, IfSome, None, pos};
-ghost use Rattle.tool_run_figures.specs.Lasting.{IsLasting, IsRate};
+ghost use Rattle.std.specs.Prelude.{◌≡◌, ◌↔◌, ◌<◌, ◌/◌, IfSome, IsSome, None, pos};
+ghost use Rattle.tool_run_figures.specs.Lasting.{IsLasting, IsLife, IsRate};
 ghost use Rattle.tool_run_figures.specs.Wearing.{IsWearing, mean_erases};
 
 /// How often a block may be erased, and how long a slot takes.
@@ -71,12 +71,12 @@ impl Rate {
             return None;
         }
         let erases = u128::from(erases);
-        let time = u128::from(blocks).checked_mul(u128::from(us))?;
+        let time = u128::from(blocks) * u128::from(us);
         let worn = u128::from(endurance).checked_mul(time)?.checked_mul(100)?;
         Some(Rate {
-            a_day: units(erases.checked_mul(DAY)?.checked_mul(100)?, time)?,
-            days: units(worn, erases.checked_mul(DAY)?)?,
-            years: units(worn, erases.checked_mul(YEAR)?)?,
+            a_day: units(erases * DAY * 100, time)?,
+            days: units(worn, erases * DAY)?,
+            years: units(worn, erases * YEAR)?,
         })
     }
 }
@@ -112,19 +112,18 @@ impl Wearing {
         Some((u64::from(self.erases) * 100 / u64::from(self.blocks)) as i64)
     }
 
-    /// How long blocks last that go on like that; none where the endurance or the length of a slot is 0, or the run's length
-    /// is no number of 63 bits.
+    /// How long blocks last that go on like that; none where the endurance or the length of a slot is 0.
     pub fn lasting(self, life: Life) -> Option<Lasting>
         ensures lasts { IfSome result (IsLasting self life) }
-        ensures unasked { (life.endurance ≡ 0) ⊎ (life.slot_us ≡ 0) → result ≡ None }
+        ensures told { IsSome result ↔ IsLife life }
     {
         let Life { endurance, slot_us } = life;
         if endurance == 0 || slot_us == 0 {
             return None;
         }
-        let us = u64::from(self.slots).checked_mul(u64::from(slot_us))?;
+        let us = u64::from(self.slots) * u64::from(slot_us);
         Some(Lasting {
-            run: i64::try_from(us / 10_000).ok()?,
+            run: (us / 10_000) as i64,
             mean: Rate::of(self.erases, self.blocks, us, endurance),
             worst: Rate::of(self.greatest, 1, us, endurance),
         })

@@ -84,7 +84,7 @@ fn lateness_of(alloc: Global, ends: &[JobEnd], task: Option<u32>) -> Result<Late
 
 /// What a die has, and no task.
 fn own_of(die: &DieFigures<'_>) -> OwnFigures
-    ensures { AreOwn die.now.counts.now.idle die.now.wearing result }
+    ensures { AreOwn die.now.counts.now.idle die.now.wearing die.now.life result }
 {
     OwnFigures {
         idle: die.counts.idle,
@@ -119,7 +119,7 @@ fn task_figures(
 
 /// The figures of a die's own. The only refusal is NoMemory.
 fn die_figures(alloc: Global, die: &DieFigures<'_>) -> Result<Figures, Refusal>
-    ensures is { IfOk result (AreOfDie die.now.ends.now die.now.counts.now die.now.wearing) }
+    ensures is { IfOk result (AreOfDie die.now.ends.now die.now.counts.now die.now.wearing die.now.life) }
     ensures refused { FailsForMemory result }
 {
     let lateness = lateness_of(alloc, die.ends, None)?;
@@ -152,7 +152,7 @@ fn tasks_of(alloc: Global, die: &DieFigures<'_>) -> Result<Vec<Figures>, Refusal
 pub fn records_of(alloc: Global, die: &DieFigures<'_>) -> Result<Records, Refusal>
     requires { length die.now.counts.now.tasks.items ≤ 4294967295 }
     ensures is { IfOk result
-        (AreRecords die.now.ends.now die.now.counts.now die.now.wearing) }
+        (AreRecords die.now.ends.now die.now.counts.now die.now.wearing die.now.life) }
     ensures refused { FailsForMemory result }
 {
     let figures = die_figures(alloc, die)?;

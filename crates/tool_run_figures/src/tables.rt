@@ -1,25 +1,18 @@
-//! Records as a table for eyes, with a column for each.
+//! Records as a table for eyes, with a column for the die and for each of its tasks.
 
-use crate::columns::{end_columns, level_columns, slot_columns, wear_columns};
-use crate::figures::Figure;
-use crate::lives::{FEWEST_ERASES, Lasting, Rate};
-use crate::quantities::{Quantity, Unit};
-use crate::records::{Figures, Records};
+ghost use Rattle.std.specs.Prelude.{◌≡◌, ◌++◌, ◌+◌, codes, decimal, length, max, IfOk, OnOk};
+ghost use Rattle.tool_run_figures.specs.Tables.{cell, head_text, heads_text, lasting_of, layout_of, left, named_rows, right};
+ghost use Rattle.tool_run_figures.specs.Tables.{row_text, slots_in, table_text, rows_text, wide_all, wide_names, width_of};
+
+use crate::csv::task_figure;
+use crate::lasting_rows::{put_lasting, put_too_short};
+use crate::lives::Lasting;
+use crate::records::{Figures, OwnFigures, Records};
+use crate::table_cells::{Counted, LABEL, Layout, cell_at, put_left, put_right};
 use std::alloc::Global;
-use std::fmt::Display;
 use std::io;
 use std::io::Write;
 use tool_slot_times::Units;
-
-/// What the figures of a name count.
-#[derive(Clone, Copy, Drop)]
-enum Counted {
-    /// Neither slots nor pages.
-    Others,
-    Slots,
-    /// Pages that the slots of the run carried.
-    Pages,
-}
 
 /// By figure its name, and what it counts.
 const NAMES: [(&str, Counted); 26] = [
@@ -54,193 +47,207 @@ const NAMES: [(&str, Counted); 26] = [
 /// How wide a column is at least.
 const WIDTH: usize = 11;
 
-/// A table of a die's records.
-#[derive(Clone, Copy)]
-struct Table<'a> {
-    records: &'a Records,
-    units: Units,
-    /// How many slots the die carried out.
-    slots: u32,
-    /// How wide each column is.
-    width: usize,
-}
-
-/// The figure of a name.
-fn figure_at(figures: &Figures, place: usize) -> Figure {
-    let ends = end_columns(figures);
-    let slots = slot_columns(figures);
-    let levels = level_columns(figures);
-    let worn = wear_columns(figures);
-    let all = ends.iter().chain(&slots).chain(&levels).chain(&worn);
-    all.copied().nth(place).unwrap_or(Figure::Nothing)
-}
-
-/// What a record has under a name, with its unit.
-fn cell_at(table: &Table<'_>, figures: &Figures, place: usize, counted: Counted) -> Quantity {
-    let unit = match counted {
-        Counted::Others => Unit::One,
-        Counted::Slots => Unit::Slot,
-        Counted::Pages => Unit::Page { slots: table.slots },
-    };
-    Quantity {
-        figure: figure_at(figures, place),
-        unit,
-        units: table.units,
-    }
-}
-
-/// Adds a text that ends where its column does.
-fn put_right(text: &mut Vec<u8>, table: &Table<'_>, cell: &str) -> io::Result<()> {
-    for _ in cell.len()..table.width {
-        text.write_all(b" ")?;
-    }
-    text.write_all(cell.as_bytes())
-}
-
-/// Adds what a record has under a name.
+/// Adds what a record has in a row.
 fn put_cell(
     alloc: Global,
     text: &mut Vec<u8>,
-    table: &Table<'_>,
+    layout: &Layout,
     figures: &Figures,
-    place: usize,
+    row: usize,
     counted: Counted,
-) -> io::Result<()> {
-    let cell = cell_at(table, figures, place, counted).to_string(alloc)?;
-    put_right(text, table, cell.as_str())
+) -> io::Result<()>
+    ensures { OnOk result
+        (text.new.items ≡ text.old.items
+        ++ right layout.now.width (cell layout.now figures.now row counted)) }
+{
+    let cell = cell_at(layout, figures, row, counted).to_string(alloc)?;
+    put_right(text, layout.width, cell.as_bytes())?;
+    Ok(())
 }
 
 /// Adds a name, and in columns what each record has under it.
 fn put_row(
     alloc: Global,
     text: &mut Vec<u8>,
-    table: &Table<'_>,
-    place: usize,
-    label: &str,
+    layout: &Layout,
+    records: &Records,
+    row: usize,
+    name: &str,
     counted: Counted,
-) -> io::Result<()> {
-    write!(text, "{label:<25}")?;
-    put_cell(alloc, text, table, &table.records.die, place, counted)?;
-    for figures in &table.records.tasks {
-        put_cell(alloc, text, table, figures, place, counted)?;
+) -> io::Result<()>
+    ensures { OnOk result
+        (text.new.items ≡ text.old.items ++ row_text layout.now records.now row (name.now, counted)) }
+{
+    put_left(text, LABEL, name.as_bytes())?;
+    put_cell(alloc, text, layout, &records.die, row, counted)?;
+    for figures in &records.tasks {
+        put_cell(alloc, text, layout, figures, row, counted)?;
     }
-    text.write_all(b"\n")
+    text.push(b'\n')?;
+    Ok(())
+}
+
+/// Adds a row for each name.
+fn put_rows(
+    alloc: Global,
+    text: &mut Vec<u8>,
+    layout: &Layout,
+    records: &Records,
+    names: &[(&str, Counted)],
+) -> io::Result<()>
+    ensures { OnOk result
+        (text.new.items ≡ text.old.items ++ named_rows layout.now records.now 0 names.now) }
+{
+    for row in 0..names.len() {
+        let (name, counted) = names[row];
+        put_row(alloc, text, layout, records, row, name, counted)?;
+    }
+    Ok(())
+}
+
+/// Adds a row for each figure.
+#[tactic(auto, unfolding(crate::specs::Tables::rows_text))]
+fn put_all_rows(
+    alloc: Global,
+    text: &mut Vec<u8>,
+    layout: &Layout,
+    records: &Records,
+) -> io::Result<()>
+    ensures { OnOk result (text.new.items ≡ text.old.items ++ rows_text layout.now records.now) }
+{
+    put_rows(alloc, text, layout, records, &NAMES)
+}
+
+/// Adds the name of a task's column.
+fn put_head(alloc: Global, text: &mut Vec<u8>, layout: &Layout, figures: &Figures) -> io::Result<()>
+    ensures { OnOk result (text.new.items ≡ text.old.items ++ head_text layout.now figures.now) }
+{
+    let task = task_figure(figures.task).to_string(alloc)?;
+    let mut head = Vec::new(alloc);
+    write!(head, "task ")?;
+    put_right(&mut head, 2, task.as_bytes())?;
+    put_right(text, layout.width, head.as_slice())?;
+    Ok(())
+}
+
+/// Adds the number of a die, in the column of names.
+fn put_die(alloc: Global, text: &mut Vec<u8>, die: usize) -> io::Result<()>
+    ensures { OnOk result
+        (text.new.items ≡ text.old.items ++ left 25 (codes "die " ++ decimal die)) }
+{
+    let mut name = Vec::new(alloc);
+    write!(name, "die {die}")?;
+    put_left(text, LABEL, name.as_slice())?;
+    Ok(())
 }
 
 /// Adds the names of the columns.
-fn put_heads(alloc: Global, text: &mut Vec<u8>, table: &Table<'_>, die: usize) -> io::Result<()> {
-    write!(text, "die {die:<21}")?;
-    put_right(text, table, "all")?;
-    for figures in &table.records.tasks {
-        let task = figures.task.unwrap_or(0);
-        let head = format!(in alloc; "task {task:>2}")?;
-        put_right(text, table, head.as_str())?;
-    }
-    text.write_all(b"\n")
-}
-
-/// Adds a name, and what the die has under it.
-fn put_own<D: Display + Drop>(
+#[tactic(auto, unfolding(crate::specs::Tables::heads_text))]
+fn put_heads(
     alloc: Global,
     text: &mut Vec<u8>,
-    table: &Table<'_>,
-    label: &str,
-    cell: D,
-) -> io::Result<()> {
-    let cell = cell.to_string(alloc)?;
-    write!(text, "{label:<25}")?;
-    put_right(text, table, cell.as_str())?;
-    for _ in &table.records.tasks {
-        put_right(text, table, "")?;
+    layout: &Layout,
+    die: usize,
+    records: &Records,
+) -> io::Result<()>
+    ensures { OnOk result
+        (text.new.items ≡ text.old.items ++ heads_text layout.now die records.now) }
+{
+    put_die(alloc, text, die)?;
+    put_right(text, layout.width, b"all")?;
+    for figures in &records.tasks {
+        put_head(alloc, text, layout, figures)?;
     }
-    text.write_all(b"\n")
+    text.push(b'\n')?;
+    Ok(())
 }
 
-/// A year, in hundredths.
-const YEAR: i64 = 100;
+/// The greater one of a width and of what a cell with two blanks before it takes.
+fn wider(width: usize, cell: &str) -> usize
+    ensures { result ≡ max width (length cell.now + 2) }
+{
+    width.max(cell.len() + 2)
+}
 
-/// Adds how long blocks last by a rate: in years, below one in days.
-fn put_lasts(
+/// How wide a column has to be that is so wide at least, for two blanks before each cell of a record.
+fn wide_for(
     alloc: Global,
-    text: &mut Vec<u8>,
-    table: &Table<'_>,
-    what: &str,
-    rate: Option<Rate>,
-) -> io::Result<()> {
-    let (unit, cell) = match rate {
-        None => ("years", Figure::Nothing),
-        Some(rate) if rate.years < YEAR => ("days", Figure::Hundredths(rate.days)),
-        Some(rate) => ("years", Figure::Hundredths(rate.years)),
-    };
-    let label = format!(in alloc; "{unit} {what}")?;
-    put_own(alloc, text, table, &label, cell)
+    layout: &Layout,
+    names: &[(&str, Counted)],
+    width: usize,
+    figures: &Figures,
+) -> io::Result<usize>
+    ensures { IfOk result (λ wide. wide ≡ wide_names layout.now figures.now width 0 names.now) }
+{
+    let mut wide = width;
+    for row in 0..names.len() {
+        let (_, counted) = names[row];
+        let cell = cell_at(layout, figures, row, counted).to_string(alloc)?;
+        wide = wider(wide, cell.as_str());
+    }
+    Ok(wide)
 }
 
-/// How often a block is erased a day by a rate, in hundredths.
-fn daily(rate: Option<Rate>) -> Figure {
-    match rate {
-        None => Figure::Nothing,
-        Some(rate) => Figure::Hundredths(rate.a_day),
+/// How wide the columns have to be for two blanks before each cell.
+fn wide_for_all(
+    alloc: Global,
+    layout: &Layout,
+    records: &Records,
+    names: &[(&str, Counted)],
+) -> io::Result<usize>
+    ensures { IfOk result (λ wide. wide ≡ wide_all layout.now records.now names.now) }
+{
+    let mut wide = wide_for(alloc, layout, names, WIDTH, &records.die)?;
+    for figures in &records.tasks {
+        wide = wide_for(alloc, layout, names, wide, figures)?;
+    }
+    Ok(wide)
+}
+
+/// How wide the columns are: wider where a number has its time.
+#[tactic(auto, unfolding(crate::specs::Tables::width_of))]
+fn width_of(alloc: Global, layout: &Layout, records: &Records) -> io::Result<usize>
+    ensures { IfOk result (λ wide. wide ≡ width_of layout.now records.now) }
+{
+    if layout.units.slot_us.is_none() {
+        Ok(WIDTH)
+    } else {
+        wide_for_all(alloc, layout, records, &NAMES)
     }
 }
 
-/// Adds how long the blocks of a die last, if that is asked for.
-fn put_lasting(alloc: Global, text: &mut Vec<u8>, table: &Table<'_>) -> io::Result<()> {
-    let lasting = match table.records.die.own {
-        Some(own) => own.lasting,
+/// How many slots a die carried out.
+fn slots_in(own: Option<OwnFigures>) -> u32
+    ensures { result ≡ slots_in own }
+{
+    match own {
+        None => 0,
+        Some(own) => own.wearing.slots,
+    }
+}
+
+/// How long the blocks of a die last.
+fn lasting_of(own: Option<OwnFigures>) -> Option<Lasting>
+    ensures { result ≡ lasting_of own }
+{
+    match own {
         None => None,
-    };
-    let (mut mean, mut worst) = (None, None);
-    if let Some(lasting) = lasting {
-        let run = Figure::Hundredths(lasting.run);
-        mean = lasting.mean;
-        worst = lasting.worst;
-        put_own(alloc, text, table, "seconds of the run", run)?;
-        put_own(alloc, text, table, "erases of a block a day", daily(mean))?;
-        put_own(alloc, text, table, "  of the one erased most", daily(worst))?;
-        put_lasts(alloc, text, table, "if all wear evenly", mean)?;
+        Some(own) => own.lasting,
     }
-    put_lasts(alloc, text, table, "until one wears out", worst)
 }
 
-/// Adds why no life is told by the block that was erased most, where one is asked for and none is told.
-fn put_too_short(text: &mut Vec<u8>, die: usize, records: &Records) -> io::Result<()> {
-    let Some(own) = records.die.own else {
-        return Ok(());
+/// How the cells of a table look.
+#[tactic(auto, unfolding(crate::specs::Tables::layout_of))]
+fn layout_of(alloc: Global, records: &Records, units: Units) -> io::Result<Layout>
+    ensures { IfOk result (λ layout. layout ≡ layout_of records.now units) }
+{
+    let narrow = Layout {
+        units,
+        slots: slots_in(records.die.own),
+        width: WIDTH,
     };
-    let Some(Lasting { worst: None, .. }) = own.lasting else {
-        return Ok(());
-    };
-    let (most, slots) = (own.wearing.greatest, own.wearing.slots);
-    writeln!(
-        text,
-        "die {die}: the block that was erased most was erased {most} times in {slots} slots, and {FEWEST_ERASES} at least make a \
-         rate: run more slots, or go on from a checkpoint"
-    )
-}
-
-/// How long the longest cell of a record is.
-fn longest_of(alloc: Global, table: &Table<'_>, figures: &Figures) -> io::Result<usize> {
-    let mut longest: usize = 0;
-    let mut place: usize = 0;
-    for (_, counted) in NAMES {
-        let cell = cell_at(table, figures, place, counted).to_string(alloc)?;
-        longest = longest.max(cell.len());
-        place = place.saturating_add(1);
-    }
-    Ok(longest)
-}
-
-/// How wide the columns have to be, so that two blanks stand before each cell that has more than a number.
-fn width_of(alloc: Global, table: &Table<'_>) -> io::Result<usize> {
-    if table.units.slot_us.is_none() {
-        return Ok(WIDTH);
-    }
-    let mut longest = longest_of(alloc, table, &table.records.die)?;
-    for figures in &table.records.tasks {
-        longest = longest.max(longest_of(alloc, table, figures)?);
-    }
-    Ok(longest.saturating_add(2).max(WIDTH))
+    let width = width_of(alloc, &narrow, records)?;
+    Ok(Layout { width, ..narrow })
 }
 
 /// Adds the records of a die as a table with a column for each. Behind a number of slots stands its time, where it is
@@ -252,25 +259,13 @@ pub fn put_table(
     die: usize,
     records: &Records,
     units: Units,
-) -> io::Result<()> {
-    let slots = match records.die.own {
-        Some(own) => own.wearing.slots,
-        None => 0,
-    };
-    let narrow = Table {
-        records,
-        units,
-        slots,
-        width: WIDTH,
-    };
-    let width = width_of(alloc, &narrow)?;
-    let table = Table { width, ..narrow };
-    put_heads(alloc, text, &table, die)?;
-    let mut place: usize = 0;
-    for (label, counted) in NAMES {
-        put_row(alloc, text, &table, place, label, counted)?;
-        place = place.saturating_add(1);
-    }
-    put_lasting(alloc, text, &table)?;
-    put_too_short(text, die, records)
+) -> io::Result<()>
+    ensures { OnOk result (text.new.items ≡ text.old.items ++ table_text die records.now units) }
+{
+    let layout = layout_of(alloc, records, units)?;
+    let own = records.die.own;
+    put_heads(alloc, text, &layout, die, records)?;
+    put_all_rows(alloc, text, &layout, records)?;
+    put_lasting(alloc, text, &layout, records, lasting_of(own))?;
+    put_too_short(text, die, own)
 }
