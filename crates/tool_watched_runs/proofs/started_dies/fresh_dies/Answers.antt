@@ -6,7 +6,7 @@ use Rattle.slot_types.specs.declared.plans.DiePlan.{DiePlan}
 use Rattle.plan_rules.specs.Bound.{MeetsBound}
 use Rattle.die_log.specs.Model.Start.{fresh}
 use Rattle.tool_script_runs.specs.RunningDies.{HasEmptyLog, starts_of}
-use Rattle.tool_script_runs.proofs.TextRuns.{empty_more, starts_more}
+use Rattle.tool_script_runs.proofs.TextRuns.{as_many, empty_more, starts_more}
 use Rattle.tool_watched_runs.specs.Runs.{begun}
 use Rattle.tool_watched_runs.specs.declared.started_dies.StartedDie.{StartedDie}
 use Rattle.tool_watched_runs.proofs.started_dies.fresh_dies.Goals as goal
