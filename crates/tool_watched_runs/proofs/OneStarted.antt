@@ -3,7 +3,7 @@ use Rattle.std.proofs.Common.{◌≡◌, ◌∙◌, ap, sym, subst, ℕ, zero, s
 use Rattle.std.specs.Prelude.{slice_get}
 use Rattle.std.proofs.lemmas.List.{length-map}
 use Rattle.std.proofs.Math.ListN.{get_or-map}
-use Rattle.tool_script_runs.specs.RunningDies.{HasEmptyLog, RunningDie, starts_of}
+use Rattle.tool_script_runs.specs.RunningDies.{HasEmptyLog, starts_of}
 use Rattle.tool_watched_runs.specs.Runs.{begun}
 use Rattle.tool_watched_runs.specs.declared.started_dies.StartedDie.{StartedDie}
 

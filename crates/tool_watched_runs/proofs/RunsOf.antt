@@ -1,5 +1,5 @@
 -- What is reported and drawn is of the run of a script.
-use Rattle.std.proofs.Common.{◌≡◌, ℕ, Bool, List, length, map, ap, sym, ◌∙◌, subst, Option, Some}
+use Rattle.std.proofs.Common.{◌≡◌, ℕ, Bool, List, length, map, sym, ◌∙◌, subst, Option, Some}
 use Rattle.std.specs.Global.{Box}
 use Rattle.std.specs.Prelude.{slice_get}
 use Rattle.std.proofs.lemmas.List.{length-map}

@@ -25,7 +25,7 @@ pub one_more : (units : Units) (all : List Records) (die : ℕ) (own : Records) 
 one_more units all die own text said new is there pushed so_far = λ (rest : List ℕ) (are : AreTables (die + 1) units (drop (die + 1) all) rest).
     let left : drop die all ≡ own ∷ drop (die + 1) all =
     drop_more all die own there ∙ ap (λ (r : Records). r ∷ drop (die + 1) all) (sym is) in
-    let tables : AreTables die units (own ∷ drop (die + 1) all) (table_text die own units ++ said ++ rest) = (said, (rest, (refl, are))) in
+    let tables : AreTables die units (own ∷ drop (die + 1) all) (table_text die own units ++ said ++ rest) = (said, rest, refl, are) in
     subst (AreTables 0 units all) (together text (table_text die own units) said rest new pushed)
     (so_far (table_text die own units ++ said ++ rest)
     (subst (λ (l : List Records). AreTables die units l (table_text die own units ++ said ++ rest)) (sym left) tables))

@@ -1,5 +1,6 @@
-use Rattle.std.proofs.Common.{rules, ◌≡◌, ◌++◌, ◌∷◌, List, ap, sym, subst, ◌∙◌, map}
+use Rattle.std.proofs.Common.{rules, arith, ◌≡◌, ◌++◌, ◌∷◌, List, ap, sym, subst, ◌∙◌, map}
 use Rattle.std.specs.Prelude.{All}
+use Rattle.std.proofs.lemmas.Grind.{common_steps}
 use Rattle.std.proofs.lemmas.List.Elements.{All-rest}
 use Rattle.std.specs.Vec.Iter.{into_iter_items}
 use Rattle.slot_types.specs.declared.plans.DiePlan.{DiePlan}
@@ -30,4 +31,6 @@ loop-plan-preserved c =
     }
 
 pub returns-clause-count : goal.returns-clause-count
-returns-clause-count c = as_many begun fresh c.loop-plan.dies.items c.args.plan c.returns-clause-starts
+returns-clause-count c =
+    let starts : starts_of (map begun c.loop-plan.dies.items) ≡ map fresh c.args.plan = grind (arith, common_steps) in
+    as_many begun fresh c.loop-plan.dies.items c.args.plan starts
