@@ -1,6 +1,6 @@
-use Rattle.std.proofs.Common.{rules, arith, ◌≡◌, ℕ, Result, Err, sym, subst}
-use Rattle.std.specs.Prelude.{All, IfErr, IfSome}
-use Rattle.tool_full_dies.specs.FullDies.{IsFull, IsLife, IsUnfilled}
+use Rattle.std.proofs.Common.{rules, ◌≡◌, ℕ, Result, Err, sym, subst}
+use Rattle.std.specs.Prelude.{IfErr}
+use Rattle.tool_full_dies.specs.FullDies.{IsLife, IsUnfilled}
 use Rattle.tool_full_dies.specs.declared.faults.FillFault.{FillFault}
 use Rattle.tool_full_dies.specs.declared.fills.Filled.{Filled}
 use Rattle.tool_full_dies.proofs.LifeByLife.{one_more, slow}
@@ -31,3 +31,13 @@ pub returns-clause-refused : goal.returns-clause-refused
 returns-clause-refused c =
     slow c.args.plan.now c.loop-life.life c.loop-life.refused c.loop-life.from (search rules) c.loop-life.invariant.behind
     (c.loop-life.invariant.not_full (search rules))
+
+pub returns-then-are_full-clause-filled : goal.returns-then-are_full-clause-filled
+returns-then-are_full-clause-filled c = record {
+  behind = one_more c.args.plan.now c.loop-life.life c.loop-life.refused c.from-refused.result c.loop-life.from c.in_ok-lived.lived.saved
+      c.loop-life.invariant.behind
+      (subst (λ (n : ℕ). IsLife c.args.plan.now c.loop-life.from n c.in_ok-lived.lived.saved) (sym c.from-refused.ensures)
+      c.in_ok-lived.ensures.lived);
+  enough = search rules;
+  full = search rules;
+}

@@ -1,4 +1,4 @@
-use Rattle.std.proofs.Common.{◌≡◌, ◌*◌, ◌≤◌}
+use Rattle.std.proofs.Common.{◌*◌, ◌≤◌}
 use Rattle.std.specs.Prelude.{All, IfSome}
 use Rattle.tool_full_dies.specs.FullDies.{IsBehind, IsFull}
 use Rattle.tool_full_dies.proofs.fills.fill.Given as goal
