@@ -255,6 +255,48 @@ class Planned(Case):
                      "--to planned.toml and the plan planned.toml are one file: name another for one of them")
         self.assertFalse((self.at / "x.ck").exists())
 
+    def test_full_dies_are_what_arrivals_and_runs_leave(self):
+        """130 of the 200 pages are written in a life of 130,000 slots, the most that its numbers last for and `common` divides."""
+        (self.at / "slow.toml").write_text("""version = 2
+dies = 1
+blocks = 60
+pages = 4
+erase_slots = 1
+logical = 200
+alpha = 1
+common = 1000
+[[task]]
+die = 0
+cap = 2
+period = 2
+collect_period = 1000
+work = 1
+writes = 0
+[[task]]
+die = 0
+cap = 4
+period = 1000
+collect_period = 1000
+work = 1
+writes = 1
+""")
+        status, _, err = self.run_words("fill slow.toml --to full.ck --seed 7")
+        self.assertEqual((status, err), (0, "the dies are full behind 2 lives\n"))
+        slots = "--slots 130000"
+        status, _, err = self.run_words(f"arrivals slow.toml {slots} --fill --seed 8 -o first.csv")
+        self.assertEqual((status, err), (0, "die 0 isn't full in its life of 130286 slots: that would take 200000, so it has to have "
+                                            "fewer logical pages, or its tasks to write more\n"))
+        self.text(f"run slow.toml first.csv {slots} --to first.ck -o first.report")
+        self.assertEqual(sum(1 for block, _, _ in self.records("first.ck", "page") if block), 130)
+        status, _, err = self.run_words(f"arrivals slow.toml {slots} --from first.ck --seed 9 -o second.csv")
+        self.assertEqual((status, err), (0, "die 0 is full from slot 70000 on\n"))
+        self.text(f"run slow.toml second.csv {slots} --from first.ck --to second.ck -o second.report")
+        self.assertEqual((self.at / "second.ck").read_bytes(), (self.at / "full.ck").read_bytes())
+        self.refused("fill slow.toml --to x.ck --lives 1001", "error: at most 1000 lives are run: --lives has to be 1000 at most")
+        (self.at / "reads.toml").write_text((self.at / "slow.toml").read_text().replace("writes = 1", "writes = 0"))
+        self.refused("fill reads.toml --to x.ck", "error: die 0 is never full: none of its tasks writes, and one has to")
+        self.assertFalse((self.at / "x.ck").exists())
+
     def test_what_is_watched_goes_on_from_a_checkpoint(self):
         """What a run from a checkpoint wears is what the blocks of the one at its end were erased more, and its figures begin with
         the pages that are spare there."""

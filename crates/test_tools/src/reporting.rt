@@ -5,6 +5,7 @@ use plan_texts::read_plan;
 use std::alloc::Global;
 use std::test::Fail;
 use tool_run_figures::{Life, Rate, Wearing};
+use tool_slot_times::Units;
 use tool_watched_runs::report;
 
 /// A block lasts a million erases, a slot takes a second.
@@ -27,7 +28,8 @@ least_erases,mean_erases,most_erases,run_s,mean_a_day,mean_days,most_a_day,most_
 /// Six jobs that write have lateness -96 and five times 0, the read -7: -103 / 7. The last row is refused. Each of five
 /// waived collections gives 2 of 10 spare pages, the last in slot 16; the sixth copies one page and erases a block, and one
 /// erase makes no rate.
-const FIGURES: &str = "0,,7,0,1,0,0,-14.72,0,1,5,0,0,15,2,3,5,14,1,1.071,,,0,16,1,0,0.25,1,25.00,,,,,
+const FIGURES: &str =
+    "0,,7,0,1,0,0,-14.72,0,1,5,0,0,15,2,3,5,14,1,1.071,,,0,16,1,0,0.25,1,25.00,,,,,
 0,0,7,0,1,0,0,-14.72,0,1,5,0,0,15,2,3,,14,1,1.071,0,0,,,,,,,,,,,,
 ";
 
@@ -96,6 +98,7 @@ fn is_reported(
         script.as_bytes(),
         slots.min(25),
         life,
+        Units::NONE,
         true,
         None,
     )?;
@@ -117,7 +120,16 @@ fn figures_are_reported_by_die_and_task(rt: HostRuntime) -> Result<(), Fail> {
 fn ends_with(alloc: Global, script: &str, slots: u32, lines: &str) -> Result<bool, Fail> {
     let plan = read_plan(alloc, PLAN.as_bytes())?;
     let script = script.as_bytes();
-    let run = report(alloc, plan, script, slots.min(25), UNKNOWN, false, None)?;
+    let run = report(
+        alloc,
+        plan,
+        script,
+        slots.min(25),
+        UNKNOWN,
+        Units::NONE,
+        false,
+        None,
+    )?;
     Ok(run.text.as_slice().ends_with(lines.as_bytes()))
 }
 
@@ -135,11 +147,7 @@ const TENTHS: Life = Life {
 fn lasting(erases: &[u32]) -> Option<(i64, Option<[i64; 3]>, Option<[i64; 3]>)> {
     let lasting = Wearing::of(DAY, erases).lasting(TENTHS)?;
     let told = |rate: Rate| [rate.a_day, rate.days, rate.years];
-    Some((
-        lasting.run,
-        lasting.mean.map(told),
-        lasting.worst.map(told),
-    ))
+    Some((lasting.run, lasting.mean.map(told), lasting.worst.map(told)))
 }
 
 /// 100 erases of four blocks are 25 of each, so 3,000 take 120 days, 0.32 years; 40 of one take 75 days, 0.20 years. Ten
@@ -147,7 +155,9 @@ fn lasting(erases: &[u32]) -> Option<(i64, Option<[i64; 3]>, Option<[i64; 3]>)> 
 #[test]
 fn how_long_blocks_last_comes_of_ten_erases_at_least(rt: HostRuntime) {
     let day = 8_640_000;
-    assert!(rt; lasting(&[30, 10, 20, 40]) == Some((day, Some([2500, 12_000, 32]), Some([4000, 7500, 20]))));
+    assert!(rt;
+        lasting(&[30, 10, 20, 40]) == Some((day, Some([2500, 12_000, 32]), Some([4000, 7500, 20])))
+    );
     assert!(rt; lasting(&[9, 1]) == Some((day, Some([500, 60_000, 164]), None)));
     assert!(rt; lasting(&[9]) == Some((day, None, None)));
     assert!(rt; Wearing::of(DAY, &[30]).lasting(UNKNOWN).is_none());
@@ -165,7 +175,16 @@ fn what_is_late_is_told_with_its_reason(rt: HostRuntime) -> Result<(), Fail> {
 fn a_table_has_a_column_for_each_task(rt: HostRuntime) -> Result<(), Fail> {
     let alloc = rt.alloc();
     let plan = read_plan(alloc, PLAN.as_bytes())?;
-    let run = report(alloc, plan, SCRIPT.as_bytes(), 25, LIFE, false, None)?;
+    let run = report(
+        alloc,
+        plan,
+        SCRIPT.as_bytes(),
+        25,
+        LIFE,
+        Units::NONE,
+        false,
+        None,
+    )?;
     assert!(rt; run.text.as_slice().starts_with(FRONT.as_bytes()));
     Ok(())
 }

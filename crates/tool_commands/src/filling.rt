@@ -109,9 +109,13 @@ fn end_fault<E: Write>(err: &mut E, fault: FillFault) -> u8
             err,
             "error: die {die} is never full: none of its tasks writes, and one has to"
         ),
+        FillFault::TooManyLives => writeln!(
+            err,
+            "error: at most {MOST_LIVES} lives are run: --lives has to be {MOST_LIVES} at most"
+        ),
         FillFault::TooSlow => writeln!(
             err,
-            "error: the dies aren't full behind {MOST_LIVES} lives: their tasks write too few of their pages"
+            "error: the dies aren't full behind {MOST_LIVES} lives: their tasks write too few pages in each"
         ),
     };
     1
