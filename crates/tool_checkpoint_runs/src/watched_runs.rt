@@ -167,7 +167,7 @@ pub fn report_from<R: Read + Drop>(
     ensures unknown { IsBeyond fail (length plan)
         → result ≡ Err (RunFault.Refused Refusal.UnknownDie) }
     ensures ran { IfOk result (λ reported.
-        IsReportFrom (starts_by plan from) (R.remaining script) slots fail as_csv reported) }
+        IsReportFrom (starts_by plan from) (R.remaining script) slots life units as_csv fail reported) }
 {
     check_failing(fail, plan.len())?;
     let mut script = ScriptReader::new(alloc, script, &plan, slots)?;

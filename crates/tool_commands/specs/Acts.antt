@@ -41,6 +41,8 @@ use Rattle.tool_checkpoint_runs.specs.Runs.{RanAndWentOn, running, starts_by}
 use Rattle.tool_checkpoint_runs.specs.Counted.{IsRunCounting}
 use Rattle.tool_script_runs.specs.declared.counted.RefusedRows.{RefusedRows}
 use Rattle.tool_store_compare.specs.Runs.{HasStoreRun}
+use Rattle.tool_slot_times.specs.declared.units.Units.{Units}
+use Rattle.tool_run_figures.specs.declared.lives.Life.{Life}
 use Rattle.tool_watched_runs.specs.declared.script_runs.Reported.{Reported}
 use Rattle.die_log.specs.Model.Start.{fresh}
 use Rattle.tool_watched_runs.specs.Runs.{IsDrawingFrom, IsReportFrom}
@@ -191,7 +193,8 @@ failing fail = record { die = fail.die; call = fail.call }
 abbrev pub failing_in : Option FailingDie → Option FailAt
 failing_in fail = option_map failing fail
 
--- the report of such a run is printed, of which one device may be to fail: as CSV its figures, and as a table some text
+-- the report of such a run is printed, of which one device may be to fail: as CSV or as a table, by some endurance and
+-- some units
 pub record PrintsRunFigures (plan script : Option (List ℕ)) (slots : ℕ) (fail : Option FailAt) (as_csv begins_fresh : Bool)
     (old new : Option (List ℕ)) : Type 0 where
   pub store : List DiePlan
@@ -199,7 +202,9 @@ pub record PrintsRunFigures (plan script : Option (List ℕ)) (slots : ℕ) (fai
   pub saved : Option (List SavedDie)
   pub begun : begins_fresh ≡ true → saved ≡ None
   pub said : Reported
-  pub ran : IsReportFrom (starts_by store saved) script slots fail as_csv said
+  pub life : Life
+  pub units : Units
+  pub ran : IsReportFrom (starts_by store saved) script slots life units as_csv fail said
   pub written : Appends old new said.text.items
 
 -- a picture is printed of a run of the die of this number

@@ -1,5 +1,5 @@
 -- What is reported and drawn is of the run of a script.
-use Rattle.std.proofs.Common.{◌≡◌, ℕ, Bool, List, length, map, ap, sym, ◌∙◌, subst, Option, Some}
+use Rattle.std.proofs.Common.{◌≡◌, ℕ, Bool, List, length, map, sym, ◌∙◌, subst, Option, Some}
 use Rattle.std.specs.Global.{Box}
 use Rattle.std.specs.Prelude.{slice_get}
 use Rattle.std.proofs.lemmas.List.{length-map}
@@ -10,6 +10,8 @@ use Rattle.tool_script_runs.specs.RunningDies.{RunningDie, running_of, starts_of
 use Rattle.tool_script_runs.specs.ScriptRuns.{IsRunAs, IsRunOf, RanAsDie, RanScript, script_in}
 use Rattle.tool_script_runs.proofs.TextRuns.{run_as_text, run_of_text}
 use Rattle.tool_script_runs.specs.declared.refused.RefusedRow.{RefusedRow}
+use Rattle.tool_slot_times.specs.declared.units.Units.{Units}
+use Rattle.tool_run_figures.specs.declared.lives.Life.{Life}
 use Rattle.tool_watched_runs.specs.Figures.{HaveFigures}
 use Rattle.tool_watched_runs.specs.Runs.{IsDrawingFrom, IsReportFrom, Tells, begun, core_of, failure_as, running}
 use Rattle.tool_watched_runs.specs.declared.die_runs.DieRun.{DieRun}
@@ -18,11 +20,11 @@ use Rattle.tool_watched_runs.specs.declared.script_runs.Reported.{Reported}
 use Rattle.tool_watched_runs.specs.declared.started_dies.StartedDie.{StartedDie}
 use Rattle.tool_watched_runs.proofs.WornDies.{map_twice}
 
-pub is_report : (starts : List Start) (script : Option (List ℕ)) (slots : ℕ) (fail : Option FailAt) (as_csv : Bool)
-    (dies : List (Box DieRun)) (refused : List RefusedRow) (said : Reported)
-    → IsRunOf starts script slots refused (map running dies) → Tells dies refused as_csv fail said
-    → IsReportFrom starts script slots fail as_csv said
-is_report starts script slots fail as_csv dies refused said ran tells =
+pub is_report : (starts : List Start) (script : Option (List ℕ)) (slots : ℕ) (life : Life) (units : Units) (as_csv : Bool)
+    (fail : Option FailAt) (dies : List (Box DieRun)) (refused : List RefusedRow) (said : Reported)
+    → IsRunOf starts script slots refused (map running dies) → Tells dies refused life units as_csv fail said
+    → IsReportFrom starts script slots life units as_csv fail said
+is_report starts script slots life units as_csv fail dies refused said ran tells =
     let same = sym (map_twice running_of core_of dies) in
     record {
       dies = map core_of dies;
@@ -31,7 +33,7 @@ is_report starts script slots fail as_csv dies refused said ran tells =
       counted = tells.counted;
       failure_is = tells.failure_is;
       figures = tells.figures;
-      figured = subst (λ (l : List RunningDie). HaveFigures refused l tells.figures) same tells.figured;
+      figured = subst (λ (l : List RunningDie). HaveFigures refused life l tells.figures) same tells.figured;
       text_is = tells.text_is;
     }
 

@@ -1,5 +1,5 @@
 -- Dies that run.
-use Rattle.std.specs.Prelude.{◌≡◌, ◌==◌, Bool, true, ℕ, List, Option, Some, None, box_value, if◌then◌else◌, map, option_map, slice_get}
+use Rattle.std.specs.Prelude.{◌≡◌, ◌==◌, Bool, ℕ, List, Option, Some, None, box_value, if◌then◌else◌, map, option_map, slice_get}
 use Rattle.std.specs.Global.{Box}
 use Rattle.slot_types.specs.declared.plans.DiePlan.{DiePlan}
 use Rattle.die_log.specs.Model.Start.{Start, fresh}
@@ -8,12 +8,14 @@ use Rattle.flash_die.specs.Memory.{Memory}
 use Rattle.slot_core.specs.Core.{Core}
 use Rattle.tool_script_runs.specs.RunningDies.{RunningDie, running_of}
 use Rattle.tool_script_runs.specs.ScriptRuns.{IsRunAs, IsRunOf}
-use Rattle.tool_run_figures.specs.Csv.{csv_text}
+use Rattle.tool_slot_times.specs.declared.units.Units.{Units}
+use Rattle.tool_run_figures.specs.declared.lives.Life.{Life}
 use Rattle.tool_run_figures.specs.declared.records.Records.{Records}
 use Rattle.tool_script_runs.specs.Counted.{CountsRows}
 use Rattle.tool_script_runs.specs.declared.refused.RefusedRow.{RefusedRow}
 use Rattle.tool_watched_runs.specs.Failing.{failure_in}
 use Rattle.tool_watched_runs.specs.Figures.{HaveFigures}
+use Rattle.tool_watched_runs.specs.ReportText.{TellsFigures}
 use Rattle.tool_watched_runs.specs.Wear.{Worn}
 use Rattle.tool_watched_runs.specs.declared.die_runs.DieRun.{DieRun}
 use Rattle.tool_watched_runs.specs.declared.failing.FailAt.{FailAt}
@@ -48,29 +50,31 @@ failure_among None dies = None
 failure_among (Some at) dies = option_map (failure_in at) (slice_get dies at.die)
 
 -- Dies that start so ran a script, where its text is known, and so many slots, and this became of the device of one that was
--- to fail. So many of the script's rows were refused. The text, if it is CSV, is that of the dies' figures.
-pub record IsReportFrom (starts : List Start) (script : Option (List ℕ)) (slots : ℕ) (fail : Option FailAt) (as_csv : Bool)
-    (said : Reported) : Type 0 where
+-- to fail. So many of the script's rows were refused. The text is that of the dies' figures, by this life of a block and these
+-- units.
+pub record IsReportFrom (starts : List Start) (script : Option (List ℕ)) (slots : ℕ) (life : Life) (units : Units) (as_csv : Bool)
+    (fail : Option FailAt) (said : Reported) : Type 0 where
   pub dies : List (Core (Fuse Memory))
   pub refused : List RefusedRow
   pub ran : IsRunOf starts script slots refused (map running_of dies)
   pub counted : CountsRows refused said.refused
   pub failure_is : said.failure ≡ failure_among fail dies
   pub figures : List Records
-  pub figured : HaveFigures refused (map running_of dies) figures
-  pub text_is : as_csv ≡ true → said.text.items ≡ csv_text figures
+  pub figured : HaveFigures refused life (map running_of dies) figures
+  pub text_is : TellsFigures as_csv units figures said.text.items
 
 -- so it is of fresh dies of these plans
-abbrev pub IsReportOf : List DiePlan → Option (List ℕ) → ℕ → Option FailAt → Bool → Reported → Type 0
-IsReportOf plans script slots fail as_csv said = IsReportFrom (map fresh plans) script slots fail as_csv said
+abbrev pub IsReportOf : List DiePlan → Option (List ℕ) → ℕ → Life → Units → Bool → Option FailAt → Reported → Type 0
+IsReportOf plans script slots life units as_csv fail said = IsReportFrom (map fresh plans) script slots life units as_csv fail said
 
 -- what is said of dies that ran, which refused these rows
-pub record Tells (dies : List (Box DieRun)) (refused : List RefusedRow) (as_csv : Bool) (fail : Option FailAt) (said : Reported) : Type 0 where
+pub record Tells (dies : List (Box DieRun)) (refused : List RefusedRow) (life : Life) (units : Units) (as_csv : Bool)
+    (fail : Option FailAt) (said : Reported) : Type 0 where
   pub counted : CountsRows refused said.refused
   pub failure_is : said.failure ≡ failure_among fail (map core_of dies)
   pub figures : List Records
-  pub figured : HaveFigures refused (map running dies) figures
-  pub text_is : as_csv ≡ true → said.text.items ≡ csv_text figures
+  pub figured : HaveFigures refused life (map running dies) figures
+  pub text_is : TellsFigures as_csv units figures said.text.items
 
 -- of dies that start so that of this number ran alone, and this became of its device
 pub record IsDrawingFrom (starts : List Start) (script : Option (List ℕ)) (slots number : ℕ) (fail : Option FailAt) (said : Reported)

@@ -5,7 +5,6 @@ ghost use Rattle.std.specs.Box.{box_value};
 ghost use Rattle.slot_types.specs.Refusal.{FailsForMemory};
 ghost use Rattle.die_log.specs.Model.Log.{Log, job_at, now};
 ghost use Rattle.tool_script_runs.specs.RunningDies.{HasEmptyLog, TakesSlot, running_of};
-ghost use Rattle.tool_watched_runs.specs.Runs.{begun, core_of};
 ghost use Rattle.tool_watched_runs.specs.SlotsCarried.{AreCountsOf};
 ghost use Rattle.tool_watched_runs.specs.Wear.{IsWearOf, slot_entry};
 
@@ -173,6 +172,8 @@ fn in_box<T: Drop>(alloc: Global, value: T) -> Result<Box<T>, Refusal>
 }
 
 impl DieRun {
+    ghost use Rattle.tool_watched_runs.specs.Runs.{begun, core_of};
+
     /// A die that was started, of which the slots from one to before another are looked at. The only refusal is NoMemory.
     pub fn new(
         alloc: Global,

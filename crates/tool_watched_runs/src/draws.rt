@@ -306,6 +306,7 @@ impl Shown {
 }
 
 /// The die of a store that is drawn; the others are given up. UnknownDie where it isn't there, and nothing else.
+#[tactic(auto, using(crate::proofs::OneStarted::starts_there, crate::proofs::OneStarted::empty_there))]
 fn one_of(dies: Vec<StartedDie>, die: u32) -> Result<StartedDie, Refusal>
     requires { All HasEmptyLog (map begun dies.items) }
     ensures start { IfOk result (λ started.

@@ -1,16 +1,18 @@
 //! Runs whose figures are printed.
 
-ghost use Rattle.std.specs.Prelude.{◌≡◌, ℕ, ◌≤◌, ◌++◌, ◌∷◌, [], List, Option, true, All, IfOk, OnOk, length, map};
+ghost use Rattle.std.specs.Prelude.{◌≡◌, ℕ, ◌≤◌, ◌++◌, ◌∷◌, [], List, Option, All, IfOk, OnOk, length, map};
 ghost use Rattle.std.specs.Box.{box_value};
 ghost use Rattle.slot_types.specs.Refusal.{FailsForMemory};
 ghost use Rattle.plan_rules.specs.Bound.{MeetsBound};
 ghost use Rattle.tool_run_figures.specs.Csv.{csv_text};
+ghost use Rattle.tool_run_figures.specs.Tables.{table_text};
 ghost use Rattle.script_texts.specs.ScriptLeft.{dies_of, script_left, slots_of};
 ghost use Rattle.tool_script_runs.specs.RunningDies.{HasEmptyLog, running_of, starts_of};
 ghost use Rattle.tool_script_runs.specs.ScriptRuns.{script_in};
 ghost use Rattle.tool_watched_runs.specs.Ends.{end_in, ended_in, ends_of, refused_end, refused_ends};
 ghost use Rattle.tool_watched_runs.specs.Failing.{IsBeyond};
 ghost use Rattle.tool_watched_runs.specs.Figures.{AreFiguresOf, HaveFigures};
+ghost use Rattle.tool_watched_runs.specs.ReportText.{AreTables, TellsFigures};
 ghost use Rattle.tool_watched_runs.specs.Runs.{IsReportFrom, IsReportOf, Tells, begun, running};
 
 use crate::die_runs::DieRun;
@@ -115,7 +117,7 @@ fn figures_of(
     rows: &[RefusedRow],
     life: Life,
 ) -> Result<Records, Refusal>
-    ensures is { IfOk result (AreFiguresOf die rows.now (running_of (box_value run.now.core))) }
+    ensures is { IfOk result (AreFiguresOf die rows.now life (running_of (box_value run.now.core))) }
     ensures refused { FailsForMemory result }
 {
     run.core.promises();
@@ -147,7 +149,7 @@ fn all_figures(
     rows: &[RefusedRow],
     life: Life,
 ) -> Result<Vec<Records>, Refusal>
-    ensures is { IfOk result (λ all. HaveFigures rows.now (map running dies.now) all.items) }
+    ensures is { IfOk result (λ all. HaveFigures rows.now life (map running dies.now) all.items) }
     ensures refused { FailsForMemory result }
 {
     let mut all = Vec::new(alloc);
@@ -169,6 +171,42 @@ fn csv_of(alloc: Global, all: &[Records]) -> Result<Vec<u8>, Refusal>
     }
 }
 
+/// What is said below the table of a die: what was late, and why. The only refusal is NoMemory.
+fn lateness_of(
+    alloc: Global,
+    die: usize,
+    dies: &mut Vec<Box<DieRun>>,
+    units: Units,
+) -> Result<Vec<u8>, Refusal>
+    ensures { FailsForMemory result }
+{
+    let mut text = Vec::new(alloc);
+    if die < dies.len() {
+        put_lateness(alloc, &mut text, die, &mut dies[die], units)?;
+    }
+    Ok(text)
+}
+
+/// Adds the figures of a die as a table for eyes, and what is said below it. The only refusal is NoMemory.
+fn put_figures(
+    alloc: Global,
+    text: &mut Vec<u8>,
+    die: usize,
+    records: &Records,
+    said: &[u8],
+    units: Units,
+) -> Result<(), Refusal>
+    ensures ok { OnOk result
+        (text.new.items ≡ text.old.items ++ table_text die records.now units ++ said.now) }
+    ensures refused { FailsForMemory result }
+{
+    if put_table(alloc, text, die, records, units).is_err() {
+        return Err(Refusal::NoMemory);
+    }
+    text.extend_from_slice(said)?;
+    Ok(())
+}
+
 /// The figures of dies, as tables for eyes, and below each what was late, and why. The only refusal is NoMemory.
 fn tables_of(
     alloc: Global,
@@ -176,16 +214,13 @@ fn tables_of(
     dies: &mut Vec<Box<DieRun>>,
     units: Units,
 ) -> Result<Vec<u8>, Refusal>
-    ensures { FailsForMemory result }
+    ensures text { IfOk result (λ text. AreTables 0 units all.now text.items) }
+    ensures refused { FailsForMemory result }
 {
     let mut text = Vec::new(alloc);
     for die in 0..all.len() {
-        if put_table(alloc, &mut text, die, &all[die], units).is_err() {
-            return Err(Refusal::NoMemory);
-        }
-        if die < dies.len() {
-            put_lateness(alloc, &mut text, die, &mut dies[die], units)?;
-        }
+        let said = lateness_of(alloc, die, dies, units)?;
+        put_figures(alloc, &mut text, die, &all[die], said.as_slice(), units)?;
     }
     Ok(text)
 }
@@ -198,7 +233,7 @@ fn text_of(
     units: Units,
     as_csv: bool,
 ) -> Result<Vec<u8>, Refusal>
-    ensures text { IfOk result (λ text. as_csv ≡ true → text.items ≡ csv_text all.now) }
+    ensures text { IfOk result (λ text. TellsFigures as_csv units all.now text.items) }
     ensures refused { FailsForMemory result }
 {
     if as_csv {
@@ -217,7 +252,7 @@ fn reported(
     as_csv: bool,
     fail: Option<FailAt>,
 ) -> Result<Reported, Refusal>
-    ensures { IfOk result (Tells ran.dies.items ran.refused.items as_csv fail) }
+    ensures { IfOk result (Tells ran.dies.items ran.refused.items life units as_csv fail) }
 {
     let Ran { mut dies, refused } = ran;
     let figures = all_figures(alloc, &dies, &refused, life)?;
@@ -256,7 +291,7 @@ pub fn report_of<R: Read + Drop>(
     ensures ran { (text : Option (List ℕ)) →
         script_left R.remaining script.old ≡ script_in (length dies.items) slots text →
         IfOk result (λ reported.
-        IsReportFrom (starts_of (map begun dies.items)) text slots fail as_csv reported) }
+        IsReportFrom (starts_of (map begun dies.items)) text slots life units as_csv fail reported) }
 {
     let ran = run_started(alloc, script, dies, slots)?;
     reported(alloc, ran, life, units, as_csv, fail)
@@ -280,7 +315,7 @@ pub fn report<R: Read + Drop>(
     requires bound { All MeetsBound plan }
     ensures unknown { IsBeyond fail (length plan) → result ≡ Err Refusal.UnknownDie }
     ensures ran { IfOk result (λ reported.
-        IsReportOf plan (R.remaining script) slots fail as_csv reported) }
+        IsReportOf plan (R.remaining script) slots life units as_csv fail reported) }
 {
     check_failing(fail, plan.len())?;
     let mut script = ScriptReader::new(alloc, script, &plan, slots)?;

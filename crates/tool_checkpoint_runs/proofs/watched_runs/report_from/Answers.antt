@@ -11,6 +11,6 @@ report_of-requires-clause-dies g c = c.in_ok-script.ensures.dies ∙ sym c.in_ok
 pub returns-clause-ran : goal.returns-clause-ran
 returns-clause-ran g c =
     let text = g.R.Read.remaining c.args.script in
-    subst (λ (starts : List Start). IsReportFrom starts text c.args.slots c.args.fail c.args.as_csv c.in_ok-said.said) c.in_ok-dies.ensures.starts
+    subst (λ (starts : List Start). IsReportFrom starts text c.args.slots c.args.life c.args.units c.args.as_csv c.args.fail c.in_ok-said.said) c.in_ok-dies.ensures.starts
     (c.in_ok-said.ensures.ran text
     (c.in_ok-script.ensures.script ∙ ap (λ (n : ℕ). script_in n c.args.slots text) (sym c.in_ok-dies.ensures.count)))

@@ -9,6 +9,8 @@ returns-clause-printed g c = record {
   saved = c.in_ok-from.from;
   begun = c.in_ok-from.ensures;
   said = c.in_ok-said.said;
+  life = c.life_of-life.result;
+  units = c.units_with-units.result;
   ran = c.in_ok-said.ensures.ran;
   written = rw c.deref.ensures.value at c.in_ok-write_whole.ensures.whole;
 }
@@ -26,6 +28,8 @@ returns-in_err-write_whole-clause-part g c =
           saved = c.in_ok-from.from;
           begun = c.in_ok-from.ensures;
           said = c.in_ok-said.said;
+          life = c.life_of-life.result;
+          units = c.units_with-units.result;
           ran = c.in_ok-said.ensures.ran;
           written = refl;
         },

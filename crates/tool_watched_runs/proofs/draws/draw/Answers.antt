@@ -1,4 +1,4 @@
-use Rattle.std.proofs.Common.{◌∙◌, ℕ, List, ap, sym, subst, length, map}
+use Rattle.std.proofs.Common.{◌∙◌, ℕ, List, ap, sym, subst}
 use Rattle.std.specs.Prelude.{IfOk}
 use Rattle.die_log.specs.Model.Start.{Start, fresh}
 use Rattle.tool_script_runs.specs.ScriptRuns.{script_in}

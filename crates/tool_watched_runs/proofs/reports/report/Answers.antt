@@ -1,4 +1,4 @@
-use Rattle.std.proofs.Common.{◌∙◌, ℕ, List, ap, sym, subst, length, map}
+use Rattle.std.proofs.Common.{◌∙◌, ℕ, List, ap, sym, subst}
 use Rattle.std.specs.Prelude.{IfOk}
 use Rattle.die_log.specs.Model.Start.{Start, fresh}
 use Rattle.tool_script_runs.specs.ScriptRuns.{script_in}
@@ -15,6 +15,6 @@ pub returns-clause-ran : goal.returns-clause-ran
 returns-clause-ran g c =
     let text = g.R.Read.remaining c.args.script in
     let many = as_many begun fresh c.in_ok-dies.dies.items c.args.plan c.in_ok-dies.ensures.starts in
-    subst (λ (starts : List Start). IfOk c.report_of.result (λ (said : Reported). IsReportFrom starts text c.args.slots c.args.fail c.args.as_csv said))
+    subst (λ (starts : List Start). IfOk c.report_of.result (λ (said : Reported). IsReportFrom starts text c.args.slots c.args.life c.args.units c.args.as_csv c.args.fail said))
     c.in_ok-dies.ensures.starts
     (c.report_of.ensures.ran text (c.in_ok-script.ensures.script ∙ ap (λ (n : ℕ). script_in n c.args.slots text) (sym many)))

@@ -12,9 +12,9 @@ returns g c = record {
       let starts = starts_of (map begun c.args.dies.items) in
       let dies = c.in_ok-ran.ran.dies.items in
       let refused = c.in_ok-ran.ran.refused.items in
-      IfOk-weaker c.reported.result (Tells dies refused c.args.as_csv c.args.fail)
-      (IsReportFrom starts text c.args.slots c.args.fail c.args.as_csv)
-      (λ (said : Reported) (tells : Tells dies refused c.args.as_csv c.args.fail said).
-      is_report starts text c.args.slots c.args.fail c.args.as_csv dies refused said (c.in_ok-ran.ensures text is) tells)
+      IfOk-weaker c.reported.result (Tells dies refused c.args.life c.args.units c.args.as_csv c.args.fail)
+      (IsReportFrom starts text c.args.slots c.args.life c.args.units c.args.as_csv c.args.fail)
+      (λ (said : Reported) (tells : Tells dies refused c.args.life c.args.units c.args.as_csv c.args.fail said).
+      is_report starts text c.args.slots c.args.life c.args.units c.args.as_csv c.args.fail dies refused said (c.in_ok-ran.ensures text is) tells)
       c.reported.ensures;
 }

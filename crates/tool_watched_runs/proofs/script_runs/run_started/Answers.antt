@@ -1,8 +1,8 @@
-use Rattle.std.proofs.Common.{◌∙◌, List, ap, sym, subst, length, map}
+use Rattle.std.proofs.Common.{◌∙◌, ap, sym, subst, length, map}
 use Rattle.std.specs.Prelude.{All}
 use Rattle.std.proofs.lemmas.List.{length-map}
 use Rattle.script_texts.specs.ScriptLeft.{script_left}
-use Rattle.tool_script_runs.specs.RunningDies.{HasEmptyLog, RunningDie, starts_of}
+use Rattle.tool_script_runs.specs.RunningDies.{HasEmptyLog, starts_of}
 use Rattle.tool_watched_runs.specs.Runs.{begun, running}
 use Rattle.tool_watched_runs.proofs.RunsOf.{run_begun}
 use Rattle.tool_watched_runs.proofs.script_runs.run_started.Goals as goal

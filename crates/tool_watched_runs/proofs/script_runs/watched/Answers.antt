@@ -1,4 +1,4 @@
-use Rattle.std.proofs.Common.{rules, ◌≡◌, ◌++◌, ◌∷◌, [], List, ap, append_assoc, sym, subst, ◌∙◌, map}
+use Rattle.std.proofs.Common.{rules, arith, ◌≡◌, ◌++◌, ◌∷◌, [], List, ap, append_assoc, sym, subst, ◌∙◌, map}
 use Rattle.std.specs.Global.{Box}
 use Rattle.std.specs.Prelude.{All}
 use Rattle.std.proofs.lemmas.List.{map-append}
@@ -29,3 +29,9 @@ loop-started-preserved c =
       empty = All-rest HasEmptyLog (begun c.in-Some.started) (map begun left) (map begun (into_iter_items c.loop-started.started-iterator))
           (ap (map begun) here) c.loop-started.invariant.empty;
     }
+
+pub boxed-requires : goal.boxed-requires
+boxed-requires c =
+    let left : List StartedDie = into_iter_items c.next.new.self in
+    let here : into_iter_items c.loop-started.started-iterator ≡ c.in-Some.started ∷ left = search rules in
+    subst (λ (dies : List StartedDie). All HasEmptyLog (map begun dies)) here c.loop-started.invariant.empty 0 (begun c.in-Some.started) (omega arith)

@@ -1,12 +1,13 @@
-use Rattle.std.proofs.Common.{rules, ◌≡◌, ◌++◌, ◌∷◌, List, ap, sym, subst, ◌∙◌, map}
+use Rattle.std.proofs.Common.{rules, arith, ◌≡◌, ◌++◌, ◌∷◌, List, ap, sym, subst, ◌∙◌, map}
 use Rattle.std.specs.Prelude.{All}
+use Rattle.std.proofs.lemmas.Grind.{common_steps}
 use Rattle.std.proofs.lemmas.List.Elements.{All-rest}
 use Rattle.std.specs.Vec.Iter.{into_iter_items}
 use Rattle.slot_types.specs.declared.plans.DiePlan.{DiePlan}
 use Rattle.plan_rules.specs.Bound.{MeetsBound}
 use Rattle.die_log.specs.Model.Start.{fresh}
 use Rattle.tool_script_runs.specs.RunningDies.{HasEmptyLog, starts_of}
-use Rattle.tool_script_runs.proofs.TextRuns.{empty_more, starts_more}
+use Rattle.tool_script_runs.proofs.TextRuns.{as_many, empty_more, starts_more}
 use Rattle.tool_watched_runs.specs.Runs.{begun}
 use Rattle.tool_watched_runs.specs.declared.started_dies.StartedDie.{StartedDie}
 use Rattle.tool_watched_runs.proofs.started_dies.fresh_dies.Goals as goal
@@ -30,4 +31,6 @@ loop-plan-preserved c =
     }
 
 pub returns-clause-count : goal.returns-clause-count
-returns-clause-count c = as_many begun fresh c.loop-plan.dies.items c.args.plan c.returns-clause-starts
+returns-clause-count c =
+    let starts : starts_of (map begun c.loop-plan.dies.items) ≡ map fresh c.args.plan = grind (arith, common_steps) in
+    as_many begun fresh c.loop-plan.dies.items c.args.plan starts
