@@ -50,6 +50,19 @@ fn dies_of(alloc: Global, plan: StorePlan, from: Option<SavedStore>) -> Result<S
     }
 }
 
+/// Dies, each in a box. The only refusal is NoMemory.
+fn boxed(alloc: Global, dies: StoreDies) -> Result<Vec<Box<DieCore<MemoryNand>>>, Refusal>
+    ensures same { IfOk result (λ boxed. map running_in boxed.items ≡ running dies.items) }
+    ensures refused { FailsForMemory result }
+{
+    let mut boxed = Vec::new(alloc);
+    for die in dies {
+        let own = in_box(alloc, die)?;
+        push_die(&mut boxed, own)?;
+    }
+    Ok(boxed)
+}
+
 /// The dies of a plan as they start, each in a box: fresh, or as they were saved. Refused with the first fault of what was
 /// saved, of the first die that has one; or with NoMemory.
 pub fn started_store(
@@ -63,12 +76,8 @@ pub fn started_store(
     ensures count { IfOk result (λ dies. length dies.items ≡ length plan) }
 {
     let dies = dies_of(alloc, plan, from)?;
-    let mut boxed = Vec::new(alloc);
-    for die in dies {
-        let own = in_box(alloc, die)?;
-        push_die(&mut boxed, own)?;
-    }
-    Ok(boxed)
+    let own = boxed(alloc, dies)?;
+    Ok(own)
 }
 
 /// The report of dies, by number: what each log says over its start. The only refusal is NoMemory.

@@ -1,5 +1,4 @@
-use Rattle.std.proofs.Common.{◌≡◌, ◌∙◌, ℕ, List, ap, sym, subst}
-use Rattle.std.specs.Prelude.{IfOk}
+use Rattle.std.proofs.Common.{◌∙◌, ℕ, List, ap, sym, subst}
 use Rattle.die_log.specs.Model.Start.{Start}
 use Rattle.tool_script_runs.specs.ScriptRuns.{script_in}
 use Rattle.tool_watched_runs.specs.Runs.{IsDrawingFrom}
