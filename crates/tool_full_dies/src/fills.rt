@@ -1,16 +1,18 @@
 //! The dies of a store, filled.
 
-ghost use Rattle.std.specs.Prelude.{◌≤◌, All, IfOk, length};
+ghost use Rattle.std.specs.Prelude.{◌≤◌, All, IfErr, IfOk, OnOk, length};
 ghost use Rattle.plan_rules.specs.Bound.{MeetsBound};
-ghost use Rattle.tool_full_dies.specs.FullDies.{AreFilled};
+ghost use Rattle.tool_plan_arrivals.specs.PlannedScripts.{HasPassed};
+ghost use Rattle.tool_full_dies.specs.FullDies.{AreFilled, IsUnfilled};
 
 use crate::faults::FillFault;
-use crate::lives::{Lived, one_life};
+use crate::lives::{Lived, longest_life, one_life};
 use crate::pages::are_full;
+use crate::writers::first_unwritten;
 use checkpoint_texts::SavedStore;
 use slot_types::StorePlan;
 use std::alloc::Global;
-use tool_plan_arrivals::fillings_of;
+use tool_plan_arrivals::{Fault, test_all};
 
 /// The most lives that are run.
 pub const MOST_LIVES: u32 = 1_000;
@@ -22,44 +24,54 @@ pub struct Filled {
     /// How many lives.
     pub lives: u32,
     /// How many rows were refused in all of these.
-    pub refused: u32,
+    pub refused: u64,
 }
 
-/// That each die has a task that writes.
-fn check_writers(alloc: Global, plan: &StorePlan) -> Result<(), FillFault> {
-    let mut die: u32 = 0;
-    for filling in &fillings_of(alloc, plan)? {
-        if filling.from.is_none() {
-            return Err(FillFault::NeverFull { die });
-        }
-        die = die.saturating_add(1);
+/// That no more lives are asked for than are run, the times of each die pass their test, and each has a task that writes.
+fn check_asked(plan: &StorePlan, least: u32) -> Result<(), FillFault>
+    requires few { length plan.now ≤ 8 }
+    requires bound { All MeetsBound plan.now }
+    ensures few { OnOk result (least ≤ MOST_LIVES) }
+    ensures passed { OnOk result (All HasPassed plan.now) }
+    ensures refused { IfErr result (IsUnfilled plan.now least) }
+{
+    if least > MOST_LIVES {
+        return Err(FillFault::TooManyLives);
     }
-    Ok(())
+    if let Err(refusal) = test_all(plan.as_slice()) {
+        return Err(FillFault::Unplanned(Fault::Refused(refusal)));
+    }
+    match first_unwritten(plan.as_slice()) {
+        Some(die) => Err(FillFault::NeverFull { die }),
+        None => Ok(()),
+    }
 }
 
 /// Full dies of a plan with times: what stands on them behind so many lives, from fresh dies on, that each of their logical
 /// pages lies in a cell, and at least so many; at most [`MOST_LIVES`]. In each the tasks ask for all that the plan allows,
-/// for as many slots as the dies' numbers last, and write each page once, in order, before they draw any. The seed chooses
-/// what is drawn.
+/// for as many slots as the dies' numbers last; where the periods of a life end by then, it ends there, so that nothing of
+/// the next one is refused or late. The tasks write each page once, in order, before they draw any. The seed chooses what
+/// is drawn.
 ///
-/// Refused where the plan has no arrivals, or one of its dies no task that writes; where a page isn't written in so many
-/// lives; or with NoMemory.
+/// Refused where more lives are asked for than are run; with BadPlan where a die has no times that pass their test; where
+/// one has no task that writes: the first such die; where a page isn't written in so many lives; or with NoMemory.
 pub fn fill(alloc: Global, plan: &StorePlan, least: u32, seed: u32) -> Result<Filled, FillFault>
     requires some { 1 ≤ length plan.now }
     requires few { length plan.now ≤ 8 }
     requires bound { All MeetsBound plan.now }
-    ensures { IfOk result (AreFilled plan.now least) }
+    ensures filled { IfOk result (AreFilled plan.now least) }
+    ensures refused { IfErr result (IsUnfilled plan.now least) }
 {
-    check_writers(alloc, plan)?;
+    check_asked(plan, least)?;
+    let mut slots = longest_life(plan);
     let mut from = None;
-    let mut refused: u32 = 0;
+    let mut refused: u64 = 0;
     for life in 0..MOST_LIVES {
         let lives = life + 1;
-        let Lived {
-            saved,
-            refused: more,
-        } = one_life(alloc, plan, from, seed.wrapping_add(lives))?;
-        refused = refused.saturating_add(more);
+        let lived = one_life(alloc, plan, from, slots, seed.wrapping_add(lives))?;
+        slots = lived.slots;
+        refused += u64::from(lived.refused);
+        let saved = lived.saved;
         if lives >= least && are_full(&saved) {
             return Ok(Filled {
                 saved,

@@ -6,6 +6,7 @@ mod faults;
 mod fills;
 mod lives;
 mod pages;
+mod writers;
 
 pub use faults::FillFault;
 pub use fills::{Filled, MOST_LIVES, fill};
