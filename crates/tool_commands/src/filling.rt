@@ -121,7 +121,7 @@ fn end_fault<E: Write>(err: &mut E, fault: FillFault) -> u8
     1
 }
 
-/// Reports what is behind full dies. A writer that fails is passed over.
+/// Reports what is after full dies. A writer that fails is passed over.
 fn report_lives<E: Write>(err: &mut E, filled: &Filled) {
     let (lives, refused) = (filled.lives, filled.refused);
     let unit = if lives == 1 { "life" } else { "lives" };
