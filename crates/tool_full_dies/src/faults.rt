@@ -17,7 +17,7 @@ pub enum FillFault {
     Unrun(RunFault),
     /// The dies aren't saved at the end of one.
     Unsaved(Unsaved),
-    /// The dies aren't full behind [`MOST_LIVES`](crate::MOST_LIVES) lives.
+    /// The dies aren't full after [`MOST_LIVES`](crate::MOST_LIVES) lives.
     TooSlow,
 }
 

@@ -17,7 +17,7 @@ use tool_plan_arrivals::{Fault, test_all};
 /// The most lives that are run.
 pub const MOST_LIVES: u32 = 1_000;
 
-/// Full dies, and what is behind them.
+/// Full dies, and the lives that they had.
 #[derive(Drop)]
 pub struct Filled {
     pub saved: SavedStore,
@@ -47,7 +47,7 @@ fn check_asked(plan: &StorePlan, least: u32) -> Result<(), FillFault>
     }
 }
 
-/// Full dies of a plan with times: what stands on them behind so many lives, from fresh dies on, that each of their logical
+/// Full dies of a plan with times: what stands on them after so many lives, from fresh dies on, that each of their logical
 /// pages lies in a cell, and at least so many; at most [`MOST_LIVES`]. In each the tasks ask for all that the plan allows,
 /// for as many slots as the dies' numbers last; where the periods of a life end by then, it ends there, so that nothing of
 /// the next one is refused or late. The tasks write each page once, in order, before they draw any. The seed chooses what
