@@ -212,6 +212,105 @@ def margins_text(at, die):
     return text
 
 
+def longest_period(alpha, task):
+    """The longest collect period with which collections give back what jobs write; 0 where there is none."""
+    return min(alpha * task["period"] // task["writes"], LAST_SLOT) if task["writes"] else LAST_SLOT
+
+
+def cap_with(die, task):
+    """The least cap that would do, if a plan may have it; a task without a period does with none."""
+    return min(least_cap(die, task), 2**32 - 1) if task["period"] else 0
+
+
+def with_alpha(die, alpha):
+    """A die with another alpha, and the least caps, the longest collect periods and the longest collect deadlines."""
+    other = dict(die, alpha=alpha)
+    return dict(other, tasks=[dict(task, cap=cap_with(other, task), collect_period=longest_period(alpha, task),
+                                   collect_deadline=longest_period(alpha, task)) for task in die["tasks"]])
+
+
+def alphas_text(dies):
+    """What each alpha comes to, by die, where the die does with some number of logical pages."""
+    text = ""
+    for alpha in range(1, dies[0]["pages"] + 1):
+        for at, die in enumerate(dies):
+            other = with_alpha(die, alpha)
+            if not does(dict(other, logical=1)):
+                continue
+            logical = live_of(dict(other, logical=1)) - 1
+            caps, periods = ("".join(f" {task[key]}" for task in other["tasks"]) for key in ("cap", "collect_period"))
+            room = ": it would do" if die["logical"] <= logical else ", which is less than it has"
+            text += (f"die {at}: with alpha {alpha}, caps{caps} and collect_periods and collect_deadlines{periods}, in the long run "
+                     f"{load_of(other)} of each 1000000 slots are asked for, and the greatest logical is {logical}{room}.\n")
+    return text
+
+
+OF_ALL = ["logical", "blocks"]
+OF_TASKS = ["cap", "collect_period", "collect_deadline", "period", "deadline", "held", "work", "writes"]
+CHOSEN = ["cap", "collect_period", "collect_deadline"]
+BESIDE = {"alpha": ", with the caps, collect_periods and collect_deadlines that go with it",
+          "collect_period": ", with a collect_deadline of at most that"}
+
+
+def loosest(die, task, key):
+    """The number that asks for least."""
+    return {"cap": cap_with(die, task), "collect_period": longest_period(die["alpha"], task), "collect_deadline": task["collect_period"],
+            "period": 2**32 - 1, "deadline": task["held"], "held": task["deadline"], "work": max(task["writes"], 1), "writes": 0}[key]
+
+
+def with_own(task, key, n):
+    """A task with another number. Its collections are due by the next ones."""
+    return dict(task, **{key: n}, **({"collect_deadline": min(task["collect_deadline"], n)} if key == "collect_period" else {}))
+
+
+def nearest(would, own, loosest):
+    """The number nearest to its own with which a plan would do, by halves; none where it does as it is, or not with the loosest."""
+    if would(own) or not would(loosest):
+        return None
+    step = 1 if own < loosest else -1
+    fails, fits = 0, abs(loosest - own)
+    while fits - fails > 1:
+        half = (fails + fits) // 2
+        fails, fits = (fails, half) if would(own + step * half) else (half, fits)
+    return own + step * fits
+
+
+def changes_of(tasks, dies):
+    """Each change of one number with which all dies would do: whose, its key, and from what to what."""
+    own = dies[0]["alpha"]
+    alphas = [alpha for alpha in range(1, dies[0]["pages"] + 1) if all(does(with_alpha(die, alpha)) for die in dies)]
+    if alphas:
+        yield "plan", "alpha", own, min(alphas, key=lambda alpha: abs(alpha - own))
+    for key, best in zip(OF_ALL, (1, 1_024)):
+        found = nearest(lambda n: all(does(dict(die, **{key: n})) for die in dies), dies[0][key], best)
+        if found is not None:
+            yield "plan", key, dies[0][key], found
+    bad = [at for at, die in enumerate(dies) if not does(die)]
+    for nth, task in enumerate(tasks, 1):
+        at = task["die"]
+        if bad != [at]:
+            continue
+        die, i = dies[at], sum(other["die"] == at for other in tasks[:nth - 1])
+        for key in OF_TASKS:
+            def would(n):
+                return does(dict(die, tasks=[with_own(own, key, n) if j == i else own for j, own in enumerate(die["tasks"])]))
+
+            found = nearest(would, task[key], loosest(die, task, key))
+            if found is not None:
+                yield f"[[task]] {nth} (die {at} task {i})", key, task[key], found
+
+
+def changes_text(tasks, dies):
+    """The ten cheapest changes: first those of one number of collections, then that of the alpha with all that goes with it, and
+    then those of the part and of what tasks need; in each kind by how many millionths of itself the number changes."""
+    def price(change):
+        _, key, own, found = change
+        return 0 if key in CHOSEN else 1 if key == "alpha" else 2, abs(found - own) * 10**6 // max(own, 1)
+
+    return "".join(f"change: {whose}: {key} from {own} to {found}{BESIDE.get(key, '')}.\n"
+                   for whose, key, own, found in sorted(changes_of(tasks, dies), key=price)[:10])
+
+
 def fault_of(at, die):
     """Why a die may not be used, or nothing."""
     if not meets_bound(die):
@@ -262,17 +361,18 @@ def is_terms_text(text):
 def explained(text):
     """The status of `flashplan explain`, and what it prints, of a plan with terms."""
     try:
-        dies = read_dies(read_toml(text))
+        top = read_toml(text)
+        dies = read_dies(top)
         for at, die in enumerate(dies):
             if said := fault_of(at, die):
-                changes = margins_text(at, die) if meets_bound(die) else ""
-                raise Fault("BadPlan", numbers_text(at, die) + said + changes)
+                margins = margins_text(at, die) if meets_bound(die) else ""
+                raise Fault("BadPlan", numbers_text(at, die) + said + margins + alphas_text(dies) + changes_text(top["task"], dies))
     except Fault as refused:
         refusal, said = refused.args
         return 1, f"The plan is refused: {refusal}.\n{said}"
     said = [passing_text(at, die) for at, die in enumerate(dies)]
     said += [room_text(at, die) + margins_text(at, die) for at, die in enumerate(dies)]
-    return 0, "The plan is accepted.\n" + "".join(said)
+    return 0, "The plan is accepted.\n" + "".join(said) + alphas_text(dies)
 
 
 def time_text(us):
@@ -288,13 +388,23 @@ TIMED = [
     re.compile(r"(?<=, )(?:period|deadline|held|collect_period|collect_deadline) (\d+)"),
     re.compile(r"(?<=: a collection takes at most )(\d+)|(?<=: the tightest interval has )(\d+)|(?<= slots, of which )(\d+)(?= may)|(?<= may be asked for: )(\d+)(?= to spare)"),
 ]
+OF_ALPHAS = re.compile(r"(die \d+: with alpha .* and collect_periods and collect_deadlines)((?: \d+)+)(, in the long run .*\n)")
+OF_CHANGES = re.compile(r"(change: .*: (?:period|deadline|held|collect_period|collect_deadline) from )(\d+)( to )(\d+)(.*\n)")
 
 
 def with_times(said, slot_us):
     """What `explain` says of a plan with terms, where a slot is so long: periods, deadlines and held jobs, a collection and the
-    tightest interval are followed by their times."""
+    tightest interval are followed by their times, and so are the periods and deadlines that go with an alpha, or are changed."""
+    def timed(number):
+        return f"{number} ({time_text(int(number) * slot_us)})"
+
     lines = []
     for line in said.splitlines(keepends=True):
-        form = TIMED[0] if re.match(r"die \d+ task \d+: cap \d+, period ", line) else TIMED[1]
-        lines.append(form.sub(lambda met: f"{met[0]} ({time_text(int(next(n for n in met.groups() if n)) * slot_us)})", line))
+        if met := OF_ALPHAS.fullmatch(line):
+            lines.append(met[1] + "".join(f" {timed(number)}" for number in met[2].split()) + met[3])
+        elif met := OF_CHANGES.fullmatch(line):
+            lines.append(met[1] + timed(met[2]) + met[3] + timed(met[4]) + met[5])
+        else:
+            form = TIMED[0] if re.match(r"die \d+ task \d+: cap \d+, period ", line) else TIMED[1]
+            lines.append(form.sub(lambda met: f"{met[0]} ({time_text(int(next(n for n in met.groups() if n)) * slot_us)})", line))
     return "".join(lines)

@@ -2,7 +2,8 @@
 """Tests on real files of what the programs write and of what they report: links, devices, pipes, full disks, two writers at
 once, names of one file, and the sentence after each refusal.
 
-    .ci/tests/outputs.py PROGRAM    flashplan or flashrec, as `.ci/build/program` finds it; ends with 1 where one fails
+    .ci/tests/outputs.py PROGRAM            flashplan or flashrec, as `.ci/build/program` finds it; ends with 1 where one fails
+    .ci/tests/outputs.py PROGRAM TEST..     these tests alone
 
 It takes some seconds. What only root may do, as devices and owners, is left out for others, and the other way round."""
 import os
@@ -370,6 +371,14 @@ class Recorded(Case):
             (self.at / "s.csv").write_text(text.replace(old, new, 1))
             self.refused("run one_die.toml s.csv --slots 10", f"error 19 ScriptRow {cause}", f"s.csv, {sentence}")
 
+    def breaks_report(self, lines, at, old, new, sentence):
+        """A report with this change of this record is refused so."""
+        changed = list(lines)
+        self.assertIn(old, changed[at - 1])
+        changed[at - 1] = changed[at - 1].replace(old, new, -1 if old == "," else 1)
+        (self.at / "r.csv").write_text("\n".join(changed) + "\n")
+        self.refused("audit r.csv", f"error 20 ReportText {at}", f"r.csv, line {at} (record {at}): {sentence}")
+
     def test_each_fault_of_a_report_is_reported_with_its_value_and_what_would_be_right(self):
         header = "row,die,job,task,release,due,work,completion,lateness,given,items"
         lines = (DATA / "two_dies.report.csv").read_text().splitlines()
@@ -379,6 +388,7 @@ class Recorded(Case):
             (1, "row", "raw", f"it has to be {header}"),
             (1, ",", ";", f"commas stand between fields, and it has others: {header}"),
             (2, ",,f", ",f", f"it has 10 fields, and a record has 11: {header}"),
+            (2, lines[1], "job", f"it has 1 field, and a record has 11: {header}"),
             (2, "job", "jobs\u001b[2J", "`row` is \"jobs\\u{1b}[2J\", and has to be job, collect, waived or cert"),
             (2, "job,0", "job,9", "`die` is 9, and has to be a whole number from 0 to 7"),
             (2, "job,0,0,0", "job,0,0,x", "`task` is \"x\", and has to be a whole number from 0 to 15"),
@@ -387,6 +397,8 @@ class Recorded(Case):
             (2, "-1,", "-2,", "`lateness` is -2, and has to be -1: it is `completion` less `due`"),
             (2, "4,-1,", "1048577,1048572,", "`completion` is 1048577, and has to be a whole number from 0 to 1048576, or empty"),
             (2, "-1,", "-1,4", "`given` is 4, and has to be empty: the row is a job's"),
+            (2, "4,-1,", ",-1,", "`lateness` is -1, and has to be empty: the row has no completion"),
+            (2, "4,-1,", ",,7", "`given` is 7, and has to be empty: the row has no completion"),
             (2, "4,-1,,", ",,,", "`items` is \"ffffffffffffffffffffffffffffffff fffffff\".., and has to be empty: the row has no completion"),
             (2, " ff", " gf", "`items` is \"ffffffffffffffffffffffffffffffff gffffff\".., and has to be the 0 to 64 pages that its "
              "reads gave, of 32 hexadecimal digits each, with a space between two"),
@@ -401,19 +413,38 @@ class Recorded(Case):
             (7, "0 1", "0 q", "`items` is \"0 q\", and has to be numbers of jobs, with a space between two"),
             (8, "cert,1", "job,1", "`row` is \"job\", and has to be cert: after the first of these no row may stand"),
         ]:
-            changed = list(lines)
-            self.assertIn(old, changed[at - 1])
-            changed[at - 1] = changed[at - 1].replace(old, new, -1 if old == "," else 1)
-            (self.at / "r.csv").write_text("\n".join(changed) + "\n")
-            self.refused("audit r.csv", f"error 20 ReportText {at}", f"r.csv, line {at} (record {at}): {sentence}")
+            self.breaks_report(lines, at, old, new, sentence)
         for changed, record, sentence in [
             (lines[:7], 8, "record 8: the report ends before it, and die 1 has a done row, so its certificate has to stand here"),
             (lines + lines[7:], 9, "line 9 (record 9): no record may stand here: each die with a done row has its certificate"),
+            (lines + ["x"], 9, "line 9 (record 9): no record may stand here: each die with a done row has its certificate"),
+            (lines[:1] + lines[6:], 2, "line 2 (record 2): no record may stand here: each die with a done row has its certificate"),
             ([], 1, f"record 1: the report has no record, and its first has to be {header}"),
             (["", ""] + lines[:2] + lines[:1], 3, "line 5 (record 3): `row` is \"row\", and has to be job, collect, waived or cert"),
         ]:
             (self.at / "r.csv").write_text("".join(line + "\n" for line in changed))
             self.refused("audit r.csv", f"error 20 ReportText {record}", f"r.csv, {sentence}")
+
+    def test_each_fault_of_a_collection_or_a_certificate_is_reported_so_too(self):
+        lines = (DATA / "collections.report.csv").read_text().splitlines()
+        count = "has to be a whole number from 0 to 4294967295"
+        waived, worst, cert = "the collection was waived", "a certificate is of its die's worst row", "the row is a certificate's"
+        for at, old, new, sentence in [
+            (3, ",,,2,", ",,0,2,", f"`lateness` is 0, and has to be empty: {waived}"),
+            (3, ",,,2,", ",,,,", f"`given` is empty, and {count}"),
+            (3, ",,,2,", ",,,2,6", f"`items` is 6, and has to be empty: {waived}"),
+            (13, "-15,2,", "-15,,", f"`given` is empty, and {count}"),
+            (13, "-15,2,", "-15,2,4", "`items` is 4, and has to be empty: a collection has no reads"),
+            # Four rows are as late as job 2, which is the first of them that was done.
+            (15, "cert,0,2", "cert,0,4", f"`job` is 4, and has to be 2: {worst}"),
+            (15, "2,,5", "2,0,5", f"`task` is 0, and has to be empty: {cert}"),
+            (15, "2,,5", "2,,x", f"`release` is \"x\", and {count}"),
+            (15, "5,7,,", "5,8,,", f"`due` is 8, and has to be 7: {worst}"),
+            (15, ",,7,0", ",,8,0", f"`completion` is 8, and has to be 7: {worst}"),
+            (15, "7,0,,", "7,-0,,", f"`lateness` is \"-0\", and has to be 0: {worst}"),
+            (15, "0,,2", "0,1,2", f"`given` is 1, and has to be empty: {cert}"),
+        ]:
+            self.breaks_report(lines, at, old, new, sentence)
 
     def test_a_report_that_is_not_read_again_has_its_form(self):
         done = subprocess.run([PROGRAM, "audit", "-"], cwd=self.at, capture_output=True, check=False,
@@ -472,12 +503,13 @@ class Recorded(Case):
 
 def main():
     global PROGRAM
-    if len(sys.argv) != 2 or sys.argv[1].startswith("-"):
+    if len(sys.argv) < 2 or sys.argv[1].startswith("-"):
         sys.exit(__doc__)
     PROGRAM = str(Path(sys.argv[1]).resolve())
     version = subprocess.run([PROGRAM, "--version"], capture_output=True, check=True).stdout.decode()
     case = Planned if version.startswith("flashplan") else Recorded
-    tests = unittest.defaultTestLoader.loadTestsFromTestCase(case)
+    loader = unittest.defaultTestLoader
+    tests = unittest.TestSuite(map(case, sys.argv[2:])) if sys.argv[2:] else loader.loadTestsFromTestCase(case)
     sys.exit(not unittest.TextTestRunner().run(tests).wasSuccessful())
 
 

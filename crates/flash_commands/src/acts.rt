@@ -90,16 +90,16 @@ fn print_run<R: Threads + Wait + Sync, F: Read + Drop, S: Read + Drop, W: Output
     Ok(count)
 }
 
-/// Tells how many rows were refused with the refusal of a number, by its name. A writer that fails is passed over.
-pub fn report_kind<E: Write>(err: &mut E, number: u8, count: u32) {
+/// Reports how many rows were refused with the refusal of a number, by its name. A writer that fails is passed over.
+fn report_kind<E: Write>(err: &mut E, number: u8, count: u32) {
     if let Some(named) = refusal_name(number) {
         let (name, meaning) = (named.name, named.meaning);
         let _ = writeln!(err, "{count} with {number} {name}: {meaning}");
     }
 }
 
-/// Tells how many rows were refused, and the first of them, if there is one; and after that, in a line a refusal, how many
-/// it refused. A writer that fails is passed over.
+/// Reports how many rows were refused, and the first of them, if there is one; and after that, in a line a refusal, how
+/// many it refused. A writer that fails is passed over.
 fn report_refused<E: Write>(err: &mut E, count: &RunCount) {
     let Some((line, number)) = count.first else {
         return;

@@ -43,7 +43,10 @@ fn record_in<R: Read + Drop>(alloc: Global, report: R, number: u64) -> Option<Fo
     let mut fields = ByteRecord::new(alloc);
     let mut before = Before::HEADER;
     for record in 1..number {
-        if !take_row(&mut rows, &mut fields).ok()? {
+        let Ok(is_there) = take_row(&mut rows, &mut fields) else {
+            return None;
+        };
+        if !is_there {
             return None;
         }
         if record > 1 {
@@ -92,13 +95,22 @@ fn tell_header<W: Write>(err: &mut W, fields: &ByteRecord) {
     };
 }
 
+/// Tells where the form of a record stands, of one that isn't there any more as it was read. A writer that fails is
+/// passed over.
+fn tell_form<W: Write>(err: &mut W) {
+    let _ = writeln!(err, "a record has 11 fields, {HEADER}; {FORM}");
+}
+
+/// Tells how many fields a record has. A writer that fails is passed over.
+fn tell_count<W: Write>(err: &mut W, count: usize) {
+    let word = if count == 1 { "field" } else { "fields" };
+    let _ = writeln!(err, "it has {count} {word}, and a record has 11: {HEADER}");
+}
+
 /// Tells which field of a record has to be what. A writer that fails is passed over.
 fn tell_field<W: Write>(err: &mut W, before: &Before, fields: &ByteRecord) {
     let Some((place, need)) = need_of(before, fields) else {
-        let _ = writeln!(
-            err,
-            "no record may stand here: each die with a done row has its certificate"
-        );
+        tell_form(err);
         return;
     };
     let name = FIELDS.get(place).copied().unwrap_or("");
@@ -119,13 +131,17 @@ fn tell_record<W: Write>(err: &mut W, found: &Found, is_first: bool) {
         tell_missing(err, &found.before, is_first);
         return;
     };
-    let count = fields.len();
     if is_first {
         tell_header(err, fields);
-    } else if count == FIELDS.len() {
+    } else if found.before.is_over(fields) {
+        let _ = writeln!(
+            err,
+            "no record may stand here: each die with a done row has its certificate"
+        );
+    } else if fields.len() == FIELDS.len() {
         tell_field(err, &found.before, fields);
     } else {
-        let _ = writeln!(err, "it has {count} fields, and a record has 11: {HEADER}");
+        tell_count(err, fields.len());
     }
 }
 
@@ -151,8 +167,6 @@ pub(crate) fn report_of_report<R: Files, W: Write>(
         None if number == 1 => {
             let _ = writeln!(err, "it has to be {HEADER}");
         }
-        None => {
-            let _ = writeln!(err, "a record has 11 fields, {HEADER}; {FORM}");
-        }
+        None => tell_form(err),
     }
 }

@@ -144,9 +144,10 @@ impl Before {
         None
     }
 
-    /// Whether certificates stand there, so that no row may follow.
-    pub(crate) fn has_certs(&self) -> bool {
-        self.has_certs
+    /// Whether a record may not stand there, whatever it has: no certificate is missing, and it is one, or comes after
+    /// one.
+    pub(crate) fn is_over(&self, fields: &ByteRecord) -> bool {
+        (self.has_certs || is_named(fields, 0, "cert")) && self.next_cert().is_none()
     }
 }
 
@@ -357,11 +358,11 @@ fn cert_need(fields: &ByteRecord, die: u32, worst: &Finish) -> Option<(usize, Ne
     ])
 }
 
-/// The first field of a record of eleven that breaks a report, by its place, and what it has to be; none where the record
-/// may not stand there at all, whatever it has.
+/// The first field of a record of eleven that breaks a report, by its place, and what it has to be; none where the
+/// record may not stand there at all, whatever it has, or where it breaks nothing.
 pub(crate) fn need_of(before: &Before, fields: &ByteRecord) -> Option<(usize, Need)> {
     if !is_named(fields, 0, "cert") {
-        if before.has_certs() {
+        if before.has_certs {
             before.next_cert()?;
             return Some((0, Need::Certificate));
         }

@@ -4,6 +4,7 @@
 
 use demand_keeping::{Breach, keeps_demand_plan};
 use demand_rules::{TaskTerms, Terms, TermsList};
+use plan_rules::bound;
 use slot_types::{Caps, DiePlan, Event, Op, OpList, Refusal, Shape, TaskNo};
 use std::alloc::Global;
 use std::test::Fail;
@@ -70,6 +71,7 @@ fn events(alloc: Global, jobs: &[Job]) -> Result<Vec<Event>, Refusal> {
 
 fn is_so(alloc: Global, case: &Case<'_>) -> Result<bool, Refusal> {
     let plan = plan(alloc)?;
+    bound(&plan)?;
     let terms = terms(alloc)?;
     let events = events(alloc, case.0)?;
     let wanted = match case.1 {

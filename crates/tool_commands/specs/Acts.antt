@@ -360,7 +360,7 @@ abbrev pub EndsRun : {W : Type 0} → (W → Option (List ℕ)) → (W → Optio
 EndsRun contents has_failed prints alone old new status =
     (prints (contents old) (contents new) × IsRunStatus alone status) ⊎ IsRefused contents has_failed prints old new status
 
--- what stands on full dies of the plans that were read, behind so many lives at least, is printed
+-- what stands on full dies of the plans that were read, after so many lives at least, is printed
 pub record PrintsFilled (plan : Option (List ℕ)) (lives : ℕ) (old new : Option (List ℕ)) : Type 0 where
   pub store : List DiePlan
   pub read : ReadsStore plan store

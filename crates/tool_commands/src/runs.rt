@@ -61,7 +61,7 @@ pub fn act_wear<P: Read + Drop, S: Read + Drop, C: Read + Drop, W: Output, E: Wr
     end_ran(err, ran)
 }
 
-/// How it is told what a run came to.
+/// How it is reported what a run came to.
 #[derive(Clone, Copy, Drop)]
 pub struct Told {
     /// How often a block may be erased; 0 where it isn't said.

@@ -121,7 +121,7 @@ if_all_wear_evenly t records rate =
 abbrev pub run_of : Lasting → Figure
 run_of lasting = figure.Hundredths lasting.run
 
--- what it is told by: the length of the run, and how often a block is erased a day
+-- what it is reported by: the length of the run, and how often a block is erased a day
 unfoldable pub rate_rows : Layout → Records → Lasting → List ℕ
 rate_rows t records lasting =
     own_row t records (codes "seconds of the run") (run_of lasting)
@@ -138,7 +138,7 @@ abbrev pub lasting_of : Option OwnFigures → Option Lasting
 lasting_of None = None
 lasting_of (Some own) = own.lasting
 
--- why no life is told by the block that was erased most
+-- why no life is reported by the block that was erased most
 unfoldable pub most_erased : (die erases : ℕ) → List ℕ
 most_erased die erases =
     codes "die " ++ decimal die ++ codes ": the block that was erased most was erased " ++ decimal erases ++ codes " times "

@@ -190,7 +190,7 @@ fn put_fewest(text: &mut Vec<u8>, slots: u32) -> io::Result<()>
     )
 }
 
-/// Adds why no life is told by the block that was erased most.
+/// Adds why no life is reported by the block that was erased most.
 #[tactic(auto, unfolding(crate::specs::Tables::too_short_text))]
 fn put_too_short_text(text: &mut Vec<u8>, die: usize, own: &OwnFigures) -> io::Result<()>
     ensures { OnOk result (text.new.items ≡ text.old.items ++ too_short_text die own.now) }
@@ -207,7 +207,7 @@ fn is_too_short(own: &OwnFigures) -> bool
     own.lasting.is_some() && own.wearing.greatest < FEWEST_ERASES
 }
 
-/// Adds why no life is told by the block that was erased most, where one is asked for and that block was erased too seldom.
+/// Adds why no life is reported by the block that was erased most, where one is asked for and that block was erased too seldom.
 #[tactic(auto, unfolding(crate::specs::Tables::too_short))]
 pub(crate) fn put_too_short(
     text: &mut Vec<u8>,

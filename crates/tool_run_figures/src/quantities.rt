@@ -1,4 +1,4 @@
-//! Numbers as a designer reads them: behind a number of slots how long they take, and behind one of pages how many bytes
+//! Numbers as a designer reads them: behind a number of slots how long they take, and after one of pages how many bytes
 //! a second that is, where it is known.
 
 ghost use Rattle.std.specs.Prelude.{◌≡◌, Some};
@@ -118,7 +118,7 @@ impl Display for After {
     }
 }
 
-/// A number, and behind it in brackets what it comes to, where the length of a slot, and of pages their payload, are
+/// A number, and after it in brackets what it comes to, where the length of a slot, and of pages their payload, are
 /// known: so many slots in time, as [`Slots`](tool_slot_times::Slots) are written, with a sign where they come before a
 /// deadline; and so many pages as a [`Rate`].
 #[derive(Clone, Copy, PartialEq, Eq, Debug, Drop)]

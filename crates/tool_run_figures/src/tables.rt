@@ -251,7 +251,7 @@ fn layout_of(alloc: Global, records: &Records, units: Units) -> io::Result<Layou
 }
 
 /// Adds the records of a die as a table with a column for each. Behind a number of slots stands its time, where it is
-/// known how long a slot is, and behind one of pages how many bytes a second that is, where it is known how many bytes a
+/// known how long a slot is, and after one of pages how many bytes a second that is, where it is known how many bytes a
 /// page has.
 pub fn put_table(
     alloc: Global,

@@ -166,22 +166,32 @@ fn x_of(axis: Axis, lateness: i64) -> Option<i64> {
     Some(pixel.saturating_add(i64::from(CORNER.x)))
 }
 
-// Names the time of a lateness below its tick, and answers how many pixels that takes.
-fn put_time(text: &mut Vec<u8>, x: i64, lateness: i64, slot_us: u32) -> io::Result<i64> {
-    let y = bottom().saturating_add(34);
-    write!(text, "<text class=\"m s\" x=\"{x}\" y=\"{y}\">")?;
-    let before = text.len();
+// The time of a lateness, with a sign where it is before the deadline.
+fn time_of(alloc: Global, lateness: i64, slot_us: u32) -> io::Result<String> {
     let sign = if lateness < 0 { "-" } else { "" };
     let us = u128::from(lateness.unsigned_abs()) * u128::from(slot_us);
     let time = Time { us };
-    write!(text, "{sign}{time}")?;
-    let signs = i64::try_from(text.len().saturating_sub(before)).unwrap_or(i64::MAX);
-    writeln!(text, "</text>")?;
-    Ok(signs.saturating_mul(8))
+    Ok(format!(in alloc; "{sign}{time}")?)
+}
+
+// How many pixels half of a text takes, of eight a character at most.
+fn half_of(text: &str) -> i64 {
+    i64::try_from(text.len())
+        .unwrap_or(i64::MAX)
+        .saturating_mul(4)
+}
+
+// Names a time below its tick.
+fn put_time(text: &mut Vec<u8>, x: i64, time: &str) -> io::Result<()> {
+    let y = bottom().saturating_add(34);
+    writeln!(
+        text,
+        "<text class=\"m s\" x=\"{x}\" y=\"{y}\">{time}</text>"
+    )
 }
 
 // Names the times below the ticks, where there is room for them, and it is known how long a slot is.
-fn put_times(text: &mut Vec<u8>, axis: Axis, units: Units) -> io::Result<()> {
+fn put_times(alloc: Global, text: &mut Vec<u8>, axis: Axis, units: Units) -> io::Result<()> {
     let Some(slot_us) = units.slot_us else {
         return Ok(());
     };
@@ -190,12 +200,14 @@ fn put_times(text: &mut Vec<u8>, axis: Axis, units: Units) -> io::Result<()> {
     let mut free = i64::MIN;
     for count in 0..13i64 {
         let lateness = first.saturating_add(count).saturating_mul(tick);
-        match x_of(axis, lateness) {
-            Some(x) if free <= x => {
-                let wide = put_time(text, x, lateness, slot_us)?;
-                free = x.saturating_add(wide);
-            }
-            _ => {}
+        let Some(x) = x_of(axis, lateness) else {
+            continue;
+        };
+        let time = time_of(alloc, lateness, slot_us)?;
+        let half = half_of(time.as_str());
+        if free <= x.saturating_sub(half) {
+            put_time(text, x, time.as_str())?;
+            free = x.saturating_add(half);
         }
     }
     Ok(())
@@ -206,7 +218,7 @@ fn name_below(units: Units) -> u64 {
     if units.slot_us.is_some() { 52 } else { 40 }
 }
 
-fn put_ticks(text: &mut Vec<u8>, axis: Axis, units: Units) -> io::Result<()> {
+fn put_ticks(alloc: Global, text: &mut Vec<u8>, axis: Axis, units: Units) -> io::Result<()> {
     let (tick, bottom) = (axis.tick(), bottom());
     let (short, label) = (bottom.saturating_add(5), bottom.saturating_add(20));
     let first = axis.low.checked_div_euclid(tick).unwrap_or(0);
@@ -223,7 +235,7 @@ fn put_ticks(text: &mut Vec<u8>, axis: Axis, units: Units) -> io::Result<()> {
         CORNER.x.saturating_add(WIDTH / 2),
         bottom.saturating_add(name_below(units)),
     );
-    put_times(text, axis, units)?;
+    put_times(alloc, text, axis, units)?;
     writeln!(
         text,
         "<text class=\"m s\" x=\"{x}\" y=\"{y}\">lateness in slots</text>"
@@ -295,7 +307,7 @@ fn put_curves(alloc: Global, text: &mut Vec<u8>, curves: &[Curve], units: Units)
     let axis = Axis::of(curves);
     put_shares(text)?;
     put_late(text, axis)?;
-    put_ticks(text, axis, units)?;
+    put_ticks(alloc, text, axis, units)?;
     let groups = groups_of(alloc, curves, axis)?;
     put_groups(text, curves, groups.as_slice())
 }

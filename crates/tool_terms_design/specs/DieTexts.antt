@@ -7,6 +7,7 @@ use Rattle.demand_rules.specs.declared.demands.DemandLoad.{DemandLoad}
 use Rattle.demand_rules.specs.declared.terms.TaskTerms.{TaskTerms}
 use Rattle.terms_texts.specs.declared.stores.DieTerms.{DieTerms}
 use Rattle.tool_slot_times.specs.Times.{slots_text}
+use Rattle.tool_terms_changes.specs.Alphas.{least_cap as least_cap_with}
 
 -- In these texts a number of slots is followed by its time, where it is known how many us a slot takes.
 
@@ -90,7 +91,7 @@ collection_line us die plan =
 -- what a task's cap has to cover: what it may write in a period and in as many slots as a job may be held, and two
 -- collections; rounded up
 abbrev pub least_cap : DiePlan → TaskTerms → ℕ
-least_cap plan t = (t.writes * (t.period + t.held) + 2 * plan.alpha * t.period + (t.period - 1)) / t.period
+least_cap plan t = least_cap_with plan.alpha t
 
 -- what its collections give, beside what its jobs write
 abbrev pub gain_text : (gained written spare : ℕ) → List ℕ

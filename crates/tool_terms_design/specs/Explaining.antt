@@ -14,6 +14,8 @@ use Rattle.terms_texts.specs.declared.numbers.TermsNumbers.{TermsNumbers}
 use Rattle.terms_texts.specs.declared.stores.DieTerms.{DieTerms}
 use Rattle.tool_plan_design.specs.Trials.{FindsBlocks, FindsLogical}
 use Rattle.tool_terms_margins.specs.MarginTexts.{SaysCaps, SaysMargins, room_line}
+use Rattle.tool_terms_changes.specs.Alphas.{SaysAlphas}
+use Rattle.tool_terms_changes.specs.Changes.{SaysCheapest}
 use Rattle.tool_terms_design.specs.DieTexts.{full_stop, numbers_text, passing_text}
 use Rattle.tool_terms_design.specs.FaultTexts.{bound_text, shape_text, stray_text, terms_text, text_fault}
 
@@ -50,7 +52,7 @@ SaysAllMargins plan zero said = said ≡ []
 SaysAllMargins plan (suc die) said =
     (first last : List ℕ) × SaysAllMargins plan die first × SaysDieMargins plan die last × (said ≡ first ++ last)
 
--- the plan makes a store, of whose dies this is said
+-- the plan makes a store, of whose dies this is said; and of what each alpha comes to with the numbers that go with it
 pub record ExplainsStore (us : Option ℕ) (plan : TermsNumbers) (text : List ℕ) : Type 0 where
   pub store : List DieTerms
   pub made : IsStore plan store
@@ -58,7 +60,9 @@ pub record ExplainsStore (us : Option ℕ) (plan : TermsNumbers) (text : List �
   pub dies : ExplainsDies us 0 store said
   pub more : List ℕ
   pub margins : SaysAllMargins plan plan.top.dies more
-  pub is : text ≡ (codes "The plan is accepted" ++ full_stop) ++ said ++ more
+  pub rows : List ℕ
+  pub alphas : SaysAlphas us plan plan.top.pages rows
+  pub is : text ≡ (codes "The plan is accepted" ++ full_stop) ++ said ++ more ++ rows
 
 -- a die that doesn't meet its bound, with the other logical and blocks with which it would; or its tests' fault, with the other
 -- numbers of its tasks with which it would pass them
@@ -74,12 +78,22 @@ pub record ExplainsUnusable (us : Option ℕ) (die : ℕ) (made : DieTerms) (fau
   pub explained : ExplainsDieFault die made fault why
   pub is : said ≡ numbers_text us die made ++ why
 
+-- that, what each alpha comes to with the numbers that go with it, and the cheapest changes with which the plan would do
+pub record ExplainsFirst (us : Option ℕ) (plan : TermsNumbers) (die : ℕ) (fault : DieFault) (said : List ℕ) : Type 0 where
+  pub own : List ℕ
+  pub unusable : ExplainsUnusable us die (die_of plan die) fault own
+  pub rows : List ℕ
+  pub alphas : SaysAlphas us plan plan.top.pages rows
+  pub changes : List ℕ
+  pub cheapest : SaysCheapest us plan changes
+  pub is : said ≡ own ++ rows ++ changes
+
 -- why the text makes no store
 abbrev pub ExplainsRefusal : Option ℕ → Result TermsNumbers TermsRefusal → TermsRefusal → List ℕ → Type 0
 ExplainsRefusal us read (Text cause place) said = said ≡ text_fault cause place
 ExplainsRefusal us read BadShape said = said ≡ shape_text
 ExplainsRefusal us read (NoDie task) said = said ≡ stray_text task
-ExplainsRefusal us read (Die die fault) said = IfOk read (λ plan. ExplainsUnusable us die (die_of plan die) fault said)
+ExplainsRefusal us read (Die die fault) said = IfOk read (λ plan. ExplainsFirst us plan die fault said)
 ExplainsRefusal us read (Outside refusal) said = ⊥
 
 -- the text makes no store: its refusal by name, and why

@@ -1,14 +1,15 @@
 //! What is said of the text of a plan with terms.
 
-ghost use Rattle.std.specs.Prelude.{◌≡◌, ◌++◌, ℕ, All, List, IfOk, IsOk, Ok, OnOk, codes};
+ghost use Rattle.std.specs.Prelude.{◌≡◌, ◌++◌, ℕ, All, List, IfOk, Ok, OnOk, codes};
 ghost use Rattle.slot_types.specs.Refusal.{FailsForMemory};
 ghost use Rattle.slot_types.specs.Texts.{refusal_text};
 ghost use Rattle.demand_rules.specs.Faults.{IsDemandLoad};
 ghost use Rattle.terms_texts.specs.Refusing.{refusal_of};
 ghost use Rattle.terms_texts.specs.Stores.{IsUsable, die_of};
 ghost use Rattle.terms_texts.specs.TermsText.{read_numbers};
+ghost use Rattle.tool_terms_changes.specs.Alphas.{SaysAlphas};
 ghost use Rattle.tool_terms_design.specs.DieTexts.{full_stop};
-ghost use Rattle.tool_terms_design.specs.Explaining.{ExplainsDie, ExplainsDieFault, ExplainsDies, ExplainsRefusal};
+ghost use Rattle.tool_terms_design.specs.Explaining.{ExplainsDie, ExplainsDieFault, ExplainsDies, ExplainsFirst, ExplainsRefusal};
 ghost use Rattle.terms_texts.specs.declared.numbers.TermsNumbers.{TermsNumbers};
 ghost use Rattle.tool_terms_design.specs.Explaining.{ExplainsTerms, ExplainsUnusable, SaysAllMargins, SaysChanges, SaysDieMargins};
 
@@ -24,18 +25,8 @@ use terms_texts::{
     DieFault, DieTerms, TermsNumbers, TermsRefusal, die_terms, read_terms, terms_numbers,
 };
 use tool_plan_design::{Explained, greatest_logical, least_blocks};
+use tool_terms_changes::{put_alphas, put_cheapest, written};
 use tool_terms_margins::{put_caps, put_margins, put_room};
-
-/// A text that couldn't be written has run out of memory.
-fn written(put: io::Result<()>) -> Result<(), Refusal>
-    ensures said { IfOk result (λ _. IsOk put) }
-    ensures refused { FailsForMemory result }
-{
-    match put {
-        Ok(()) => Ok(()),
-        Err(_) => Err(Refusal::NoMemory),
-    }
-}
 
 /// Adds what is said of a die that passes its tests. The only refusal is NoMemory.
 fn put_die(
@@ -119,7 +110,8 @@ fn accepted(
     ensures said { IfOk result (λ text. (said : List ℕ) × ExplainsDies slot_us 0 dies.now said
         × (numbers : TermsNumbers) × (read_numbers plan.now ≡ Ok numbers)
         × (more : List ℕ) × SaysAllMargins numbers numbers.top.dies more
-        × (text.items ≡ (codes "The plan is accepted" ++ full_stop) ++ said ++ more)) }
+        × (rows : List ℕ) × SaysAlphas slot_us numbers numbers.top.pages rows
+        × (text.items ≡ (codes "The plan is accepted" ++ full_stop) ++ said ++ more ++ rows)) }
     ensures refused { FailsForMemory result }
 {
     let Ok(numbers) = terms_numbers(alloc, plan) else {
@@ -129,6 +121,7 @@ fn accepted(
     written(writeln!(text, "The plan is accepted."))?;
     put_dies(&mut text, dies, slot_us)?;
     put_all_changes(alloc, &mut text, &numbers)?;
+    put_alphas(alloc, &mut text, &numbers, slot_us)?;
     Ok(text)
 }
 
@@ -196,7 +189,25 @@ fn put_planned(
     written(put_unusable(text, die as usize, made, fault, slot_us))
 }
 
-/// Adds those of a die of a text that is read. The only refusal is NoMemory.
+/// Adds those of a die of a plan, what each alpha comes to, and the cheapest changes. The only refusal is NoMemory.
+fn put_first_of(
+    alloc: Global,
+    text: &mut Vec<u8>,
+    numbers: &TermsNumbers,
+    die: u32,
+    fault: DieFault,
+    slot_us: Option<u32>,
+) -> Result<(), Refusal>
+    ensures said { IfOk result (λ _. (said : List ℕ) × ExplainsFirst slot_us numbers.now die fault said
+        × (text.new.items ≡ text.old.items ++ said)) }
+    ensures refused { FailsForMemory result }
+{
+    put_planned(alloc, text, numbers, die, fault, slot_us)?;
+    put_alphas(alloc, text, numbers, slot_us)?;
+    put_cheapest(alloc, text, numbers, slot_us)
+}
+
+/// Adds those of a text that is read. The only refusal is NoMemory.
 fn put_first(
     alloc: Global,
     text: &mut Vec<u8>,
@@ -213,7 +224,7 @@ fn put_first(
     let Ok(numbers) = terms_numbers(alloc, plan) else {
         return Err(Refusal::NoMemory);
     };
-    put_planned(alloc, text, &numbers, die, fault, slot_us)
+    put_first_of(alloc, text, &numbers, die, fault, slot_us)
 }
 
 /// Adds why a text makes no store. The only refusal is NoMemory.

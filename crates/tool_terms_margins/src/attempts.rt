@@ -27,15 +27,15 @@ fn with_terms(tasks: TermsList, task: usize, own: TaskTerms) -> TermsList
     TermsList::from_vec(all)
 }
 
-/// Whether a die meets its bound, and passes its tests.
-fn would_do(made: &DieTerms) -> bool
+/// Whether a die meets its bound, and passes its tests. It takes any die, and no memory.
+pub fn would_do(made: &DieTerms) -> bool
     ensures { IsTrue result ↔ IsUsable made.now }
 {
     bound(&made.plan).is_ok() && terms_test(&made.plan, &made.terms).is_ok()
 }
 
 /// A die with these terms of a task, if there is one.
-pub(crate) fn with_own(made: DieTerms, task: usize, own: TaskTerms) -> DieTerms
+pub fn with_own(made: DieTerms, task: usize, own: TaskTerms) -> DieTerms
     ensures { result ≡ with_own made task own }
 {
     DieTerms {

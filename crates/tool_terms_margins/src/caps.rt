@@ -45,7 +45,7 @@ fn with_one(caps: Caps, task: usize, cap: u32) -> Caps
 }
 
 /// A plan with this cap of a task, if there is one.
-fn with_cap(plan: DiePlan, task: usize, cap: u32) -> DiePlan
+pub fn with_cap(plan: DiePlan, task: usize, cap: u32) -> DiePlan
     ensures { result ≡ with_cap plan task cap }
 {
     DiePlan {
@@ -55,7 +55,7 @@ fn with_cap(plan: DiePlan, task: usize, cap: u32) -> DiePlan
 }
 
 /// The cap of a task; 0 where there is none.
-fn own_cap(plan: &DiePlan, task: usize) -> u32
+pub fn own_cap(plan: &DiePlan, task: usize) -> u32
     ensures { result ≡ slice_index_or plan.now.caps task 0 }
 {
     let caps = plan.caps.as_slice();

@@ -8,6 +8,8 @@ mod numbers;
 mod sentences;
 mod sought;
 
-pub use margins::{Margins, TaskMargins, task_margins};
+pub use attempts::{with_own, would_do};
+pub use caps::{own_cap, with_cap};
+pub use margins::{Margins, TaskMargins, own_terms, task_margins};
 pub use numbers::{Number, with_number};
 pub use sentences::{put_caps, put_margins, put_room};

@@ -36,7 +36,7 @@ pub struct Margins {
 }
 
 /// The terms of a task; a task that the plan doesn't have asks for nothing.
-fn own_terms(made: &DieTerms, task: usize) -> TaskTerms
+pub fn own_terms(made: &DieTerms, task: usize) -> TaskTerms
     ensures { result ≡ terms_of made.now.terms task }
 {
     match made.terms.tasks.get(task) {

@@ -1,0 +1,6 @@
+mod Found
+mod Holding
+mod OneAlpha
+mod OwnDies
+mod Rows
+mod Steps

@@ -1,0 +1,2 @@
+pub mod Alphas
+pub mod Changes
