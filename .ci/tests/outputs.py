@@ -240,9 +240,9 @@ class Planned(Case):
         lines = (self.at / name).read_text().splitlines()
         return [line.split(",")[1:] for line in lines if line.startswith(f"{kind},")]
 
-    def test_full_dies_are_left_behind_lives(self):
+    def test_full_dies_are_left_after_lives(self):
         status, out, err = self.run_words("fill planned.toml --to full.ck --lives 2")
-        self.assertEqual((status, err), (0, "the dies are full behind 2 lives\n"))
+        self.assertEqual((status, err), (0, "the dies are full after 2 lives\n"))
         self.assertEqual(len(self.records("full.ck", "page")), 4)
         self.assertTrue(all(block and page for block, page, _ in self.records("full.ck", "page")))
         self.assertTrue(self.text("explain planned.toml --from full.ck").endswith(out))
@@ -281,7 +281,7 @@ work = 1
 writes = 1
 """)
         status, _, err = self.run_words("fill slow.toml --to full.ck --seed 7")
-        self.assertEqual((status, err), (0, "the dies are full behind 2 lives\n"))
+        self.assertEqual((status, err), (0, "the dies are full after 2 lives\n"))
         slots = "--slots 130000"
         status, _, err = self.run_words(f"arrivals slow.toml {slots} --fill --seed 8 -o first.csv")
         self.assertEqual((status, err), (0, "die 0 isn't full in its life of 130286 slots: that would take 200000, so it has to have "

@@ -34,7 +34,7 @@ work = 1
 writes = 1
 ";
 
-/// How many lives are after full dies of the plan, and how many rows were refused in them, with a text in the place of
+/// How many lives full dies of the plan had, and how many rows were refused in them, with a text in the place of
 /// another.
 fn lives(
     alloc: Global,

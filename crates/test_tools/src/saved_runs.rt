@@ -1,4 +1,4 @@
-//! Runs that go on from a checkpoint and are watched: what is reported of them is worked out by hand.
+//! Runs that go on from a checkpoint and are watched: what they come to is worked out by hand.
 
 use checkpoint_texts::{CheckpointReader, SavedStore};
 use plan_texts::read_plan;
@@ -124,7 +124,7 @@ fn figures_from(
     ))
 }
 
-/// Whether what is reported ends so, and one row was refused, in record 3 for lack of tokens.
+/// Whether the text ends so, and one row was refused, in record 3 for lack of tokens.
 fn ends_with(told: Result<Reported, RunFault>, end: &str) -> bool {
     match told {
         Ok(told) => {
@@ -182,7 +182,7 @@ fn the_reads_of_pages_that_were_saved_are_calls(rt: HostRuntime) -> Result<(), F
     Ok(())
 }
 
-/// Why no figures are reported from a checkpoint, with a text in the place of another.
+/// Why there are no figures from a checkpoint, with a text in the place of another.
 fn why_untold(alloc: Global, old: &str, new: &str, die: u32) -> Result<Option<String>, Fail> {
     let saved = saved_as(alloc, old, new)?;
     match figures_from(alloc, saved, Some(FailAt { die, call: 99 }))? {

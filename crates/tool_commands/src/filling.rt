@@ -115,17 +115,17 @@ fn end_fault<E: Write>(err: &mut E, fault: FillFault) -> u8
         ),
         FillFault::TooSlow => writeln!(
             err,
-            "error: the dies aren't full behind {MOST_LIVES} lives: their tasks write too few pages in each"
+            "error: the dies aren't full after {MOST_LIVES} lives: their tasks write too few pages in each"
         ),
     };
     1
 }
 
-/// Reports what is after full dies. A writer that fails is passed over.
+/// Reports how many lives full dies had. A writer that fails is passed over.
 fn report_lives<E: Write>(err: &mut E, filled: &Filled) {
     let (lives, refused) = (filled.lives, filled.refused);
     let unit = if lives == 1 { "life" } else { "lives" };
-    let _ = writeln!(err, "the dies are full behind {lives} {unit}");
+    let _ = writeln!(err, "the dies are full after {lives} {unit}");
     if refused > 0 {
         let rows = if refused == 1 { "row was" } else { "rows were" };
         let _ = writeln!(err, "{refused} {rows} refused in these");

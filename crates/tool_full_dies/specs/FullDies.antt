@@ -1,4 +1,4 @@
--- Full dies, and the lives after them.
+-- Full dies, and the lives that they had.
 use Rattle.std.specs.Prelude.{◌≡◌, ◌+◌, ◌<◌, ◌≤◌, ℕ, zero, suc, Bool, true, is_some, List, [], map, slice_get, All, Option, Some, None, IfSome, IsSomeAnd}
 use Rattle.std.specs.Global.{Vec}
 use Rattle.slot_types.specs.declared.plans.DiePlan.{DiePlan}
@@ -50,14 +50,14 @@ pub record IsLife (plans : List DiePlan) (before : Option (List SavedDie)) (refu
   pub saved : after ≡ map saved_end dies
 
 -- this was saved after so many lives, one after the other, from fresh dies on, and so many rows were refused in all of them
-abbrev pub IsBehind : List DiePlan → ℕ → ℕ → Option (List SavedDie) → Type 0
-IsBehind plans zero refused saved = (refused ≡ 0) × (saved ≡ None)
-IsBehind plans (suc lives) refused saved = (before : Option (List SavedDie)) × ((earlier : ℕ) × (IsBehind plans lives earlier before
+abbrev pub IsLeftAfter : List DiePlan → ℕ → ℕ → Option (List SavedDie) → Type 0
+IsLeftAfter plans zero refused saved = (refused ≡ 0) × (saved ≡ None)
+IsLeftAfter plans (suc lives) refused saved = (before : Option (List SavedDie)) × ((earlier : ℕ) × (IsLeftAfter plans lives earlier before
     × ((after : List SavedDie) × ((more : ℕ) × ((saved ≡ Some after) × ((refused ≡ earlier + more) × IsLife plans before more after))))))
 
 -- full dies, after so many lives at least
 pub record AreFilled (plans : List DiePlan) (least : ℕ) (filled : Filled) : Type 0 where
-  pub behind : IsBehind plans filled.lives filled.refused (Some filled.saved)
+  pub left : IsLeftAfter plans filled.lives filled.refused (Some filled.saved)
   pub enough : least ≤ filled.lives
   pub full : All IsFull filled.saved
 
@@ -67,7 +67,7 @@ pub record AreSlow (plans : List DiePlan) : Type 0 where
   pub all_lives : lives ≡ MOST_LIVES
   pub refused : ℕ
   pub saved : List SavedDie
-  pub behind : IsBehind plans lives refused (Some saved)
+  pub left : IsLeftAfter plans lives refused (Some saved)
   pub not_full : ¬ All IsFull saved
 
 -- none of the tasks of a die writes

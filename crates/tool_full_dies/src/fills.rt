@@ -17,7 +17,7 @@ use tool_plan_arrivals::{Fault, test_all};
 /// The most lives that are run.
 pub const MOST_LIVES: u32 = 1_000;
 
-/// Full dies, and what is after them.
+/// Full dies, and the lives that they had.
 #[derive(Drop)]
 pub struct Filled {
     pub saved: SavedStore,

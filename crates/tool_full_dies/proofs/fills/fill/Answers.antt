@@ -15,8 +15,8 @@ returns-in_err-lived-clause-refused c =
 
 pub loop-life-preserved : goal.loop-life-preserved
 loop-life-preserved c = record {
-  behind = one_more c.args.plan.now c.loop-life.life c.loop-life.refused c.from-refused.result c.loop-life.from c.in_ok-lived.lived.saved
-      c.loop-life.invariant.behind
+  left = one_more c.args.plan.now c.loop-life.life c.loop-life.refused c.from-refused.result c.loop-life.from c.in_ok-lived.lived.saved
+      c.loop-life.invariant.left
       (subst (λ (n : ℕ). IsLife c.args.plan.now c.loop-life.from n c.in_ok-lived.lived.saved) (sym c.from-refused.ensures)
       c.in_ok-lived.ensures.lived);
   few = search rules;
@@ -29,13 +29,13 @@ loop-life-preserved c = record {
 
 pub returns-clause-refused : goal.returns-clause-refused
 returns-clause-refused c =
-    slow c.args.plan.now c.loop-life.life c.loop-life.refused c.loop-life.from (search rules) c.loop-life.invariant.behind
+    slow c.args.plan.now c.loop-life.life c.loop-life.refused c.loop-life.from (search rules) c.loop-life.invariant.left
     (c.loop-life.invariant.not_full (search rules))
 
 pub returns-then-are_full-clause-filled : goal.returns-then-are_full-clause-filled
 returns-then-are_full-clause-filled c = record {
-  behind = one_more c.args.plan.now c.loop-life.life c.loop-life.refused c.from-refused.result c.loop-life.from c.in_ok-lived.lived.saved
-      c.loop-life.invariant.behind
+  left = one_more c.args.plan.now c.loop-life.life c.loop-life.refused c.from-refused.result c.loop-life.from c.in_ok-lived.lived.saved
+      c.loop-life.invariant.left
       (subst (λ (n : ℕ). IsLife c.args.plan.now c.loop-life.from n c.in_ok-lived.lived.saved) (sym c.from-refused.ensures)
       c.in_ok-lived.ensures.lived);
   enough = search rules;
