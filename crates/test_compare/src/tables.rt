@@ -1,6 +1,8 @@
 //! Tables that were found by hand.
 
-use slot_types::{Caps, Cause, DiePlan, Refusal, Shape, StorePlan};
+ghost use Rattle.std.specs.Prelude.{◌≤◌};
+
+use slot_types::{Caps, Cause, DiePlan, MAX_SLOT, Refusal, Shape, StorePlan};
 use std::alloc::Global;
 use std::str;
 use std::test::Fail;
@@ -143,7 +145,9 @@ const PLAIN_NAMES: &str = "\
 ";
 
 // What is measured in ten slots.
-fn measured(from: u32, units: Units) -> Measure {
+fn measured(from: u32, units: Units) -> Measure
+    ensures { result.slots ≤ MAX_SLOT }
+{
     Measure {
         slots: 10,
         from,
