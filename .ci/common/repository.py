@@ -9,11 +9,14 @@ TOP = Path(__file__).resolve().parents[2]
 CRATES = TOP / "crates"
 
 
-def help_if_asked(text):
-    """Prints a script's page and ends, where a word asks for it."""
+def help_if_asked(text, least=0):
+    """Prints a script's page and ends, where a word asks for it, or where there are fewer words than it takes at least."""
     if {"-h", "--help"} & set(sys.argv[1:]):
         print(text.strip())
         sys.exit(0)
+    if len(sys.argv) <= least:
+        print(text.strip(), file=sys.stderr)
+        sys.exit(2)
 
 
 def kit():

@@ -130,6 +130,11 @@ class Layer:
         if len(cells) == self.pages:
             self.state[self.open], self.open = "closed", None
 
+    def write(self, page):
+        self.writes += 1
+        self.program(page, self.writes)
+        self.last[page] = self.writes
+
     def is_short(self):
         return self.wholly_free() < LOW
 
@@ -181,9 +186,7 @@ class Layer:
             held = None if block is None else self.cells[block][at][1]
             assert held == self.last.get(page), "a read of another write"
         elif letter == b"W":
-            self.writes += 1
-            self.program(page, self.writes)
-            self.last[page] = self.writes
+            self.write(page)
             self.counts.count(slot, "written")
         else:
             self.place.pop(page, None)
@@ -210,10 +213,13 @@ class Layer:
             self.counts.count(now, "idle")
 
 
-def layer_run(plan, load, policy, slots, first, pool):
+def layer_run(plan, load, policy, slots, first, pool, standing=()):
+    """The rows and what the slots carried, of a layer that begins with these pages, one written after the other."""
     counts = Slots(first)
     own = [Row(row.place, row.task, row.release, row.due, row.ops) for row in load]
     layer = Layer(plan, own, policy, pool, counts)
+    for page in standing:
+        layer.write(page)
     for now in range(slots):
         layer.slot(now)
     return own, counts
@@ -260,6 +266,35 @@ def put_die(policy, die, tasks, load, slots, first, counts):
         if rows:
             lines.append(record(policy, die, task, rows, slots, counts))
     return "".join(lines) + record(policy, die, None, counted, slots, counts)
+
+
+def standing_in(checkpoint):
+    """By die the pages that lie in cells, of a checkpoint's text."""
+    dies, page = [[]], 0
+    for line in checkpoint.splitlines():
+        kind, *fields = line.split(",")
+        if kind == "page":
+            if fields[0]:
+                dies[-1].append(page)
+            page += 1
+        elif kind == "die":
+            dies.append([])
+            page = 0
+    return dies[:-1]
+
+
+def compare_layers(plan_text, script_text, standing, slots, first=0, pool=4):
+    """What `flashplan compare --csv` prints of the plain layers that begin with these pages, where the store takes each job."""
+    plans = read_plan(plan_text)
+    rows = [row for row in read_script(script_text, len(plans), slots) if row[6] is not None]
+    lines = []
+    for policy in POLICIES:
+        for at, plan in enumerate(plans):
+            own = [row for row in rows if row[2] == at]
+            load = [Row(place, *row[3:]) for place, row in enumerate(own)]
+            ran, counts = layer_run(plan, load, policy, slots, first, pool, standing[at])
+            lines.append(put_die(policy, at, len(plan["tasks"]), ran, slots, first, counts))
+    return "".join(lines)
 
 
 def compare(plan_text, script_text, slots, first=0, pool=4):

@@ -351,6 +351,25 @@ def passing_text(at, die):
     return numbers_text(at, die) + "".join(line + "\n" for line in lines)
 
 
+def comings(period, due, slots):
+    """How many multiples of a period lie below so many slots, where what comes there is due by the last slot of all."""
+    return len(range(0, min(slots, LAST_SLOT - due + 1), period))
+
+
+def numbers_taken(die, slots):
+    """How many jobs and collections come in so many slots, where tasks ask for all that they may, in as few jobs as may be."""
+    return sum(comings(task["period"], task["deadline"], slots) * -(-task["work"] // 64)
+               + comings(task["collect_period"], task["collect_deadline"], slots) for task in die["tasks"])
+
+
+def life_text(at, die):
+    few, many = 0, LAST_SLOT + 1
+    while many - few > 1:
+        middle = (few + many) // 2
+        few, many = (middle, many) if numbers_taken(die, middle) <= 65_536 else (few, middle)
+    return f"die {at}: where jobs are as few as may be, its life has {few} slots; `renew` begins the next one.\n"
+
+
 def is_terms_text(text):
     try:
         return "terms" in read_toml(text)
@@ -372,7 +391,8 @@ def explained(text):
         return 1, f"The plan is refused: {refusal}.\n{said}"
     said = [passing_text(at, die) for at, die in enumerate(dies)]
     said += [room_text(at, die) + margins_text(at, die) for at, die in enumerate(dies)]
-    return 0, "The plan is accepted.\n" + "".join(said) + alphas_text(dies)
+    lives = "".join(life_text(at, die) for at, die in enumerate(dies))
+    return 0, "The plan is accepted.\n" + "".join(said) + alphas_text(dies) + lives
 
 
 def time_text(us):
@@ -386,15 +406,18 @@ def time_text(us):
 
 TIMED = [
     re.compile(r"(?<=, )(?:period|deadline|held|collect_period|collect_deadline) (\d+)"),
-    re.compile(r"(?<=: a collection takes at most )(\d+)|(?<=: the tightest interval has )(\d+)|(?<= slots, of which )(\d+)(?= may)|(?<= may be asked for: )(\d+)(?= to spare)"),
+    re.compile(r"(?<=: a collection takes at most )(\d+)|(?<=: the tightest interval has )(\d+)|(?<= slots, of which )(\d+)(?= may)"
+               r"|(?<= may be asked for: )(\d+)(?= to spare)|(?<=: an interval of )(\d+)|(?<=the greatest collect_period that would do is )(\d+)"
+               r"|(?<=least period )(\d+)|(?<=least deadline )(\d+)|(?<=least collect_deadline )(\d+)|(?<= its life has )(\d+)"),
 ]
 OF_ALPHAS = re.compile(r"(die \d+: with alpha .* and collect_periods and collect_deadlines)((?: \d+)+)(, in the long run .*\n)")
 OF_CHANGES = re.compile(r"(change: .*: (?:period|deadline|held|collect_period|collect_deadline) from )(\d+)( to )(\d+)(.*\n)")
 
 
 def with_times(said, slot_us):
-    """What `explain` says of a plan with terms, where a slot is so long: periods, deadlines and held jobs, a collection and the
-    tightest interval are followed by their times, and so are the periods and deadlines that go with an alpha, or are changed."""
+    """What `explain` says of a plan with terms, where a slot is so long: periods, deadlines and held jobs, a collection, a life, and
+    the tightest interval or an overfull one are followed by their times, and so are the periods and deadlines that would do, that go
+    with an alpha, or are changed."""
     def timed(number):
         return f"{number} ({time_text(int(number) * slot_us)})"
 

@@ -178,7 +178,7 @@ class Page(unittest.TestCase):
             gives, takes = plan["alpha"] * task["period"], task["writes"] * task["collect_period"]
             self.assertEqual([count(n) for n in row[6:9]], [gives, takes, gives - takes])
         if "terms" in plan:
-            load, = re.findall(r"in the long run (\d+) of", said)
+            load, = re.findall(r"^die 0: in the long run (\d+) of", said, flags=re.M)
             tightest, asked, slack = re.findall(r"interval has (\d+) slots, of which (\d+) may be asked for: (\d+) to", said)[0]
             for line in said.splitlines():
                 if "cap is" in line and "at least" in line:

@@ -2,7 +2,8 @@
 """Tests on real files of what the programs write and of what they report: links, devices, pipes, full disks, two writers at
 once, names of one file, and the sentence after each refusal.
 
-    .ci/tests/outputs.py PROGRAM    flashplan or flashrec, as `.ci/build/program` finds it; ends with 1 where one fails
+    .ci/tests/outputs.py PROGRAM            flashplan or flashrec, as `.ci/build/program` finds it; ends with 1 where one fails
+    .ci/tests/outputs.py PROGRAM TEST..     these tests alone
 
 It takes some seconds. What only root may do, as devices and owners, is left out for others, and the other way round."""
 import os
@@ -65,6 +66,28 @@ class Case(unittest.TestCase):
         else:
             os.mknod(path, stat.S_IFCHR | 0o666, os.stat(f"/dev/{name}").st_rdev)
         return path.name
+
+    def on_terminal(self, words, kind):
+        """What a terminal of this kind gets on standard error."""
+        own, their = os.openpty()
+        done = subprocess.Popen([PROGRAM, *words.split()], cwd=self.at, stdin=subprocess.DEVNULL, stdout=subprocess.DEVNULL,
+                                stderr=their, env={**os.environ, "TERM": kind})
+        os.close(their)
+        said = b""
+        try:
+            while more := os.read(own, 4096):
+                said += more
+        except OSError:
+            pass
+        os.close(own)
+        done.wait(60)
+        return said.decode()
+
+    def test_a_dumb_terminal_gets_no_escapes(self):
+        words = "run one_die.toml nope.csv --slots 1"
+        said = "error 21 ReadFault\r\nnope.csv: No such file or directory (os error 2)\r\n"
+        self.assertEqual(self.on_terminal(words, "xterm"), "\x1b[K" + said)
+        self.assertEqual(self.on_terminal(words, "dumb"), said)
 
     def no_part(self):
         self.assertEqual([path.name for path in self.at.rglob("*.part")], [])
@@ -234,6 +257,91 @@ class Planned(Case):
         self.assertEqual(((self.at / "r").read_bytes(), (self.at / "r.part").read_bytes()), (report, first))
         self.assertEqual(self.run_words(f"{run} --to - -o r"), (0, first, ""))
 
+    def records(self, name, kind):
+        """The fields of a checkpoint's records of a kind, without the kind."""
+        lines = (self.at / name).read_text().splitlines()
+        return [line.split(",")[1:] for line in lines if line.startswith(f"{kind},")]
+
+    def test_full_dies_are_left_after_lives(self):
+        status, out, err = self.run_words("fill planned.toml --to full.ck --lives 2")
+        self.assertEqual((status, err), (0, "the dies are full after 2 lives\n"))
+        self.assertEqual(len(self.records("full.ck", "page")), 4)
+        self.assertTrue(all(block and page for block, page, _ in self.records("full.ck", "page")))
+        self.assertTrue(self.text("explain planned.toml --from full.ck").endswith(out))
+        for die in 0, 1:
+            self.assertIn(f"die {die}: 2 of 2 logical pages lie in cells; ", out.decode())
+        self.refused("fill one_die.toml --to x.ck", "error 3 BadPlan",
+                     "fill wants a plan that is accepted, with times (version 2): flashplan explain says more",
+                     "one_die.toml: flashplan explain one_die.toml says what is wrong, and what would mend it")
+        self.refused("fill planned.toml --to planned.toml", "error 22 WriteFault",
+                     "--to planned.toml and the plan planned.toml are one file: name another for one of them")
+        self.assertFalse((self.at / "x.ck").exists())
+
+    def test_full_dies_are_what_arrivals_and_runs_leave(self):
+        """130 of the 200 pages are written in a life of 130,000 slots, the most that its numbers last for and `common` divides."""
+        (self.at / "slow.toml").write_text("""version = 2
+dies = 1
+blocks = 60
+pages = 4
+erase_slots = 1
+logical = 200
+alpha = 1
+common = 1000
+[[task]]
+die = 0
+cap = 2
+period = 2
+collect_period = 1000
+work = 1
+writes = 0
+[[task]]
+die = 0
+cap = 4
+period = 1000
+collect_period = 1000
+work = 1
+writes = 1
+""")
+        status, _, err = self.run_words("fill slow.toml --to full.ck --seed 7")
+        self.assertEqual((status, err), (0, "the dies are full after 2 lives\n"))
+        slots = "--slots 130000"
+        status, _, err = self.run_words(f"arrivals slow.toml {slots} --fill --seed 8 -o first.csv")
+        self.assertEqual((status, err), (0, "die 0 isn't full in its life of 130286 slots: that would take 200000, so it has to have "
+                                            "fewer logical pages, or its tasks to write more\n"))
+        self.text(f"run slow.toml first.csv {slots} --to first.ck -o first.report")
+        self.assertEqual(sum(1 for block, _, _ in self.records("first.ck", "page") if block), 130)
+        status, _, err = self.run_words(f"arrivals slow.toml {slots} --from first.ck --seed 9 -o second.csv")
+        self.assertEqual((status, err), (0, "die 0 is full from slot 70000 on\n"))
+        self.text(f"run slow.toml second.csv {slots} --from first.ck --to second.ck -o second.report")
+        self.assertEqual((self.at / "second.ck").read_bytes(), (self.at / "full.ck").read_bytes())
+        self.refused("fill slow.toml --to x.ck --lives 1001", "error: at most 1000 lives are run: --lives has to be 1000 at most")
+        (self.at / "reads.toml").write_text((self.at / "slow.toml").read_text().replace("writes = 1", "writes = 0"))
+        self.refused("fill reads.toml --to x.ck", "error: die 0 is never full: none of its tasks writes, and one has to")
+        self.assertFalse((self.at / "x.ck").exists())
+
+    def test_what_is_watched_goes_on_from_a_checkpoint(self):
+        """What a run from a checkpoint wears is what the blocks of the one at its end were erased more, and its figures begin with
+        the pages that are spare there."""
+        write = "W1=000102030405060708090a0b0c0d0e0f"
+        (self.at / "small.csv").write_text(f"at,die,task,kind,release,due,ops\n0,0,0,job,0,10,{write}\n0,1,0,job,0,10,{write}\n")
+        self.text("run planned.toml small.csv --slots 5 --to small.ck")
+        status, script, err = self.run_words("arrivals planned.toml --slots 3000 --from small.ck -o script.csv")
+        self.assertEqual((status, script), (0, b""))
+        self.assertRegex(err, r"\Adie 0 is full from slot [0-9]+ on\ndie 1 is full from slot [0-9]+ on\n\Z")
+        self.text("run planned.toml script.csv --slots 3000 --from small.ck --to end.ck")
+        worn = [line.split(",") for line in self.text("wear planned.toml script.csv --slots 3000 --from small.ck").decode().splitlines()]
+        before, after = ([int(erases) for _, erases in self.records(name, "block")] for name in ("small.ck", "end.ck"))
+        self.assertEqual([int(row[3]) for row in worn if row[0] == "block"], [b - a for a, b in zip(before, after)])
+        self.assertGreater(sum(after), sum(before))
+        (self.at / "none.csv").write_text("at,die,task,kind,release,due,ops\n")
+        figures = self.text("report planned.toml none.csv --slots 7 --from end.ck --csv").decode().splitlines()
+        names = figures[0].split(",")
+        spare = [row.split(",")[names.index("least_spare")] for row in figures[1:] if row.split(",")[1] == ""]
+        self.assertEqual(spare, [spare for _, spare in self.records("end.ck", "die")])
+        self.assertIn("slots 0 to 7", self.text("draw planned.toml none.csv --slots 7 --text --checkpoint end.ck").decode())
+        self.refused("report one_die.toml none.csv --slots 7 --from end.ck", "error: the checkpoint has 2 dies, and the plan has 1")
+        self.refused("draw one_die.toml none.csv --slots 7 --checkpoint end.ck", "error: the checkpoint has 2 dies, and the plan has 1")
+
     def test_a_name_of_a_die_is_reported_with_how_many_there_are(self):
         self.refused("draw two_dies.toml two_dies.csv --slots 5 --die 3", "error 4 UnknownDie",
                      "two_dies.toml: --die is 3; there are 2 dies, numbered from 0")
@@ -277,6 +385,7 @@ class Recorded(Case):
             ("1,3,R3", "1,3", "3 Fields", f"line 3 (record 3): it has 6 fields, and a row has 7: {header}"),
             ("1,3,R3", "1,3,R3 W3=11", "3 Ops", "line 3 (record 3): `ops` has \"W3=11\": operations are R7, T7, or W7= and 32 "
              "hexadecimal digits, with a space between two"),
+            ("1,0,0,job,1,3,R3", "1", "3 Fields", f"line 3 (record 3): it has 1 field, and a row has 7: {header}"),
             (header, header.replace(",", ";"), "1 Header", f"line 1 (record 1): commas stand between fields, and it has others: {header}"),
             (header, "die," + header, "1 Header", f"line 1 (record 1): it has to be {header}"),
         ]:
@@ -284,6 +393,14 @@ class Recorded(Case):
             self.assertIn(old, text)
             (self.at / "s.csv").write_text(text.replace(old, new, 1))
             self.refused("run one_die.toml s.csv --slots 10", f"error 19 ScriptRow {cause}", f"s.csv, {sentence}")
+
+    def breaks_report(self, lines, at, old, new, sentence):
+        """A report with this change of this record is refused so."""
+        changed = list(lines)
+        self.assertIn(old, changed[at - 1])
+        changed[at - 1] = changed[at - 1].replace(old, new, -1 if old == "," else 1)
+        (self.at / "r.csv").write_text("\n".join(changed) + "\n")
+        self.refused("audit r.csv", f"error 20 ReportText {at}", f"r.csv, line {at} (record {at}): {sentence}")
 
     def test_each_fault_of_a_report_is_reported_with_its_value_and_what_would_be_right(self):
         header = "row,die,job,task,release,due,work,completion,lateness,given,items"
@@ -294,6 +411,7 @@ class Recorded(Case):
             (1, "row", "raw", f"it has to be {header}"),
             (1, ",", ";", f"commas stand between fields, and it has others: {header}"),
             (2, ",,f", ",f", f"it has 10 fields, and a record has 11: {header}"),
+            (2, lines[1], "job", f"it has 1 field, and a record has 11: {header}"),
             (2, "job", "jobs\u001b[2J", "`row` is \"jobs\\u{1b}[2J\", and has to be job, collect, waived or cert"),
             (2, "job,0", "job,9", "`die` is 9, and has to be a whole number from 0 to 7"),
             (2, "job,0,0,0", "job,0,0,x", "`task` is \"x\", and has to be a whole number from 0 to 15"),
@@ -302,6 +420,8 @@ class Recorded(Case):
             (2, "-1,", "-2,", "`lateness` is -2, and has to be -1: it is `completion` less `due`"),
             (2, "4,-1,", "1048577,1048572,", "`completion` is 1048577, and has to be a whole number from 0 to 1048576, or empty"),
             (2, "-1,", "-1,4", "`given` is 4, and has to be empty: the row is a job's"),
+            (2, "4,-1,", ",-1,", "`lateness` is -1, and has to be empty: the row has no completion"),
+            (2, "4,-1,", ",,7", "`given` is 7, and has to be empty: the row has no completion"),
             (2, "4,-1,,", ",,,", "`items` is \"ffffffffffffffffffffffffffffffff fffffff\".., and has to be empty: the row has no completion"),
             (2, " ff", " gf", "`items` is \"ffffffffffffffffffffffffffffffff gffffff\".., and has to be the 0 to 64 pages that its "
              "reads gave, of 32 hexadecimal digits each, with a space between two"),
@@ -316,19 +436,38 @@ class Recorded(Case):
             (7, "0 1", "0 q", "`items` is \"0 q\", and has to be numbers of jobs, with a space between two"),
             (8, "cert,1", "job,1", "`row` is \"job\", and has to be cert: after the first of these no row may stand"),
         ]:
-            changed = list(lines)
-            self.assertIn(old, changed[at - 1])
-            changed[at - 1] = changed[at - 1].replace(old, new, -1 if old == "," else 1)
-            (self.at / "r.csv").write_text("\n".join(changed) + "\n")
-            self.refused("audit r.csv", f"error 20 ReportText {at}", f"r.csv, line {at} (record {at}): {sentence}")
+            self.breaks_report(lines, at, old, new, sentence)
         for changed, record, sentence in [
             (lines[:7], 8, "record 8: the report ends before it, and die 1 has a done row, so its certificate has to stand here"),
             (lines + lines[7:], 9, "line 9 (record 9): no record may stand here: each die with a done row has its certificate"),
+            (lines + ["x"], 9, "line 9 (record 9): no record may stand here: each die with a done row has its certificate"),
+            (lines[:1] + lines[6:], 2, "line 2 (record 2): no record may stand here: each die with a done row has its certificate"),
             ([], 1, f"record 1: the report has no record, and its first has to be {header}"),
             (["", ""] + lines[:2] + lines[:1], 3, "line 5 (record 3): `row` is \"row\", and has to be job, collect, waived or cert"),
         ]:
             (self.at / "r.csv").write_text("".join(line + "\n" for line in changed))
             self.refused("audit r.csv", f"error 20 ReportText {record}", f"r.csv, {sentence}")
+
+    def test_each_fault_of_a_collection_or_a_certificate_is_reported_so_too(self):
+        lines = (DATA / "collections.report.csv").read_text().splitlines()
+        count = "has to be a whole number from 0 to 4294967295"
+        waived, worst, cert = "the collection was waived", "a certificate is of its die's worst row", "the row is a certificate's"
+        for at, old, new, sentence in [
+            (3, ",,,2,", ",,0,2,", f"`lateness` is 0, and has to be empty: {waived}"),
+            (3, ",,,2,", ",,,,", f"`given` is empty, and {count}"),
+            (3, ",,,2,", ",,,2,6", f"`items` is 6, and has to be empty: {waived}"),
+            (13, "-15,2,", "-15,,", f"`given` is empty, and {count}"),
+            (13, "-15,2,", "-15,2,4", "`items` is 4, and has to be empty: a collection has no reads"),
+            # Four rows are as late as job 2, which is the first of them that was done.
+            (15, "cert,0,2", "cert,0,4", f"`job` is 4, and has to be 2: {worst}"),
+            (15, "2,,5", "2,0,5", f"`task` is 0, and has to be empty: {cert}"),
+            (15, "2,,5", "2,,x", f"`release` is \"x\", and {count}"),
+            (15, "5,7,,", "5,8,,", f"`due` is 8, and has to be 7: {worst}"),
+            (15, ",,7,0", ",,8,0", f"`completion` is 8, and has to be 7: {worst}"),
+            (15, "7,0,,", "7,-0,,", f"`lateness` is \"-0\", and has to be 0: {worst}"),
+            (15, "0,,2", "0,1,2", f"`given` is 1, and has to be empty: {cert}"),
+        ]:
+            self.breaks_report(lines, at, old, new, sentence)
 
     def test_a_report_that_is_not_read_again_has_its_form(self):
         done = subprocess.run([PROGRAM, "audit", "-"], cwd=self.at, capture_output=True, check=False,
@@ -387,12 +526,13 @@ class Recorded(Case):
 
 def main():
     global PROGRAM
-    if len(sys.argv) != 2 or sys.argv[1].startswith("-"):
+    if len(sys.argv) < 2 or sys.argv[1].startswith("-"):
         sys.exit(__doc__)
     PROGRAM = str(Path(sys.argv[1]).resolve())
     version = subprocess.run([PROGRAM, "--version"], capture_output=True, check=True).stdout.decode()
     case = Planned if version.startswith("flashplan") else Recorded
-    tests = unittest.defaultTestLoader.loadTestsFromTestCase(case)
+    loader = unittest.defaultTestLoader
+    tests = unittest.TestSuite(map(case, sys.argv[2:])) if sys.argv[2:] else loader.loadTestsFromTestCase(case)
     sys.exit(not unittest.TextTestRunner().run(tests).wasSuccessful())
 
 

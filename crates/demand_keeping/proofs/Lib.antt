@@ -3,6 +3,6 @@ pub mod Between
 pub mod Slides
 pub mod Collected
 pub mod Counting
-pub mod Found
+pub mod AnswersOfBreaches
 pub mod Breaking
 pub mod SlotBySlot

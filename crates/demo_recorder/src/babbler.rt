@@ -8,6 +8,7 @@ use planned_ports::{SharedPlannedDie, TaskPort};
 use slot_types::Op;
 use std::sync::Wait;
 use std::sync::atomic::{AtomicBool, Ordering};
+use std::thread;
 
 /// All that it may ask for in 32 slots.
 const READ: [Op; 1] = [Op::Read(0)];
@@ -24,6 +25,8 @@ fn ask_once<N: Nand, R: Wait>(
 {
     let answer = port.ask(rt, die, &READ);
     answers.note(&answer);
+    // Else, where there are fewer processors than threads, it would mostly be suspended while it has the die.
+    thread::yield_now();
 }
 
 /// The babbler's thread: it asks until all others have ended, and then twice more, or until the die takes no more. The

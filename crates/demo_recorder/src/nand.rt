@@ -123,6 +123,11 @@ impl<N: Nand> Nand for WearNand<N> {
         self.chip.program(place, bytes)
     }
 
+    fn program_page(&mut self, place: Place, page: u32, bytes: PageData) -> Result<(), Refusal> {
+        self.tally.add(place.block, PROGRAM);
+        self.chip.program_page(place, page, bytes)
+    }
+
     fn erase_slot(&mut self, block: u32) -> Result<bool, Refusal> {
         if self.tally.erases(block) >= self.endurance {
             self.failed += 1;

@@ -9,7 +9,7 @@ pub mod Runs
 pub mod Limits
 pub mod AccountsPlan
 pub mod Cells
-pub mod Standing
+pub mod LogInvariants
 pub mod Legal
 pub mod Tokens
 pub mod Least

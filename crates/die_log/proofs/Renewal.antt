@@ -22,9 +22,9 @@ use Rattle.die_log.specs.Invariants.RunningCollections.{RunsOnBlock}
 use Rattle.die_log.specs.Model.Opening.{IsOpening, IsQuiet, renewed_start}
 use Rattle.die_log.proofs.Legality.{exact_induction}
 use Rattle.die_log.proofs.Cells.Steps.{opens}
-use Rattle.die_log.proofs.Standing.Finds.{FindsBy}
-use Rattle.die_log.proofs.Standing.Longer.{contained}
-use Rattle.die_log.proofs.Standing.Quiet.{runs_says}
+use Rattle.die_log.proofs.LogInvariants.CellsFromAccounts.{FindsBy}
+use Rattle.die_log.proofs.LogInvariants.OneMoreEntry.{contained}
+use Rattle.die_log.proofs.LogInvariants.AfterNoAct.{runs_says}
 use Rattle.die_log.proofs.Legal.Exact.{StandsWell, stands_well, well_served, event_finds}
 use Rattle.die_log.proofs.Tokens.Sums.{all_at}
 use Rattle.die_log.proofs.Tokens.Taking.{at_none}

@@ -11,10 +11,10 @@ pub mod Doing
 pub mod Slots
 pub mod Turns
 pub mod Reserves
-pub mod Found
-pub mod Finding
+pub mod Searches
+pub mod VictimsExist
 pub mod Begins
 pub mod Copying
 pub mod Few
-pub mod Whole
-pub mod Wells
+pub mod TrueAccounts
+pub mod EveryLog

@@ -18,7 +18,7 @@ use Rattle.die_log.specs.Results.Victims.{BeginsNext, IsSmallVictim, HasFirstAct
 use Rattle.die_log.proofs.Exact.{moment_exact}
 use Rattle.die_log.proofs.Legality.{taken_answer}
 use Rattle.die_log.proofs.Legal.Exact.{StandsWell, stands_well, finds_few, well_served, chosen_is}
-use Rattle.die_log.proofs.Standing.Longer.{act_own}
+use Rattle.die_log.proofs.LogInvariants.OneMoreEntry.{act_own}
 use Rattle.die_log.proofs.Tokens.Few.{begin_shows}
 use Rattle.std.proofs.Common.{MatchOption}
 use Rattle.die_log.proofs.Tokens.Waivers.{Waits}

@@ -3,7 +3,7 @@ pub mod Cells
 pub mod Blocks
 pub mod Serials
 pub mod Telling
-pub mod Finding
+pub mod PagesFound
 pub mod Parts
 pub mod Fewest
 pub mod Rounds

@@ -32,7 +32,7 @@ pub use files::{Disk, Folder, Source, inputs_among, inputs_in, open, path_of};
 pub use heard::Heard;
 pub use hints::{Texts, report_more, report_unwritten};
 pub use noted::Noted;
-pub use progress::{Shown, Watched, WatchedDisk};
+pub use progress::{Shown, Watched, WatchedDisk, clears_lines};
 pub use record_lines::{line_of_record, record_of};
 pub use refusal_names::{RefusalName, refusal_name};
 pub use run_numbers::{Slots, Workers};

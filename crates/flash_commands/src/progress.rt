@@ -2,6 +2,7 @@
 
 use crate::files::{Folder, path_of};
 use slot_types::Refusal;
+use std::env::Env;
 use std::io::Read;
 use std::rt::{Clock, Files};
 use std::time::Instant;
@@ -15,6 +16,15 @@ pub enum Shown {
     Bytes,
     /// Of a script the slot of its last row and the number of its rows, where `all` slots are run.
     Slots { all: u32 },
+}
+
+/// Whether a terminal may be told to clear a line, as it is between two texts: not where TERM says that it is dumb.
+pub fn clears_lines<R: Env>(rt: &R) -> bool {
+    let mut name = [0; 5];
+    match rt.var("TERM", &mut name) {
+        Ok(4) => name != *b"dumb\0",
+        _ => true,
+    }
 }
 
 /// The least milliseconds between two texts.

@@ -177,10 +177,11 @@ fn tell_cause<W: Write>(
         "Header" => tell_header(err, record),
         "Fields" => {
             let fields = record.split(',').count();
+            let word = if fields == 1 { "field" } else { "fields" };
             let _ = if record.is_empty() || record.contains('"') {
                 writeln!(err, "a row has 7 fields: {HEADER}")
             } else {
-                writeln!(err, "it has {fields} fields, and a row has 7: {HEADER}")
+                writeln!(err, "it has {fields} {word}, and a row has 7: {HEADER}")
             };
         }
         "Number" => tell_number(err, record),

@@ -73,6 +73,15 @@ impl<N: Nand> Nand for FuseNand<N> {
         self.inner.program(place, bytes)
     }
 
+    fn program_page(&mut self, place: Place, page: u32, bytes: PageData) -> Result<(), Refusal> {
+        if self.left == 0 {
+            self.failed += 1;
+            return Err(Refusal::DeviceFault);
+        }
+        self.left -= 1;
+        self.inner.program_page(place, page, bytes)
+    }
+
     fn erase_slot(&mut self, block: u32) -> Result<bool, Refusal> {
         if self.left == 0 {
             self.failed += 1;

@@ -155,6 +155,10 @@ impl Nand for MemoryNand {
         Ok(())
     }
 
+    fn program_page(&mut self, place: Place, _page: u32, bytes: PageData) -> Result<(), Refusal> {
+        self.program(place, bytes)
+    }
+
     fn erase_slot(&mut self, block: u32) -> Result<bool, Refusal> {
         let index = block as usize;
         let done = self.erasing[index] + 1;

@@ -1,6 +1,6 @@
 //! What a flash device does.
 
-ghost use Rattle.std.specs.Prelude.{◌≡◌, ◌==◌, ◌+◌, ◌<◌, is_ok, IfOk, OnOk};
+ghost use Rattle.std.specs.Prelude.{◌≡◌, ◌==◌, ◌+◌, ◌<◌, is_ok, Some, None, IfOk, OnOk};
 ghost use Rattle.flash_die.specs.Flash.{IsProgrammed, IsNextCell, IsErasable, block_at, cell_at, blocks_after_program, blocks_after_erase_slot};
 ghost use Rattle.flash_die.specs.Calls.{FailsByFault};
 
@@ -11,8 +11,8 @@ use slot_types::{PageData, Place, Refusal, Shape};
 pub enum NandCall {
     /// A page is read.
     Read(Place),
-    /// A page is programmed with these bytes.
-    Program(Place, PageData),
+    /// A cell is programmed with these bytes: those of this logical page, where the device was given one.
+    Program(Place, Option<u32>, PageData),
     /// A block has one slot of its erase.
     EraseSlot(u32),
 }
@@ -64,7 +64,20 @@ pub trait Nand: Drop {
             ≡ blocks_after_program (blocks self.old) place.block bytes) }
         ensures fails { FailsByFault never_fails result (failures self.old) (failures self.new) }
         ensures shape { shape_of self.new ≡ shape_of self.old }
-        ensures ends { ends self.old (NandCall.Program place bytes) (is_ok result) self.new };
+        ensures ends { ends self.old (NandCall.Program place None bytes) (is_ok result) self.new };
+
+    /// Programs as [`program`](Nand::program) does, and gives the device the logical page of which the bytes are. A die
+    /// programs by this call alone. A device that keeps no labels does no more than `program`, and one that passes
+    /// calls on passes the page on.
+    fn program_page(&mut self, place: Place, page: u32, bytes: PageData) -> Result<(), Refusal>
+        requires next { IsNextCell (blocks self.old) (shape_of self.old).pages place }
+        requires few_failures { failures self.old < 4294967295 }
+        ensures blocks { OnOk result (blocks self.new
+            ≡ blocks_after_program (blocks self.old) place.block bytes) }
+        ensures fails { FailsByFault never_fails result (failures self.old) (failures self.new) }
+        ensures shape { shape_of self.new ≡ shape_of self.old }
+        ensures ends { ends self.old (NandCall.Program place (Some page) bytes)
+            (is_ok result) self.new };
 
     /// Does one slot of the erase of a block, which has all its pages programmed or is in erase
     /// already, and answers whether it was the last. The last slot frees the block's pages.

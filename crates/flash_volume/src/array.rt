@@ -153,7 +153,9 @@ impl<N: Nand> PageArray<N> {
             < free_cells (N.shape_of self.old.device).pages (N.blocks self.old.device) }
         ensures once { N.ends self.old.device
             (NandCall.Program
-            (next_cell (N.shape_of self.old.device).pages (N.blocks self.old.device)) bytes)
+            (next_cell (N.shape_of self.old.device).pages (N.blocks self.old.device))
+            (Some page)
+            bytes)
             (is_ok result)
             self.new.device }
         ensures finds { IsSome
@@ -165,7 +167,7 @@ impl<N: Nand> PageArray<N> {
     {
         let place = self.next_cell();
         let before = self.placed.map().place(page);
-        match self.device.program(place, bytes) {
+        match self.device.program_page(place, page, bytes) {
             Err(refusal) => {
                 self.failed = true;
                 Err(refusal)

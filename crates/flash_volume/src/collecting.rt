@@ -117,8 +117,8 @@ impl<N: Nand> Volume<N> {
         requires holds { collection.buffer ≡ Some copied }
         requires lies { place_of self.old.places copied.page ≡ Some copied.source }
         ensures once { N.ends self.old.device
-            (NandCall.Program (next_in N.blocks self.old) copied.bytes) (is_ok result)
-            self.new.device }
+            (NandCall.Program (next_in N.blocks self.old) (Some copied.page) copied.bytes)
+            (is_ok result) self.new.device }
         ensures finds { IsSome
             (open_in self.old.accounts.plan.shape.pages (N.blocks self.old.device)) }
         ensures did { OnOk result

@@ -220,7 +220,8 @@ impl<N: Nand> Volume<N> {
         requires page { page < length self.old.pages }
         requires held { 0 < slice_index self.old.accounts.holds task }
         ensures once { self.old.failed ≡ false
-            → N.ends self.old.device (NandCall.Program (next_in N.blocks self.old) bytes)
+            → N.ends self.old.device
+            (NandCall.Program (next_in N.blocks self.old) (Some page) bytes)
             (is_ok result) self.new.device }
         ensures finds { self.old.failed ≡ false
             → IsSome (open_in self.old.accounts.plan.shape.pages (N.blocks self.old.device)) }

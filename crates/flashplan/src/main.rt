@@ -7,7 +7,8 @@ mod whole_files;
 ghost use Rattle.tool_command_words.specs.RequestTexts.{RequestFits};
 
 use flash_commands::{
-    Fault, Heard, Noted, Shown, WatchedDisk, end, own_words, report_more, report_unwritten, show,
+    Fault, Heard, Noted, Shown, WatchedDisk, clears_lines, end, own_words, report_more,
+    report_unwritten, show,
 };
 use slot_types::Refusal;
 use std::alloc::Global;
@@ -63,7 +64,7 @@ fn tell_unwritten<W: Write>(err: &mut W, error: Option<&io::Error>) {
 fn main(rt: HostRuntime) -> ExitCode {
     let alloc = rt.alloc();
     let (mut out, mut err) = (Flagged::new(Noted::new(rt.stdout())), rt.stderr());
-    let is_terminal = err.is_terminal();
+    let is_terminal = err.is_terminal() && clears_lines(&rt);
     let status = match own_words(&rt, alloc, "flashplan") {
         Ok(words) => match read_words(alloc, words.as_slice()) {
             Ok(asked) => carry_out(

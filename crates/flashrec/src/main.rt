@@ -3,8 +3,8 @@
 
 pub use flash_commands::{Command, act, read_words};
 use flash_commands::{
-    Fault, Flagged, Heard, Noted, Shown, Texts, WatchedDisk, end, open, own_words, report_more,
-    report_unwritten, show,
+    Fault, Flagged, Heard, Noted, Shown, Texts, WatchedDisk, clears_lines, end, open, own_words,
+    report_more, report_unwritten, show,
 };
 use std::io::IsTerminal;
 use std::process::ExitCode;
@@ -38,7 +38,7 @@ fn texts_of(command: Command<'_>) -> Texts<'_> {
 fn main(rt: HostRuntime) -> ExitCode {
     let alloc = rt.alloc();
     let (mut out, mut err) = (Flagged::new(Noted::new(rt.stdout())), rt.stderr());
-    let is_terminal = err.is_terminal();
+    let is_terminal = err.is_terminal() && clears_lines(&rt);
     let shown = if is_terminal {
         Shown::Bytes
     } else {

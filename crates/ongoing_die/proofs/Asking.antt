@@ -31,7 +31,7 @@ use Rattle.ongoing_die.specs.declared.answers.Taken.TheVariants as taken
 use Rattle.ongoing_die.specs.Standing.{OngoingParts, standing, StandsAs}
 use Rattle.ongoing_die.specs.OngoingCalls.{HasBegun, HasTaken, told, with_numbered}
 use Rattle.ongoing_die.specs.DieAsks.{refusal_of, HasAskedFor, IsDieAsk}
-use Rattle.ongoing_die.proofs.Standings.{within, stands_in}
+use Rattle.ongoing_die.proofs.OverAllLives.{within, stands_in}
 use Rattle.ongoing_die.proofs.Entering.{asked_same, jobs_log, jobs_numbered, numbered_now}
 
 -- Why an ask waits

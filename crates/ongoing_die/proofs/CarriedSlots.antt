@@ -25,7 +25,7 @@ use Rattle.planned_die.specs.Planned.{Planned, HasLived}
 use Rattle.planned_die.specs.PlannedCalls.{own_calls, with_all_own, HasSlotted, RefusesSlot}
 use Rattle.ongoing_die.specs.Standing.{OngoingParts, standing, StandsAs}
 use Rattle.ongoing_die.specs.OngoingCalls.{HasBegun, HaveOnePlan, HasCarried, HasFailed}
-use Rattle.ongoing_die.proofs.Standings.{within}
+use Rattle.ongoing_die.proofs.OverAllLives.{within}
 
 module _ {N : Type 0} (caller : ℕ) (before : Planned N) (whole : before.entered ≡ 0)
     (one_each : length before.terms.tasks ≤ length before.core.start.plan.caps) where

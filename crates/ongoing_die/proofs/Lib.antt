@@ -1,7 +1,7 @@
 pub mod DieAsks
 mod TermsOf
 mod Entering
-mod Standings
+mod OverAllLives
 mod NextLives
 mod Asking
 mod CarriedSlots

@@ -11,7 +11,7 @@ use Rattle.planned_log.specs.Laws.{StartsFull}
 use Rattle.planned_log.specs.Ongoing.{WaitingAsk, IsOngoing, new_ongoing}
 use Rattle.planned_die.specs.Planned.{Planned, HasLived}
 use Rattle.ongoing_die.specs.Standing.{StandsAs}
-use Rattle.ongoing_die.proofs.Standings.{stands_in}
+use Rattle.ongoing_die.proofs.OverAllLives.{stands_in}
 
 fresh_full : (plan : DiePlan) → AreFull (fresh plan)
 fresh_full plan task lt = omega arith

@@ -12,7 +12,7 @@ use Rattle.planned_die.specs.Planned.{Planned, HasLived}
 use Rattle.ongoing_die.specs.Standing.{OngoingParts, standing, StandsAs, IsOngoingDie}
 use Rattle.ongoing_die.specs.Entering.{IsSameDie}
 use Rattle.ongoing_die.specs.OngoingCalls.{HasBegun, HaveOnePlan}
-use Rattle.ongoing_die.proofs.Standings.{stands_in, has_ended}
+use Rattle.ongoing_die.proofs.OverAllLives.{stands_in, has_ended}
 
 -- one plan, twice
 pub plan_then : {N : Type 0} (one two three : OngoingParts N) → HaveOnePlan one two → HaveOnePlan two three → HaveOnePlan one three

@@ -15,3 +15,5 @@ mod Beginning
 mod NeverLate
 mod Asked
 mod InTurn
+mod Resuming
+mod EndingStocked

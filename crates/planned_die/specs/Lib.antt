@@ -2,3 +2,4 @@ pub mod Remembered
 pub mod Planned
 pub mod PlannedCalls
 pub mod NewPlans
+pub mod Resuming

@@ -10,7 +10,7 @@ use Rattle.die_log.specs.Model.Lives.{Lives}
 use Rattle.die_log.specs.Model.Work.{is_done, completion}
 use Rattle.die_log.specs.Model.Start.{Start}
 use Rattle.die_log.proofs.Legal.Exact.{stands_well}
-use Rattle.die_log.proofs.Standing.Longer.{stands_at}
+use Rattle.die_log.proofs.LogInvariants.OneMoreEntry.{stands_at}
 use Rattle.die_log.proofs.Supply.Waived.{waives_collections}
 use Rattle.planned_log.specs.Laws.{IsKept, AreDoneInTime}
 use Rattle.planned_log.proofs.Kept.{is_in_time}

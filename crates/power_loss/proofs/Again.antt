@@ -18,7 +18,7 @@ use Rattle.power_loss.specs.Recovery.{IsRecoverable, IsMountable, MayMount, cell
 use Rattle.power_loss.specs.Recovery.{HasUnplaced, CanGoBack, IsSafe, without_block}
 use Rattle.power_loss.specs.Recovery.{remounted_cells, remounted_labels, MaySeeInErase, MaySeeInActs, MaySeeAgain}
 use Rattle.power_loss.specs.Seen.{MaySeeAfter, MaySeeDuring, MaySeePlaced}
-use Rattle.power_loss.proofs.Finding.{less_fit}
+use Rattle.power_loss.proofs.TwoMounts.{less_fit}
 use Rattle.power_loss.proofs.MountActs.{acts_are_seen, acts_go_on, all_go_on}
 use Rattle.power_loss.proofs.Recovering.{mounts_it}
 use Rattle.power_loss.proofs.Remounting.{cut_in_erase, remounts}

@@ -33,11 +33,11 @@ use Rattle.die_log.proofs.Choices.{OfSome}
 use Rattle.die_log.proofs.Legality.{taken_answer}
 use Rattle.die_log.proofs.Legal.Exact.{stands_well, event_finds, has_slots}
 use Rattle.die_log.proofs.Limits.{keeps_limits}
-use Rattle.die_log.proofs.Standing.Actors.{IsJobAct, job_erases_not, op_act, job_act, collection_may, may_erase}
-use Rattle.die_log.proofs.Standing.Actors.{room_of}
-use Rattle.die_log.proofs.Standing.Finds.{FindsBy}
-use Rattle.die_log.proofs.Standing.Kept.{waiting_undone}
-use Rattle.die_log.proofs.Standing.Longer.{IsWaiting, waits}
+use Rattle.die_log.proofs.LogInvariants.HeadActs.{IsJobAct, job_erases_not, op_act, job_act, collection_may, may_erase}
+use Rattle.die_log.proofs.LogInvariants.HeadActs.{room_of}
+use Rattle.die_log.proofs.LogInvariants.CellsFromAccounts.{FindsBy}
+use Rattle.die_log.proofs.LogInvariants.EveryLog.{waiting_undone}
+use Rattle.die_log.proofs.LogInvariants.OneMoreEntry.{IsWaiting, waits}
 use Rattle.power_loss.specs.Labels.{Programs}
 
 -- a program has a free page, and is of one of the die's pages; a copied page is placed; and an erase slot is of a

@@ -5,7 +5,7 @@ pub mod Having
 pub mod Exact
 pub mod Seeing
 pub mod Mounting
-pub mod Finding
+pub mod TwoMounts
 pub mod Recovering
 pub mod Opening
 pub mod Programming

@@ -51,7 +51,7 @@ use Rattle.power_loss.proofs.Aside.ComingBack.{at_end, cut_on_part, in_call, non
 use Rattle.power_loss.proofs.Aside.ComingBack.{starts_beside}
 use Rattle.power_loss.proofs.Aside.Parts.{places_at}
 use Rattle.power_loss.proofs.Exact.{keeps_labels}
-use Rattle.power_loss.proofs.Finding.{content_at, contents_long}
+use Rattle.power_loss.proofs.TwoMounts.{content_at, contents_long}
 use Rattle.power_loss.proofs.MountActs.{all_go_on}
 use Rattle.power_loss.proofs.Knowing.{acts_next, known_still}
 use Rattle.power_loss.proofs.Numbers.{some_above}

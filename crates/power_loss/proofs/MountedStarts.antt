@@ -18,7 +18,7 @@ use Rattle.die_log.specs.Invariants.TrueAccounts.{AccountsAgree, reserve_full}
 use Rattle.die_log.specs.Results.Supply.{AreStocked}
 use Rattle.die_log.proofs.Cells.Steps.{no_position}
 use Rattle.die_log.proofs.Cells.FreePages.{free_idle}
-use Rattle.die_log.proofs.Tokens.Found.{sum_places}
+use Rattle.die_log.proofs.Tokens.Searches.{sum_places}
 use Rattle.die_log.proofs.Tokens.Opening.{none_at}
 use Rattle.power_loss.specs.Laws.{ForAllRecoverable, Opens}
 use Rattle.power_loss.specs.Recovery.{AreIdle, mounted_start, full_accounts, IsWorthIt}

@@ -22,8 +22,8 @@ use Rattle.power_loss.specs.Recovery.{HasUnplaced, IsFreeBlock, IsRecoverable, r
 use Rattle.power_loss.specs.Recovery.{remounted_labels, IsAbove, AreIdle}
 use Rattle.power_loss.specs.Recovery.{FindsNoneIn, IsNewestBlock, without_block, MayErase, CanUndo, IsMountable}
 use Rattle.power_loss.specs.Recovery.{MaySeeInErase}
-use Rattle.power_loss.proofs.Finding.{IsLess, all_found, bytes_found, content_at, contents_long, less_fit, less_newest}
-use Rattle.power_loss.proofs.Finding.{place_at, place_found, places_long, same_pages, same_place}
+use Rattle.power_loss.proofs.TwoMounts.{IsLess, all_found, bytes_found, content_at, contents_long, less_fit, less_newest}
+use Rattle.power_loss.proofs.TwoMounts.{place_at, place_found, places_long, same_pages, same_place}
 use Rattle.power_loss.proofs.Mounting.{found_newest, mounted_newest, mounted_none, none_found}
 use Rattle.power_loss.proofs.Steps.{cleared_cases, cleared_stays}
 

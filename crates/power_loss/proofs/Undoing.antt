@@ -28,7 +28,7 @@ use Rattle.power_loss.specs.Recovery.{IsRecoverable, MayMount, cells_of, labels_
 use Rattle.power_loss.specs.Recovery.{AreCopies, HasUnplaced, FindsNoneIn}
 use Rattle.power_loss.specs.Recovery.{IsNewestBlock, without_block, MayErase, CanUndo, IsMountable}
 use Rattle.power_loss.specs.Seen.{MaySeeAfter, MaySeePlaced}
-use Rattle.power_loss.proofs.Finding.{place_at, place_found, places_long}
+use Rattle.power_loss.proofs.TwoMounts.{place_at, place_found, places_long}
 use Rattle.power_loss.proofs.MountActs.{all_go_on}
 use Rattle.power_loss.proofs.Mounting.{found_newest}
 use Rattle.power_loss.proofs.Remounting.{placed_in}

@@ -32,7 +32,7 @@ use Rattle.power_loss.specs.Seen.{MaySeeAfter, MaySeeDuring}
 use Rattle.power_loss.proofs.Aside.Lists.{without_at, without_past, with_at, with_at_aside}
 use Rattle.power_loss.proofs.Carrying.{IsSoundCarried, carried_sound}
 use Rattle.power_loss.proofs.Exact.{stands_labelled}
-use Rattle.power_loss.proofs.Finding.{IsLess}
+use Rattle.power_loss.proofs.TwoMounts.{IsLess}
 use Rattle.power_loss.proofs.MountActs.{all_go_on, mount_act}
 use Rattle.power_loss.proofs.Programming.{IsLeft, act_left, bytes_of}
 use Rattle.power_loss.proofs.Remounting.{erased_within, remounts}

@@ -25,8 +25,8 @@ use Rattle.die_log.specs.Model.Log.{Log, Job, jobs, job_at, acts, waived_collect
 use Rattle.die_log.specs.Model.Work.{victim_of}
 use Rattle.die_log.specs.Model.Accounts.{accounts, after_waiver, after_waivers}
 use Rattle.die_log.specs.Model.Answers.{is_running, is_waivable, buffer_after, victim}
-use Rattle.die_log.proofs.Standing.Longer.{number_at, stands_at}
-use Rattle.die_log.proofs.Standing.Actors.{runs_from}
+use Rattle.die_log.proofs.LogInvariants.OneMoreEntry.{number_at, stands_at}
+use Rattle.die_log.proofs.LogInvariants.HeadActs.{runs_from}
 use Rattle.slot_core.specs.Records.{record_with, job_records, waiver_among}
 use Rattle.slot_core.specs.Device.{FlashState, flash_of, page_held, AreRunning}
 use Rattle.slot_core.specs.WithinSlot.{ChoiceGoesOn, IsWaivedTable, InSlot, RunsHead, IsHeadInSlot}

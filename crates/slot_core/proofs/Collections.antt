@@ -17,9 +17,9 @@ use Rattle.die_log.specs.Model.Work.{is_done}
 use Rattle.die_log.specs.Model.Answers.{is_running, buffer_after}
 use Rattle.die_log.specs.Invariants.TrueAccounts.{is_pending, AreTrueAccounts}
 use Rattle.die_log.specs.Invariants.RunningCollections.{AreNumbered, RunsOnBlock}
-use Rattle.die_log.proofs.Standing.Longer.{acts_stay, act_other, same_job, stands_at}
-use Rattle.die_log.proofs.Standing.Quiet.{runs_says, runs_later, runs_before}
-use Rattle.die_log.proofs.Tokens.Found.{first_with, finds_it}
+use Rattle.die_log.proofs.LogInvariants.OneMoreEntry.{acts_stay, act_other, same_job, stands_at}
+use Rattle.die_log.proofs.LogInvariants.AfterNoAct.{runs_says, runs_later, runs_before}
+use Rattle.die_log.proofs.Tokens.Searches.{first_with, finds_it}
 use Rattle.slot_core.specs.Device.{FlashState, IsRunningCollection, AreRunning}
 use Rattle.slot_core.specs.WithinSlot.{OthersRun}
 use Rattle.die_log.specs.Model.Start.{Start}

@@ -15,7 +15,7 @@ use Rattle.die_log.specs.Model.Work.{goes_first, ready, least}
 use Rattle.die_log.specs.Results.Overdue.{overdue}
 use Rattle.die_log.specs.Invariants.RunningCollections.{AreNumbered}
 use Rattle.die_log.proofs.Legal.Exact.{stands_well}
-use Rattle.die_log.proofs.Standing.Longer.{number_at}
+use Rattle.die_log.proofs.LogInvariants.OneMoreEntry.{number_at}
 use Rattle.slot_core.specs.Records.{record_with, job_records}
 use Rattle.slot_core.specs.Device.{FlashState}
 use Rattle.slot_core.specs.Agreement.{AgreeWithLog}

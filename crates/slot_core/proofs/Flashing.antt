@@ -22,8 +22,8 @@ use Rattle.slot_types.specs.Operations.{writes}
 use Rattle.die_log.specs.Model.Accounts.{accounts, after_act, after_waivers}
 use Rattle.die_log.specs.Model.Answers.{IsExact, is_running}
 use Rattle.die_log.proofs.Collecting.{no_acts}
-use Rattle.die_log.proofs.Standing.Longer.{acts_stay}
-use Rattle.die_log.proofs.Standing.Quiet.{runs_says}
+use Rattle.die_log.proofs.LogInvariants.OneMoreEntry.{acts_stay}
+use Rattle.die_log.proofs.LogInvariants.AfterNoAct.{runs_says}
 use Rattle.die_log.proofs.Legality.{entry}
 use Rattle.slot_core.specs.Device.{FlashState, counts_of, IsFlashOf, AreRunning}
 use Rattle.slot_core.specs.WithinSlot.{IsWaivedFlash}

@@ -19,7 +19,7 @@ use Rattle.die_log.specs.Results.Legal.{is_among}
 use Rattle.die_log.specs.Invariants.RunningCollections.{AreNumbered}
 use Rattle.die_log.proofs.Choices.{OfSome, least_all}
 use Rattle.die_log.proofs.Heads.{none_before}
-use Rattle.die_log.proofs.Standing.Longer.{number_at, stands_at, same_job, kept_both}
+use Rattle.die_log.proofs.LogInvariants.OneMoreEntry.{number_at, stands_at, same_job, kept_both}
 use Rattle.slot_core.specs.Records.{record_with, waiver_among, stage_by, pages_given}
 use Rattle.slot_core.specs.WithinSlot.{without_waived}
 use Rattle.slot_core.proofs.Choosing.{filter_twice}

@@ -119,10 +119,10 @@ step_acts start blocks_of log ws j v c (steps.Program page place bytes) sound fl
       (ap (λ (ps : List (Option Place)). place_of ps d.copied.page) (sym flash.places_are) ∙ (ap (place_of v.places) d.page_is ∙ d.lies))
       ∙ ap (λ (p : ℕ). Some (does.CopyProgram p)) d.page_is;
   kind_is = refl;
-  call_is = ap (option_map (λ (p : Place). calls.Program p (content (over v.accounts.plan start) log page)))
+  call_is = ap (option_map (λ (p : Place). calls.Program p (Some page) (content (over v.accounts.plan start) log page)))
       (next_known v.accounts.plan (cells (over v.accounts.plan start) log) (blocks_of v.device) opened.0 flash.blocks_are opened.1
       ∙ ap Some (sym d.place_is))
-      ∙ ap (λ (x : PageData). Some (calls.Program place x)) (sym (content_is (over v.accounts.plan start) log v.pages page flash.pages_are)
+      ∙ ap (λ (x : PageData). Some (calls.Program place (Some page) x)) (sym (content_is (over v.accounts.plan start) log v.pages page flash.pages_are)
       ∙ sym d.bytes_are);
 }
   where
@@ -162,7 +162,7 @@ op_acts start blocks_of log ws j v op flash plain next some = record {
     call (asks.Trim page) found = refl
     call (asks.Write page bytes) found =
         let opened = opens v.accounts.plan (cells (over v.accounts.plan start) log) (found refl) in
-        ap (option_map (λ (p : Place). calls.Program p bytes))
+        ap (option_map (λ (p : Place). calls.Program p (Some page) bytes))
         (next_known v.accounts.plan (cells (over v.accounts.plan start) log) (blocks_of v.device) opened.0 flash.blocks_are
         (opens_same v.accounts.plan (cells (over v.accounts.plan start) log) (blocks_of v.device) flash.blocks_are ∙ opened.1))
 

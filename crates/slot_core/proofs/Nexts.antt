@@ -16,7 +16,7 @@ use Rattle.die_log.specs.Model.Work.{is_done, ready, least}
 use Rattle.die_log.specs.Model.Opening.{IsQuiet}
 use Rattle.die_log.specs.Invariants.RunningCollections.{AreNumbered}
 use Rattle.die_log.proofs.Legal.Exact.{stands_well}
-use Rattle.die_log.proofs.Standing.Longer.{number_at, stands_at}
+use Rattle.die_log.proofs.LogInvariants.OneMoreEntry.{number_at, stands_at}
 use Rattle.slot_core.specs.Records.{record_with, job_records}
 use Rattle.slot_core.specs.Renewals.{is_coming, is_released_before, IsReleasedNext, IsNextCarried}
 use Rattle.slot_core.specs.Device.{FlashState}

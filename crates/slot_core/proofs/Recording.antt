@@ -24,7 +24,7 @@ use Rattle.die_log.specs.Model.Work.{are_all, completion, ended_by}
 use Rattle.die_log.specs.Model.Answers.{IsExact}
 use Rattle.die_log.specs.Invariants.RunningCollections.{AreNumbered}
 use Rattle.die_log.proofs.Legality.{entry}
-use Rattle.die_log.proofs.Standing.Longer.{acts_stay, acts_grow, act_own, number_at}
+use Rattle.die_log.proofs.LogInvariants.OneMoreEntry.{acts_stay, acts_grow, act_own, number_at}
 use Rattle.die_log.proofs.Collecting.{no_acts, other_number}
 use Rattle.die_log.proofs.Known.{known, WaivedBelow}
 use Rattle.slot_core.specs.HeadSteps.{after_read}

@@ -16,7 +16,7 @@ use Rattle.die_log.specs.Model.Flash.{cells}
 use Rattle.die_log.specs.Model.Work.{is_done, is_ready, ready, least}
 use Rattle.die_log.specs.Model.Opening.{IsQuiet, CanBeErased, renewed_start}
 use Rattle.die_log.proofs.Choices.{OfSome, least_all}
-use Rattle.die_log.proofs.Standing.Longer.{kept_both}
+use Rattle.die_log.proofs.LogInvariants.OneMoreEntry.{kept_both}
 use Rattle.slot_core.specs.Core.{Core}
 use Rattle.slot_core.specs.declared.renewals.RenewalRefusal.{RenewalRefusal}
 use Rattle.slot_core.specs.declared.renewals.RenewalRefusal.TheVariants.{DieStopped, NotQuiet, WornOut}

@@ -28,7 +28,7 @@ use Rattle.die_log.specs.Model.Log.{Log, Job, Carried, jobs, job_at, act_of, act
 use Rattle.die_log.specs.Model.Answers.{IsExact}
 use Rattle.die_log.specs.Results.Legal.{IsLegal, IsLegalReply, IsLegalRun, IsNumbered, IsNextOperation, IsNextCollectAct, Does}
 use Rattle.die_log.proofs.Legality.{entry}
-use Rattle.die_log.proofs.Standing.Longer.{acts_stay, acts_grow}
+use Rattle.die_log.proofs.LogInvariants.OneMoreEntry.{acts_stay, acts_grow}
 use Rattle.die_log.proofs.Collecting.{no_acts}
 use Rattle.die_log.specs.Model.Flash.{contents, contents_after, ran_by}
 use Rattle.slot_types.specs.Operations.{is_write, writes}

@@ -33,9 +33,9 @@ use Rattle.die_log.specs.Results.Legal.{changed_since}
 use Rattle.die_log.specs.Invariants.SoundCells.{MayDo}
 use Rattle.die_log.proofs.Cells.Collections.{last_push, next_may}
 use Rattle.die_log.proofs.Legal.Exact.{StandsWell, has_slots}
-use Rattle.die_log.proofs.Standing.Longer.{act_own, acts_grow}
-use Rattle.die_log.proofs.Standing.Quiet.{runs_with}
-use Rattle.die_log.proofs.Standing.Actors.{IsBegun, begun, act_shows, all_is, erases_push, runs_from}
+use Rattle.die_log.proofs.LogInvariants.OneMoreEntry.{act_own, acts_grow}
+use Rattle.die_log.proofs.LogInvariants.AfterNoAct.{runs_with}
+use Rattle.die_log.proofs.LogInvariants.HeadActs.{IsBegun, begun, act_shows, all_is, erases_push, runs_from}
 use Rattle.die_log.proofs.Tokens.Reserves.{reserve_lacks}
 use Rattle.slot_core.specs.declared.head_step.HeadStep.{HeadStep}
 use Rattle.slot_core.specs.Device.{FlashState, flash_of, counts_of, page_in, AreRunning, IsFlashOf}

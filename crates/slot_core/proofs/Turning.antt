@@ -24,8 +24,8 @@ use Rattle.die_log.specs.Results.Limits.{IsWithinLimits}
 use Rattle.die_log.proofs.Legal.Exact.{stands_well, StandsWell}
 use Rattle.die_log.proofs.Legal.Runs.{operation_left}
 use Rattle.die_log.proofs.Limits.{few_found, keeps_limits}
-use Rattle.die_log.proofs.Standing.Kept.{waiting_undone}
-use Rattle.die_log.proofs.Standing.Longer.{number_at, contained}
+use Rattle.die_log.proofs.LogInvariants.EveryLog.{waiting_undone}
+use Rattle.die_log.proofs.LogInvariants.OneMoreEntry.{number_at, contained}
 use Rattle.die_log.proofs.Tokens.Begins.{is_pending_if}
 use Rattle.slot_core.specs.Records.{record_with}
 use Rattle.slot_core.specs.Device.{FlashState, flash_of}

@@ -22,9 +22,9 @@ use Rattle.die_log.specs.Model.Answers.{goes_before, is_running, is_block, is_co
 use Rattle.die_log.specs.Invariants.SoundCells.{AreSoundCells}
 use Rattle.die_log.specs.Invariants.RunningCollections.{RunsOnBlock}
 use Rattle.die_log.proofs.Cells.Collections.{is_block_says}
-use Rattle.die_log.proofs.Standing.Actors.{runs_collected}
-use Rattle.die_log.proofs.Standing.Longer.{contained}
-use Rattle.die_log.proofs.Tokens.Found.{any_found}
+use Rattle.die_log.proofs.LogInvariants.HeadActs.{runs_collected}
+use Rattle.die_log.proofs.LogInvariants.OneMoreEntry.{contained}
+use Rattle.die_log.proofs.Tokens.Searches.{any_found}
 use Rattle.slot_core.specs.Device.{counts_of, AreRunning}
 use Rattle.slot_core.proofs.Flashing.{counted}
 use Rattle.die_log.specs.Model.Start.{Start}

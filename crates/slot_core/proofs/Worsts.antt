@@ -20,7 +20,7 @@ use Rattle.die_log.specs.Model.Answers.{IsExact}
 use Rattle.die_log.specs.Invariants.RunningCollections.{AreNumbered}
 use Rattle.die_log.specs.Model.Rows.{row_for}
 use Rattle.die_log.proofs.Legal.Exact.{stands_well}
-use Rattle.die_log.proofs.Standing.Longer.{stands_at, number_at, contained}
+use Rattle.die_log.proofs.LogInvariants.OneMoreEntry.{stands_at, number_at, contained}
 use Rattle.die_log.proofs.Least.Lookups.{row_in, row_at}
 use Rattle.die_log.proofs.Least.Worst.{worst_is}
 use Rattle.die_log.proofs.Least.Certificates.{done_certified, no_worst, nothing_done}

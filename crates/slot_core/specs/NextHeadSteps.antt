@@ -21,7 +21,7 @@ use Rattle.slot_core.specs.Needs.{IsOnlyCall}
 -- the call that an operation needs
 abbrev pub op_call : {N : Type 0} → (N → List Block) → State N → Op → Option NandCall
 op_call blocks v (asks.Read page) = option_map (λ place. calls.Read place) (place_of v.places page)
-op_call blocks v (asks.Write page bytes) = Some (calls.Program (next_in blocks v) bytes)
+op_call blocks v (asks.Write page bytes) = Some (calls.Program (next_in blocks v) (Some page) bytes)
 op_call blocks v (asks.Trim page) = None
 
 -- a job's next operation

@@ -9,7 +9,7 @@ use crate::die_core::DieCore;
 use flash_die::Nand;
 
 impl<N: Nand> DieCore<N> {
-    /// The device. Until a fault stops the die, the programmed pages, the erase progress and the erases of each block
+    /// The device. Until a fault stops the die it has the plan's shape, the programmed pages, the erase progress and the erases of each block
     /// are those that the log gives it, and where a page is placed the cell holds what the log last wrote there.
     pub fn device(&self) -> &N
         ensures device { result.now ≡ self.now.device }
@@ -20,6 +20,8 @@ impl<N: Nand> DieCore<N> {
             → volume.contents (N.blocks self.now.device) (cells self.now.start self.now.log).places
             ≡ contents self.now.start self.now.log }
         ensures well { self.now.stopped ≡ false → N.failures self.now.device ≡ 0 }
+        ensures shape { self.now.stopped ≡ false
+            → N.shape_of self.now.device ≡ self.now.start.plan.shape }
     {
         self.volume.device()
     }

@@ -58,7 +58,11 @@ fn op_call<N: Nand>(volume: &Volume<N>, task: TaskNo, op: Op) -> Option<NandCall
             Some(place) => Some(NandCall::Read(place)),
             None => None,
         },
-        Op::Write(_, bytes) => Some(NandCall::Program(volume.next_place(task), bytes)),
+        Op::Write(page, bytes) => Some(NandCall::Program(
+            volume.next_place(task),
+            Some(page),
+            bytes,
+        )),
         Op::Trim(_) => None,
     }
 }

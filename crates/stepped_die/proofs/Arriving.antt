@@ -34,7 +34,7 @@ use Rattle.die_log.specs.Model.Opening.{IsOpening}
 use Rattle.die_log.proofs.Collecting.{no_acts}
 use Rattle.die_log.proofs.Legal.Exact.{stands_well}
 use Rattle.die_log.proofs.Legality.{none_stands, taken_answer}
-use Rattle.die_log.proofs.Standing.Longer.{victim_stays}
+use Rattle.die_log.proofs.LogInvariants.OneMoreEntry.{victim_stays}
 use Rattle.slot_core.specs.Core.{with_entry}
 use Rattle.stepped_die.specs.Arrivals.{WaitsAfter}
 

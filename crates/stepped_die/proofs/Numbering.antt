@@ -35,7 +35,7 @@ read_none device (Some place) n = refl
 
 -- a program, where a page is free for it
 program_one : (device : Memory) (b : Option ℕ) (c : Cells) (page : ℕ) (bytes kept : PageData) (l : Labels) → l.next + 1 < 2 ^ 64
-    → serial_after (call_reported device (option_map (λ place. needs.Program place bytes)
+    → serial_after (call_reported device (option_map (λ place. needs.Program place (Some page) bytes)
     (option_map (λ b. record { block = b; page = (block_at c b).filled }) b))) l.next
     ≡ (labels_after_program page kept b l).next
 program_one device None c page bytes kept l room = refl

@@ -14,7 +14,7 @@ use Rattle.stepped_die.specs.declared.calls.Call.TheVariants as calls
 -- a call takes a device to this one, of which the blocks alone may be others
 abbrev pub Does : Memory → NandCall → Memory → Type 0
 Does before (needs.Read place) after = after ≡ before
-Does before (needs.Program place bytes) after = after ≡ record before { blocks = blocks_after_program before.blocks place.block bytes }
+Does before (needs.Program place page bytes) after = after ≡ record before { blocks = blocks_after_program before.blocks place.block bytes }
 Does before (needs.EraseSlot block) after = after ≡ record before { blocks = blocks_after_erase_slot before.blocks before.shape.erase_slots block }
 
 -- a call of the device ends well, and does what it says
@@ -26,7 +26,7 @@ pub record DoesWell (before : Memory) (call : NandCall) (well : Bool) (after : M
 -- last
 abbrev pub reported_of : Memory → NandCall → Call
 reported_of device (needs.Read place) = calls.Read place (cell_at device.blocks place)
-reported_of device (needs.Program place bytes) = calls.Program place bytes
+reported_of device (needs.Program place page bytes) = calls.Program place bytes
 reported_of device (needs.EraseSlot block) = calls.Erase block ((block_at device.blocks block).erasing + 1 == device.shape.erase_slots)
 
 abbrev pub call_reported : Memory → Option NandCall → Option Call

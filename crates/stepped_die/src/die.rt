@@ -390,7 +390,7 @@ fn call_reported(device: &MirrorNand, call: Option<NandCall>) -> Option<Call>
             let bytes = device.cell(place);
             Some(Call::Read { place, bytes })
         }
-        Some(NandCall::Program(place, bytes)) => Some(Call::Program { place, bytes }),
+        Some(NandCall::Program(place, _, bytes)) => Some(Call::Program { place, bytes }),
         Some(NandCall::EraseSlot(block)) => {
             let last = device.ends_erase(block);
             Some(Call::Erase { block, last })

@@ -111,6 +111,10 @@ impl Nand for MirrorNand {
         self.memory.program(place, bytes)
     }
 
+    fn program_page(&mut self, place: Place, page: u32, bytes: PageData) -> Result<(), Refusal> {
+        self.memory.program_page(place, page, bytes)
+    }
+
     fn erase_slot(&mut self, block: u32) -> Result<bool, Refusal> {
         self.memory.erase_slot(block)
     }

@@ -26,7 +26,7 @@ use Rattle.die_log.specs.Model.Answers.{refusal_of, answer, IsAccepted, IsExact}
 use Rattle.die_log.specs.Results.InTime.{events_of_log, AreEntered, IsInTime}
 use Rattle.die_log.proofs.Legality.{accepted_answer}
 use Rattle.die_log.proofs.Planned.InTime.{planned_in_time}
-use Rattle.die_log.proofs.Standing.Longer.{contained}
+use Rattle.die_log.proofs.LogInvariants.OneMoreEntry.{contained}
 use Rattle.die_log.proofs.Supply.Unrefused.{unrefused, entered}
 use Rattle.slot_core.specs.Calls.{RefusedBy}
 use Rattle.slot_core.specs.Core.{with_entry}

@@ -10,7 +10,7 @@ use Rattle.slot_types.specs.declared.replies.Reply.TheVariants as replies
 use Rattle.die_log.specs.Model.Log.{Log, Job, jobs, job_at, with_taken}
 use Rattle.die_log.specs.Results.Legal.{IsLegal, IsNumbered}
 use Rattle.die_log.specs.Invariants.RunningCollections.{AreNumbered}
-use Rattle.die_log.proofs.Standing.Longer.{numbered_push, number_at}
+use Rattle.die_log.proofs.LogInvariants.OneMoreEntry.{numbered_push, number_at}
 use Rattle.slot_core.specs.Summaries.{JobSummary, summary_of, summary_at}
 use Rattle.report_texts.specs.declared.reports.ReportRow.{ReportRow}
 use Rattle.report_texts.specs.TextSoFar.{TextSoFar, row_added, rows_added}

@@ -28,8 +28,8 @@ use Rattle.die_log.proofs.Choices.{Names, OfSome, all_kept, names_waiting}
 use Rattle.die_log.proofs.Known.{all_append}
 use Rattle.die_log.proofs.Legality.{entry, exact_induction}
 use Rattle.die_log.proofs.Legal.Exact.{stands_well}
-use Rattle.die_log.proofs.Standing.Longer.{number_at, stands_at}
-use Rattle.die_log.proofs.Tokens.Whole.{all_known}
+use Rattle.die_log.proofs.LogInvariants.OneMoreEntry.{number_at, stands_at}
+use Rattle.die_log.proofs.Tokens.TrueAccounts.{all_known}
 use Rattle.slot_core.specs.Records.{reads_of}
 use Rattle.script_texts.specs.AskedPages.{WritesPage}
 use Rattle.text_base.specs.Pages.{IsPage}

@@ -26,7 +26,7 @@ use Rattle.die_log.proofs.Limits.{keeps_limits}
 use Rattle.die_log.proofs.Least.Certificates.{worst_certified}
 use Rattle.die_log.proofs.Least.Lookups.{row_in, row_at}
 use Rattle.die_log.proofs.Least.Worst.{worst_is}
-use Rattle.die_log.proofs.Standing.Longer.{stands_at}
+use Rattle.die_log.proofs.LogInvariants.OneMoreEntry.{stands_at}
 use Rattle.slot_types.specs.declared.events.JobHead.{JobHead}
 use Rattle.slot_core.specs.Outcomes.{outcome_by, head_of}
 use Rattle.slot_core.specs.Records.{waiver_among, pages_given, reads_of}

@@ -14,10 +14,11 @@ fn words_in(alloc: Global, line: &str) -> Result<Vec<String>, AllocError> {
 }
 
 /// Words that ask for nothing, and the front of what is reported of them.
-const FAULTS: [(&str, &str); 8] = [
+const FAULTS: [(&str, &str); 13] = [
     (
         "flashplan",
-        "error: a command is wanted: explain, fit, design, arrivals, keeps, wear, report, draw, compare, import, run or audit\n",
+        "error: a command is wanted: explain, fit, design, arrivals, fill, keeps, wear, report, draw, compare, import, run or \
+         audit\n",
     ),
     (
         "flashplan wear p.toml s.csv --slots 12a",
@@ -42,6 +43,26 @@ const FAULTS: [(&str, &str); 8] = [
     (
         "flashplan run p.toml s.csv --slots 5 --fail-at 0:1 --from c.csv",
         "error: --fail-at is of fresh dies, and goes with neither --from nor --to\n",
+    ),
+    (
+        "flashplan fill p.toml --to c.csv --lives=-1",
+        "error: --lives is \"-1\", and has to be a whole number from 0 to 1048576\n",
+    ),
+    (
+        "flashplan fill p.toml",
+        "error: the following required arguments were not provided:\n",
+    ),
+    (
+        "flashplan draw p.toml --demand --checkpoint c.csv",
+        "error: --checkpoint c.csv and --demand don't go together: it draws no run\n",
+    ),
+    (
+        "flashplan report p.toml s.csv --slots 5 --csv --endurance 00 --slot-us 250",
+        "error: --slot-us 250 and --csv don't go together: without --endurance records have no times\n",
+    ),
+    (
+        "flashplan compare p.toml s.csv --slots 5 --task 0 --from 5",
+        "error: --from 5 and --slots 5 don't go together: no slot is left to count\n",
     ),
     (
         "flashplan audit",

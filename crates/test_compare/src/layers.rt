@@ -35,7 +35,7 @@ fn completion(played: &Played, job: usize) -> Option<u32> {
 // Plays a load on the small die, and tells the completions of its first two jobs.
 fn first_two(alloc: Global, load: &Load, policy: Policy) -> Result<(u32, u32), Fault> {
     let plan = small_plan(alloc)?;
-    let played = play(alloc, &plan, load, policy, MARKS, 40, 0)?;
+    let played = play(alloc, &plan, &[], load, policy, MARKS, 40, 0)?;
     let first = completion(&played, 0).unwrap_or(0);
     Ok((first, completion(&played, 1).unwrap_or(0)))
 }
@@ -157,6 +157,7 @@ fn what_is_counted_begins_with_the_first_measured_slot(rt: HostRuntime) -> Resul
     let played = play(
         rt.alloc(),
         &plan,
+        &[],
         &load,
         Policy::EarliestDeadline,
         MARKS,
@@ -222,7 +223,7 @@ fn random_loads_read_what_was_written(rt: HostRuntime) -> Result<(), Fail> {
     for seed in 1..4u64 {
         let load = chance_load(rt.alloc(), seed)?;
         for policy in Policy::ALL {
-            let fault = play(rt.alloc(), &plan, &load, policy, MARKS, 10_100, 0).err();
+            let fault = play(rt.alloc(), &plan, &[], &load, policy, MARKS, 10_100, 0).err();
             assert_eq!(rt; fault, None, "{} by seed {seed}", policy.name());
         }
     }

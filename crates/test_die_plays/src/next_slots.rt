@@ -28,7 +28,7 @@ fn put_device_call(said: &mut Reported, call: NandCall) -> Result<(), Refusal> {
             said.words("by read")?;
             put_place(said, place)
         }
-        NandCall::Program(place, bytes) => {
+        NandCall::Program(place, _, bytes) => {
             said.words("by program")?;
             put_place(said, place)?;
             said.holds(&bytes)

@@ -83,6 +83,10 @@ impl Nand for Recorder {
         self.inner.program(place, bytes)
     }
 
+    fn program_page(&mut self, place: Place, _page: u32, bytes: PageData) -> Result<(), Refusal> {
+        self.program(place, bytes)
+    }
+
     fn erase_slot(&mut self, block: u32) -> Result<bool, Refusal> {
         self.calls[2] = self.calls[2].wrapping_add(1);
         if self.erases == 1000 {

@@ -222,6 +222,10 @@ impl<N: Nand> Nand for HeldNand<N> {
         self.inner.program(place, bytes)
     }
 
+    fn program_page(&mut self, place: Place, page: u32, bytes: PageData) -> Result<(), Refusal> {
+        self.inner.program_page(place, page, bytes)
+    }
+
     fn erase_slot(&mut self, block: u32) -> Result<bool, Refusal> {
         self.inner.erase_slot(block)
     }

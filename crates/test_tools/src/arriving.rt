@@ -12,7 +12,9 @@ use std::sync::Wait;
 use std::test::Fail;
 use std::thread::Threads;
 use task_script::{ReportReader, read_plan, run_text};
-use tool_plan_arrivals::{Fault, Filling, Manner, arrivals, fillings_of};
+use tool_plan_arrivals::{
+    Fault, Filling, Manner, arrivals, arrivals_from, fillings_from, fillings_of,
+};
 
 /// How many plans are tried.
 const PLANS: u32 = 10;
@@ -304,5 +306,66 @@ fn a_die_is_filled_in_order_and_never_trimmed(rt: HostRuntime) -> Result<(), Fai
     assert!(rt; text.contains(FILLED[0]));
     assert!(rt; text.contains(FILLED[1]));
     assert_eq!(rt; fillings_of(alloc, &plan)?.as_slice(), [FILLING].as_slice());
+    Ok(())
+}
+
+/// Which of the pages lie in cells already: so the first task still fills 4 and 6 with its first job and 8 with its second
+/// one, and the third task 1, 7 and 9 with its first job, both by slot 40.
+const HELD: [bool; 6] = [true, false, true, true, false, true];
+
+/// Jobs of a script: how each begins, and a write that is in it.
+const FILLED_AFTER: [(&str, &str); 4] = [
+    ("0,0,0,job,", "W4=000000000000000000000004"),
+    ("0,0,0,job,", "W6=000000000000000000000006"),
+    ("20,0,0,job,", "W8=000000140000000000000008"),
+    (
+        "0,0,2,job,",
+        "0,40,W1=00000000000000020000000100000000 W7=00000000000000020000000700000001 W9=00000000000000020000000900000002",
+    ),
+];
+
+/// Whether the record of a script that begins so has this in it.
+fn has(text: &str, begins: &str, part: &str) -> bool {
+    for line in text.lines() {
+        if line.starts_with(begins) {
+            return line.contains(part);
+        }
+    }
+    false
+}
+
+#[test]
+fn pages_that_lie_in_cells_are_not_filled_again(rt: HostRuntime) -> Result<(), Fail> {
+    let alloc = rt.alloc();
+    let plan = read_plan(alloc, WRITERS.as_bytes())?;
+    let fills = Manner {
+        fills: true,
+        ..PLAIN
+    };
+    let mut held = Vec::new(alloc);
+    held.push(Vec::from_slice(alloc, HELD.as_slice())?)?;
+    let script = arrivals_from(alloc, &plan, 400, fills, held.as_slice())?;
+    let text = std::str::from_utf8(&script).unwrap_or("");
+    for (begins, part) in FILLED_AFTER {
+        assert!(rt; has(text, begins, part), "{part}");
+    }
+    let by_forty = Filling {
+        from: Some(40),
+        ..FILLING
+    };
+    assert_eq!(rt;
+        fillings_from(alloc, &plan, held.as_slice())?.as_slice(),
+        [by_forty].as_slice()
+    );
+    let mut full = Vec::new(alloc);
+    full.push(Vec::from_slice(alloc, [true; 10].as_slice())?)?;
+    let from_the_first_slot = Filling {
+        from: Some(0),
+        ..FILLING
+    };
+    assert_eq!(rt;
+        fillings_from(alloc, &plan, full.as_slice())?.as_slice(),
+        [from_the_first_slot].as_slice()
+    );
     Ok(())
 }

@@ -4,6 +4,7 @@ use crate::texts::{PLAN, SCRIPT};
 use plan_texts::read_plan;
 use std::alloc::Global;
 use std::test::Fail;
+use tool_slot_times::Units;
 use tool_watched_runs::{Shown, draw};
 
 /// The picture of the slots 19 to 25. Up to slot 23 no page is spare and the task has no token; the collection that is done with
@@ -75,6 +76,7 @@ fn what_each_slot_carried_is_drawn(rt: HostRuntime) -> Result<(), Fail> {
         worst: false,
         as_text: false,
         all: false,
+        units: Units::NONE,
     };
     assert!(rt; is_drawn(rt.alloc(), shown, PICTURE)?);
     Ok(())
@@ -99,6 +101,7 @@ fn what_each_slot_carried_is_written_as_lines(rt: HostRuntime) -> Result<(), Fai
         worst: false,
         as_text: true,
         all: false,
+        units: Units::NONE,
     };
     let plan = read_plan(rt.alloc(), PLAN.as_bytes())?;
     let said = draw(rt.alloc(), plan, SCRIPT.as_bytes(), 25, 0, shown, None)?;
@@ -127,6 +130,7 @@ fn what_waits_past_its_deadline_is_marked(rt: HostRuntime) -> Result<(), Fail> {
         worst: false,
         as_text: true,
         all: false,
+        units: Units::NONE,
     };
     let plan = read_plan(rt.alloc(), PLAN.as_bytes())?;
     let said = draw(rt.alloc(), plan, LATE.as_bytes(), 6, 0, shown, None)?;
@@ -145,6 +149,7 @@ fn the_worst_is_drawn(rt: HostRuntime) -> Result<(), Fail> {
         worst: true,
         as_text: false,
         all: false,
+        units: Units::NONE,
     };
     let said = draw(rt.alloc(), plan, SCRIPT.as_bytes(), 25, 0, shown, None)?;
     let text = String::from_utf8(said.text)?;

@@ -10,6 +10,7 @@ use std::alloc::Global;
 use std::test::Fail;
 use tool_checkpoint_runs::run_failing;
 use tool_run_figures::Life;
+use tool_slot_times::Units;
 use tool_watched_runs::{FailAt, Failure, RefusedRows, Shown, draw, report};
 
 const UNKNOWN: Life = Life {
@@ -36,8 +37,8 @@ const REFUSED: RefusedRows = RefusedRows {
 
 /// Two jobs of four and two writes were done, 96 slots early and at their deadline. Two collections were waived in slots 4 and
 /// 7, and left 6 of 10 pages spare. The job that waits is due by slot 10, and the die's time ended with slot 8: it isn't late.
-const FIGURES: &str = "0,,2,1,5,0,0,-48.00,0,0,2,0,4,6,0,0,2,6,0,1.000,,,6,7,0,0,0.00,0,
-0,0,2,1,5,0,0,-48.00,0,0,2,0,4,6,0,0,,6,0,1.000,0,0,,,,,,,
+const FIGURES: &str = "0,,2,1,5,0,0,-48.00,0,0,2,0,4,6,0,0,2,6,0,1.000,,,6,7,0,0,0.00,0,,,,,,
+0,0,2,1,5,0,0,-48.00,0,0,2,0,4,6,0,0,,6,0,1.000,0,0,,,,,,,,,,,,
 ";
 
 /// The job of slot 8 waits for ever. The worst is job 2; before its two slots one was idle.
@@ -71,6 +72,7 @@ fn figures_are_reported_up_to_the_failing_call(rt: HostRuntime) -> Result<(), Fa
         SCRIPT.as_bytes(),
         25,
         UNKNOWN,
+        Units::NONE,
         true,
         Some(SEVENTH),
     )?;
@@ -86,6 +88,7 @@ const WHOLE: Shown = Shown {
     worst: false,
     as_text: true,
     all: false,
+    units: Units::NONE,
 };
 
 /// In which slot the run of the script fails at a call.
@@ -133,6 +136,7 @@ fn a_die_that_is_not_there_is_refused(rt: HostRuntime) -> Result<(), Fail> {
         SCRIPT.as_bytes(),
         25,
         UNKNOWN,
+        Units::NONE,
         true,
         Some(fail),
     )
@@ -198,7 +202,16 @@ fn no_other_device_fails(rt: HostRuntime) -> Result<(), Fail> {
     assert_eq!(rt; run.failure, failed);
     let plan = read_plan(alloc, TWO_DIES.as_bytes())?;
     let script = ON_BOTH.as_bytes();
-    let said = report(alloc, plan, script, 4, UNKNOWN, true, Some(READ))?;
+    let said = report(
+        alloc,
+        plan,
+        script,
+        4,
+        UNKNOWN,
+        Units::NONE,
+        true,
+        Some(READ),
+    )?;
     assert_eq!(rt; said.failure, Some(failed));
     // Nothing is reported of a die that doesn't run.
     let plan = read_plan(alloc, TWO_DIES.as_bytes())?;

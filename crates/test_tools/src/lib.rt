@@ -15,6 +15,8 @@ mod failing;
 #[cfg(test)]
 mod fitting;
 #[cfg(test)]
+mod full_dies;
+#[cfg(test)]
 mod importing;
 #[cfg(test)]
 mod joining;
@@ -22,6 +24,8 @@ mod joining;
 mod keeping;
 #[cfg(test)]
 mod reporting;
+#[cfg(test)]
+mod saved_runs;
 #[cfg(test)]
 mod text_faults;
 #[cfg(test)]

@@ -4,7 +4,8 @@ use crate::texts::{HEADER, PLAN, SCRIPT};
 use plan_texts::read_plan;
 use std::alloc::Global;
 use std::test::Fail;
-use tool_run_figures::Life;
+use tool_run_figures::{Life, Rate, Wearing};
+use tool_slot_times::Units;
 use tool_watched_runs::report;
 
 /// A block lasts a million erases, a slot takes a second.
@@ -21,19 +22,20 @@ const UNKNOWN: Life = Life {
 const NAMES: &str =
     "die,task,done,waiting,refused,late,worst,mean,p99,collected,waived,collecting,uncollected,job_slots,\
 copy_slots,erase_slots,idle_slots,written,copied,amplification,least_balance,balance_slot,least_spare,spare_slot,erases,\
-least_erases,mean_erases,most_erases,years
+least_erases,mean_erases,most_erases,run_s,mean_a_day,mean_days,most_a_day,most_days,years
 ";
 
 /// Six jobs that write have lateness -96 and five times 0, the read -7: -103 / 7. The last row is refused. Each of five
-/// waived collections gives 2 of 10 spare pages, the last in slot 16; the sixth copies one page and erases a block. At
-/// that pace a block lasts 25,000,000 seconds.
-const FIGURES: &str = "0,,7,0,1,0,0,-14.72,0,1,5,0,0,15,2,3,5,14,1,1.071,,,0,16,1,0,0.25,1,0.79
-0,0,7,0,1,0,0,-14.72,0,1,5,0,0,15,2,3,,14,1,1.071,0,0,,,,,,,
+/// waived collections gives 2 of 10 spare pages, the last in slot 16; the sixth copies one page and erases a block, and one
+/// erase makes no rate.
+const FIGURES: &str =
+    "0,,7,0,1,0,0,-14.72,0,1,5,0,0,15,2,3,5,14,1,1.071,,,0,16,1,0,0.25,1,25.00,,,,,
+0,0,7,0,1,0,0,-14.72,0,1,5,0,0,15,2,3,,14,1,1.071,0,0,,,,,,,,,,,,
 ";
 
 /// Nothing happens in three slots: of 16 pages 4 are the task's, 2 its collector's.
-const NOTHING: &str = "0,,0,0,0,0,,,,0,0,0,0,0,0,0,3,0,0,,,,10,0,0,0,0.00,0,
-0,0,0,0,0,0,,,,0,0,0,0,0,0,0,,0,0,,4,0,,,,,,,
+const NOTHING: &str = "0,,0,0,0,0,,,,0,0,0,0,0,0,0,3,0,0,,,,10,0,0,0,0.00,0,,,,,,
+0,0,0,0,0,0,,,,0,0,0,0,0,0,0,,0,0,,4,0,,,,,,,,,,,,
 ";
 
 /// In three slots the first job is done a slot late; the second and the third wait past their deadlines; the fourth may
@@ -45,8 +47,8 @@ const LATE: &str = "at,die,task,kind,release,due,ops
 0,0,0,job,0,4,R0
 ";
 
-const LATE_FIGURES: &str = "0,,1,3,0,3,1,1.00,1,0,0,0,0,3,0,0,0,0,0,,,,10,0,0,0,0.00,0,
-0,0,1,3,0,3,1,1.00,1,0,0,0,0,3,0,0,,0,0,,4,0,,,,,,,
+const LATE_FIGURES: &str = "0,,1,3,0,3,1,1.00,1,0,0,0,0,3,0,0,0,0,0,,,,10,0,0,0,0.00,0,,,,,,
+0,0,1,3,0,3,1,1.00,1,0,0,0,0,3,0,0,,0,0,,4,0,,,,,,,,,,,,
 ";
 
 /// The front of the table, and its end.
@@ -96,6 +98,7 @@ fn is_reported(
         script.as_bytes(),
         slots.min(25),
         life,
+        Units::NONE,
         true,
         None,
     )?;
@@ -117,8 +120,47 @@ fn figures_are_reported_by_die_and_task(rt: HostRuntime) -> Result<(), Fail> {
 fn ends_with(alloc: Global, script: &str, slots: u32, lines: &str) -> Result<bool, Fail> {
     let plan = read_plan(alloc, PLAN.as_bytes())?;
     let script = script.as_bytes();
-    let run = report(alloc, plan, script, slots.min(25), UNKNOWN, false, None)?;
+    let run = report(
+        alloc,
+        plan,
+        script,
+        slots.min(25),
+        UNKNOWN,
+        Units::NONE,
+        false,
+        None,
+    )?;
     Ok(run.text.as_slice().ends_with(lines.as_bytes()))
+}
+
+/// A day of slots of a tenth of a second.
+const DAY: u32 = 864_000;
+
+/// A block lasts 3,000 erases.
+const TENTHS: Life = Life {
+    endurance: 3_000,
+    slot_us: 100_000,
+};
+
+/// How long blocks last that were erased so often in a day: the run in hundredths of a second, and then by the mean and by
+/// the worst the erases a day, the days and the years, each in hundredths.
+fn lasting(erases: &[u32]) -> Option<(i64, Option<[i64; 3]>, Option<[i64; 3]>)> {
+    let lasting = Wearing::of(DAY, erases).lasting(TENTHS)?;
+    let told = |rate: Rate| [rate.a_day, rate.days, rate.years];
+    Some((lasting.run, lasting.mean.map(told), lasting.worst.map(told)))
+}
+
+/// 100 erases of four blocks are 25 of each, so 3,000 take 120 days, 0.32 years; 40 of one take 75 days, 0.20 years. Ten
+/// erases of two blocks are 5 of each: 600 days, 1.64 years; nine of one make no rate.
+#[test]
+fn how_long_blocks_last_comes_of_ten_erases_at_least(rt: HostRuntime) {
+    let day = 8_640_000;
+    assert!(rt;
+        lasting(&[30, 10, 20, 40]) == Some((day, Some([2500, 12_000, 32]), Some([4000, 7500, 20])))
+    );
+    assert!(rt; lasting(&[9, 1]) == Some((day, Some([500, 60_000, 164]), None)));
+    assert!(rt; lasting(&[9]) == Some((day, None, None)));
+    assert!(rt; Wearing::of(DAY, &[30]).lasting(UNKNOWN).is_none());
 }
 
 #[test]
@@ -133,7 +175,16 @@ fn what_is_late_is_told_with_its_reason(rt: HostRuntime) -> Result<(), Fail> {
 fn a_table_has_a_column_for_each_task(rt: HostRuntime) -> Result<(), Fail> {
     let alloc = rt.alloc();
     let plan = read_plan(alloc, PLAN.as_bytes())?;
-    let run = report(alloc, plan, SCRIPT.as_bytes(), 25, LIFE, false, None)?;
+    let run = report(
+        alloc,
+        plan,
+        SCRIPT.as_bytes(),
+        25,
+        LIFE,
+        Units::NONE,
+        false,
+        None,
+    )?;
     assert!(rt; run.text.as_slice().starts_with(FRONT.as_bytes()));
     Ok(())
 }

@@ -1,5 +1,6 @@
 -- What comes of a run on the dies of a store.
-use Rattle.std.specs.Prelude.{◌≡◌, ℕ, All, Bool, false, List, map, Option, Some, None, IfSome, slice_get}
+use Rattle.std.specs.Prelude.{◌≡◌, ℕ, All, Bool, false, List, map, Option, Some, None, IfSome, box_value, slice_get}
+use Rattle.std.specs.Global.{Box}
 use Rattle.std.specs.List.{AllZip}
 use Rattle.slot_types.specs.declared.plans.DiePlan.{DiePlan}
 use Rattle.checkpoint_texts.specs.declared.saved.SavedDie.{SavedDie}
@@ -23,6 +24,14 @@ running dies = map running_of dies
 -- where their logs start
 abbrev pub starts_of : {N : Type 0} → List (Core N) → List Start
 starts_of dies = runs.starts_of (running dies)
+
+-- a die in a box, as one that runs the rows of a script
+abbrev pub running_in : {N : Type 0} → Box (Core N) → RunningDie
+running_in die = running_of (box_value die)
+
+-- where the logs of such dies start
+abbrev pub boxed_starts : {N : Type 0} → List (Box (Core N)) → List Start
+boxed_starts dies = runs.starts_of (map running_in dies)
 
 -- where the dies of a plan start: fresh, or as they were saved
 abbrev pub starts_by : List DiePlan → Option (List SavedDie) → List Start

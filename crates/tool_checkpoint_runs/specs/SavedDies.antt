@@ -6,6 +6,7 @@ use Rattle.slot_types.specs.declared.plans.DiePlan.{DiePlan}
 use Rattle.checkpoint_texts.specs.SavedDies.{checkpoint_of}
 use Rattle.checkpoint_texts.specs.declared.saved.SavedDie.{SavedDie}
 use Rattle.checkpoint_texts.specs.declared.saved.SavedPage.{SavedPage}
+use Rattle.die_checkpoint.specs.Fits.{Fits}
 use Rattle.die_checkpoint.specs.declared.checkpoint.Checkpoint.{Checkpoint}
 use Rattle.die_log.specs.Model.Opening.{renewed_start}
 use Rattle.die_log.specs.Model.Start.{Start}
@@ -32,6 +33,10 @@ is_bare page = is_some page.place && is_none page.bytes
 -- each page that lies in a cell has its bytes
 abbrev pub HaveBytes : List SavedPage → Type 0
 HaveBytes pages = (page : ℕ) → (slice_index_or pages page no_page).bytes ≡ None → (slice_index_or pages page no_page).place ≡ None
+
+-- a die that was saved fits its plan
+abbrev pub FitsDie : DiePlan → SavedDie → Type 0
+FitsDie plan die = Fits plan (checkpoint_of die)
 
 -- a die that was saved starts as its checkpoint says, with the bytes that were kept
 abbrev pub saved_start : DiePlan → SavedDie → Start

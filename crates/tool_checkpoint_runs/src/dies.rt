@@ -1,11 +1,13 @@
 //! The dies of a store that runs.
 
-ghost use Rattle.std.specs.Prelude.{◌≡◌, ◌++◌, ◌∷◌, [], OnOk};
+ghost use Rattle.std.specs.Box.{box_value};
+ghost use Rattle.std.specs.Prelude.{◌≡◌, ◌++◌, ◌∷◌, [], IfOk, OnOk};
 ghost use Rattle.slot_types.specs.Refusal.{FailsForMemory};
 
 use flash_die::MemoryNand;
 use slot_core::DieCore;
 use slot_types::Refusal;
+use std::alloc::Global;
 
 /// The dies of a store, by number.
 pub type DiesOn<N> = Vec<DieCore<N>>;
@@ -20,4 +22,12 @@ pub fn push_die<D: Drop>(dies: &mut Vec<D>, die: D) -> Result<(), Refusal>
 {
     dies.push(die)?;
     Ok(())
+}
+
+/// A value in a box. It is of any type, so that nothing is said of the parts of a large one. The only refusal is NoMemory.
+pub fn in_box<T: Drop>(alloc: Global, value: T) -> Result<Box<T>, Refusal>
+    ensures value { IfOk result (λ boxed. box_value boxed ≡ value) }
+    ensures refused { FailsForMemory result }
+{
+    Ok(Box::new(alloc, value)?)
 }

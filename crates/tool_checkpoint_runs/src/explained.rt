@@ -1,6 +1,9 @@
 //! What a checkpoint says of the dies of a plan, in sentences.
 
+ghost use Rattle.std.specs.List.{AllZip};
+ghost use Rattle.std.specs.Prelude.{OnOk};
 ghost use Rattle.plan_rules.specs.Bound.{MeetsBound};
+ghost use Rattle.tool_checkpoint_runs.specs.SavedDies.{FitsDie};
 
 use crate::faults::RunFault;
 use crate::lines::{FIRST_LINE, lines_of};
@@ -145,6 +148,28 @@ fn explain_die(
         Ok(()) => Ok(()),
         Err(_) => Err(RunFault::Refused(Refusal::NoMemory)),
     }
+}
+
+/// That what was saved of dies fits the plans of a store, of which there are as many; that pages have bytes isn't asked for.
+///
+/// Refused as [`run_script`](crate::run_script) is of what was saved, but that pages may have no bytes.
+pub fn check_store(alloc: Global, plan: &StorePlan, saved: &SavedStore) -> Result<(), RunFault>
+    ensures fit { OnOk result (AllZip FitsDie plan.now saved.now) }
+{
+    same_store(plan.len(), saved)?;
+    let mut left = saved.as_slice();
+    let mut number: u32 = 0;
+    let mut first = FIRST_LINE;
+    for own in plan.as_slice() {
+        let Some((die, later)) = left.split_first() else {
+            unreachable!()
+        };
+        check_die(alloc, own, die, number, first)?;
+        number = number.saturating_add(1);
+        first = first.saturating_add(lines_of(die));
+        left = later;
+    }
+    Ok(())
 }
 
 /// Adds sentences to a text: what a checkpoint says of the dies of a plan, which it has to fit: the pages, the balances, whether the

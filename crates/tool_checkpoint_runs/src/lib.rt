@@ -13,10 +13,13 @@ mod starts;
 mod stocks;
 mod store_runs;
 mod texts;
+mod watched_runs;
 
 pub use dies::{DiesOn, StoreDies};
-pub use explained::explain;
+pub use explained::{check_store, explain};
 pub use failing_runs::{FailingRun, run_failing};
 pub use faults::{RunFault, Unsaved};
-pub use store_runs::{StoreRun, run_script};
+pub use saving::save_dies;
+pub use store_runs::{StoreRun, run_script, started_store};
 pub use texts::save;
+pub use watched_runs::{draw_from, report_from, wear_from};

@@ -105,7 +105,7 @@ pub fn check_die(
 }
 
 /// Whether all placed pages of a die have bytes.
-fn check_bytes(saved: &SavedDie, die: u32, first: u32) -> Result<(), RunFault>
+pub fn check_bytes(saved: &SavedDie, die: u32, first: u32) -> Result<(), RunFault>
     ensures have { OnOk result (HaveBytes saved.now.pages) }
 {
     if let Some(page) = first_bare(saved.pages.as_slice()) {

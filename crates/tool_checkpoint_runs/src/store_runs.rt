@@ -1,6 +1,6 @@
 //! A script that is run on the dies of a store.
 
-ghost use Rattle.std.specs.Prelude.{◌≡◌, ℕ, ◌≤◌, false, All, List, Option, IfOk, OnOk, length};
+ghost use Rattle.std.specs.Prelude.{◌≡◌, ℕ, ◌≤◌, false, All, List, Option, IfOk, OnOk, length, map};
 ghost use Rattle.std.specs.List.{AllZip};
 ghost use Rattle.slot_types.specs.Refusal.{FailsForMemory};
 ghost use Rattle.plan_rules.specs.Bound.{MeetsBound};
@@ -9,16 +9,17 @@ ghost use Rattle.task_script.specs.StoreRuns.{reports_of};
 ghost use Rattle.script_texts.specs.ScriptLeft.{dies_of, script_left, slots_of};
 ghost use Rattle.tool_script_runs.specs.RunningDies.{HasEmptyLog};
 ghost use Rattle.tool_script_runs.specs.ScriptRuns.{GoesOn, script_in};
-ghost use Rattle.tool_checkpoint_runs.specs.Runs.{NoneStopped, RanAndWentOn, running, starts_by, starts_of};
+ghost use Rattle.tool_checkpoint_runs.specs.Runs.{NoneStopped, RanAndWentOn, boxed_starts, running, running_in, starts_by, starts_of};
 
-use crate::dies::{DiesOn, StoreDies};
+use crate::dies::{DiesOn, StoreDies, in_box, push_die};
 use crate::faults::RunFault;
 use crate::settling::settle;
 use crate::starts::{fresh_store, saved_store};
 use checkpoint_texts::SavedStore;
-use flash_die::Nand;
+use flash_die::{MemoryNand, Nand};
 use report_texts::ReportText;
 use script_texts::ScriptReader;
+use slot_core::DieCore;
 use slot_types::{MAX_SLOT, Refusal, StorePlan};
 use std::alloc::Global;
 use std::io::Read;
@@ -47,6 +48,36 @@ fn dies_of(alloc: Global, plan: StorePlan, from: Option<SavedStore>) -> Result<S
         None => Ok(fresh_store(alloc, plan)?),
         Some(saved) => saved_store(alloc, plan, &saved),
     }
+}
+
+/// Dies, each in a box. The only refusal is NoMemory.
+fn boxed(alloc: Global, dies: StoreDies) -> Result<Vec<Box<DieCore<MemoryNand>>>, Refusal>
+    ensures same { IfOk result (λ boxed. map running_in boxed.items ≡ running dies.items) }
+    ensures refused { FailsForMemory result }
+{
+    let mut boxed = Vec::new(alloc);
+    for die in dies {
+        let own = in_box(alloc, die)?;
+        push_die(&mut boxed, own)?;
+    }
+    Ok(boxed)
+}
+
+/// The dies of a plan as they start, each in a box: fresh, or as they were saved. Refused with the first fault of what was
+/// saved, of the first die that has one; or with NoMemory.
+pub fn started_store(
+    alloc: Global,
+    plan: StorePlan,
+    from: Option<SavedStore>,
+) -> Result<Vec<Box<DieCore<MemoryNand>>>, RunFault>
+    requires bound { All MeetsBound plan }
+    ensures starts { IfOk result (λ dies. boxed_starts dies.items ≡ starts_by plan from) }
+    ensures empty { IfOk result (λ dies. All HasEmptyLog (map running_in dies.items)) }
+    ensures count { IfOk result (λ dies. length dies.items ≡ length plan) }
+{
+    let dies = dies_of(alloc, plan, from)?;
+    let own = boxed(alloc, dies)?;
+    Ok(own)
 }
 
 /// The report of dies, by number: what each log says over its start. The only refusal is NoMemory.

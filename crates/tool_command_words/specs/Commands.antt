@@ -2,7 +2,8 @@
 use Rattle.std.specs.Prelude.{ℕ, ◌&&◌, ◌||◌, ◌==◌, Bool, not, List, codes, Option, Some, None, is_some, if◌then◌else◌}
 use Rattle.std.specs.Str.{bytes_eq}
 use Rattle.clap.specs.Words.{Row, Text, all_of, first_of}
-use Rattle.tool_command_words.specs.RequestTexts.{CommandText, Explain, Fit, Design, Arrivals, Keeps, Wear, Report, Draw, Demand, Compare, Run, RunKept, RequestText, Listed}
+use Rattle.tool_command_words.specs.RequestTexts.{CommandText, Explain, Fit, Design, Arrivals, Fill, Keeps, Wear, Report}
+use Rattle.tool_command_words.specs.RequestTexts.{Draw, Demand, Compare, Run, RunKept, RequestText, Listed}
 use Rattle.tool_command_words.specs.Together.{asked_together}
 use Rattle.tool_command_words.specs.Values.{◌>>=◌, fail_of, number_upto}
 use Rattle.tool_command_words.specs.declared.asked.ListCommand.{ListCommand}
@@ -34,7 +35,16 @@ arrivals_of rows = do
   phases ← first_of (codes "phases") rows
   jitter ← first_of (codes "jitter") rows >>= number_upto
   load ← first_of (codes "load") rows >>= number_upto
-  Some (Arrivals plan slots seed (bytes_eq fills (codes "true")) (bytes_eq phases (codes "true")) jitter load)
+  Some (Arrivals plan slots seed (bytes_eq fills (codes "true")) (bytes_eq phases (codes "true")) jitter load
+      (first_of (codes "from") rows))
+
+abbrev pub fill_of : List Row → Option CommandText
+fill_of rows = do
+  plan ← first_of (codes "PLAN") rows
+  lives ← first_of (codes "lives") rows >>= number_upto
+  seed ← first_of (codes "seed") rows >>= number_upto
+  to ← first_of (codes "to") rows
+  Some (Fill plan lives seed to)
 
 -- what a command on a plan, a script and a number of slots comes to
 abbrev pub on_script : List Row → (Text → Text → ℕ → Option CommandText) → Option CommandText
@@ -52,19 +62,21 @@ keeps_from rows plan script slots = do
 abbrev pub keeps_of : List Row → Option CommandText
 keeps_of rows = on_script rows (keeps_from rows)
 
-abbrev pub wear_from : Text → Text → ℕ → Option CommandText
-wear_from plan script slots = Some (Wear plan script slots)
+abbrev pub wear_from : List Row → Text → Text → ℕ → Option CommandText
+wear_from rows plan script slots = Some (Wear plan script slots (first_of (codes "from") rows))
 
 abbrev pub wear_of : List Row → Option CommandText
-wear_of rows = on_script rows wear_from
+wear_of rows = on_script rows (wear_from rows)
 
 abbrev pub report_from : List Row → Text → Text → ℕ → Option CommandText
 report_from rows plan script slots = do
   endurance ← first_of (codes "endurance") rows >>= number_upto
   slot_us ← first_of (codes "slot-us") rows >>= number_upto
+  page_bytes ← first_of (codes "page-bytes") rows >>= number_upto
   as_csv ← first_of (codes "csv") rows
   fail ← fail_of rows
-  Some (Report plan script slots endurance slot_us (bytes_eq as_csv (codes "true")) fail)
+  Some (Report plan script slots endurance slot_us page_bytes (bytes_eq as_csv (codes "true")) fail
+      (first_of (codes "from") rows))
 
 abbrev pub report_of : List Row → Option CommandText
 report_of rows = on_script rows (report_from rows)
@@ -74,20 +86,23 @@ draw_from rows plan script slots = do
   die ← first_of (codes "die") rows >>= number_upto
   first ← first_of (codes "from") rows >>= number_upto
   end ← first_of (codes "to") rows >>= number_upto
+  slot_us ← first_of (codes "slot-us") rows >>= number_upto
+  page_bytes ← first_of (codes "page-bytes") rows >>= number_upto
   worst ← first_of (codes "worst") rows
   as_text ← first_of (codes "text") rows
   all ← first_of (codes "all") rows
   fail ← fail_of rows
-  Some (Draw plan script slots die first end (bytes_eq worst (codes "true")) (bytes_eq as_text (codes "true"))
-      (bytes_eq all (codes "true")) fail)
+  Some (Draw plan script slots die first end slot_us page_bytes (bytes_eq worst (codes "true"))
+      (bytes_eq as_text (codes "true")) (bytes_eq all (codes "true")) fail (first_of (codes "checkpoint") rows))
 
 abbrev pub draw_run_of : List Row → Option CommandText
 draw_run_of rows = on_script rows (draw_from rows)
 
--- whether a script is named, or how long it runs, or a device that is to fail
+-- whether a script is named, or how long it runs, or from which checkpoint, or a device that is to fail
 abbrev pub names_script : List Row → Bool
 names_script rows =
-    is_some (first_of (codes "SCRIPT") rows) || (is_some (first_of (codes "slots") rows) || is_some (first_of (codes "fail-at") rows))
+    is_some (first_of (codes "SCRIPT") rows) || (is_some (first_of (codes "slots") rows)
+    || (is_some (first_of (codes "fail-at") rows) || is_some (first_of (codes "checkpoint") rows)))
 
 -- whether other slots are named than all
 abbrev pub names_window : List Row → Option Bool
@@ -105,12 +120,20 @@ names_form rows = do
   strict ← first_of (codes "strict") rows
   Some (bytes_eq worst (codes "true") || (bytes_eq as_text (codes "true") || (bytes_eq all (codes "true") || bytes_eq strict (codes "true"))))
 
+-- whether it is said how long a slot is, or how many bytes a page has
+abbrev pub names_units : List Row → Option Bool
+names_units rows = do
+  slot_us ← first_of (codes "slot-us") rows >>= number_upto
+  page_bytes ← first_of (codes "page-bytes") rows >>= number_upto
+  Some (not (slot_us == 0 && page_bytes == 0))
+
 -- whether an option is given that says something of the picture of a run alone
 abbrev pub names_run : List Row → Option Bool
 names_run rows = do
   window ← names_window rows
+  units ← names_units rows
   form ← names_form rows
-  Some (names_script rows || (window || form))
+  Some (names_script rows || (window || (units || form)))
 
 abbrev pub demand_of : List Row → Option CommandText
 demand_of rows = do
@@ -128,11 +151,14 @@ abbrev pub compare_from : List Row → Text → Text → ℕ → Option CommandT
 compare_from rows plan script slots = do
   first ← first_of (codes "from") rows >>= number_upto
   pool ← first_of (codes "pool") rows >>= number_upto
+  slot_us ← first_of (codes "slot-us") rows >>= number_upto
+  page_bytes ← first_of (codes "page-bytes") rows >>= number_upto
   as_csv ← first_of (codes "csv") rows
   draws ← first_of (codes "draw") rows
   die ← first_of (codes "die") rows >>= number_upto
   task ← first_of (codes "task") rows >>= number_upto
-  Some (Compare plan script slots first pool (bytes_eq as_csv (codes "true")) (bytes_eq draws (codes "true")) die task)
+  Some (Compare plan script slots first pool slot_us page_bytes (bytes_eq as_csv (codes "true"))
+      (bytes_eq draws (codes "true")) die task (first_of (codes "checkpoint") rows))
 
 abbrev pub compare_of : List Row → Option CommandText
 compare_of rows = on_script rows (compare_from rows)
@@ -166,6 +192,7 @@ command_named name rows =
     else if bytes_eq name (codes "fit") then fit_of rows
     else if bytes_eq name (codes "design") then design_of rows
     else if bytes_eq name (codes "arrivals") then arrivals_of rows
+    else if bytes_eq name (codes "fill") then fill_of rows
     else if bytes_eq name (codes "keeps") then keeps_of rows
     else if bytes_eq name (codes "wear") then wear_of rows
     else if bytes_eq name (codes "report") then report_of rows

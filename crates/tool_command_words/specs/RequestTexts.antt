@@ -15,13 +15,17 @@ pub data CommandText : Type 0 where
   Explain : (plan : Text) (from : Option Text) (slot_us page_bytes : ℕ) → CommandText
   Fit : (sheet : Text) → CommandText
   Design : (sheet : Text) → CommandText
-  Arrivals : (plan : Text) (slots seed : ℕ) (fills phases : Bool) (jitter load : ℕ) → CommandText
+  Arrivals : (plan : Text) (slots seed : ℕ) (fills phases : Bool) (jitter load : ℕ) (from : Option Text) → CommandText
+  Fill : (plan : Text) (lives seed : ℕ) (to : Text) → CommandText
   Keeps : (plan script : Text) (slots slot_us : ℕ) → CommandText
-  Wear : (plan script : Text) (slots : ℕ) → CommandText
-  Report : (plan script : Text) (slots endurance slot_us : ℕ) (as_csv : Bool) (fail : Option FailingDie) → CommandText
-  Draw : (plan script : Text) (slots die first end : ℕ) (worst as_text all : Bool) (fail : Option FailingDie) → CommandText
+  Wear : (plan script : Text) (slots : ℕ) (from : Option Text) → CommandText
+  Report : (plan script : Text) (slots endurance slot_us page_bytes : ℕ) (as_csv : Bool) (fail : Option FailingDie)
+      (from : Option Text) → CommandText
+  Draw : (plan script : Text) (slots die first end slot_us page_bytes : ℕ) (worst as_text all : Bool)
+      (fail : Option FailingDie) (checkpoint : Option Text) → CommandText
   Demand : (plan : Text) (die : ℕ) → CommandText
-  Compare : (plan script : Text) (slots first pool : ℕ) (as_csv draws : Bool) (die task : ℕ) → CommandText
+  Compare : (plan script : Text) (slots first pool slot_us page_bytes : ℕ) (as_csv draws : Bool) (die task : ℕ)
+      (checkpoint : Option Text) → CommandText
   Run : (plan script : Text) (slots : ℕ) (from to : Option Text) (fail : Option FailingDie) → CommandText
   RunKept : (plan script : Text) (slots : ℕ) → CommandText
 
@@ -38,15 +42,18 @@ abbrev pub text_of_command : Command → CommandText
 text_of_command (command.Explain plan from slot_us page_bytes) = Explain plan.now (name_of from) slot_us page_bytes
 text_of_command (command.Fit sheet) = Fit sheet.now
 text_of_command (command.Design sheet) = Design sheet.now
-text_of_command (command.Arrivals plan slots seed fills phases jitter load) = Arrivals plan.now slots seed fills phases jitter load
+text_of_command (command.Arrivals plan slots seed fills phases jitter load from) =
+    Arrivals plan.now slots seed fills phases jitter load (name_of from)
+text_of_command (command.Fill plan lives seed to) = Fill plan.now lives seed to.now
 text_of_command (command.Keeps plan script slots slot_us) = Keeps plan.now script.now slots slot_us
-text_of_command (command.Wear plan script slots) = Wear plan.now script.now slots
-text_of_command (command.Report plan script slots endurance slot_us as_csv fail) = Report plan.now script.now slots endurance slot_us as_csv fail
-text_of_command (command.Draw plan script slots die first end worst as_text all fail) =
-    Draw plan.now script.now slots die first end worst as_text all fail
+text_of_command (command.Wear plan script slots from) = Wear plan.now script.now slots (name_of from)
+text_of_command (command.Report plan script slots endurance slot_us page_bytes as_csv fail from) =
+    Report plan.now script.now slots endurance slot_us page_bytes as_csv fail (name_of from)
+text_of_command (command.Draw plan script slots die first end slot_us page_bytes worst as_text all fail checkpoint) =
+    Draw plan.now script.now slots die first end slot_us page_bytes worst as_text all fail (name_of checkpoint)
 text_of_command (command.Demand plan die) = Demand plan.now die
-text_of_command (command.Compare plan script slots first pool as_csv draws die task) =
-    Compare plan.now script.now slots first pool as_csv draws die task
+text_of_command (command.Compare plan script slots first pool slot_us page_bytes as_csv draws die task checkpoint) =
+    Compare plan.now script.now slots first pool slot_us page_bytes as_csv draws die task (name_of checkpoint)
 text_of_command (command.Run plan script slots from to fail) = Run plan.now script.now slots (name_of from) (name_of to) fail
 text_of_command (command.RunKept plan script slots) = RunKept plan.now script.now slots
 
@@ -56,12 +63,14 @@ text_of_request (request.Listed command files) = Listed command (map (λ (s : Bo
 
 -- a run has at most 1,048,576 slots
 abbrev pub FitsRun : Command → Type 0
-FitsRun (command.Arrivals plan slots seed fills phases jitter load) = slots ≤ 1048576
+FitsRun (command.Arrivals plan slots seed fills phases jitter load from) = slots ≤ 1048576
 FitsRun (command.Keeps plan script slots slot_us) = slots ≤ 1048576
-FitsRun (command.Wear plan script slots) = slots ≤ 1048576
-FitsRun (command.Report plan script slots endurance slot_us as_csv fail) = slots ≤ 1048576
-FitsRun (command.Draw plan script slots die first end worst as_text all fail) = slots ≤ 1048576
-FitsRun (command.Compare plan script slots first pool as_csv draws die task) = slots ≤ 1048576
+FitsRun (command.Wear plan script slots from) = slots ≤ 1048576
+FitsRun (command.Report plan script slots endurance slot_us page_bytes as_csv fail from) = slots ≤ 1048576
+FitsRun (command.Draw plan script slots die first end slot_us page_bytes worst as_text all fail checkpoint) =
+    slots ≤ 1048576
+FitsRun (command.Compare plan script slots first pool slot_us page_bytes as_csv draws die task checkpoint) =
+    slots ≤ 1048576
 FitsRun (command.Run plan script slots from to fail) = slots ≤ 1048576
 FitsRun (command.RunKept plan script slots) = slots ≤ 1048576
 FitsRun _ = ⊤

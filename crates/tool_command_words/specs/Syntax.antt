@@ -54,6 +54,10 @@ list_rule id = record (required_rule id) { action = Some Append }
 abbrev pub fail_rule : Rule
 fail_rule = option_rule (codes "fail-at")
 
+-- `--page-bytes B`, which is 0 where it isn't there
+abbrev pub page_rule : Rule
+page_rule = count_rule (codes "page-bytes")
+
 -- `--strict`
 abbrev pub strict_rule : Rule
 strict_rule = flag_rule (codes "strict")
@@ -66,7 +70,7 @@ abbrev pub explain_files_app : App
 explain_files_app = with_rule (with_rule (new_app (codes "explain")) (required_rule (codes "PLAN"))) (option_rule (codes "from"))
 
 abbrev pub explain_app : App
-explain_app = with_rule (with_rule explain_files_app (count_rule (codes "slot-us"))) (count_rule (codes "page-bytes"))
+explain_app = with_rule (with_rule explain_files_app (count_rule (codes "slot-us"))) page_rule
 
 abbrev pub fit_app : App
 fit_app = with_rule (new_app (codes "fit")) (required_rule (codes "DATASHEET"))
@@ -81,7 +85,15 @@ abbrev pub arrivals_drawn_app : App
 arrivals_drawn_app = with_rule (with_rule arrivals_run_app (count_rule (codes "seed"))) (flag_rule (codes "fill"))
 
 abbrev pub arrivals_app : App
-arrivals_app = with_rule (with_rule (with_rule arrivals_drawn_app (flag_rule (codes "phases"))) (count_rule (codes "jitter"))) load_rule
+arrivals_app = with_rule (with_rule (with_rule (with_rule arrivals_drawn_app
+    (flag_rule (codes "phases"))) (count_rule (codes "jitter"))) load_rule) (option_rule (codes "from"))
+
+abbrev pub fill_lives_app : App
+fill_lives_app =
+    with_rule (with_rule (new_app (codes "fill")) (required_rule (codes "PLAN"))) (count_rule (codes "lives"))
+
+abbrev pub fill_app : App
+fill_app = with_rule (with_rule fill_lives_app (count_rule (codes "seed"))) (needed_rule (codes "to"))
 
 abbrev pub import_trace_app : App
 import_trace_app = with_rule (with_rule (new_app (codes "import")) (list_rule (codes "TRACE"))) (needed_rule (codes "slot-us"))
@@ -93,7 +105,7 @@ abbrev pub wear_files_app : App
 wear_files_app = on_files (new_app (codes "wear"))
 
 abbrev pub wear_app : App
-wear_app = with_rule (with_rule wear_files_app slots_rule) strict_rule
+wear_app = with_rule (with_rule (with_rule wear_files_app slots_rule) (option_rule (codes "from"))) strict_rule
 
 abbrev pub keeps_files_app : App
 keeps_files_app = on_files (new_app (codes "keeps"))
@@ -108,10 +120,11 @@ abbrev pub report_run_app : App
 report_run_app = with_rule (with_rule report_files_app slots_rule) (flag_rule (codes "csv"))
 
 abbrev pub report_timed_app : App
-report_timed_app = with_rule (with_rule report_run_app (count_rule (codes "endurance"))) (count_rule (codes "slot-us"))
+report_timed_app =
+    with_rule (with_rule (with_rule report_run_app (count_rule (codes "endurance"))) (count_rule (codes "slot-us"))) page_rule
 
 abbrev pub report_app : App
-report_app = with_rule (with_rule report_timed_app fail_rule) strict_rule
+report_app = with_rule (with_rule (with_rule report_timed_app fail_rule) (option_rule (codes "from"))) strict_rule
 
 -- without a script and its slots, which are of a run
 abbrev pub draw_files_app : App
@@ -129,8 +142,12 @@ draw_forms_app = with_rule (with_rule draw_window_app (flag_rule (codes "worst")
 abbrev pub draw_failing_app : App
 draw_failing_app = with_rule (with_rule draw_forms_app (flag_rule (codes "all"))) fail_rule
 
+abbrev pub draw_timed_app : App
+draw_timed_app = with_rule (with_rule draw_failing_app (count_rule (codes "slot-us"))) page_rule
+
 abbrev pub draw_app : App
-draw_app = with_rule (with_rule draw_failing_app (flag_rule (codes "demand"))) strict_rule
+draw_app =
+    with_rule (with_rule (with_rule draw_timed_app (option_rule (codes "checkpoint"))) (flag_rule (codes "demand"))) strict_rule
 
 abbrev pub compare_files_app : App
 compare_files_app = on_files (new_app (codes "compare"))
@@ -141,8 +158,14 @@ compare_run_app = with_rule (with_rule (with_rule compare_files_app slots_rule) 
 abbrev pub compare_forms_app : App
 compare_forms_app = with_rule (with_rule compare_run_app (flag_rule (codes "csv"))) (flag_rule (codes "draw"))
 
+abbrev pub compare_timed_app : App
+compare_timed_app = with_rule (with_rule compare_forms_app (count_rule (codes "slot-us"))) page_rule
+
+abbrev pub compare_of_task_app : App
+compare_of_task_app = with_rule (with_rule compare_timed_app die_rule) (count_rule (codes "task"))
+
 abbrev pub compare_app : App
-compare_app = with_rule (with_rule compare_forms_app die_rule) (count_rule (codes "task"))
+compare_app = with_rule (with_rule compare_of_task_app (option_rule (codes "checkpoint"))) strict_rule
 
 abbrev pub run_files_app : App
 run_files_app = on_files (new_app (codes "run"))
@@ -162,8 +185,8 @@ named_app = let app = new_app (codes "flashplan") in record app { top = record a
 
 -- the program's command line
 abbrev pub flashplan_app : App
-flashplan_app = with_command (with_command (with_command (with_command (with_command (with_command (with_command (with_command (with_command (with_command (with_command (with_command
-    named_app explain_app) fit_app) design_app) arrivals_app) keeps_app) wear_app) report_app) draw_app) compare_app) import_app) run_app) audit_app
+flashplan_app = with_command (with_command (with_command (with_command (with_command (with_command (with_command (with_command (with_command (with_command (with_command (with_command (with_command
+    named_app explain_app) fit_app) design_app) arrivals_app) fill_app) keeps_app) wear_app) report_app) draw_app) compare_app) import_app) run_app) audit_app
 
 -- whether a command has an argument that is global
 abbrev pub has_globals : Command → Bool

@@ -1,20 +1,30 @@
 -- Options that say something together alone.
-use Rattle.std.specs.Prelude.{ℕ, ◌&&◌, ◌||◌, ◌==◌, Bool, true, not, nat_lt, Option, Some, None, if◌then◌else◌}
-use Rattle.tool_command_words.specs.RequestTexts.{CommandText, Report, Draw, Compare, RequestText, One}
+use Rattle.std.specs.Prelude.{ℕ, ◌&&◌, ◌||◌, ◌==◌, Bool, true, not, nat_lt, Option, Some, None, is_some}
+use Rattle.std.specs.Prelude.{if◌then◌else◌}
+use Rattle.tool_command_words.specs.RequestTexts.{CommandText, Arrivals, Report, Draw, Compare, RequestText, One}
 
 -- slots from `first` on, of so many that are run, if there are any or none is named
 abbrev pub has_slots : (first slots : ℕ) → Bool
 has_slots first slots = first == 0 || nat_lt first slots
 
--- no option says nothing because of another one: how often a block may be erased wants the length of a slot, and that
--- length what it is for; the picture of the worst has its own window, and each window has a slot; a picture has no
--- records, and a die and a task are those of a picture
+-- of a comparison: records have neither times nor rates, and a picture has no rates
+abbrev pub has_units : (slot_us page_bytes : ℕ) (as_csv draws : Bool) → Bool
+has_units slot_us page_bytes as_csv draws =
+    (not as_csv || slot_us == 0) && (not (as_csv || draws) || page_bytes == 0)
+
+-- No option says nothing because of another one. Arrivals from a checkpoint fill the pages that lie in no cell there,
+-- asked or not. Records count slots and pages: in those of `report` the length of a slot is for how long blocks last,
+-- by their endurance. The picture of the worst has its own window, and each window has a slot. A picture of a
+-- comparison has no records and no pages, and a die and a task are those of a picture.
 abbrev pub goes_together : CommandText → Bool
-goes_together (Report plan script slots endurance slot_us as_csv fail) = if endurance == 0 then slot_us == 0 else nat_lt 0 slot_us
-goes_together (Draw plan script slots die first end worst as_text all fail) =
+goes_together (Arrivals plan slots seed fills phases jitter load from) = not (fills && is_some from)
+goes_together (Report plan script slots endurance slot_us page_bytes as_csv fail from) =
+    not as_csv || (page_bytes == 0 && (slot_us == 0 || nat_lt 0 endurance))
+goes_together (Draw plan script slots die first end slot_us page_bytes worst as_text all fail checkpoint) =
     (not worst || (first == 0 && end == 1048576)) && (nat_lt first end && has_slots first slots)
-goes_together (Compare plan script slots first pool as_csv draws die task) =
-    not (as_csv && draws) && ((draws || (die == 0 && task == 0)) && has_slots first slots)
+goes_together (Compare plan script slots first pool slot_us page_bytes as_csv draws die task checkpoint) =
+    not (as_csv && draws) && ((draws || (die == 0 && task == 0))
+    && (has_slots first slots && has_units slot_us page_bytes as_csv draws))
 goes_together command = true
 
 -- what a command asks for, if its options go together

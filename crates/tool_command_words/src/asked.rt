@@ -17,7 +17,7 @@ pub enum Command<'a> {
         plan: &'a str,
         /// The checkpoint from which its dies go on.
         from: Option<&'a str>,
-        /// How many microseconds a slot takes, and how many bytes a page has for a job; 0 where it isn't said.
+        /// How many microseconds a slot takes, and how many bytes a page has; 0 where it isn't said.
         slot_us: u32,
         page_bytes: u32,
     },
@@ -43,6 +43,18 @@ pub enum Command<'a> {
         /// How many slots a job comes late at most, and how many of a hundred jobs come.
         jitter: u32,
         load: u32,
+        /// The checkpoint from which the dies go on, which says which pages lie in cells.
+        from: Option<&'a str>,
+    },
+    /// Run the dies of a plan until each of their pages is written, and save them.
+    Fill {
+        plan: &'a str,
+        /// How many lives they have at least.
+        lives: u32,
+        /// What draws the operations and their pages.
+        seed: u32,
+        /// The file that gets their checkpoint.
+        to: &'a str,
     },
     /// Tell whether a script keeps the plans of its dies.
     Keeps {
@@ -59,6 +71,8 @@ pub enum Command<'a> {
         script: &'a str,
         /// How many slots each die runs, from 0 to 1,048,576.
         slots: u32,
+        /// The checkpoint from which the dies go on; fresh ones begin where there is none.
+        from: Option<&'a str>,
     },
     /// Run a script, and tell what it came to.
     Report {
@@ -66,12 +80,16 @@ pub enum Command<'a> {
         script: &'a str,
         /// How many slots each die runs, from 0 to 1,048,576.
         slots: u32,
-        /// How often a block may be erased, and how many microseconds a slot takes; 0 where it isn't said.
+        /// How often a block may be erased; 0 where it isn't said.
         endurance: u32,
+        /// How many microseconds a slot takes, and how many bytes a page has; 0 where it isn't said.
         slot_us: u32,
+        page_bytes: u32,
         /// Whether it is printed as CSV.
         as_csv: bool,
         fail: Option<FailingDie>,
+        /// The checkpoint from which the dies go on; fresh ones begin where there is none.
+        from: Option<&'a str>,
     },
     /// Run a script, and draw what a die did.
     Draw {
@@ -85,6 +103,9 @@ pub enum Command<'a> {
         from: u32,
         /// The slot before which the picture ends.
         to: u32,
+        /// How many microseconds a slot takes, and how many bytes a page has; 0 where it isn't said.
+        slot_us: u32,
+        page_bytes: u32,
         /// Whether the busy interval of the worst is drawn.
         worst: bool,
         /// Whether lines for a terminal are written.
@@ -92,6 +113,8 @@ pub enum Command<'a> {
         /// Whether all slots are drawn, however many they are.
         all: bool,
         fail: Option<FailingDie>,
+        /// The checkpoint from which the die goes on; a fresh one begins where there is none.
+        checkpoint: Option<&'a str>,
     },
     /// Draw what the tasks of a die may ask for.
     Demand {
@@ -109,12 +132,17 @@ pub enum Command<'a> {
         from: u32,
         /// With fewer wholly free blocks a plain layer collects in idle slots.
         pool: u32,
+        /// How many microseconds a slot takes, and how many bytes a page has; 0 where it isn't said.
+        slot_us: u32,
+        page_bytes: u32,
         /// Whether it is written as CSV.
         as_csv: bool,
         /// Whether a task of a die is drawn, and which one.
         draws: bool,
         die: u32,
         task: u32,
+        /// The checkpoint from which the dies go on; fresh ones begin where there is none.
+        checkpoint: Option<&'a str>,
     },
     /// Run a script, from a checkpoint and to one.
     Run {

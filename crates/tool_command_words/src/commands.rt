@@ -3,8 +3,8 @@
 ghost use Rattle.std.specs.Prelude.{◌≡◌, ◌≤◌, ℕ, IfOk, IfSome, Option, option_and_then, option_map};
 ghost use Rattle.clap.specs.Words.{Text, found_of, rows_of};
 ghost use Rattle.tool_command_words.specs.RequestTexts.{CommandText, FitsRun, RequestFits, text_of_command, text_of_request};
-ghost use Rattle.tool_command_words.specs.Commands.{arrivals_of, audit_of, command_named, compare_of, demand_of, design_of, draw_of, draw_run_of, explain_of, fit_of};
-ghost use Rattle.tool_command_words.specs.Commands.{import_in, import_of, keeps_of, names_form, names_run, names_script, names_window, on_script, report_of, request_named};
+ghost use Rattle.tool_command_words.specs.Commands.{arrivals_of, audit_of, command_named, compare_of, demand_of, design_of, draw_of, draw_run_of, explain_of, fill_of, fit_of};
+ghost use Rattle.tool_command_words.specs.Commands.{import_in, import_of, keeps_of, names_form, names_run, names_script, names_units, names_window, on_script, report_of, request_named};
 ghost use Rattle.tool_command_words.specs.Commands.{run_kept_of, run_of, run_plain_of, wear_of};
 
 use crate::asked::{Command, ListCommand, Request};
@@ -62,6 +62,7 @@ fn arrivals<'a>(met: &ArgMatches<'a>) -> Option<Command<'a>>
     let phases = value(met, "phases")? == "true";
     let jitter = number_at(met, "jitter")?;
     let load = number_at(met, "load")?;
+    let from = value(met, "from");
     Some(Command::Arrivals {
         plan,
         slots,
@@ -70,6 +71,24 @@ fn arrivals<'a>(met: &ArgMatches<'a>) -> Option<Command<'a>>
         phases,
         jitter,
         load,
+        from,
+    })
+}
+
+/// The command `fill` that was met.
+fn fill<'a>(met: &ArgMatches<'a>) -> Option<Command<'a>>
+    ensures fill { option_map text_of_command result ≡ fill_of (rows_of (found_of met.now)) }
+    ensures fits { IfSome result FitsRun }
+{
+    let plan = value(met, "PLAN")?;
+    let lives = number_at(met, "lives")?;
+    let seed = number_at(met, "seed")?;
+    let to = value(met, "to")?;
+    Some(Command::Fill {
+        plan,
+        lives,
+        seed,
+        to,
     })
 }
 
@@ -107,10 +126,12 @@ fn wear<'a>(met: &ArgMatches<'a>) -> Option<Command<'a>>
     ensures fits { IfSome result FitsRun }
 {
     let (plan, script, slots) = scripted(met)?;
+    let from = value(met, "from");
     Some(Command::Wear {
         plan,
         script,
         slots,
+        from,
     })
 }
 
@@ -122,27 +143,32 @@ fn report<'a>(met: &ArgMatches<'a>) -> Option<Command<'a>>
     let (plan, script, slots) = scripted(met)?;
     let endurance = number_at(met, "endurance")?;
     let slot_us = number_at(met, "slot-us")?;
+    let page_bytes = number_at(met, "page-bytes")?;
     let as_csv = value(met, "csv")? == "true";
     let fail = fail(met)?;
+    let from = value(met, "from");
     Some(Command::Report {
         plan,
         script,
         slots,
         endurance,
         slot_us,
+        page_bytes,
         as_csv,
         fail,
+        from,
     })
 }
 
-/// Whether a script is named, or how long it runs, or a device that is to fail.
+/// Whether a script is named, or how long it runs, or from which checkpoint, or a device that is to fail.
 fn names_script(met: &ArgMatches<'_>) -> bool
     ensures { result ≡ names_script (rows_of (found_of met.now)) }
 {
     let script = value(met, "SCRIPT").is_some();
     let slots = value(met, "slots").is_some();
     let fail = value(met, "fail-at").is_some();
-    script || (slots || fail)
+    let checkpoint = value(met, "checkpoint").is_some();
+    script || (slots || (fail || checkpoint))
 }
 
 /// Whether other slots are named than all.
@@ -165,13 +191,23 @@ fn names_form(met: &ArgMatches<'_>) -> Option<bool>
     Some(worst || (as_text || (all || strict)))
 }
 
+/// Whether it is said how long a slot is, or how many bytes a page has.
+fn names_units(met: &ArgMatches<'_>) -> Option<bool>
+    ensures { result ≡ names_units (rows_of (found_of met.now)) }
+{
+    let slot_us = number_at(met, "slot-us")?;
+    let page_bytes = number_at(met, "page-bytes")?;
+    Some(!(slot_us == 0 && page_bytes == 0))
+}
+
 /// Whether an option is given that says something of the picture of a run alone.
 fn names_run(met: &ArgMatches<'_>) -> Option<bool>
     ensures { result ≡ names_run (rows_of (found_of met.now)) }
 {
     let window = names_window(met)?;
+    let units = names_units(met)?;
     let form = names_form(met)?;
-    Some(names_script(met) || (window || form))
+    Some(names_script(met) || (window || (units || form)))
 }
 
 /// The command `draw --demand` that was met, which runs nothing.
@@ -196,10 +232,13 @@ fn draw_run<'a>(met: &ArgMatches<'a>) -> Option<Command<'a>>
     let die = number_at(met, "die")?;
     let from = number_at(met, "from")?;
     let to = number_at(met, "to")?;
+    let slot_us = number_at(met, "slot-us")?;
+    let page_bytes = number_at(met, "page-bytes")?;
     let worst = value(met, "worst")? == "true";
     let as_text = value(met, "text")? == "true";
     let all = value(met, "all")? == "true";
     let fail = fail(met)?;
+    let checkpoint = value(met, "checkpoint");
     Some(Command::Draw {
         plan,
         script,
@@ -207,10 +246,13 @@ fn draw_run<'a>(met: &ArgMatches<'a>) -> Option<Command<'a>>
         die,
         from,
         to,
+        slot_us,
+        page_bytes,
         worst,
         as_text,
         all,
         fail,
+        checkpoint,
     })
 }
 
@@ -234,20 +276,26 @@ fn compare<'a>(met: &ArgMatches<'a>) -> Option<Command<'a>>
     let (plan, script, slots) = scripted(met)?;
     let from = number_at(met, "from")?;
     let pool = number_at(met, "pool")?;
+    let slot_us = number_at(met, "slot-us")?;
+    let page_bytes = number_at(met, "page-bytes")?;
     let as_csv = value(met, "csv")? == "true";
     let draws = value(met, "draw")? == "true";
     let die = number_at(met, "die")?;
     let task = number_at(met, "task")?;
+    let checkpoint = value(met, "checkpoint");
     Some(Command::Compare {
         plan,
         script,
         slots,
         from,
         pool,
+        slot_us,
+        page_bytes,
         as_csv,
         draws,
         die,
         task,
+        checkpoint,
     })
 }
 
@@ -359,6 +407,8 @@ fn command_named<'a>(name: &str, met: &ArgMatches<'a>) -> Option<Command<'a>>
         design(met)
     } else if name == "arrivals" {
         arrivals(met)
+    } else if name == "fill" {
+        fill(met)
     } else if name == "keeps" {
         keeps(met)
     } else if name == "wear" {

@@ -75,8 +75,45 @@ fn between<'a>(
     })
 }
 
+/// An option with a number other than 0 beside a flag.
+fn some_beside<'a>(
+    words: &'a [String],
+    option: &'static str,
+    flag: &'static str,
+    why: &'static str,
+) -> Option<Conflict<'a>> {
+    let named = beside(words, option, flag, why)?;
+    if number_in(named.value)? == 0 {
+        return None;
+    }
+    Some(named)
+}
+
+/// Why records are said in no other units.
+const NO_UNITS: &str = "records count slots and pages";
+
+/// The units of a comparison that say nothing in records, or in a picture.
+fn in_compared_units(words: &[String]) -> Option<Conflict<'_>> {
+    if has(words, "--draw") {
+        return some_beside(words, "--page-bytes", "--draw", "a picture has no pages");
+    }
+    if !has(words, "--csv") {
+        return None;
+    }
+    let times = some_beside(words, "--slot-us", "--csv", NO_UNITS);
+    times.or(some_beside(words, "--page-bytes", "--csv", NO_UNITS))
+}
+
 /// The options of `draw` that say something of a run alone, those with a value first.
-const OF_RUNS: [&str; 4] = ["--slots", "--from", "--to", "--fail-at"];
+const OF_RUNS: [&str; 7] = [
+    "--slots",
+    "--from",
+    "--to",
+    "--fail-at",
+    "--checkpoint",
+    "--slot-us",
+    "--page-bytes",
+];
 
 const OF_RUNS_ALONE: [&str; 4] = ["--worst", "--text", "--all", "--strict"];
 
@@ -110,7 +147,7 @@ fn in_draw(words: &[String]) -> Option<Conflict<'_>> {
     }
     if has(words, "--worst") {
         let why = "the picture of the worst has its own slots";
-        let from = beside(words, "--from", "--worst", why);
+        let from = some_beside(words, "--from", "--worst", why);
         return from.or(beside(words, "--to", "--worst", why));
     }
     let (from, to) = (
@@ -142,20 +179,33 @@ fn in_compare(words: &[String]) -> Option<Conflict<'_>> {
     }
     let why = "a die and a task are those of the picture, which --draw draws";
     if !has(words, "--draw") {
-        let task = beside(words, "--task", "no --draw", why);
-        let alone = task.or(beside(words, "--die", "no --draw", why));
+        let task = some_beside(words, "--task", "no --draw", why);
+        let alone = task.or(some_beside(words, "--die", "no --draw", why));
         if alone.is_some() {
             return alone;
         }
     }
-    between(words, "--from", "--slots", "no slot is left to count")
+    let units = in_compared_units(words);
+    units.or(between(words, "--from", "--slots", "no slot is left to count"))
 }
 
 /// The options of `report` that don't go together.
 fn in_report(words: &[String]) -> Option<Conflict<'_>> {
-    let why = "years come of both, or of neither";
-    let worn = beside(words, "--endurance", "no --slot-us", why);
-    worn.or(beside(words, "--slot-us", "no --endurance", why))
+    if !has(words, "--csv") {
+        return None;
+    }
+    let rates = some_beside(words, "--page-bytes", "--csv", NO_UNITS);
+    let why = "without --endurance records have no times";
+    rates.or(some_beside(words, "--slot-us", "--csv", why))
+}
+
+/// The options of `arrivals` that don't go together.
+fn in_arrivals(words: &[String]) -> Option<Conflict<'_>> {
+    if !has(words, "--fill") {
+        return None;
+    }
+    let why = "pages that lie in no cell of the checkpoint are filled anyway";
+    beside(words, "--from", "--fill", why)
 }
 
 /// The options of `run` that don't go together with `--keep`.
@@ -172,6 +222,7 @@ fn in_run(words: &[String]) -> Option<Conflict<'_>> {
 /// The first two options in the words that don't go together, where clap and the numbers have no fault.
 pub(crate) fn conflict_in(words: &[String]) -> Option<Conflict<'_>> {
     match words.get(1)?.as_str() {
+        "arrivals" => in_arrivals(words),
         "draw" => in_draw(words),
         "compare" => in_compare(words),
         "report" => in_report(words),

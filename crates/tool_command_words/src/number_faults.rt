@@ -3,8 +3,8 @@
 use crate::values::number_in;
 use command_arguments::value_at;
 
-/// The options that have a number from 0 to 1,048,576. The last two are files of `run` and of `explain`.
-const NUMBERS: [&str; 13] = [
+/// The options that have a number from 0 to 1,048,576. The last two are files but for `draw` and `compare`.
+const NUMBERS: [&str; 14] = [
     "--slots",
     "--seed",
     "--jitter",
@@ -16,20 +16,19 @@ const NUMBERS: [&str; 13] = [
     "--slot-us",
     "--page-bytes",
     "--due",
+    "--lives",
     "--from",
     "--to",
 ];
 
 /// How many of these never name a file.
-const NEVER_FILES: usize = 11;
+const NEVER_FILES: usize = 12;
 
 /// The options that have a number in these words.
 fn numbers_in(words: &[String]) -> &'static [&'static str] {
     match words.get(1) {
-        Some(command) if command.as_str() == "run" || command.as_str() == "explain" => {
-            &NUMBERS[..NEVER_FILES]
-        }
-        _ => &NUMBERS,
+        Some(command) if command.as_str() == "draw" || command.as_str() == "compare" => &NUMBERS,
+        _ => &NUMBERS[..NEVER_FILES],
     }
 }
 

@@ -78,22 +78,36 @@ fn parsed<'a>(
 }
 
 /// What the words ask for, the first of them being the program's name. Each command takes `-o FILE`, which is `-` if
-/// left out, and `--quiet`; `wear`, `report`, `draw`, `run` and `audit` take `--strict`.
+/// left out, and `--quiet`; `wear`, `report`, `draw`, `compare`, `run` and `audit` take `--strict`.
 ///
-/// The words are `explain PLAN --from CHECKPOINT --slot-us U --page-bytes B`, `fit DATASHEET`, `design DATASHEET`,
-/// `arrivals PLAN --slots N --seed S --fill --phases --jitter J --load L`, where S and J are 0 and L is 100 if left
-/// out, `keeps PLAN SCRIPT --slots N --slot-us U`, `wear PLAN SCRIPT --slots N`, `report PLAN SCRIPT --slots N
-/// --endurance E --slot-us U --csv --fail-at DIE:K`, where E and U are 0 if left out, `draw PLAN SCRIPT --slots N
-/// --die D --from A --to B --worst --text --fail-at DIE:K`, where D, A and B may be left out: the picture is then of
-/// die 0, begins with slot 0, or ends with the run; `draw PLAN --demand --die D`, which takes no other option;
-/// `compare PLAN SCRIPT --slots N --from F --pool A --csv --draw --die D --task T`, where F, D and T are 0 and A is 4
-/// if left out; `import TRACE.. --slot-us U --due D --plan`, where D is 20 if left out; `run PLAN SCRIPT --slots N
-/// --from CHECKPOINT --to CHECKPOINT --fail-at DIE:K`, where the last goes with neither checkpoint; `run PLAN SCRIPT
-/// --slots N --keep`, which goes with none of these; or `audit REPORT..`. A checkpoint may be left out, and so may
-/// `--fail-at`, with a call K from 1. A number is 1 to 10 decimal digits, and at most 1,048,576. The error is that of
-/// clap, which prints itself: a call for help, a fault of the words, or out of memory; and ValueValidation where
-/// there is no command, a number that is none or too great, or options don't go together: one of them would say
-/// nothing, or `draw` has nothing to draw.
+/// The words are, with options in any order:
+///
+/// - `explain PLAN --from CHECKPOINT --slot-us U --page-bytes P`, `fit DATASHEET`, `design DATASHEET`;
+/// - `arrivals PLAN --slots N --seed S --fill --phases --jitter J --load L --from CHECKPOINT`, where `--fill` doesn't
+///   go with a checkpoint;
+/// - `fill PLAN --lives L --seed S --to CHECKPOINT`;
+/// - `keeps PLAN SCRIPT --slots N --slot-us U`, `wear PLAN SCRIPT --slots N --from CHECKPOINT`;
+/// - `report PLAN SCRIPT --slots N --csv --endurance E --slot-us U --page-bytes P --fail-at DIE:K --from CHECKPOINT`,
+///   where with `--csv` P doesn't go, and U with E alone;
+/// - `draw PLAN SCRIPT --slots N --die D --from A --to B --worst --text --all --fail-at DIE:K --slot-us U
+///   --page-bytes P --checkpoint CHECKPOINT`: the picture begins with slot A, and ends before slot B, or with the run;
+///   `--worst` goes with neither;
+/// - `draw PLAN --demand --die D`, which takes no other option;
+/// - `compare PLAN SCRIPT --slots N --from F --pool A --csv --draw --slot-us U --page-bytes P --die D --task T
+///   --checkpoint CHECKPOINT`, where `--csv` goes with neither `--draw` nor U, neither of these two flags with P, and D
+///   and T with `--draw` alone;
+/// - `import TRACE.. --slot-us U --due D --plan`;
+/// - `run PLAN SCRIPT --slots N --from CHECKPOINT --to CHECKPOINT --fail-at DIE:K`, where the last goes with neither
+///   checkpoint; `run PLAN SCRIPT --slots N --keep`, which goes with none of these;
+/// - `audit REPORT..`.
+///
+/// The files, N, the checkpoint of `fill` and U of `import` have to be there; the rest may be left out. A number is
+/// then 0, but L of `arrivals` 100, B 1,048,576, A of `compare` 4 and D of `import` 20. A number is 1 to 10 decimal
+/// digits, and at most 1,048,576; K is 1 at least.
+///
+/// The error is that of clap, which prints itself: a call for help, a fault of the words, or out of memory; and
+/// ValueValidation where there is no command, a number that is none or too great, or options don't go together: one of
+/// them would say nothing, or `draw` has nothing to draw.
 #[tactic(auto, using(crate::proofs::KindLemmas::has_kind_in_first))]
 pub fn read_words<'a>(alloc: Global, words: &'a [String]) -> Result<Asked<'a>, Error>
     ensures ok { IfOk result (λ c.

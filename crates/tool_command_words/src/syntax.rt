@@ -11,6 +11,7 @@ mod compare;
 mod design;
 mod draw;
 mod explain;
+mod fill;
 mod fit;
 mod import;
 mod keeps;
@@ -28,6 +29,7 @@ use compare::compare_words;
 use design::design_words;
 use draw::draw_words;
 use explain::explain_words;
+use fill::fill_words;
 use fit::fit_words;
 use import::import_words;
 use keeps::keeps_words;
@@ -47,7 +49,7 @@ fn name<'a>(alloc: Global) -> Command<'a>
         .after_help(
             "Ends with 0 where all went well, 1 where a plan isn't accepted, or something was refused or failed,\n\
              2 for a fault of the words, 3 where a script breaks its plan, no plan was found, no checkpoint may\n\
-             be taken, or a certificate is refused, 4 where a strict run or audit isn't as it should be.\n\n\
+             be taken, or a certificate is refused, 4 where --strict finds something refused or late.\n\n\
              Example: flashplan explain plan.toml\n\
              man maulgreen-texts has the texts; share/doc/maulgreen/docs/DESIGNING.md walks through a recorder's plan",
         )
@@ -111,7 +113,8 @@ pub fn program_words<'a>(alloc: Global) -> Result<Command<'a>, AllocError>
     let fitting = with_command(alloc, explaining, fit_words(alloc));
     let designing = with_command(alloc, fitting, design_words(alloc));
     let arriving = with_command(alloc, designing, arrivals_words(alloc));
-    let keeping = with_command(alloc, arriving, keeps_words(alloc));
+    let filling = with_command(alloc, arriving, fill_words(alloc));
+    let keeping = with_command(alloc, filling, keeps_words(alloc));
     let wearing = with_command(alloc, keeping, wear_words(alloc));
     let reporting = with_command(alloc, wearing, report_words(alloc));
     let drawing = with_command(alloc, reporting, draw_words(alloc));

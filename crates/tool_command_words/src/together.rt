@@ -2,7 +2,7 @@
 
 ghost use Rattle.std.specs.Prelude.{◌≡◌};
 ghost use Rattle.tool_command_words.specs.RequestTexts.{text_of_command};
-ghost use Rattle.tool_command_words.specs.Together.{goes_together, has_slots};
+ghost use Rattle.tool_command_words.specs.Together.{goes_together, has_slots, has_units};
 
 use crate::asked::Command;
 use slot_types::MAX_SLOT;
@@ -14,22 +14,26 @@ fn has_slots(first: u32, slots: u32) -> bool
     first == 0 || first < slots
 }
 
+/// Whether a comparison says times where the length of a slot is given, and rates where a page's bytes are.
+fn has_units(slot_us: u32, page_bytes: u32, as_csv: bool, draws: bool) -> bool
+    ensures { result ≡ has_units slot_us page_bytes as_csv draws }
+{
+    (!as_csv || slot_us == 0) && (!(as_csv || draws) || page_bytes == 0)
+}
+
 /// Whether no option of a command says nothing because of another one.
 pub(crate) fn goes_together(command: Command<'_>) -> bool
     ensures { result ≡ goes_together (text_of_command command.entry) }
 {
     match command {
+        Command::Arrivals { fills, from, .. } => !(fills && from.is_some()),
         Command::Report {
             endurance,
             slot_us,
+            page_bytes,
+            as_csv,
             ..
-        } => {
-            if endurance == 0 {
-                slot_us == 0
-            } else {
-                0 < slot_us
-            }
-        }
+        } => !as_csv || (page_bytes == 0 && (slot_us == 0 || 0 < endurance)),
         Command::Draw {
             slots,
             from,
@@ -40,13 +44,17 @@ pub(crate) fn goes_together(command: Command<'_>) -> bool
         Command::Compare {
             slots,
             from,
+            slot_us,
+            page_bytes,
             as_csv,
             draws,
             die,
             task,
             ..
         } => {
-            !(as_csv && draws) && ((draws || (die == 0 && task == 0)) && has_slots(from, slots))
+            let units = has_units(slot_us, page_bytes, as_csv, draws);
+            let window = has_slots(from, slots);
+            !(as_csv && draws) && ((draws || (die == 0 && task == 0)) && (window && units))
         }
         _ => true,
     }

@@ -41,7 +41,8 @@ fn wanted_in(words: &[String]) -> &'static str {
         .get(1)
         .is_some_and(|command| command.as_str() == "draw");
     if !draws {
-        "a command is wanted: explain, fit, design, arrivals, keeps, wear, report, draw, compare, import, run or audit"
+        "a command is wanted: explain, fit, design, arrivals, fill, keeps, wear, report, draw, compare, import, run or \
+         audit"
     } else if words.iter().any(|word| word.as_str() == "--demand") {
         "draw --demand draws no run: it takes no SCRIPT"
     } else {

@@ -1,15 +1,15 @@
 -- What was printed or refused is how a command ends.
 use Rattle.std.proofs.Common.{◌≡◌, ℕ, Bool, true, false, List, Option, Some, None, Result, Ok, Err, IfOk, IfSome, OnErr, OnOk, is_ok, inl, inr}
-use Rattle.std.proofs.Common.{subst, ◌∙◌}
-use Rattle.std.specs.Prelude.{if◌then◌else◌, take}
+use Rattle.std.proofs.Common.{subst, sym, ◌∙◌}
+use Rattle.std.specs.Prelude.{if◌then◌else◌, take, ◌++◌}
 use Rattle.slot_types.specs.declared.refusals.Refusal.{Refusal}
 use Rattle.text_base.specs.Writing.{IsNotWhole}
 use Rattle.tool_plan_design.specs.declared.explained.Explained.{Explained}
 use Rattle.tool_plan_fit.specs.Fits.{IsPlanFor}
 use Rattle.tool_plan_fit.specs.declared.faults.FitFault.{FitFault}
 use Rattle.tool_plan_fit.specs.declared.faults.FitFault.TheVariants.{NotFound, Refused, Sheet}
-use Rattle.tool_commands.specs.Acts.{Ends, EndsFit, EndsSaying, IsFoundFor, IsReadOf, IsUnfound, PrintsPlanFor, Says, SaysOf, SaysText, accepted_status, explained_status}
-use Rattle.tool_commands.specs.Acts.{fit_status, kept_status, verdict_status}
+use Rattle.tool_commands.specs.Acts.{Ends, EndsFit, EndsSaying, IsFoundFor, IsReadOf, IsSlotFor, IsUnfound, PrintsPlanFor, Says, SaysOf, SaysTested, SaysText}
+use Rattle.tool_commands.specs.Acts.{accepted_status, explained_status, fit_status, kept_status, verdict_status}
 
 pub ends : {W A E : Type 0} (contents : W → Option (List ℕ)) (has_failed : W → Option Bool)
     (prints : Option (List ℕ) → Option (List ℕ) → Type 0) (old new : W) (ran : Result A E) (status : ℕ) → OnOk ran (prints (contents old) (contents new)) → OnErr ran (IsNotWhole contents has_failed prints old new)
@@ -55,3 +55,19 @@ says_of asked None read shown (Ok e) is same says = tt
 says_of asked (Some bytes) read shown (Ok e) is same says =
     subst (λ (l : List ℕ). SaysText asked l e.is_accepted e.text.items) (same ∙ is) says
 says_of asked text read shown (Err r) is same says = tt
+
+-- what the tests answer, with lines after it
+pub said_whole : (asked : Option ℕ) (plan : List ℕ) (slot_us : Option ℕ) (answered : Explained) (lives : List ℕ) (whole : Result Explained Refusal)
+    → IsSlotFor asked plan slot_us → SaysTested slot_us plan answered.is_accepted answered.text.items
+    → IfOk whole (λ (w : Explained). w.is_accepted ≡ answered.is_accepted)
+    → IfOk whole (λ (w : Explained). w.text.items ≡ answered.text.items ++ lives)
+    → IfOk whole (λ (w : Explained). SaysText asked plan w.is_accepted w.text.items)
+said_whole asked plan slot_us answered lives (Ok w) slot tested verdict text = record {
+  slot_us = slot_us;
+  slot = slot;
+  answered = answered.text.items;
+  tested = subst (λ (yes : Bool). SaysTested slot_us plan yes answered.text.items) (sym verdict) tested;
+  lives = lives;
+  is = text;
+}
+said_whole asked plan slot_us answered lives (Err r) slot tested verdict text = tt

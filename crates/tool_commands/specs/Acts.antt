@@ -11,7 +11,7 @@ use Rattle.plan_texts.specs.PlanReading.{IsStoreOf}
 use Rattle.text_base.specs.Readings.{IsOutside}
 use Rattle.text_base.specs.Writing.{IsNotWhole}
 use Rattle.tool_commands.specs.KeptActs.{PrintsKeptRun}
-use Rattle.tool_watched_runs.specs.WearText.{IsWearText}
+use Rattle.tool_watched_runs.specs.WearText.{IsWearFrom}
 use Rattle.tool_plan_arrivals.specs.PlannedScripts.{IsPlannedScript}
 use Rattle.tool_plan_design.specs.AcceptedPlans.{IsAccepted}
 use Rattle.tool_plan_design.specs.Explanations.{IsExplanation}
@@ -41,10 +41,14 @@ use Rattle.tool_checkpoint_runs.specs.Runs.{RanAndWentOn, running, starts_by}
 use Rattle.tool_checkpoint_runs.specs.Counted.{IsRunCounting}
 use Rattle.tool_script_runs.specs.declared.counted.RefusedRows.{RefusedRows}
 use Rattle.tool_store_compare.specs.Runs.{HasStoreRun}
+use Rattle.tool_slot_times.specs.declared.units.Units.{Units}
+use Rattle.tool_run_figures.specs.declared.lives.Life.{Life}
 use Rattle.tool_watched_runs.specs.declared.script_runs.Reported.{Reported}
 use Rattle.die_log.specs.Model.Start.{fresh}
-use Rattle.tool_watched_runs.specs.Runs.{IsDrawingOf, IsReportOf as ReportsRun}
+use Rattle.tool_watched_runs.specs.Runs.{IsDrawingFrom, IsReportFrom}
 use Rattle.tool_watched_runs.specs.declared.failing.FailAt.{FailAt}
+use Rattle.tool_full_dies.specs.FullDies.{AreFilled}
+use Rattle.tool_full_dies.specs.declared.fills.Filled.{Filled}
 use Rattle.tool_command_words.specs.declared.asked.FailingDie.{FailingDie}
 use Rattle.tool_command_words.specs.declared.asked.Command.{Command}
 use Rattle.tool_command_words.specs.declared.asked.Command.TheVariants as command
@@ -66,12 +70,20 @@ IsSlotFor None plan found = IsSlotOf plan found
 abbrev pub ExplainsPlan : Option ℕ → List ℕ → Bool → List ℕ → Type 0
 ExplainsPlan slot_us plan is_accepted said = (IsTrue is_accepted ↔ IsAccepted plan) × IsExplanation slot_us plan said
 
--- what is said of a plan's text, with that length of a slot, and whether it is accepted: of one with terms, what its tests
--- answer
+-- what its tests answer, of a plan with terms or of one without
+abbrev pub SaysTested : Option ℕ → List ℕ → Bool → List ℕ → Type 0
+SaysTested slot_us plan is_accepted said =
+    MatchBool (is_terms_text plan) (ExplainsTerms slot_us plan is_accepted said) (ExplainsPlan slot_us plan is_accepted said)
+
+-- what is said of a plan's text, with the length of a slot that is asked for or that it says: what its tests answer, and some
+-- lines after it
 pub record SaysText (asked : Option ℕ) (plan : List ℕ) (is_accepted : Bool) (said : List ℕ) : Type 0 where
   pub slot_us : Option ℕ
   pub slot : IsSlotFor asked plan slot_us
-  pub explained : MatchBool (is_terms_text plan) (ExplainsTerms slot_us plan is_accepted said) (ExplainsPlan slot_us plan is_accepted said)
+  pub answered : List ℕ
+  pub tested : SaysTested slot_us plan is_accepted answered
+  pub lives : List ℕ
+  pub is : said ≡ answered ++ lives
 
 -- of as much of a plan's text as is read, where the text is known: a longer one is too long
 abbrev pub SaysOf : Option ℕ → Option (List ℕ) → Bool → List ℕ → Type 0
@@ -170,14 +182,16 @@ pub record BreaksTerms (plan script : Option (List ℕ)) (slots : ℕ) : Type 0 
   pub broken : BreaksTermsOf store slots text die breach
   pub before : KeepsBelow store slots text die
 
--- what dies wore is printed that began fresh by the plans of the store that was read, and ran the whole script that was
--- read and so many slots
-pub record PrintsWear (plan script : Option (List ℕ)) (slots : ℕ) (old new : Option (List ℕ)) : Type 0 where
+-- what dies wore is printed that began fresh by the plans of the store that was read, or as they were saved, if that was asked
+-- for, and ran the whole script that was read and so many slots
+pub record PrintsWear (plan script : Option (List ℕ)) (slots : ℕ) (begins_fresh : Bool) (old new : Option (List ℕ)) : Type 0 where
   pub store : List DiePlan
   pub read : ReadsStore plan store
+  pub saved : Option (List SavedDie)
+  pub begun : begins_fresh ≡ true → saved ≡ None
   pub counts : RefusedRows
   pub text : List ℕ
-  pub worn : IsWearText store script slots counts text
+  pub worn : IsWearFrom (starts_by store saved) script slots counts text
   pub written : Appends old new text
 
 -- the device that is to fail, as a run takes it
@@ -187,28 +201,39 @@ failing fail = record { die = fail.die; call = fail.call }
 abbrev pub failing_in : Option FailingDie → Option FailAt
 failing_in fail = option_map failing fail
 
--- the report of such a run is printed, of which one device may be to fail: as CSV its figures, and as a table some text
-pub record PrintsRunFigures (plan script : Option (List ℕ)) (slots : ℕ) (fail : Option FailAt) (as_csv : Bool) (old new : Option (List ℕ))
-    : Type 0 where
+-- the report of such a run is printed, of which one device may be to fail: as CSV or as a table, by some endurance and
+-- some units
+pub record PrintsRunFigures (plan script : Option (List ℕ)) (slots : ℕ) (fail : Option FailAt) (as_csv begins_fresh : Bool)
+    (old new : Option (List ℕ)) : Type 0 where
   pub store : List DiePlan
   pub read : ReadsStore plan store
+  pub saved : Option (List SavedDie)
+  pub begun : begins_fresh ≡ true → saved ≡ None
   pub said : Reported
-  pub ran : ReportsRun store script slots fail as_csv said
+  pub life : Life
+  pub units : Units
+  pub ran : IsReportFrom (starts_by store saved) script slots life units as_csv fail said
   pub written : Appends old new said.text.items
 
 -- a picture is printed of a run of the die of this number
-pub record PrintsDrawing (plan script : Option (List ℕ)) (slots die : ℕ) (fail : Option FailAt) (old new : Option (List ℕ)) : Type 0 where
+pub record PrintsDrawing (plan script : Option (List ℕ)) (slots die : ℕ) (fail : Option FailAt) (begins_fresh : Bool)
+    (old new : Option (List ℕ)) : Type 0 where
   pub store : List DiePlan
   pub read : ReadsStore plan store
+  pub saved : Option (List SavedDie)
+  pub begun : begins_fresh ≡ true → saved ≡ None
   pub said : Reported
-  pub ran : IsDrawingOf store script slots die fail said
+  pub ran : IsDrawingFrom (starts_by store saved) script slots die fail said
   pub written : Appends old new said.text.items
 
 -- a comparison is printed of such a run with runs of plain layers, of which nothing is said
-pub record PrintsCompared (plan script : Option (List ℕ)) (slots : ℕ) (old new : Option (List ℕ)) : Type 0 where
+pub record PrintsCompared (plan script : Option (List ℕ)) (slots : ℕ) (begins_fresh : Bool) (old new : Option (List ℕ)) : Type 0 where
   pub store : List DiePlan
   pub read : ReadsStore plan store
-  pub ran : HasStoreRun store script slots
+  pub saved : Option (List SavedDie)
+  pub begun : begins_fresh ≡ true → saved ≡ None
+  pub counts : RefusedRows
+  pub ran : HasStoreRun (starts_by store saved) script slots counts
   pub text : PrintsText old new
 
 -- a script's text keeps plans with times, or breaks one
@@ -343,6 +368,20 @@ abbrev pub EndsRun : {W : Type 0} → (W → Option (List ℕ)) → (W → Optio
 EndsRun contents has_failed prints alone old new status =
     (prints (contents old) (contents new) × IsRunStatus alone status) ⊎ IsRefused contents has_failed prints old new status
 
+-- what stands on full dies of the plans that were read, after so many lives at least, is printed
+pub record PrintsFilled (plan : Option (List ℕ)) (lives : ℕ) (old new : Option (List ℕ)) : Type 0 where
+  pub store : List DiePlan
+  pub read : ReadsStore plan store
+  pub filled : Filled
+  pub full : AreFilled store lives filled
+  pub text : PrintsText old new
+
+-- so it is, whatever becomes of their checkpoint
+abbrev pub EndsFill : {W : Type 0} → (W → Option (List ℕ)) → (W → Option Bool) → Option (List ℕ) → ℕ → W → W → ℕ → Type 0
+EndsFill contents has_failed plan lives old new status =
+    (PrintsFilled plan lives (contents old) (contents new) × IsRunStatus false status)
+    ⊎ IsRefused contents has_failed (PrintsFilled plan lives) old new status
+
 -- how a command ends
 abbrev pub EndsSo : {W : Type 0} → (W → Option (List ℕ)) → (W → Option Bool) → Command → Option (List ℕ) → Option (List ℕ) → W → W → ℕ
     → Type 0
@@ -352,19 +391,22 @@ EndsSo contents has_failed (command.Explain plan (Some from) slot_us page_bytes)
     EndsSaying contents has_failed (ExplainsMore (unless_zero slot_us) text) accepted_status old new status
 EndsSo contents has_failed (command.Fit sheet) text rows old new status = EndsFit contents has_failed text old new status
 EndsSo contents has_failed (command.Design sheet) text rows old new status = EndsDesign contents has_failed text old new status
-EndsSo contents has_failed (command.Arrivals plan slots seed fills phases jitter load) text rows old new status =
+EndsSo contents has_failed (command.Arrivals plan slots seed fills phases jitter load from) text rows old new status =
     Ends contents has_failed (PrintsArrivals text slots) old new status
+EndsSo contents has_failed (command.Fill plan lives seed to) text rows old new status =
+    EndsFill contents has_failed text lives old new status
 EndsSo contents has_failed (command.Keeps plan script slots slot_us) text rows old new status =
     EndsSaying contents has_failed (PrintsKept text rows slots) verdict_status old new status
-EndsSo contents has_failed (command.Wear plan script slots) text rows old new status =
-    Ends contents has_failed (PrintsWear text rows slots) old new status
-EndsSo contents has_failed (command.Report plan script slots endurance slot_us as_csv fail) text rows old new status =
-    Ends contents has_failed (PrintsRunFigures text rows slots (failing_in fail) as_csv) old new status
-EndsSo contents has_failed (command.Draw plan script slots die first end worst as_text all fail) text rows old new status =
-    Ends contents has_failed (PrintsDrawing text rows slots die (failing_in fail)) old new status
+EndsSo contents has_failed (command.Wear plan script slots from) text rows old new status =
+    Ends contents has_failed (PrintsWear text rows slots (is_none from)) old new status
+EndsSo contents has_failed (command.Report plan script slots endurance slot_us page_bytes as_csv fail from) text rows old new status =
+    Ends contents has_failed (PrintsRunFigures text rows slots (failing_in fail) as_csv (is_none from)) old new status
+EndsSo contents has_failed (command.Draw plan script slots die first end slot_us page_bytes worst as_text all fail checkpoint) text rows old new status =
+    Ends contents has_failed (PrintsDrawing text rows slots die (failing_in fail) (is_none checkpoint)) old new status
 EndsSo contents has_failed (command.Demand plan die) text rows old new status = Ends contents has_failed PrintsText old new status
-EndsSo contents has_failed (command.Compare plan script slots first pool as_csv draws die task) text rows old new status =
-    Ends contents has_failed (PrintsCompared text rows slots) old new status
+EndsSo contents has_failed (command.Compare plan script slots first pool slot_us page_bytes as_csv draws die task checkpoint) text rows old new
+    status =
+    Ends contents has_failed (PrintsCompared text rows slots (is_none checkpoint)) old new status
 EndsSo contents has_failed (command.Run plan script slots from to None) text rows old new status =
     EndsRun contents has_failed (PrintsRun text rows slots (is_none from) (is_some to)) (is_none to) old new status
 EndsSo contents has_failed (command.Run plan script slots from to (Some fail)) text rows old new status =

@@ -10,10 +10,11 @@ use crate::comparing::act_compare;
 use crate::demanding::act_demand;
 use crate::designing::act_design;
 use crate::explaining::{act_explain, act_explain_from};
+use crate::filling::act_fill;
 use crate::fitting::act_fit;
 use crate::keeping::act_keeps;
 use crate::kept_acts::act_run_kept;
-use crate::runs::{act_draw, act_report, act_wear};
+use crate::runs::{Told, act_draw, act_report, act_wear};
 use crate::shelves::Shelf;
 use std::alloc::Global;
 use std::io::{Read, Write};
@@ -21,7 +22,6 @@ use text_base::Output;
 use tool_command_words::{Command, FailingDie};
 use tool_plain_layers::Marks;
 use tool_plan_arrivals::Manner;
-use tool_run_figures::Life;
 use tool_slot_times::Units;
 use tool_store_compare::{Form, Measure};
 use tool_watched_runs::{FailAt, Shown};
@@ -94,10 +94,12 @@ fn begun<C: Drop>(from: Option<C>, begins_fresh: bool) -> Option<C>
 /// none and is never late. A plan with neither times nor terms that pass their test is reported as `error 3 BadPlan`;
 /// then, where an option says nothing of a plan with terms, and where more slots are asked for than a script may have,
 /// nothing is printed, and the status is 1. `keeps` prints whether the script keeps the plan of each die (status 0), or a
-/// condition that doesn't hold, and of which record (status 3).
+/// condition that doesn't hold, and of which record (status 3). `fill` prints what stands on dies that are filled, and has
+/// their checkpoint written, as [`act_fill`] says.
 /// `wear` prints what [`wear`](tool_watched_runs::wear) says of the run of the script, `report` what
 /// [`report`](tool_watched_runs::report) does, and `draw` what [`draw`](tool_watched_runs::draw) draws of it, each
-/// whole; the status is 0, and where rows were refused, `err` gets a line, as `refused 1 first line 6 with 6`.
+/// whole; the status is 0, and where rows were refused, `err` gets a line, as `refused 1 first line 6 with 6`. Dies go on
+/// from a checkpoint, where one is named.
 /// `draw --demand` prints the picture of what may be asked of a die, as [`act_demand`] says, and reads no script.
 /// `compare` prints the table, the records or the picture of [`compare`](tool_store_compare::compare), whole. `run`
 /// prints the report of dies that go on from a checkpoint, and has the checkpoint of their end written, as [`act_run`]
@@ -147,8 +149,10 @@ pub fn act<P: Read + Drop, S: Read + Drop, C: Read + Drop, K: Shelf, W: Output, 
             phases,
             jitter,
             load,
+            from,
             ..
         } => {
+            let begun = begun(kept.from, from.is_none());
             let manner = Manner {
                 seed,
                 fills,
@@ -156,33 +160,52 @@ pub fn act<P: Read + Drop, S: Read + Drop, C: Read + Drop, K: Shelf, W: Output, 
                 jitter,
                 load,
             };
-            act_arrivals(alloc, plan, slots, manner, out, err)
+            act_arrivals(alloc, plan, begun, slots, manner, out, err)
         }
+        Command::Fill {
+            lives,
+            seed,
+            to,
+            ..
+        } => act_fill(alloc, plan, lives, seed, kept.shelf, to, out, err),
         Command::Keeps { slots, slot_us, .. } => {
             act_keeps(alloc, plan, script, slots, unless_zero(slot_us), out, err)
         }
-        Command::Wear { slots, .. } => act_wear(alloc, plan, script, slots, out, err),
+        Command::Wear { slots, from, .. } => {
+            let begun = begun(kept.from, from.is_none());
+            act_wear(alloc, plan, script, begun, slots, out, err)
+        }
         Command::Report {
             slots,
             endurance,
             slot_us,
+            page_bytes,
             as_csv,
             fail,
+            from,
             ..
         } => {
-            let life = Life { endurance, slot_us };
+            let told = Told {
+                endurance,
+                units: units_of(slot_us, page_bytes),
+                as_csv,
+            };
             let fail = failing_in(fail);
-            act_report(alloc, plan, script, slots, life, as_csv, fail, out, err)
+            let begun = begun(kept.from, from.is_none());
+            act_report(alloc, plan, script, begun, slots, told, fail, out, err)
         }
         Command::Draw {
             slots,
             die,
             from,
             to,
+            slot_us,
+            page_bytes,
             worst,
             as_text,
             all,
             fail,
+            checkpoint,
             ..
         } => {
             let shown = Shown {
@@ -191,28 +214,41 @@ pub fn act<P: Read + Drop, S: Read + Drop, C: Read + Drop, K: Shelf, W: Output, 
                 worst,
                 as_text,
                 all,
+                units: units_of(slot_us, page_bytes),
             };
             let fail = failing_in(fail);
-            act_draw(alloc, plan, script, slots, die, shown, fail, out, err)
+            let begun = begun(kept.from, checkpoint.is_none());
+            act_draw(
+                alloc, plan, script, begun, slots, die, shown, fail, out, err,
+            )
         }
         Command::Demand { die, .. } => act_demand(alloc, plan, die, out, err),
         Command::Compare {
             slots,
             from,
             pool,
+            slot_us,
+            page_bytes,
             as_csv,
             draws,
             die,
             task,
+            checkpoint,
             ..
         } => {
+            let begun = begun(kept.from, checkpoint.is_none());
             let marks = Marks {
                 low: LOW,
                 pool: pool as usize,
             };
-            let measure = Measure { slots, from, marks };
+            let measure = Measure {
+                slots,
+                from,
+                marks,
+                units: units_of(slot_us, page_bytes),
+            };
             let form = form_of(as_csv, draws, die, task);
-            act_compare(alloc, plan, script, measure, form, out, err)
+            act_compare(alloc, plan, script, begun, measure, form, out, err)
         }
         Command::Run {
             slots,

@@ -8,14 +8,18 @@ ghost use Rattle.tool_plan_arrivals.specs.PlannedScripts.{IsPlannedScript};
 ghost use Rattle.tool_terms_keeping.specs.Verdicts.{IsKeptScript};
 ghost use Rattle.tool_commands.specs.Acts.{AreArrivals, Ends, PrintsArrivals};
 
+use crate::checkpoint_acts::{begun_in, end_unrun};
 use crate::plan_faults::end_unread;
 use crate::stores::{PlanRead, Unread, plan_in};
+use checkpoint_texts::SavedStore;
 use slot_types::{MAX_SLOT, Refusal, StorePlan};
 use std::alloc::Global;
 use std::io::{Read, Write};
 use terms_texts::StoreTerms;
 use text_base::{Output, write_whole};
-use tool_plan_arrivals::{Fault as Unplanned, Filling, Manner, arrivals, fillings_of};
+use tool_checkpoint_runs::{RunFault, check_store};
+use tool_full_dies::{HeldPages, held_pages};
+use tool_plan_arrivals::{Fault as Unplanned, Filling, Manner, arrivals_from, fillings_from};
 use tool_terms_arrivals::arrivals as terms_arrivals;
 
 /// What is reported beside a plan without terms that has no arrivals.
@@ -27,6 +31,8 @@ const WANTED: &str =
 enum Unmade {
     Unread(Unread),
     Unplanned(Unplanned),
+    /// The dies don't go on from the checkpoint.
+    Unbegun(RunFault),
     /// This option is none for a plan with terms.
     OfTimes(&'static str),
 }
@@ -43,17 +49,23 @@ impl From<Unplanned> for Unmade {
     }
 }
 
+impl From<RunFault> for Unmade {
+    fn from(fault: RunFault) -> Unmade {
+        Unmade::Unbegun(fault)
+    }
+}
+
 impl From<Refusal> for Unmade {
     fn from(refusal: Refusal) -> Unmade {
         Unmade::Unread(Unread::Refused(refusal))
     }
 }
 
-/// The script of a plan's arrivals; and the plan, if it has times.
+/// The script of a plan's arrivals; and the plan, if it has times, with the pages that lie in cells.
 #[derive(Drop)]
 struct Made {
     script: Vec<u8>,
-    store: Option<StorePlan>,
+    store: Option<(StorePlan, HeldPages)>,
 }
 
 /// The option of these that a plan with terms has no use for: it says where a die is filled, or that less is asked for than
@@ -78,12 +90,16 @@ fn with_terms(
     store: &StoreTerms,
     slots: u32,
     manner: Manner,
+    begins_fresh: bool,
 ) -> Result<Vec<u8>, Unmade>
     requires some { 1 ≤ length store.now }
     requires few { length store.now ≤ 8 }
     requires usable { All IsUsable store.now }
     ensures { IfOk result (λ script. IsKeptScript store.now slots script.items) }
 {
+    if !begins_fresh {
+        return Err(Unmade::OfTimes("--from"));
+    }
     if let Some(option) = of_times_alone(manner) {
         return Err(Unmade::OfTimes(option));
     }
@@ -91,10 +107,24 @@ fn with_terms(
     Ok(script)
 }
 
-/// The script of a plan's arrivals, with times or with terms.
-fn script_of<R: Read + Drop>(
+/// Which pages lie in cells of dies that were saved, which have to be those of the plan.
+fn held_in(
+    alloc: Global,
+    store: &StorePlan,
+    from: Option<&SavedStore>,
+) -> Result<HeldPages, Unmade> {
+    if let Some(saved) = from {
+        check_store(alloc, store, saved)?;
+    }
+    let held = held_pages(alloc, from)?;
+    Ok(held)
+}
+
+/// The script of a plan's arrivals, with times or with terms, for dies that begin fresh, or go on from a checkpoint.
+fn script_of<R: Read + Drop, C: Read + Drop>(
     alloc: Global,
     plan: R,
+    from: Option<C>,
     slots: u32,
     manner: Manner,
 ) -> Result<Made, Unmade>
@@ -102,14 +132,20 @@ fn script_of<R: Read + Drop>(
 {
     match plan_in(alloc, plan)? {
         PlanRead::Plain(store) => {
-            let script = arrivals(alloc, &store, slots, manner)?;
+            let from = begun_in(alloc, from)?;
+            let held = held_in(alloc, &store, from.as_ref())?;
+            let manner = Manner {
+                fills: manner.fills || from.is_some(),
+                ..manner
+            };
+            let script = arrivals_from(alloc, &store, slots, manner, held.as_slice())?;
             Ok(Made {
                 script,
-                store: Some(store),
+                store: Some((store, held)),
             })
         }
         PlanRead::WithTerms(store) => {
-            let script = with_terms(alloc, &store, slots, manner)?;
+            let script = with_terms(alloc, &store, slots, manner, from.is_none())?;
             Ok(Made {
                 script,
                 store: None,
@@ -118,14 +154,16 @@ fn script_of<R: Read + Drop>(
     }
 }
 
-/// Prints the script of a plan's arrivals, which is made whole before its first byte. Answers the plan, if it has times.
-fn print_arrivals<R: Read + Drop, W: Output>(
+/// Prints the script of a plan's arrivals, which is made whole before its first byte. Answers the plan, if it has times, with
+/// the pages that lie in cells.
+fn print_arrivals<R: Read + Drop, C: Read + Drop, W: Output>(
     alloc: Global,
     plan: R,
+    from: Option<C>,
     slots: u32,
     manner: Manner,
     out: &mut W,
-) -> Result<Option<StorePlan>, Unmade>
+) -> Result<Option<(StorePlan, HeldPages)>, Unmade>
     requires slots { slots ≤ MAX_SLOT }
     ensures printed { OnOk result
         (PrintsArrivals (R.remaining plan) slots (W.contents out.old) (W.contents out.new)) }
@@ -133,7 +171,7 @@ fn print_arrivals<R: Read + Drop, W: Output>(
         (IsNotWhole W.contents W.has_failed (PrintsArrivals (R.remaining plan) slots) out.old
         out.new) }
 {
-    let made = script_of(alloc, plan, slots, manner)?;
+    let made = script_of(alloc, plan, from, slots, manner)?;
     write_whole(out, &made.script)?;
     Ok(made.store)
 }
@@ -163,8 +201,14 @@ fn report_filling<E: Write>(err: &mut E, die: usize, filling: Filling, slots: u3
 }
 
 /// Reports of each die from which slot on it is full in so many slots. Lack of memory is passed over.
-fn report_full<E: Write>(alloc: Global, err: &mut E, store: &StorePlan, slots: u32) {
-    let Ok(fillings) = fillings_of(alloc, store) else {
+fn report_full<E: Write>(
+    alloc: Global,
+    err: &mut E,
+    store: &StorePlan,
+    held: &HeldPages,
+    slots: u32,
+) {
+    let Ok(fillings) = fillings_from(alloc, store, held.as_slice()) else {
         return;
     };
     for die in 0..fillings.len() {
@@ -177,17 +221,17 @@ fn end_arrivals<E: Write>(
     alloc: Global,
     err: &mut E,
     slots: u32,
-    manner: Manner,
-    made: Result<Option<StorePlan>, Unmade>,
+    fills: bool,
+    made: Result<Option<(StorePlan, HeldPages)>, Unmade>,
 ) -> u8
     ensures { result ≡ (if is_ok made then 0 else 1) }
 {
     match made {
         Ok(store) => {
-            if let Some(store) = store
-                && manner.fills
+            if let Some((store, held)) = store
+                && fills
             {
-                report_full(alloc, err, &store, slots);
+                report_full(alloc, err, &store, &held, slots);
             }
             0
         }
@@ -215,6 +259,7 @@ fn end_unmade<E: Write>(err: &mut E, unmade: Unmade) -> u8
         Unmade::Unplanned(Unplanned::Refused(refusal)) => {
             return end_refused(err, Unread::Refused(refusal));
         }
+        Unmade::Unbegun(fault) => return end_unrun(err, fault),
         Unmade::Unplanned(fault) => {
             let _ = writeln!(err, "error: {fault}");
         }
@@ -231,9 +276,10 @@ fn end_unmade<E: Write>(err: &mut E, unmade: Unmade) -> u8
 /// Prints the script of a plan's arrivals, whole. Answers the status: 0, or 1 where something was refused, which is
 /// reported: nothing was written then, or not the whole.
 #[tactic(auto, using(crate::proofs::EndedSo::ends))]
-pub fn act_arrivals<R: Read + Drop, W: Output, E: Write>(
+pub fn act_arrivals<R: Read + Drop, C: Read + Drop, W: Output, E: Write>(
     alloc: Global,
     plan: R,
+    from: Option<C>,
     slots: u32,
     manner: Manner,
     out: &mut W,
@@ -243,6 +289,7 @@ pub fn act_arrivals<R: Read + Drop, W: Output, E: Write>(
     ensures { Ends W.contents W.has_failed (PrintsArrivals (R.remaining plan) slots) out.old out.new
         result }
 {
-    let made = print_arrivals(alloc, plan, slots, manner, out);
-    end_arrivals(alloc, err, slots, manner, made)
+    let fills = manner.fills || from.is_some();
+    let made = print_arrivals(alloc, plan, from, slots, manner, out);
+    end_arrivals(alloc, err, slots, fills, made)
 }

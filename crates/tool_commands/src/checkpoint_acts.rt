@@ -1,6 +1,6 @@
 //! Runs that go on from a checkpoint, and end with one.
 
-ghost use Rattle.std.specs.Prelude.{◌≡◌, ◌⊎◌, ◌≤◌, IfOk, None, OnErr, OnOk, is_none, is_some, length, true};
+ghost use Rattle.std.specs.Prelude.{◌≡◌, ◌⊎◌, ◌≤◌, IfOk, None, OnErr, OnOk, if◌then◌else◌, is_none, is_ok, is_some, length, true};
 ghost use Rattle.text_base.specs.Writing.{IsNotWhole};
 ghost use Rattle.tool_commands.specs.Acts.{Ends, EndsRun, PrintsFailing, PrintsRun};
 
@@ -37,7 +37,10 @@ pub fn saved_in<C: Read + Drop>(alloc: Global, text: C) -> Result<SavedStore, Ru
 }
 
 /// What was saved of dies, in a text that there may be.
-fn begun_in<C: Read + Drop>(alloc: Global, from: Option<C>) -> Result<Option<SavedStore>, RunFault>
+pub fn begun_in<C: Read + Drop>(
+    alloc: Global,
+    from: Option<C>,
+) -> Result<Option<SavedStore>, RunFault>
     ensures { IfOk result (λ saved. is_none from ≡ true → saved ≡ None) }
 {
     match from {
@@ -61,9 +64,9 @@ struct FailingReported {
     failure: Failure,
 }
 
-/// Why no report of a run is printed.
+/// Why nothing of a run is printed.
 #[derive(Clone, Copy, Drop)]
-enum Unprinted {
+pub enum Unprinted {
     Unread(Unread),
     Unrun(RunFault),
 }
@@ -134,13 +137,27 @@ pub fn end_unrun<E: Write>(err: &mut E, fault: RunFault) -> u8
     }
 }
 
-/// Reports why no report of a run is printed, and answers the status. A writer that fails is passed over.
-fn end_unprinted<E: Write>(err: &mut E, unprinted: Unprinted) -> u8
+/// Reports why nothing of a run is printed, and answers the status. A writer that fails is passed over.
+pub fn end_unprinted<E: Write>(err: &mut E, unprinted: Unprinted) -> u8
     ensures { result ≡ 1 }
 {
     match unprinted {
         Unprinted::Unread(unread) => end_unread(err, unread),
         Unprinted::Unrun(fault) => end_unrun(err, fault),
+    }
+}
+
+/// Reports the rows that were refused, or why nothing was printed, and answers the status. A writer that fails is passed
+/// over.
+pub fn end_ran<E: Write>(err: &mut E, ran: Result<RefusedRows, Unprinted>) -> u8
+    ensures { result ≡ (if is_ok ran then 0 else 1) }
+{
+    match ran {
+        Ok(refused) => {
+            report_refused(err, refused);
+            0
+        }
+        Err(unprinted) => end_unprinted(err, unprinted),
     }
 }
 
@@ -154,6 +171,20 @@ fn report_idle<E: Write>(err: &mut E, idle: &[u32]) {
                 err,
                 "die {die} went on for {slots} {unit} until all was done"
             );
+        }
+    }
+}
+
+/// Puts the text of a checkpoint into a file, and answers the status: 0 where it stands there, 1 where the file fails. A
+/// writer that fails is passed over.
+pub fn put_text<K: Shelf, E: Write>(shelf: &K, name: &str, text: &[u8], err: &mut E) -> u8
+    ensures { (result ≡ 0) ⊎ (result ≡ 1) }
+{
+    match shelf.put(written_path(name), text) {
+        Ok(()) => 0,
+        Err(unput) => {
+            report_unput(err, name, &unput);
+            1
         }
     }
 }
@@ -178,13 +209,7 @@ fn put_checkpoint<K: Shelf, E: Write>(
             return 3;
         }
     };
-    match shelf.put(written_path(name), &text) {
-        Ok(()) => 0,
-        Err(unput) => {
-            report_unput(err, name, &unput);
-            1
-        }
-    }
+    put_text(shelf, name, &text, err)
 }
 
 /// Runs a script on the dies of a plan, fresh or from a checkpoint, prints the report, and puts the checkpoint of the

@@ -3,12 +3,13 @@
 ghost use Rattle.std.specs.Prelude.{◌≡◌, ◌++◌, ℕ, IfErr, IfOk, List, OnErr};
 ghost use Rattle.slot_types.specs.Refusal.{FailsForMemory};
 ghost use Rattle.text_base.specs.Writing.{IsNotWhole};
-ghost use Rattle.tool_commands.specs.Acts.{EndsSaying, Explains, ExplainsMore, IsHostFault, Says, SaysOf, SaysText};
+ghost use Rattle.tool_commands.specs.Acts.{EndsSaying, Explains, ExplainsMore, IsHostFault, Says, SaysOf, SaysTested, SaysText};
 ghost use Rattle.tool_commands.specs.Acts.{accepted_status, explained_status};
 
 use crate::checkpoint_acts::{end_unrun, saved_in};
 use crate::endings::end_refused;
-use crate::slot_lengths::slot_for;
+use crate::life_lines::life_lines;
+use crate::slot_lengths::{slot_for, units_with};
 use plan_texts::{plan_text, read_plan};
 use slot_types::{Refusal, StorePlan};
 use std::alloc::Global;
@@ -20,6 +21,30 @@ use tool_plan_design::{Explained, explain};
 use tool_slot_times::Units;
 use tool_terms_design::{explain_terms, is_terms_text};
 
+/// What is said, with more after it. The only refusal is NoMemory.
+fn with_more(explained: Explained, more: &[u8]) -> Result<Explained, Refusal>
+    ensures verdict { IfOk result (λ whole. whole.is_accepted ≡ explained.is_accepted) }
+    ensures text { IfOk result (λ whole. whole.text.items ≡ explained.text.items ++ more.now) }
+    ensures refused { FailsForMemory result }
+{
+    let mut explained = explained;
+    explained.text.extend_from_slice(more)?;
+    Ok(explained)
+}
+
+/// What the tests of a plan answer, with terms or without. The only refusal is NoMemory.
+fn tested(alloc: Global, plan: &[u8], units: Units) -> Result<Explained, Refusal>
+    ensures said { IfOk result (λ explained.
+        SaysTested units.slot_us plan.now explained.is_accepted explained.text.items) }
+    ensures refused { FailsForMemory result }
+{
+    if is_terms_text(alloc, plan)? {
+        explain_terms(alloc, plan, units.slot_us)
+    } else {
+        explain(alloc, plan, units)
+    }
+}
+
 /// What is said of the text of a plan, with terms or without. The only refusal is NoMemory.
 fn said_of(alloc: Global, plan: &[u8], asked: Units) -> Result<Explained, Refusal>
     ensures said { IfOk result (λ explained.
@@ -27,16 +52,10 @@ fn said_of(alloc: Global, plan: &[u8], asked: Units) -> Result<Explained, Refusa
     ensures refused { FailsForMemory result }
 {
     let slot_us = slot_for(alloc, plan, asked.slot_us)?;
-    if is_terms_text(alloc, plan)? {
-        explain_terms(alloc, plan, slot_us)
-    } else {
-        let page_bytes = asked.page_bytes;
-        let units = Units {
-            slot_us,
-            page_bytes,
-        };
-        explain(alloc, plan, units)
-    }
+    let units = units_with(asked, slot_us);
+    let explained = tested(alloc, plan, units)?;
+    let lives = life_lines(alloc, plan, units)?;
+    with_more(explained, &lives)
 }
 
 /// What is said of a plan.
@@ -100,16 +119,6 @@ fn more_of<C: Read + Drop>(
         }
     }
     Ok(more)
-}
-
-/// What is said, with more after it. The only refusal is NoMemory.
-fn with_more(explained: Explained, more: &[u8]) -> Result<Explained, Refusal>
-    ensures verdict { IfOk result (λ whole. whole.is_accepted ≡ explained.is_accepted) }
-    ensures text { IfOk result (λ whole. whole.text.items ≡ explained.text.items ++ more.now) }
-{
-    let mut explained = explained;
-    explained.text.extend_from_slice(more)?;
-    Ok(explained)
 }
 
 /// What is said of a plan, and, where it is accepted, of a checkpoint of its dies.

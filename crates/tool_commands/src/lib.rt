@@ -2,25 +2,27 @@
 #![tactic(auto)]
 
 mod acts;
-pub mod arriving;
-pub mod checkpoint_acts;
-pub mod comparing;
-pub mod demanding;
-pub mod designing;
-pub mod endings;
-pub mod explaining;
-pub mod fitting;
-pub mod keeping;
-pub mod kept_acts;
-pub mod listed_acts;
-pub mod outputs;
-pub mod plan_faults;
+mod arriving;
+mod checkpoint_acts;
+mod comparing;
+mod demanding;
+mod designing;
+mod endings;
+mod explaining;
+mod filling;
+mod fitting;
+mod keeping;
+mod kept_acts;
+mod life_lines;
+mod listed_acts;
+mod outputs;
+mod plan_faults;
 mod requests;
-pub mod runs;
-pub mod shelves;
+mod runs;
+mod shelves;
 mod slot_lengths;
-pub mod stores;
-pub mod strict;
+mod stores;
+mod strict;
 
 pub use acts::act;
 pub use checkpoint_acts::Kept;

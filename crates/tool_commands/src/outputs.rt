@@ -48,6 +48,7 @@ pub fn written_path(name: &str) -> &str {
 pub(crate) fn saved_to<'a>(request: &Request<'a>) -> Option<&'a str> {
     match request {
         Request::One(Command::Run { to, .. }) => *to,
+        Request::One(Command::Fill { to, .. }) => Some(*to),
         _ => None,
     }
 }
@@ -97,7 +98,7 @@ fn over_texts<'a, K: Shelf>(shelf: &K, written: Named<'a>, texts: Texts<'a>) -> 
 fn over_others<'a, K: Shelf>(shelf: &K, written: Named<'a>, texts: Texts<'a>) -> Option<Clash<'a>> {
     let others = [
         over_texts(shelf, written, texts),
-        read_and_written(shelf, written, "--from", texts.checkpoint),
+        read_and_written(shelf, written, "the checkpoint", texts.checkpoint),
         read_and_written(shelf, written, "the datasheet", texts.sheet),
         among(shelf, written, "the report", texts.reports),
         among(shelf, written, "the trace", texts.traces),

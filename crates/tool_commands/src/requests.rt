@@ -28,15 +28,37 @@ fn files_of<'a>(command: Command<'a>) -> (&'a str, Option<&'a str>, Option<&'a s
         Command::Explain { plan, from, .. } => (plan, None, from),
         Command::Fit { sheet: plan }
         | Command::Design { sheet: plan }
-        | Command::Arrivals { plan, .. }
+        | Command::Fill { plan, .. }
         | Command::Demand { plan, .. } => (plan, None, None),
-        Command::Keeps { plan, script, .. }
-        | Command::Wear { plan, script, .. }
-        | Command::Report { plan, script, .. }
-        | Command::Draw { plan, script, .. }
-        | Command::Compare { plan, script, .. }
-        | Command::RunKept { plan, script, .. } => (plan, Some(script), None),
-        Command::Run {
+        Command::Arrivals { plan, from, .. } => (plan, None, from),
+        Command::Keeps { plan, script, .. } | Command::RunKept { plan, script, .. } => {
+            (plan, Some(script), None)
+        }
+        Command::Wear {
+            plan,
+            script,
+            from,
+            ..
+        }
+        | Command::Report {
+            plan,
+            script,
+            from,
+            ..
+        }
+        | Command::Draw {
+            plan,
+            script,
+            checkpoint: from,
+            ..
+        }
+        | Command::Compare {
+            plan,
+            script,
+            checkpoint: from,
+            ..
+        }
+        | Command::Run {
             plan,
             script,
             from,

@@ -68,6 +68,13 @@ pub struct TimedPlan {
     pub slot_us: Option<u32>,
 }
 
+/// The plans of a store's dies, and how many us a slot takes, where that is known.
+#[derive(Drop)]
+pub struct TimedStore {
+    pub store: StorePlan,
+    pub slot_us: Option<u32>,
+}
+
 /// Reads a plan, with terms or without: of each kind as [`read_terms`] and [`read_plan`] do, no more of it than 1,048,577
 /// bytes. Which kind it is, [`is_terms_text`] tells. A slot is as long as is asked for, or as the plan's text begins.
 /// ReadFault comes where the reader fails, and NoMemory where memory is refused.
@@ -103,18 +110,35 @@ pub fn plan_in<R: Read + Drop>(alloc: Global, plan: R) -> Result<PlanRead, Unrea
     Ok(timed.plan)
 }
 
-/// Reads the plans of a store's dies, of a plan with terms or without, as [`plan_in`] does: of one with terms, which has
-/// passed its tests, without these. It is refused as [`plan_in`] refuses it.
+/// Reads the plans of a store's dies, of a plan with terms or without, as [`timed_plan_in`] does: of one with terms, which
+/// has passed its tests, without these. It is refused as [`timed_plan_in`] refuses it.
+pub fn timed_store_of<R: Read + Drop>(
+    alloc: Global,
+    plan: R,
+    asked: Option<u32>,
+) -> Result<TimedStore, Unread>
+    ensures store { IfOk result (λ timed. ReadsStore (R.remaining plan) timed.store) }
+    ensures some { IfOk result (λ timed. 1 ≤ length timed.store) }
+    ensures few { IfOk result (λ timed. length timed.store ≤ 8) }
+    ensures bound { IfOk result (λ timed. All MeetsBound timed.store) }
+{
+    let TimedPlan { plan, slot_us } = timed_plan_in(alloc, plan, asked)?;
+    match plan {
+        PlanRead::Plain(store) => Ok(TimedStore { store, slot_us }),
+        PlanRead::WithTerms(terms) => {
+            let store = plans_of(alloc, &terms)?;
+            Ok(TimedStore { store, slot_us })
+        }
+    }
+}
+
+/// Reads them as [`timed_store_of`] does, whatever the length of a slot.
 pub fn store_of<R: Read + Drop>(alloc: Global, plan: R) -> Result<StorePlan, Unread>
     ensures store { IfOk result (ReadsStore (R.remaining plan)) }
+    ensures some { IfOk result (λ store. 1 ≤ length store) }
     ensures few { IfOk result (λ store. length store ≤ 8) }
     ensures bound { IfOk result (All MeetsBound) }
 {
-    match plan_in(alloc, plan)? {
-        PlanRead::Plain(store) => Ok(store),
-        PlanRead::WithTerms(store) => {
-            let plans = plans_of(alloc, &store)?;
-            Ok(plans)
-        }
-    }
+    let timed = timed_store_of(alloc, plan, None)?;
+    Ok(timed.store)
 }

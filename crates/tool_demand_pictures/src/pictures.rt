@@ -4,6 +4,7 @@ use crate::axes::Axes;
 use crate::sampling::Point;
 use std::io;
 use std::io::Write;
+use tool_slot_times::{Slots, Time};
 
 /// The interval that is marked.
 #[derive(Clone, Copy, PartialEq, Eq, Debug, Drop)]
@@ -100,7 +101,20 @@ fn put_mark(text: &mut Vec<u8>, axes: Axes, slots: u32) -> io::Result<()> {
     )
 }
 
-fn put_axes(text: &mut Vec<u8>, axes: Axes) -> io::Result<()> {
+/// What the lengths are counted in, and how long one is, where that is known.
+fn put_unit(text: &mut Vec<u8>, slot_us: Option<u32>) -> io::Result<()> {
+    write!(
+        text,
+        "<text class=\"m s\" x=\"434\" y=\"440\">length of the interval, in slots"
+    )?;
+    if let Some(us) = slot_us {
+        let slot = Time { us: u128::from(us) };
+        write!(text, " of {slot}")?;
+    }
+    writeln!(text, "</text>")
+}
+
+fn put_axes(text: &mut Vec<u8>, axes: Axes, slot_us: Option<u32>) -> io::Result<()> {
     let mark = axes.mark();
     let mut slots: u32 = 0;
     for _ in 0..11 {
@@ -110,10 +124,7 @@ fn put_axes(text: &mut Vec<u8>, axes: Axes) -> io::Result<()> {
         put_mark(text, axes, slots)?;
         slots = slots.saturating_add(mark);
     }
-    writeln!(
-        text,
-        "<text class=\"m s\" x=\"434\" y=\"440\">length of the interval, in slots</text>"
-    )
+    put_unit(text, slot_us)
 }
 
 /// The line of the slots that an interval has: as many as it is long.
@@ -137,8 +148,18 @@ fn put_asked(text: &mut Vec<u8>, axes: Axes, points: &[Point]) -> io::Result<()>
     writeln!(text, "H{x}V400\"/>")
 }
 
+/// So many slots, with their time where it is known how long one is.
+fn timed(count: u64, slot_us: Option<u32>) -> Slots {
+    Slots { count, slot_us }
+}
+
 /// The interval that is marked, and what is said of it.
-fn put_marked(text: &mut Vec<u8>, axes: Axes, marked: Marked) -> io::Result<()> {
+fn put_marked(
+    text: &mut Vec<u8>,
+    axes: Axes,
+    marked: Marked,
+    slot_us: Option<u32>,
+) -> io::Result<()> {
     let (slots, demand) = (marked.slots(), marked.demand());
     let (x, y) = (axes.x(slots), axes.y(demand));
     writeln!(text, "<path class=\"mark\" d=\"M{x} 400V80\"/>")?;
@@ -147,15 +168,23 @@ fn put_marked(text: &mut Vec<u8>, axes: Axes, marked: Marked) -> io::Result<()> 
         "<circle class=\"dot\" cx=\"{x}\" cy=\"{y}\" r=\"4\"/>"
     )?;
     write!(text, "<text x=\"84\" y=\"462\">")?;
+    let slots = timed(u64::from(slots), slot_us);
+    let demand = timed(demand, slot_us);
     match marked {
-        Marked::Tightest { slack, .. } => write!(
-            text,
-            "The tightest interval has {slots} slots, of which {demand} may be asked for: {slack} to spare."
-        )?,
-        Marked::Overfull { excess, .. } => write!(
-            text,
-            "An interval of {slots} slots may be asked for {demand}: {excess} missing; no shorter one is overfull."
-        )?,
+        Marked::Tightest { slack, .. } => {
+            let slack = timed(u64::from(slack), slot_us);
+            write!(
+                text,
+                "The tightest interval has {slots} slots, of which {demand} may be asked for: {slack} to spare."
+            )?;
+        }
+        Marked::Overfull { excess, .. } => {
+            let excess = timed(excess, slot_us);
+            write!(
+                text,
+                "An interval of {slots} slots may be asked for {demand}: {excess} missing; no shorter one is overfull."
+            )?;
+        }
     }
     writeln!(text, "</text>")
 }
@@ -167,12 +196,13 @@ pub(crate) fn put_picture(
     axes: Axes,
     points: &[Point],
     marked: Marked,
+    slot_us: Option<u32>,
 ) -> io::Result<()> {
     put_head(text, die)?;
     put_legend(text)?;
-    put_axes(text, axes)?;
+    put_axes(text, axes, slot_us)?;
     put_asked(text, axes, points)?;
     put_there(text, axes)?;
-    put_marked(text, axes, marked)?;
+    put_marked(text, axes, marked, slot_us)?;
     writeln!(text, "</svg>")
 }

@@ -8,6 +8,7 @@ use plan_rules::bound;
 use slot_types::{MAX_SLOT, Refusal};
 use std::alloc::Global;
 use terms_texts::{DieTerms, TermsRefusal, die_terms, terms_numbers};
+use tool_slot_times::slot_in;
 
 /// How many points a picture has at most.
 const MOST_POINTS: u32 = 700;
@@ -60,6 +61,7 @@ fn put_die(
     die: u32,
     made: &DieTerms,
     marked: Marked,
+    slot_us: Option<u32>,
 ) -> Result<(), Refusal> {
     if bound(&made.plan).is_err() || demand_rules::limits_test(&made.plan, &made.terms).is_err() {
         return Ok(());
@@ -68,7 +70,7 @@ fn put_die(
     let step = end.div_ceil(MOST_POINTS).max(1);
     let count = (end / step).saturating_add(1).min(MAX_SLOT / step);
     let points = points(alloc, made, step, count)?;
-    match put_picture(text, die, Axes { end }, &points, marked) {
+    match put_picture(text, die, Axes { end }, &points, marked, slot_us) {
         Ok(()) => Ok(()),
         Err(_) => Err(Refusal::NoMemory),
     }
@@ -90,7 +92,8 @@ fn marked_of(made: &DieTerms) -> Option<Marked> {
 }
 
 /// The picture of a die of a plan with terms, as SVG: how many slots may be asked of an interval, by its length, beside
-/// those that it has; and marked the tightest one, or the shortest one that is overfull.
+/// those that it has; and marked the tightest one, or the shortest one that is overfull, with its time where the plan's first line
+/// says how long a slot is.
 pub fn draw_demand(alloc: Global, plan: &[u8], die: u32) -> Result<Vec<u8>, Undrawn> {
     let numbers = terms_numbers(alloc, plan)?;
     let dies = numbers.top.dies;
@@ -101,7 +104,8 @@ pub fn draw_demand(alloc: Global, plan: &[u8], die: u32) -> Result<Vec<u8>, Undr
     let Some(marked) = marked_of(&made) else {
         return Err(Undrawn::NoInterval);
     };
+    let slot_us = slot_in(alloc, plan)?;
     let mut text = Vec::new(alloc);
-    put_die(alloc, &mut text, die, &made, marked)?;
+    put_die(alloc, &mut text, die, &made, marked, slot_us)?;
     Ok(text)
 }

@@ -12,6 +12,8 @@ use Rattle.terms_texts.specs.declared.stores.DieTerms.{DieTerms}
 use Rattle.tool_plan_arrivals.specs.PlannedScripts.{IsPlannedScript}
 use Rattle.tool_plan_fit.specs.Fits.{IsPlanFor}
 use Rattle.tool_terms_keeping.specs.Verdicts.{IsKeptScript}
+use Rattle.tool_slot_times.specs.declared.units.Units.{Units}
+use Rattle.tool_run_figures.specs.declared.lives.Life.{Life}
 use Rattle.tool_watched_runs.specs.Runs.{IsReportOf}
 use Rattle.tool_watched_runs.specs.declared.script_runs.Reported.{Reported}
 
@@ -45,7 +47,9 @@ pub record AsksOfTerms (plan : List ℕ) (store : List DiePlan) (slots : ℕ) (s
 -- the figures, as CSV, of fresh dies of these plans that ran the script and so many slots, on devices that fail nowhere
 pub record AreFiguresOf (store : List DiePlan) (script : List ℕ) (slots : ℕ) (figures : List ℕ) : Type 0 where
   pub said : Reported
-  pub ran : IsReportOf store (Some script) slots None true said
+  pub life : Life
+  pub units : Units
+  pub ran : IsReportOf store (Some script) slots life units true None said
   pub is : figures ≡ said.text.items
 
 -- the figures are those of a run of what the tasks of a plan's text may ask for

@@ -91,9 +91,10 @@ fn put_rows(text: &mut Vec<u8>, design: &Design<'_>, cost: MountCost) -> io::Res
 }
 
 const LOSS: &str =
-    "<p>Today a die that wrote or erased since its last checkpoint doesn't go on after a loss of power: all its \
-pages are lost. What a mount by labels would do at most is proved, call by call; no device keeps labels, and no die starts \
-there by itself yet. The part has one block more than the plan then, so that a plan may have 1,023 at most.</p>\n";
+    "<p>Where its driver writes a label beside each page, a part is mounted after a loss of power, through the library for C: \
+no finished write is lost. What a mount does at most is proved, call by call. The part has one block more than the plan then, so \
+that a plan may have 1,023 at most. Without labels all pages of a die are lost that wrote or erased since its last \
+checkpoint.</p>\n";
 
 /// Adds what a mount would cost.
 pub(crate) fn put_loss(text: &mut Vec<u8>, design: &Design<'_>) -> io::Result<()>

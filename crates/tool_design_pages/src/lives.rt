@@ -11,7 +11,7 @@ const RENEWED: &str =
     "Before it ends the die is renewed, at a moment in which nothing waits: its slots and its numbers \
 begin anew, and its pages, tokens and erases stay. ";
 
-/// Adds how long a life is, and what comes in it.
+/// Adds how long a life is, and what comes in it where tasks ask for all that they may, in as few jobs as may be.
 pub(crate) fn put_life(text: &mut Vec<u8>, design: &Design<'_>) -> io::Result<()> {
     let life = life_of(design.tasks);
     let comes = comes_in(design.tasks, life);
@@ -22,7 +22,7 @@ pub(crate) fn put_life(text: &mut Vec<u8>, design: &Design<'_>) -> io::Result<()
     let (jobs, collections) = (Count(comes.jobs), Count(comes.collections));
     put_heading(text, "A life")?;
     write!(text, "<p>A life has {span}, ")?;
-    write!(text, "in which at most {jobs} jobs and ")?;
+    write!(text, "in which at most {jobs} jobs, as few as may be, and ")?;
     write!(text, "{collections} collections come. ")?;
     put(text, RENEWED)?;
     put(text, "</p>\n")

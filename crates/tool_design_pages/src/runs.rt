@@ -17,6 +17,7 @@ use terms_texts::{StoreTerms, plans_of, read_terms};
 use tool_plan_arrivals::{Fault, Manner, arrivals};
 use tool_plan_fit::Fitted;
 use tool_run_figures::Life;
+use tool_slot_times::Units;
 use tool_terms_arrivals::{arrivals as terms_arrivals, life_of};
 use tool_watched_runs::{Reported, Shown, draw, report};
 
@@ -89,16 +90,17 @@ fn figures_of(
         refused: _,
         sights: _,
         failure: _,
-    } = report(alloc, store, script, slots, life, true, None)?;
+    } = report(alloc, store, script, slots, life, Units::NONE, true, None)?;
     Ok(text)
 }
 
-/// The picture of the first slots of such a run.
+/// The picture of the first slots of such a run, with their times.
 fn picture_of(
     alloc: Global,
     store: StorePlan,
     script: &[u8],
     run: RunSlots,
+    slot_us: u32,
 ) -> Result<Vec<u8>, Refusal>
     requires few { run.slots ≤ MAX_SLOT }
     requires bound { All MeetsBound store }
@@ -109,6 +111,10 @@ fn picture_of(
         worst: false,
         as_text: false,
         all: false,
+        units: Units {
+            slot_us: Some(slot_us),
+            page_bytes: None,
+        },
     };
     let Reported {
         text,
@@ -134,7 +140,7 @@ fn ran(
     ensures { IfOk result (λ ran. AreFiguresOf store script.now run.slots ran.figures.items) }
 {
     let figures = figures_of(alloc, store, script, run.slots, life)?;
-    let picture = picture_of(alloc, again, script, run)?;
+    let picture = picture_of(alloc, again, script, run, life.slot_us)?;
     Ok(Run { figures, picture })
 }
 
@@ -208,15 +214,9 @@ pub(crate) fn run_of(alloc: Global, fitted: &Fitted, run: RunSlots) -> Result<Ru
     requires { run.slots ≤ MAX_SLOT }
     ensures { IfOk result (λ ran. IsRunFor fitted.now.text.items run.slots ran.figures.items) }
 {
-    let life = match fitted.sheet.part.endurance {
-        Some(endurance) => Life {
-            endurance,
-            slot_us: fitted.slot_us,
-        },
-        None => Life {
-            endurance: 0,
-            slot_us: 0,
-        },
+    let life = Life {
+        endurance: fitted.sheet.part.endurance.unwrap_or(0),
+        slot_us: fitted.slot_us,
     };
     if fitted.sheet.is_plain() {
         run_times(alloc, fitted.text.as_slice(), run, life)

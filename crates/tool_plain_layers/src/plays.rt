@@ -220,13 +220,31 @@ impl<'a> Layer<'a> {
     }
 
     fn write(&mut self, now: u32, page: u32) -> Result<(), Fault> {
-        self.writes = self.writes.saturating_add(1);
-        if !self.cells.program(page, self.writes) {
+        if !self.put(page) {
             return Err(Fault::NoPage { slot: now });
         }
-        set(self.last.as_mut_slice(), page as usize, self.writes);
         if now >= self.from {
             self.played.written = self.played.written.saturating_add(1);
+        }
+        Ok(())
+    }
+
+    // Programs a page with a write of its own. Answers false where no cell is free.
+    fn put(&mut self, page: u32) -> bool {
+        self.writes = self.writes.saturating_add(1);
+        if !self.cells.program(page, self.writes) {
+            return false;
+        }
+        set(self.last.as_mut_slice(), page as usize, self.writes);
+        true
+    }
+
+    // These pages stand on the die from the beginning on, one after the other.
+    fn begin_with(&mut self, standing: &[u32]) -> Result<(), Fault> {
+        for page in standing {
+            if !self.put(*page) {
+                return Err(Fault::NoPage { slot: 0 });
+            }
         }
         Ok(())
     }
@@ -327,11 +345,13 @@ fn layer_of<'a>(
     })
 }
 
-/// Runs the jobs of a load by a policy for so many slots, on a fresh die of this plan, of which the shape, the number of
-/// logical pages and that of the tasks count alone. Slots are counted from `from` on.
+/// Runs the jobs of a load by a policy for so many slots, on a die of this plan, of which the shape, the number of logical
+/// pages and that of the tasks count alone. It begins with these pages, which lie one after the other in the first blocks,
+/// so that no cell is stale; the die is fresh where there are none. Slots are counted from `from` on.
 pub fn play(
     alloc: Global,
     plan: &DiePlan,
+    standing: &[u32],
     load: &Load,
     policy: Policy,
     marks: Marks,
@@ -339,6 +359,7 @@ pub fn play(
     from: u32,
 ) -> Result<Played, Fault> {
     let mut layer = layer_of(alloc, plan, load, policy, marks, from)?;
+    layer.begin_with(standing)?;
     for now in 0..slots {
         layer.slot(now)?;
     }

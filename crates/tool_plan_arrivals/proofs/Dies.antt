@@ -1,9 +1,9 @@
 -- What holds of each die holds of all of them.
-use Rattle.std.proofs.Common.{◌≡◌, ℕ, zero, suc, ◌+◌, ◌<◌, ◌≤◌, ◌⊎◌, ◌↔◌, List, [], ◌∷◌, refl, ap, sym, ◌∙◌, subst, length, get_or, arith}
+use Rattle.std.proofs.Common.{◌≡◌, ℕ, suc, ◌+◌, ◌<◌, ◌≤◌, ◌⊎◌, List, [], ◌∷◌, refl, ap, sym, ◌∙◌, subst, length, arith}
 use Rattle.std.proofs.Common.{inl, inr, Option, Some, None, Result, Ok}
-use Rattle.std.specs.Prelude.{slice_get, IfSome, IsSomeAnd, All}
+use Rattle.std.specs.Prelude.{slice_get, IfSome, IsSomeAnd}
 use Rattle.std.specs.List.{AllZip}
-use Rattle.std.proofs.lemmas.Option.{slice_get_within, slice_get-get_or}
+use Rattle.std.proofs.lemmas.Option.{slice_get_within}
 use Rattle.slot_types.specs.declared.events.Event.{Event}
 use Rattle.slot_types.specs.declared.plans.DiePlan.{DiePlan}
 use Rattle.slot_types.specs.declared.plans.Times.{Times}
@@ -16,7 +16,7 @@ use Rattle.task_script.specs.DieRuns.{DieRun}
 use Rattle.task_script.specs.Feeds.{feed_of}
 use Rattle.task_script.specs.PlannedRuns.{AreAsPlanned, RowsGoAsPlanned, RowsKeepPlan, events_of_rows}
 use Rattle.tool_plan_arrivals.proofs.Carrying.{order}
-use Rattle.tool_plan_arrivals.specs.PlannedScripts.{AreEventsOf, AreKept, HasPassed, IsPlannedScript}
+use Rattle.tool_plan_arrivals.specs.PlannedScripts.{AreEventsOf, AreKept, IsPlannedScript}
 
 -- One die
 

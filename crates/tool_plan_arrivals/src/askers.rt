@@ -5,7 +5,7 @@ ghost use Rattle.slot_types.specs.Refusal.{FailsForMemory};
 ghost use Rattle.tool_plan_arrivals.specs.PlannedScripts.{IsOwnFault};
 
 use crate::faults::Fault;
-use crate::jobs::Asker;
+use crate::jobs::{Asker, missing_in};
 use crate::pages::Share;
 use slot_types::{DiePlan, MAX_SLOT, Refusal, StorePlan, TaskTimes};
 use std::alloc::Global;
@@ -41,16 +41,17 @@ fn full_share(times: &TaskTimes, writer: u32, writers: u32, logical: u32) -> Sha
 }
 
 /// A task that asks, after so many tasks of its die, of which some write.
-fn asker_of(
+fn asker_of<'a>(
     die: u32,
     task: u32,
     writer: u32,
     plan: &DiePlan,
     tasks: &[TaskTimes],
-    fills: bool,
+    fill: Fill<'a>,
     own: &TaskTimes,
-) -> Asker {
+) -> Asker<'a> {
     let count = u32::try_from(tasks.len()).unwrap_or(u32::MAX);
+    let Fill { fills, held } = fill;
     let share = if fills {
         full_share(own, writer, writers(tasks), plan.logical)
     } else {
@@ -62,14 +63,32 @@ fn asker_of(
         task,
         times: *own,
         share,
-        to_fill: if fills && writes { share.count() } else { 0 },
+        held,
+        to_fill: if fills && writes {
+            missing_in(share, held)
+        } else {
+            0
+        },
+        place: 0,
         trims: writes && !fills,
         next: 0,
     }
 }
 
+/// Whether the tasks of a die fill it, and which of its pages lie in cells already.
+#[derive(Clone, Copy, Drop)]
+struct Fill<'a> {
+    fills: bool,
+    held: &'a [bool],
+}
+
 /// Adds the tasks of a die. The only refusal is NoMemory.
-fn add_askers(askers: &mut Vec<Asker>, die: u32, plan: &DiePlan, fills: bool) -> Result<(), Refusal>
+fn add_askers<'a>(
+    askers: &mut Vec<Asker<'a>>,
+    die: u32,
+    plan: &DiePlan,
+    fill: Fill<'a>,
+) -> Result<(), Refusal>
     ensures { FailsForMemory result }
 {
     let Some(times) = &plan.times else {
@@ -78,7 +97,7 @@ fn add_askers(askers: &mut Vec<Asker>, die: u32, plan: &DiePlan, fills: bool) ->
     let tasks = times.tasks.as_slice();
     let (mut task, mut writer) = (0u32, 0u32);
     for own in tasks {
-        let asker = asker_of(die, task, writer, plan, tasks, fills, own);
+        let asker = asker_of(die, task, writer, plan, tasks, fill, own);
         askers.push(asker)?;
         task = task.saturating_add(1);
         writer = writer.saturating_add(u32::from(own.writes > 0));
@@ -116,20 +135,34 @@ fn check_lives(plan: &StorePlan, slots: u32) -> Result<(), Fault>
     Ok(())
 }
 
-/// The tasks of all dies, which ask within so many slots no more often than a die accepts.
-pub fn askers_of(
+/// The pages of a die that lie in cells already; none where nothing is known of it.
+fn held_on<'a>(held: &'a [Vec<bool>], die: u32) -> &'a [bool] {
+    match held.get(die as usize) {
+        Some(pages) => pages.as_slice(),
+        None => &[],
+    }
+}
+
+/// The tasks of all dies, which ask within so many slots no more often than a die accepts; by die and page, whether the page
+/// lies in a cell already.
+pub fn askers_of<'a>(
     alloc: Global,
     plan: &StorePlan,
     slots: u32,
     fills: bool,
-) -> Result<Vec<Asker>, Fault>
+    held: &'a [Vec<bool>],
+) -> Result<Vec<Asker<'a>>, Fault>
     ensures { IfErr result IsOwnFault }
 {
     check_lives(plan, slots)?;
     let mut askers = Vec::new(alloc);
     let mut die: u32 = 0;
     for own in plan.as_slice() {
-        add_askers(&mut askers, die, own, fills)?;
+        let fill = Fill {
+            fills,
+            held: held_on(held, die),
+        };
+        add_askers(&mut askers, die, own, fill)?;
         die = die.saturating_add(1);
     }
     Ok(askers)

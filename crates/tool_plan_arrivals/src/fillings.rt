@@ -16,7 +16,7 @@ pub struct Filling {
 }
 
 /// The slot by which a task that writes, and is never late, has written each of its pages once; none where it writes none.
-fn filled_by(asker: &Asker) -> Option<u64> {
+fn filled_by(asker: &Asker<'_>) -> Option<u64> {
     let writes = asker.times.writes;
     if writes == 0 {
         return None;
@@ -27,7 +27,7 @@ fn filled_by(asker: &Asker) -> Option<u64> {
 
 impl Filling {
     /// Adds a task of the die.
-    fn add(&mut self, asker: &Asker) {
+    fn add(&mut self, asker: &Asker<'_>) {
         if let Some(slot) = filled_by(asker) {
             self.from = Some(self.from.unwrap_or(0).max(slot));
         }
@@ -45,9 +45,14 @@ fn put_dies(fillings: &mut Vec<Filling>, plan: &StorePlan) -> Result<(), AllocEr
     Ok(())
 }
 
-/// By die, how its tasks fill it.
-pub fn fillings_of(alloc: Global, plan: &StorePlan) -> Result<Vec<Filling>, Fault> {
-    let askers = askers_of(alloc, plan, 0, true)?;
+/// By die, how its tasks fill it, where these pages lie in cells already, by die and page: one all of whose pages do is full
+/// from slot 0 on. The only refusal is NoMemory.
+pub fn fillings_from(
+    alloc: Global,
+    plan: &StorePlan,
+    held: &[Vec<bool>],
+) -> Result<Vec<Filling>, Fault> {
+    let askers = askers_of(alloc, plan, 0, true, held)?;
     let mut fillings = Vec::new(alloc);
     put_dies(&mut fillings, plan)?;
     for asker in &askers {
@@ -56,4 +61,9 @@ pub fn fillings_of(alloc: Global, plan: &StorePlan) -> Result<Vec<Filling>, Faul
         }
     }
     Ok(fillings)
+}
+
+/// By die, how its tasks fill it from the first page on. The only refusal is NoMemory.
+pub fn fillings_of(alloc: Global, plan: &StorePlan) -> Result<Vec<Filling>, Fault> {
+    fillings_from(alloc, plan, &[])
 }

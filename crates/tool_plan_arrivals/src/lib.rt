@@ -15,13 +15,14 @@ mod ops;
 mod pages;
 mod scripts;
 
+pub use askers::life;
 pub use chances::Chance;
 pub use die_events::{Events, events_on};
 pub use faults::Fault;
-pub use fillings::{Filling, fillings_of};
+pub use fillings::{Filling, fillings_from, fillings_of};
 pub use keeping::keeps_plans;
 pub use laws::planned_scripts_go_as_planned;
 pub use manners::Manner;
 pub use ops::{put_other, put_write};
 pub use pages::Share;
-pub use scripts::{arrivals, test_all};
+pub use scripts::{arrivals, arrivals_from, test_all};

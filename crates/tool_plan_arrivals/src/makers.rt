@@ -26,7 +26,7 @@ fn comes(slot: u32, period: u32) -> bool {
 fn put_next(
     text: &mut Vec<u8>,
     chance: &mut Chance,
-    asker: &mut Asker,
+    asker: &mut Asker<'_>,
     slot: u32,
     manner: Manner,
 ) -> io::Result<()> {
@@ -44,7 +44,7 @@ fn put_next(
 }
 
 /// Chooses when the first job of each task comes, unless it fills its pages.
-fn draw_phases(chance: &mut Chance, askers: &mut Vec<Asker>) {
+fn draw_phases(chance: &mut Chance, askers: &mut Vec<Asker<'_>>) {
     for asker in askers.as_mut_slice() {
         if asker.to_fill == 0 {
             asker.next = chance.below(asker.times.period);
@@ -56,7 +56,7 @@ fn draw_phases(chance: &mut Chance, askers: &mut Vec<Asker>) {
 fn put_task(
     text: &mut Vec<u8>,
     chance: &mut Chance,
-    asker: &mut Asker,
+    asker: &mut Asker<'_>,
     slot: u32,
     manner: Manner,
 ) -> io::Result<()> {
@@ -73,7 +73,7 @@ fn put_task(
 fn put_slot(
     text: &mut Vec<u8>,
     chance: &mut Chance,
-    askers: &mut Vec<Asker>,
+    askers: &mut Vec<Asker<'_>>,
     slot: u32,
     manner: Manner,
 ) -> io::Result<()> {
@@ -83,11 +83,18 @@ fn put_slot(
     Ok(())
 }
 
-/// The script of what each task of a store asks for in so many slots, slot by slot.
-pub fn script(alloc: Global, plan: &StorePlan, slots: u32, manner: Manner) -> Result<Vec<u8>, Fault>
+/// The script of what each task of a store asks for in so many slots, slot by slot, of which these pages lie in cells
+/// already.
+pub fn script(
+    alloc: Global,
+    plan: &StorePlan,
+    slots: u32,
+    manner: Manner,
+    held: &[Vec<bool>],
+) -> Result<Vec<u8>, Fault>
     ensures { IfErr result IsOwnFault }
 {
-    let mut askers = askers_of(alloc, plan, slots, manner.fills)?;
+    let mut askers = askers_of(alloc, plan, slots, manner.fills, held)?;
     let mut chance = Chance::new(manner.seed);
     if manner.phases {
         draw_phases(&mut chance, &mut askers);

@@ -67,8 +67,30 @@ pub fn arrivals(
     ensures planned { IfOk result (λ text. IsPlannedScript plan.now slots text.items) }
     ensures refused { IfErr result (IsUnplanned plan.now) }
 {
+    arrivals_from(alloc, plan, slots, manner, &[])
+}
+
+/// A script as [`arrivals`] makes it, for dies some of whose pages lie in cells already, by die and page: where the tasks
+/// fill a die, each of the writing ones writes those of its pages once, in order, that don't. A die or a page beyond those
+/// that are given has none in a cell.
+///
+/// The rows keep the plan of their die all the same. Its run refuses none of them and is never late where the tasks of each
+/// die have the tokens that the plan's work needs, as those of fresh dies do.
+pub fn arrivals_from(
+    alloc: Global,
+    plan: &StorePlan,
+    slots: u32,
+    manner: Manner,
+    held: &[Vec<bool>],
+) -> Result<Vec<u8>, Fault>
+    requires some { 1 ≤ length plan.now }
+    requires few { length plan.now ≤ 8 }
+    requires bound { All MeetsBound plan.now }
+    ensures planned { IfOk result (λ text. IsPlannedScript plan.now slots text.items) }
+    ensures refused { IfErr result (IsUnplanned plan.now) }
+{
     test_all(plan.as_slice())?;
-    let text = script(alloc, plan, slots, manner)?;
+    let text = script(alloc, plan, slots, manner, held)?;
     kept(alloc, &text, plan, slots)?;
     Ok(text)
 }

@@ -1,1 +1,4 @@
 pub mod TaskRecords
+pub mod Blanks
+pub mod FigurePlaces
+pub mod EmptyCells

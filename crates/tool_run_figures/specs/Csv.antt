@@ -6,6 +6,8 @@ use Rattle.tool_run_figures.specs.Wearing.{mean_erases}
 use Rattle.tool_run_figures.specs.declared.figures.Figure.{Figure}
 use Rattle.tool_run_figures.specs.declared.figures.Figure.TheVariants as figure
 use Rattle.tool_run_figures.specs.declared.levels.Low.{Low}
+use Rattle.tool_run_figures.specs.declared.lives.Lasting.{Lasting}
+use Rattle.tool_run_figures.specs.declared.lives.Rate.{Rate}
 use Rattle.tool_run_figures.specs.declared.records.Figures.{Figures}
 use Rattle.tool_run_figures.specs.declared.records.OwnFigures.{OwnFigures}
 use Rattle.tool_run_figures.specs.declared.records.Records.{Records}
@@ -41,12 +43,27 @@ spare_of (Some own) = Some own.least_spare
 unfoldable pub level_columns : Figures → List Figure
 level_columns f = low_columns f.least_balance ++ low_columns (spare_of f.own)
 
+-- how often a block is erased a day, and how many days it lasts
+abbrev pub rate_columns : Option Rate → List Figure
+rate_columns None = figure.Nothing ∷ figure.Nothing ∷ []
+rate_columns (Some rate) = figure.Hundredths rate.a_day ∷ figure.Hundredths rate.days ∷ []
+
+abbrev pub years_of : Option Rate → Figure
+years_of None = figure.Nothing
+years_of (Some rate) = figure.Hundredths rate.years
+
+-- a run's seconds, and how long blocks last by it: by the mean, and by the one that was erased most
+abbrev pub lasting_columns : Option Lasting → List Figure
+lasting_columns None = figure.Nothing ∷ figure.Nothing ∷ figure.Nothing ∷ figure.Nothing ∷ figure.Nothing ∷ figure.Nothing ∷ []
+lasting_columns (Some lasting) =
+    figure.Hundredths lasting.run ∷ rate_columns lasting.mean ++ rate_columns lasting.worst ++ years_of lasting.worst ∷ []
+
 -- what a die wore
 abbrev pub worn_columns : Option OwnFigures → List Figure
-worn_columns None = figure.Nothing ∷ figure.Nothing ∷ figure.Nothing ∷ figure.Nothing ∷ figure.Nothing ∷ []
+worn_columns None = figure.Nothing ∷ figure.Nothing ∷ figure.Nothing ∷ figure.Nothing ∷ lasting_columns None
 worn_columns (Some own) =
     count_of own.wearing.erases ∷ count_of own.wearing.least ∷ hundredths_of (mean_erases own.wearing) ∷ count_of own.wearing.greatest
-    ∷ hundredths_of own.years ∷ []
+    ∷ lasting_columns own.lasting
 
 unfoldable pub wear_columns : Figures → List Figure
 wear_columns f = worn_columns f.own
@@ -82,7 +99,7 @@ unfoldable pub level_names : List ℕ
 level_names = codes ",least_balance,balance_slot,least_spare,spare_slot"
 
 unfoldable pub wear_names : List ℕ
-wear_names = codes ",erases,least_erases,mean_erases,most_erases,years"
+wear_names = codes ",erases,least_erases,mean_erases,most_erases" ++ codes ",run_s,mean_a_day,mean_days,most_a_day,most_days,years"
 
 abbrev pub csv_header : List ℕ
 csv_header = codes "die,task" ++ end_names ++ slot_names ++ level_names ++ wear_names ++ 10 ∷ []

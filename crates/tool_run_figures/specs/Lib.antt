@@ -1,8 +1,11 @@
 pub mod FigureTexts
+pub mod Quantities
 pub mod SlotCounts
 pub mod Levels
 pub mod Ends
 pub mod Ranks
 pub mod Wearing
+pub mod Lasting
 pub mod Records
 pub mod Csv
+pub mod Tables

@@ -1,10 +1,12 @@
 //! The figures of a record, in the order in which they stand.
 
 ghost use Rattle.std.specs.Prelude.{◌≡◌};
-ghost use Rattle.tool_run_figures.specs.Csv.{end_columns, level_columns, low_columns, slot_columns, spare_of, wear_columns};
+ghost use Rattle.tool_run_figures.specs.Csv.{end_columns, lasting_columns, level_columns, low_columns, rate_columns, slot_columns};
+ghost use Rattle.tool_run_figures.specs.Csv.{spare_of, wear_columns, years_of};
 
 use crate::figures::Figure;
 use crate::levels::Low;
+use crate::lives::{Lasting, Rate};
 use crate::records::{Figures, OwnFigures};
 
 /// What was asked for, and how late it was.
@@ -59,21 +61,69 @@ fn low_columns(low: Option<Low>) -> [Figure; 2]
     }
 }
 
+/// How often a block is erased a day, and how many days it lasts.
+fn rate_columns(rate: Option<Rate>) -> [Figure; 2]
+    ensures { result ≡ rate_columns rate }
+{
+    match rate {
+        None => [Figure::Nothing; 2],
+        Some(rate) => [
+            Figure::Hundredths(rate.a_day),
+            Figure::Hundredths(rate.days),
+        ],
+    }
+}
+
+/// How many years a block lasts.
+fn years_of(rate: Option<Rate>) -> Figure
+    ensures { result ≡ years_of rate }
+{
+    match rate {
+        None => Figure::Nothing,
+        Some(rate) => Figure::Hundredths(rate.years),
+    }
+}
+
+/// A run's seconds, and how long blocks last by it: by the mean, and by the one that was erased most.
+fn lasting_columns(lasting: Option<Lasting>) -> [Figure; 6]
+    ensures { result ≡ lasting_columns lasting }
+{
+    let Some(lasting) = lasting else {
+        return [Figure::Nothing; 6];
+    };
+    let [mean_a_day, mean_days] = rate_columns(lasting.mean);
+    let [most_a_day, most_days] = rate_columns(lasting.worst);
+    [
+        Figure::Hundredths(lasting.run),
+        mean_a_day,
+        mean_days,
+        most_a_day,
+        most_days,
+        years_of(lasting.worst),
+    ]
+}
+
 /// What a die wore; nothing of a task.
 #[tactic(auto, unfolding(crate::specs::Csv::wear_columns))]
-pub(crate) fn wear_columns(figures: &Figures) -> [Figure; 5]
+pub(crate) fn wear_columns(figures: &Figures) -> [Figure; 10]
     ensures { result ≡ wear_columns figures.now }
 {
     let Some(own) = figures.own else {
-        return [Figure::Nothing; 5];
+        return [Figure::Nothing; 10];
     };
     let wearing = own.wearing;
+    let [run, mean_a_day, mean_days, most_a_day, most_days, years] = lasting_columns(own.lasting);
     [
         Figure::count(wearing.erases),
         Figure::count(wearing.least),
         Figure::hundredths(wearing.mean()),
         Figure::count(wearing.greatest),
-        Figure::hundredths(own.years),
+        run,
+        mean_a_day,
+        mean_days,
+        most_a_day,
+        most_days,
+        years,
     ]
 }
 

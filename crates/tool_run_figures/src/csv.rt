@@ -42,7 +42,11 @@ fn put_level_names(text: &mut Vec<u8>) -> io::Result<()>
 fn put_wear_names(text: &mut Vec<u8>) -> io::Result<()>
     ensures { OnOk result (text.new.items ≡ text.old.items ++ wear_names) }
 {
-    write!(text, ",erases,least_erases,mean_erases,most_erases,years")
+    write!(text, ",erases,least_erases,mean_erases,most_erases")?;
+    write!(
+        text,
+        ",run_s,mean_a_day,mean_days,most_a_day,most_days,years"
+    )
 }
 
 /// Adds the header of the CSV.
@@ -79,7 +83,7 @@ fn put_columns(text: &mut Vec<u8>, figures: &Figures) -> io::Result<()>
 }
 
 /// The task of a record, as a field; nothing of a die's own.
-fn task_figure(task: Option<u32>) -> Figure
+pub(crate) fn task_figure(task: Option<u32>) -> Figure
     ensures { figure_text result ≡ task_text task }
 {
     match task {

@@ -34,13 +34,13 @@ pub struct Tokens {
 }
 
 impl Tokens {
-    /// Of a task with this cap.
-    fn new(cap: u32) -> Tokens {
+    /// Of a task with this balance.
+    fn new(balance: u32) -> Tokens {
         Tokens {
             under_way: 0,
-            balance: cap,
+            balance,
             least: Low {
-                value: cap,
+                value: balance,
                 slot: 0,
             },
         }
@@ -59,14 +59,16 @@ pub struct Levels {
 }
 
 impl Levels {
-    /// Of a fresh die of this plan: each task has its cap, and what is beyond the caps and the reserves is spare.
-    pub fn new(alloc: Global, plan: &DiePlan) -> Result<Levels, AllocError> {
+    /// Of a die of this plan whose tasks have these balances, with so many spare pages.
+    pub fn at(
+        alloc: Global,
+        plan: &DiePlan,
+        balances: &[u32],
+        spare: u32,
+    ) -> Result<Levels, AllocError> {
         let mut tasks = Vec::new(alloc);
-        let reserve = plan.shape.pages.saturating_sub(plan.alpha);
-        let mut spare = plan.shape.blocks.saturating_mul(plan.shape.pages);
-        for cap in plan.caps.as_slice() {
-            tasks.push(Tokens::new(*cap))?;
-            spare = spare.saturating_sub(cap.saturating_add(reserve));
+        for balance in balances {
+            tasks.push(Tokens::new(*balance))?;
         }
         Ok(Levels {
             tasks,
@@ -77,6 +79,16 @@ impl Levels {
                 slot: 0,
             },
         })
+    }
+
+    /// Of a fresh die of this plan: each task has its cap, and what is beyond the caps and the reserves is spare.
+    pub fn new(alloc: Global, plan: &DiePlan) -> Result<Levels, AllocError> {
+        let reserve = plan.shape.pages.saturating_sub(plan.alpha);
+        let mut spare = plan.shape.blocks.saturating_mul(plan.shape.pages);
+        for cap in plan.caps.as_slice() {
+            spare = spare.saturating_sub(cap.saturating_add(reserve));
+        }
+        Levels::at(alloc, plan, plan.caps.as_slice(), spare)
     }
 
     /// A job of a task was accepted in a slot, with so many writes, which its balance pays.

@@ -9,7 +9,7 @@ ghost use Rattle.tool_run_figures.specs.Records.{AreOfDie, AreOfTask, AreOfTasks
 use crate::counts::DieCounts;
 use crate::ends::{EndCounts, JobEnd, counts_of, rising_of};
 use crate::levels::{Levels, Low};
-use crate::lives::{Life, Wearing};
+use crate::lives::{Lasting, Life, Wearing};
 use crate::ranks::{mean, nearest_rank};
 use crate::slot_counts::SlotCounts;
 use slot_types::Refusal;
@@ -34,8 +34,8 @@ pub struct OwnFigures {
     /// The fewest spare pages.
     pub least_spare: Low,
     pub wearing: Wearing,
-    /// In hundredths, after how many years a block is worn out, if that is asked for.
-    pub years: Option<i64>,
+    /// How long its blocks last, if that is asked for.
+    pub lasting: Option<Lasting>,
 }
 
 /// The figures of a task, or of a die.
@@ -84,19 +84,13 @@ fn lateness_of(alloc: Global, ends: &[JobEnd], task: Option<u32>) -> Result<Late
 
 /// What a die has, and no task.
 fn own_of(die: &DieFigures<'_>) -> OwnFigures
-    ensures { AreOwn die.now.counts.now.idle die.now.wearing result }
+    ensures { AreOwn die.now.counts.now.idle die.now.wearing die.now.life result }
 {
-    let life = die.life;
-    let years = if life.endurance > 0 && life.slot_us > 0 {
-        die.wearing.years(life)
-    } else {
-        None
-    };
     OwnFigures {
         idle: die.counts.idle,
         least_spare: die.levels.least_spare,
         wearing: die.wearing,
-        years,
+        lasting: die.wearing.lasting(die.life),
     }
 }
 
@@ -125,7 +119,7 @@ fn task_figures(
 
 /// The figures of a die's own. The only refusal is NoMemory.
 fn die_figures(alloc: Global, die: &DieFigures<'_>) -> Result<Figures, Refusal>
-    ensures is { IfOk result (AreOfDie die.now.ends.now die.now.counts.now die.now.wearing) }
+    ensures is { IfOk result (AreOfDie die.now.ends.now die.now.counts.now die.now.wearing die.now.life) }
     ensures refused { FailsForMemory result }
 {
     let lateness = lateness_of(alloc, die.ends, None)?;
@@ -158,7 +152,7 @@ fn tasks_of(alloc: Global, die: &DieFigures<'_>) -> Result<Vec<Figures>, Refusal
 pub fn records_of(alloc: Global, die: &DieFigures<'_>) -> Result<Records, Refusal>
     requires { length die.now.counts.now.tasks.items ≤ 4294967295 }
     ensures is { IfOk result
-        (AreRecords die.now.ends.now die.now.counts.now die.now.wearing) }
+        (AreRecords die.now.ends.now die.now.counts.now die.now.wearing die.now.life) }
     ensures refused { FailsForMemory result }
 {
     let figures = die_figures(alloc, die)?;

@@ -1,31 +1,35 @@
 //! A script on the store and on plain layers.
 
 ghost use Rattle.std.specs.Prelude.{◌≡◌, ◌≤◌, ◌++◌, ◌∷◌, [], All, length, map, IfOk, OnOk};
+ghost use Rattle.std.specs.Box.{box_value};
 ghost use Rattle.slot_types.specs.Refusal.{FailsForMemory};
 ghost use Rattle.die_log.specs.Model.Start.{fresh};
 ghost use Rattle.script_texts.specs.ScriptLeft.{dies_of, script_left, slots_of};
-ghost use Rattle.tool_script_runs.specs.RunningDies.{HasEmptyLog, starts_of};
+ghost use Rattle.tool_script_runs.specs.RunningDies.{HasEmptyLog, running_of, starts_of};
 ghost use Rattle.tool_script_runs.specs.ScriptRuns.{IsRunOf, RanScript};
-ghost use Rattle.tool_store_compare.specs.Runs.{HasStoreRun, running};
+ghost use Rattle.tool_store_compare.specs.Runs.{HasStoreRun, begun, running};
 
 use crate::compared_dies::ComparedDie;
 use crate::curves::Curve;
 use crate::figures::End;
 use crate::forms::Form;
 use crate::pictures::{Caption, picture};
-use crate::plan_copies::plan_copy;
 use crate::planned_dies::{PlannedDie, planned_dies};
 use crate::plays::{Counted, Play};
+use crate::started_dies::{StartedDies, fresh_dies};
 use crate::store_dies::{Carried, StoreDie};
 use crate::tables::{Sheet, put_die, put_header};
+use flash_die::MemoryNand;
 use script_texts::ScriptReader;
+use slot_core::DieCore;
 use slot_types::{DiePlan, MAX_SLOT, Refusal, StorePlan};
 use std::alloc::Global;
 use std::io::Read;
 use terms_texts::StoreTerms;
 use tool_kept_runs::KeptFault;
 use tool_plain_layers::{Load, Marks, Policy, play};
-use tool_script_runs::{RefusedRow, run_dies};
+use tool_script_runs::{RefusedRow, RefusedRows, run_dies};
+use tool_slot_times::Units;
 
 /// What is measured.
 #[derive(Clone, Copy, PartialEq, Eq, Debug, Drop)]
@@ -36,6 +40,8 @@ pub struct Measure {
     pub from: u32,
     /// How many wholly free blocks a plain layer wants.
     pub marks: Marks,
+    /// In which units slots and pages are said, but for those of records.
+    pub units: Units,
 }
 
 /// Why there is no table.
@@ -63,6 +69,8 @@ pub struct Compared {
     pub text: Vec<u8>,
     /// Why the dies that keep their plans aren't in it, if they aren't.
     pub unplanned: Option<KeptFault>,
+    /// Which rows the store refused.
+    pub refused: RefusedRows,
 }
 
 /// Adds a die. The only refusal is NoMemory.
@@ -74,35 +82,34 @@ fn push_die(dies: &mut Vec<Box<ComparedDie>>, die: Box<ComparedDie>) -> Result<(
     Ok(())
 }
 
-/// A fresh die of a plan, and one that keeps its plan beside it, or none.
-fn fresh_die(
+/// A die that was started, and one that keeps its plan beside it, or none. The only refusal is NoMemory.
+fn compared_die(
     alloc: Global,
-    plan: DiePlan,
+    core: Box<DieCore<MemoryNand>>,
     from: u32,
     planned: Option<Box<PlannedDie>>,
 ) -> Result<Box<ComparedDie>, Refusal>
-    ensures start { IfOk result (λ die. (running die).start ≡ fresh plan) }
-    ensures log { IfOk result (λ die. (running die).log ≡ []) }
+    ensures running { IfOk result (λ die. running die ≡ running_of (box_value core)) }
+    ensures refused { FailsForMemory result }
 {
-    let store = StoreDie::new(alloc, plan, from)?;
+    let store = StoreDie::new(alloc, core, from)?;
     Ok(Box::new(alloc, ComparedDie { store, planned })?)
 }
 
-/// A fresh die for each plan, and dies that keep these plans beside them, the last of which stands first; or none.
-/// BadShape or BadPlan where a plan misses its bound; or NoMemory.
-fn fresh_dies(
+/// Dies that were started, and dies that keep their plans beside them, the last of which stands first; or none. The only
+/// refusal is NoMemory.
+fn compared_dies(
     alloc: Global,
-    plans: &StorePlan,
+    started: StartedDies,
     mut planned: Vec<Box<PlannedDie>>,
     from: u32,
 ) -> Result<Vec<Box<ComparedDie>>, Refusal>
-    ensures starts { IfOk result (λ dies. starts_of (map running dies.items) ≡ map fresh plans.now) }
-    ensures empty { IfOk result (λ dies. All HasEmptyLog (map running dies.items)) }
+    ensures running { IfOk result (λ dies. map running dies.items ≡ map begun started.items) }
+    ensures refused { FailsForMemory result }
 {
     let mut dies = Vec::new(alloc);
-    for plan in plans.as_slice() {
-        let own = plan_copy(alloc, plan)?;
-        let die = fresh_die(alloc, own, from, planned.pop())?;
+    for core in started {
+        let die = compared_die(alloc, core, from, planned.pop())?;
         push_die(&mut dies, die)?;
     }
     Ok(dies)
@@ -115,41 +122,45 @@ struct Ran {
     refused: Vec<RefusedRow>,
 }
 
-/// Runs a script on fresh dies, as [`run_store`] does. It is lent, since a reader is large to free where a row stops the
-/// run.
+/// Runs a script on dies that were started, as [`run_store`] does. It is lent, since a reader is large to free where a row
+/// stops the run.
 fn run_lent<R: Read + Drop>(
     alloc: Global,
     script: &mut ScriptReader<R>,
-    plan: &StorePlan,
+    started: StartedDies,
     planned: Vec<Box<PlannedDie>>,
     measure: Measure,
 ) -> Result<Ran, Refusal>
     requires few { measure.slots ≤ MAX_SLOT }
     requires slots { slots_of script.old ≡ measure.slots }
-    requires dies { dies_of script.old ≡ length plan.now }
-    ensures starts { IfOk result (λ ran. starts_of (map running ran.dies.items) ≡ map fresh plan.now) }
+    requires dies { dies_of script.old ≡ length started.items }
+    requires empty { All HasEmptyLog (map begun started.items) }
+    ensures starts { IfOk result (λ ran. starts_of (map running ran.dies.items) ≡ starts_of (map begun started.items)) }
     ensures ran { IfOk result (λ ran. RanScript (script_left R.remaining script.old) measure.slots
         ran.refused.items (map running ran.dies.items)) }
 {
-    let mut dies = fresh_dies(alloc, plan, planned, measure.from)?;
+    let mut dies = compared_dies(alloc, started, planned, measure.from)?;
     let refused = run_dies(alloc, script, &mut dies, measure.slots)?;
     Ok(Ran { dies, refused })
 }
 
-/// Runs a script on a store of fresh dies in memory.
+/// Runs a script on a store of dies in memory that were started, one of each plan.
 fn run_store<R: Read + Drop>(
     alloc: Global,
     plan: &StorePlan,
+    started: StartedDies,
     planned: Vec<Box<PlannedDie>>,
     script: R,
     measure: Measure,
 ) -> Result<Ran, Refusal>
-    requires { measure.slots ≤ MAX_SLOT }
-    ensures { IfOk result (λ ran. IsRunOf (map fresh plan.now) (R.remaining script) measure.slots
+    requires slots { measure.slots ≤ MAX_SLOT }
+    requires dies { length started.items ≡ length plan.now }
+    requires empty { All HasEmptyLog (map begun started.items) }
+    ensures { IfOk result (λ ran. IsRunOf (starts_of (map begun started.items)) (R.remaining script) measure.slots
         ran.refused.items (map running ran.dies.items)) }
 {
     let mut script = ScriptReader::new(alloc, script, plan, measure.slots)?;
-    run_lent(alloc, &mut script, plan, planned, measure)
+    run_lent(alloc, &mut script, started, planned, measure)
 }
 
 // What became of the jobs of a play.
@@ -168,6 +179,7 @@ struct Teller {
     form: Form,
     counted: Counted,
     sheet: Sheet,
+    units: Units,
     curves: Vec<Curve>,
 }
 
@@ -179,7 +191,13 @@ impl Teller {
                 from: measure.from,
                 slots: measure.slots,
             },
-            sheet: Sheet::new(alloc, form == Form::Csv),
+            sheet: Sheet::new(
+                alloc,
+                form == Form::Csv,
+                measure.units,
+                measure.slots.saturating_sub(measure.from),
+            ),
+            units: measure.units,
             curves: Vec::new(alloc),
         };
         match form {
@@ -212,6 +230,7 @@ impl Teller {
             form,
             counted,
             sheet,
+            units,
             curves,
         } = self;
         match form {
@@ -226,6 +245,7 @@ impl Teller {
                     from: counted.from,
                     slots: counted.slots,
                     pool,
+                    units,
                 };
                 picture(alloc, caption, curves.as_slice())
             }
@@ -242,12 +262,19 @@ fn add_layer(
     teller: &mut Teller,
     plan: &DiePlan,
     die: u32,
-    load: &Load,
+    store: &StoreDie,
     policy: Policy,
     measure: Measure,
 ) -> Result<(), CompareFault> {
-    let Measure { slots, from, marks } = measure;
-    let played = match play(alloc, plan, load, policy, marks, slots, from) {
+    let Measure {
+        slots,
+        from,
+        marks,
+        ..
+    } = measure;
+    let load = &store.load;
+    let standing = store.standing.as_slice();
+    let played = match play(alloc, plan, standing, load, policy, marks, slots, from) {
         Ok(played) => played,
         Err(tool_plain_layers::Fault::NoMemory) => return Err(Refusal::NoMemory.into()),
         Err(fault) => return Err(CompareFault::WrongLayer { policy, fault }),
@@ -348,15 +375,7 @@ fn add_layers(
 ) -> Result<(), CompareFault> {
     let mut number: u32 = 0;
     for (plan, die) in plan.as_slice().iter().zip(dies) {
-        add_layer(
-            alloc,
-            teller,
-            plan,
-            number,
-            &die.store.load,
-            policy,
-            measure,
-        )?;
+        add_layer(alloc, teller, plan, number, &die.store, policy, measure)?;
         number = number.saturating_add(1);
     }
     Ok(())
@@ -392,12 +411,47 @@ fn wanted_dies(
 
 /// Runs a script on a store of dies in memory, as `flashrec run` does, on dies that keep these plans, if there are some,
 /// and its jobs once more by each plain policy; and tells how late they were, as a table or records by policy, die and
-/// task, or as a picture: what the store did is that of fresh dies that ran the script and so many slots. Counted are the
+/// task, or as a picture: what the store did is that of dies that started so, and ran the script and so many slots. A plain
+/// layer begins with the pages that lie in cells of its die of the store, one after the other, so that no cell of it is
+/// stale. A die that keeps its plan begins fresh: there should be plans to keep only where the store does. Counted are the
 /// jobs that are released from the first measured slot on and due within the slots of the run, and that the store takes or
 /// refuses for lack of tokens; those of them that a die refuses that keeps its plan are refused there. Where such a die
-/// can't run for so many slots, none is compared.
+/// can't run for so many slots, none is compared. The rows that the store refused are counted by their refusals, too.
 ///
 /// A picture of a die or a task that isn't there is UnknownDie or UnknownTask.
+pub fn compare_started<R: Read + Drop>(
+    alloc: Global,
+    plan: &StorePlan,
+    started: StartedDies,
+    kept: Option<StoreTerms>,
+    script: R,
+    measure: Measure,
+    form: Form,
+) -> Result<Compared, CompareFault>
+    requires slots { measure.slots ≤ MAX_SLOT }
+    requires dies { length started.items ≡ length plan.now }
+    requires empty { All HasEmptyLog (map begun started.items) }
+    ensures { IfOk result (λ compared.
+        HasStoreRun (starts_of (map begun started.items)) (R.remaining script) measure.slots compared.refused) }
+{
+    check_form(plan, form)?;
+    let (planned, unplanned) = wanted_dies(alloc, kept, measure)?;
+    let Ran { dies, refused } = run_store(alloc, plan, started, planned, script, measure)?;
+    let mut teller = Teller::new(alloc, form, measure)?;
+    add_stores(alloc, &mut teller, plan, dies.as_slice())?;
+    add_all_planned(alloc, &mut teller, plan, dies.as_slice())?;
+    for policy in Policy::ALL {
+        add_layers(alloc, &mut teller, plan, dies.as_slice(), policy, measure)?;
+    }
+    let text = teller.finish(alloc, measure.marks.pool)?;
+    Ok(Compared {
+        text,
+        unplanned,
+        refused: RefusedRows::of(&refused),
+    })
+}
+
+/// Compares as [`compare_started`] does, with a store of fresh dies. BadShape or BadPlan where a plan misses its bound.
 pub fn compare<R: Read + Drop>(
     alloc: Global,
     plan: &StorePlan,
@@ -407,18 +461,9 @@ pub fn compare<R: Read + Drop>(
     form: Form,
 ) -> Result<Compared, CompareFault>
     requires { measure.slots ≤ MAX_SLOT }
-    ensures { OnOk result (HasStoreRun plan.now (R.remaining script) measure.slots) }
+    ensures { IfOk result (λ compared.
+        HasStoreRun (map fresh plan.now) (R.remaining script) measure.slots compared.refused) }
 {
-    check_form(plan, form)?;
-    let (planned, unplanned) = wanted_dies(alloc, kept, measure)?;
-    let ran = run_store(alloc, plan, planned, script, measure)?;
-    let dies = ran.dies;
-    let mut teller = Teller::new(alloc, form, measure)?;
-    add_stores(alloc, &mut teller, plan, dies.as_slice())?;
-    add_all_planned(alloc, &mut teller, plan, dies.as_slice())?;
-    for policy in Policy::ALL {
-        add_layers(alloc, &mut teller, plan, dies.as_slice(), policy, measure)?;
-    }
-    let text = teller.finish(alloc, measure.marks.pool)?;
-    Ok(Compared { text, unplanned })
+    let started = fresh_dies(alloc, plan)?;
+    compare_started(alloc, plan, started, kept, script, measure, form)
 }

@@ -15,8 +15,11 @@ mod plan_copies;
 mod planned_dies;
 mod plays;
 mod shares;
+mod started_dies;
 mod store_dies;
 mod tables;
 
-pub use compares::{CompareFault, Compared, Measure, compare};
+pub use compares::{CompareFault, Compared, Measure, compare, compare_started};
 pub use forms::Form;
+pub use plan_copies::store_copy;
+pub use started_dies::StartedDies;

@@ -7,6 +7,7 @@ use slot_types::Refusal;
 use std::alloc::Global;
 use std::io;
 use std::io::Write;
+use tool_slot_times::{Time, Units};
 
 /// What a picture is of.
 #[derive(Clone, Copy)]
@@ -16,6 +17,8 @@ pub(crate) struct Caption {
     pub(crate) from: u32,
     pub(crate) slots: u32,
     pub(crate) pool: usize,
+    /// In which units slots are said.
+    pub(crate) units: Units,
 }
 
 /// Where the axes begin.
@@ -111,7 +114,9 @@ fn put_head(text: &mut Vec<u8>, caption: Caption, jobs: usize) -> io::Result<()>
         from,
         slots,
         pool,
+        units,
     } = caption;
+    let (from, slots) = (units.slots(u64::from(from)), units.slots(u64::from(slots)));
     writeln!(
         text,
         "<title>Die {die}, task {task}: which share of its jobs is how late, by policy</title>"
@@ -161,7 +166,59 @@ fn x_of(axis: Axis, lateness: i64) -> Option<i64> {
     Some(pixel.saturating_add(i64::from(CORNER.x)))
 }
 
-fn put_ticks(text: &mut Vec<u8>, axis: Axis) -> io::Result<()> {
+// The time of a lateness, with a sign where it is before the deadline.
+fn time_of(alloc: Global, lateness: i64, slot_us: u32) -> io::Result<String> {
+    let sign = if lateness < 0 { "-" } else { "" };
+    let us = u128::from(lateness.unsigned_abs()) * u128::from(slot_us);
+    let time = Time { us };
+    Ok(format!(in alloc; "{sign}{time}")?)
+}
+
+// How many pixels half of a text takes, of eight a character at most.
+fn half_of(text: &str) -> i64 {
+    i64::try_from(text.len())
+        .unwrap_or(i64::MAX)
+        .saturating_mul(4)
+}
+
+// Names a time below its tick.
+fn put_time(text: &mut Vec<u8>, x: i64, time: &str) -> io::Result<()> {
+    let y = bottom().saturating_add(34);
+    writeln!(
+        text,
+        "<text class=\"m s\" x=\"{x}\" y=\"{y}\">{time}</text>"
+    )
+}
+
+// Names the times below the ticks, where there is room for them, and it is known how long a slot is.
+fn put_times(alloc: Global, text: &mut Vec<u8>, axis: Axis, units: Units) -> io::Result<()> {
+    let Some(slot_us) = units.slot_us else {
+        return Ok(());
+    };
+    let tick = axis.tick();
+    let first = axis.low.checked_div_euclid(tick).unwrap_or(0);
+    let mut free = i64::MIN;
+    for count in 0..13i64 {
+        let lateness = first.saturating_add(count).saturating_mul(tick);
+        let Some(x) = x_of(axis, lateness) else {
+            continue;
+        };
+        let time = time_of(alloc, lateness, slot_us)?;
+        let half = half_of(time.as_str());
+        if free <= x.saturating_sub(half) {
+            put_time(text, x, time.as_str())?;
+            free = x.saturating_add(half);
+        }
+    }
+    Ok(())
+}
+
+// How far below the axis its name stands, under the times.
+fn name_below(units: Units) -> u64 {
+    if units.slot_us.is_some() { 52 } else { 40 }
+}
+
+fn put_ticks(alloc: Global, text: &mut Vec<u8>, axis: Axis, units: Units) -> io::Result<()> {
     let (tick, bottom) = (axis.tick(), bottom());
     let (short, label) = (bottom.saturating_add(5), bottom.saturating_add(20));
     let first = axis.low.checked_div_euclid(tick).unwrap_or(0);
@@ -176,8 +233,9 @@ fn put_ticks(text: &mut Vec<u8>, axis: Axis) -> io::Result<()> {
     }
     let (x, y) = (
         CORNER.x.saturating_add(WIDTH / 2),
-        bottom.saturating_add(40),
+        bottom.saturating_add(name_below(units)),
     );
+    put_times(alloc, text, axis, units)?;
     writeln!(
         text,
         "<text class=\"m s\" x=\"{x}\" y=\"{y}\">lateness in slots</text>"
@@ -245,11 +303,11 @@ fn put_groups(text: &mut Vec<u8>, curves: &[Curve], groups: &[Group]) -> io::Res
 }
 
 // The curves of a picture, or that there are none.
-fn put_curves(alloc: Global, text: &mut Vec<u8>, curves: &[Curve]) -> io::Result<()> {
+fn put_curves(alloc: Global, text: &mut Vec<u8>, curves: &[Curve], units: Units) -> io::Result<()> {
     let axis = Axis::of(curves);
     put_shares(text)?;
     put_late(text, axis)?;
-    put_ticks(text, axis)?;
+    put_ticks(alloc, text, axis, units)?;
     let groups = groups_of(alloc, curves, axis)?;
     put_groups(text, curves, groups.as_slice())
 }
@@ -270,7 +328,7 @@ fn put_picture(
     };
     put_head(text, caption, jobs)?;
     if jobs > 0 {
-        put_curves(alloc, text, curves)?;
+        put_curves(alloc, text, curves, caption.units)?;
     }
     writeln!(text, "</svg>")
 }

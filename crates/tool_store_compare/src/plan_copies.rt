@@ -1,9 +1,9 @@
 //! Copies of plans, each of which a die takes.
 
-ghost use Rattle.std.specs.Prelude.{◌≡◌, IfOk};
+ghost use Rattle.std.specs.Prelude.{◌≡◌, ◌++◌, ◌∷◌, [], IfOk, OnOk};
 ghost use Rattle.slot_types.specs.Refusal.{FailsForMemory};
 
-use slot_types::{Caps, DiePlan, Refusal, Times, TimesList};
+use slot_types::{Caps, DiePlan, Refusal, StorePlan, Times, TimesList};
 use std::alloc::Global;
 
 /// A copy of the times of a plan. The only refusal is NoMemory.
@@ -35,4 +35,26 @@ pub(crate) fn plan_copy(alloc: Global, plan: &DiePlan) -> Result<DiePlan, Refusa
         caps: Caps::from_vec(caps),
         times,
     })
+}
+
+/// Adds a plan. The only refusal is NoMemory.
+fn push_plan(store: &mut StorePlan, plan: DiePlan) -> Result<(), Refusal>
+    ensures ok { OnOk result (store.new ≡ store.old ++ plan ∷ []) }
+    ensures refused { FailsForMemory result }
+{
+    store.push(plan)?;
+    Ok(())
+}
+
+/// A copy of the plans of a store's dies. The only refusal is NoMemory.
+pub fn store_copy(alloc: Global, store: &StorePlan) -> Result<StorePlan, Refusal>
+    ensures ok { IfOk result (λ copy. copy ≡ store.now) }
+    ensures refused { FailsForMemory result }
+{
+    let mut copy = StorePlan::new(alloc);
+    for plan in store.as_slice() {
+        let own = plan_copy(alloc, plan)?;
+        push_plan(&mut copy, own)?;
+    }
+    Ok(copy)
 }

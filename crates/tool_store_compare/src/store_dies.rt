@@ -1,18 +1,16 @@
 //! A die of the store that runs the rows of a script.
 
-ghost use Rattle.std.specs.Prelude.{◌≡◌, ◌<◌, [], IfOk};
+ghost use Rattle.std.specs.Prelude.{◌≡◌, ◌<◌, IfOk};
 ghost use Rattle.std.specs.Box.{box_value};
 ghost use Rattle.std.specs.Result.{result_err};
 ghost use Rattle.slot_types.specs.Refusal.{FailsForMemory};
 ghost use Rattle.die_log.specs.Model.Log.{now};
-ghost use Rattle.die_log.specs.Model.Start.{fresh};
 ghost use Rattle.tool_script_runs.specs.RunningDies.{IsAsked, TakesSlot, running_of};
 
 use crate::figures::End;
 use flash_die::MemoryNand;
-use plan_rules::bound;
 use slot_core::{DieCore, Outcome};
-use slot_types::{Act, DiePlan, Event, JobNo, MAX_SLOT, OpList, Refusal, SlotReply, TaskNo};
+use slot_types::{Act, Event, JobNo, MAX_SLOT, OpList, Refusal, SlotReply, TaskNo};
 use std::alloc::Global;
 use tool_plain_layers::Load;
 use tool_script_runs::ScriptDie;
@@ -60,31 +58,42 @@ pub(crate) struct StoreDie {
     core: Box<DieCore<MemoryNand>>,
     from: u32,
     pub(crate) carried: Carried,
+    /// The pages that lay in cells when it was started, in order.
+    pub(crate) standing: Vec<u32>,
     pub(crate) load: Load,
     /// By job of the load its number, or none where it was refused.
     numbers: Vec<Option<JobNo>>,
 }
 
+/// The pages of a die that lie in cells, in order. The only refusal is NoMemory.
+fn standing_pages(alloc: Global, core: &DieCore<MemoryNand>) -> Result<Vec<u32>, Refusal>
+    ensures { FailsForMemory result }
+{
+    let mut standing = Vec::new(alloc);
+    for page in 0..core.plan().logical {
+        if core.place(page).is_some() {
+            standing.push(page)?;
+        }
+    }
+    Ok(standing)
+}
+
 impl StoreDie {
-    /// A fresh die, whose slots are counted from this one on. `BadShape` or `BadPlan` where the plan misses its bound; or
-    /// NoMemory.
-    pub(crate) fn new(alloc: Global, plan: DiePlan, from: u32) -> Result<Box<StoreDie>, Refusal>
-        ensures start { IfOk result (λ die. (box_value (box_value die).core).start ≡ fresh plan) }
-        ensures log { IfOk result (λ die. (box_value (box_value die).core).log ≡ []) }
+    /// A die that was started, whose slots are counted from this one on. The only refusal is NoMemory.
+    pub(crate) fn new(
+        alloc: Global,
+        core: Box<DieCore<MemoryNand>>,
+        from: u32,
+    ) -> Result<Box<StoreDie>, Refusal>
+        ensures core { IfOk result (λ die. (box_value die).core ≡ core) }
+        ensures refused { FailsForMemory result }
     {
-        bound(&plan)?;
-        let nand = match MemoryNand::new(alloc, plan.shape) {
-            Ok(nand) => nand,
-            Err(_) => return Err(Refusal::NoMemory),
-        };
-        let core = match DieCore::boxed(alloc, plan, nand) {
-            Ok(core) => core,
-            Err(_) => return Err(Refusal::NoMemory),
-        };
+        let standing = standing_pages(alloc, &core)?;
         let die = StoreDie {
             core,
             from,
             carried: Carried::NOTHING,
+            standing,
             load: Load::new(alloc),
             numbers: Vec::new(alloc),
         };

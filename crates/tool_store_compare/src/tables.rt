@@ -1,13 +1,14 @@
 //! The table: a record of each task of each die by each policy, and one of all tasks.
 
 use crate::figures::{Figures, REFUSED, figures_from};
-use crate::plays::{Counted, Play};
+use crate::plays::{Counted as CountedJobs, Play};
 use crate::store_dies::Carried;
 use slot_types::Refusal;
 use std::alloc::Global;
 use std::io;
 use std::io::Write;
-use tool_run_figures::Figure;
+use tool_run_figures::{Figure, Quantity, Unit};
+use tool_slot_times::Units;
 
 /// How many numbers a record has.
 const NUMBERS: usize = 12;
@@ -15,34 +16,78 @@ const NUMBERS: usize = 12;
 /// What stands in front of a record's numbers, and how wide it is in a table.
 const KEYS: [(&str, usize); 3] = [("policy", 9), ("die", 4), ("task", 6)];
 
-/// The numbers of a record, and how wide each is in a table.
-const NAMES: [(&str, usize); NUMBERS] = [
-    ("jobs", 7),
-    ("refused", 9),
-    ("late", 7),
-    ("unfinished", 12),
-    ("worst", 8),
-    ("mean", 10),
-    ("p99", 9),
-    ("p999", 9),
-    ("written", 9),
-    ("copied", 8),
-    ("amplification", 15),
-    ("idle", 8),
+/// What the numbers of a column count.
+#[derive(Clone, Copy, Drop)]
+enum Counted {
+    /// Neither slots nor pages.
+    Others,
+    Slots,
+    Pages,
+}
+
+/// The numbers of a record, how wide each is in a table, and what it counts.
+const NAMES: [(&str, usize, Counted); NUMBERS] = [
+    ("jobs", 7, Counted::Others),
+    ("refused", 9, Counted::Others),
+    ("late", 7, Counted::Others),
+    ("unfinished", 12, Counted::Others),
+    ("worst", 8, Counted::Slots),
+    ("mean", 10, Counted::Slots),
+    ("p99", 9, Counted::Slots),
+    ("p999", 9, Counted::Slots),
+    ("written", 9, Counted::Pages),
+    ("copied", 8, Counted::Pages),
+    ("amplification", 15, Counted::Others),
+    ("idle", 8, Counted::Slots),
 ];
 
-/// Puts fields into a text: by commas, or each as wide as its column.
+/// How much wider a column is with times, and with rates.
+const WITH_TIMES: usize = 14;
+
+const WITH_RATES: usize = 17;
+
+/// Puts fields into a text: by commas, or each as wide as its column. Records count slots and pages; in a table each
+/// number of slots is followed by its time, and each of pages by how many bytes a second that is, where it is known.
 #[derive(Drop)]
 pub(crate) struct Sheet {
     pub(crate) text: Vec<u8>,
     as_csv: bool,
+    units: Units,
+    /// In how many slots pages are counted.
+    slots: u32,
 }
 
 impl Sheet {
-    pub(crate) fn new(alloc: Global, as_csv: bool) -> Sheet {
+    /// An empty one, whose pages are counted in so many slots.
+    pub(crate) fn new(alloc: Global, as_csv: bool, units: Units, slots: u32) -> Sheet {
         Sheet {
             text: Vec::new(alloc),
             as_csv,
+            units: if as_csv { Units::NONE } else { units },
+            slots,
+        }
+    }
+
+    // How wide a column is that counts this.
+    fn width(&self, width: usize, counted: Counted) -> usize {
+        match (counted, self.units.slot_us, self.units.page_bytes) {
+            (Counted::Slots, Some(_), _) => width.saturating_add(WITH_TIMES),
+            (Counted::Pages, Some(_), Some(_)) => width.saturating_add(WITH_RATES),
+            _ => width,
+        }
+    }
+
+    // A number with its unit.
+    fn quantity(&self, figure: Figure, counted: Counted) -> Quantity {
+        let unit = match counted {
+            Counted::Others => Unit::One,
+            Counted::Slots => Unit::Slot,
+            Counted::Pages => Unit::Page { slots: self.slots },
+        };
+        Quantity {
+            figure,
+            unit,
+            units: self.units,
         }
     }
 
@@ -75,8 +120,8 @@ impl Sheet {
         for (name, width) in [die, task] {
             self.put(name, width)?;
         }
-        for (name, width) in NAMES {
-            self.put(name, width)?;
+        for (name, width, counted) in NAMES {
+            self.put(name, self.width(width, counted))?;
         }
         self.text.write_all(b"\n")
     }
@@ -84,6 +129,17 @@ impl Sheet {
     fn put_figure(&mut self, alloc: Global, figure: Figure, width: usize) -> io::Result<()> {
         let field = figure.to_string(alloc)?;
         self.put(field.as_str(), width)
+    }
+
+    fn put_number(
+        &mut self,
+        alloc: Global,
+        figure: Figure,
+        width: usize,
+        counted: Counted,
+    ) -> io::Result<()> {
+        let field = self.quantity(figure, counted).to_string(alloc)?;
+        self.put(field.as_str(), self.width(width, counted))
     }
 
     fn put_record(
@@ -97,8 +153,8 @@ impl Sheet {
         self.put_first(play.policy, policy)?;
         self.put_figure(alloc, Figure::count(play.die), die)?;
         self.put_figure(alloc, Figure::whole(task.map(i64::from)), wide)?;
-        for (number, (_, width)) in numbers.into_iter().zip(NAMES) {
-            self.put_figure(alloc, number, width)?;
+        for (number, (_, width, counted)) in numbers.into_iter().zip(NAMES) {
+            self.put_number(alloc, number, width, counted)?;
         }
         self.text.write_all(b"\n")
     }
@@ -157,7 +213,7 @@ fn put_task(
     alloc: Global,
     sheet: &mut Sheet,
     play: &Play<'_>,
-    counted: Counted,
+    counted: CountedJobs,
     task: Option<u32>,
     carried: Option<Carried>,
 ) -> Result<(), Refusal> {
@@ -181,7 +237,7 @@ pub(crate) fn put_die(
     alloc: Global,
     sheet: &mut Sheet,
     play: &Play<'_>,
-    counted: Counted,
+    counted: CountedJobs,
 ) -> Result<(), Refusal> {
     for task in 0..play.tasks {
         put_task(alloc, sheet, play, counted, Some(task), None)?;

@@ -1,4 +1,4 @@
-mod Found
+mod ChangesSoFar
 mod Holding
 mod OneAlpha
 mod OwnDies

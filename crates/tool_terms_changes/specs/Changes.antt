@@ -1,5 +1,6 @@
 -- Changes with which a plan that is refused would do, and which of them is cheaper.
-use Rattle.std.specs.Prelude.{◌≡◌, ◌≢◌, ◌==◌, ℕ, ◌+◌, ◌-◌, ◌*◌, ◌/◌, ◌<◌, ◌≤◌, ⊤, nat_le, nat_lt, min, max, List, [], ◌∷◌, ◌++◌, flat_map, codes, count_by, take}
+use Rattle.std.specs.Prelude.{◌≡◌, ◌≢◌, ◌==◌, ℕ, ◌+◌, ◌-◌, ◌*◌, ◌/◌, ◌<◌, ◌≤◌, ⊤, nat_le, nat_lt, min, max}
+use Rattle.std.specs.Prelude.{List, [], ◌∷◌, ◌++◌, flat_map, codes, count_by, take}
 use Rattle.std.specs.Prelude.{if◌then◌else◌, slice_index_or, Option, Some, None}
 use Rattle.std.specs.List.{enumerate_from}
 use Rattle.std.specs.List.Sorted.{IsNonDecreasingBy, IsPermutation}
@@ -176,8 +177,9 @@ own_asked name which = record { of = Some name; which = which }
 
 -- the numbers of a task that are sought
 abbrev pub asked_of_task : TaskName → List Asked
-asked_of_task name = own_asked name number.Cap ∷ own_asked name number.CollectPeriod ∷ own_asked name number.CollectDeadline ∷ own_asked name number.Period
-    ∷ own_asked name number.Deadline ∷ own_asked name number.Held ∷ own_asked name number.Work ∷ own_asked name number.Writes ∷ []
+asked_of_task name = own_asked name number.Cap ∷ own_asked name number.CollectPeriod ∷ own_asked name number.CollectDeadline
+    ∷ own_asked name number.Period ∷ own_asked name number.Deadline ∷ own_asked name number.Held
+    ∷ own_asked name number.Work ∷ own_asked name number.Writes ∷ []
 
 abbrev pub asked_of_tasks : List TaskNumbers → List (ℕ × TaskNumbers) → List Asked
 asked_of_tasks tasks placed = flat_map (λ (p : ℕ × TaskNumbers). asked_of_task (name_at tasks p.0 p.1.die)) placed

@@ -18,7 +18,7 @@ if_ok (Err e) holds then = holds
 
 -- its numbers were added, and then why
 pub numbers-and-fault : (us : Option ℕ) (die : ℕ) (made : DieTerms) (fault : DieFault) (start middle end : List ℕ) → middle ≡ start ++ numbers_text us die made
-    → (why : List ℕ) × ExplainsDieFault die made fault why × (end ≡ middle ++ why)
+    → (why : List ℕ) × ExplainsDieFault us die made fault why × (end ≡ middle ++ why)
     → (said : List ℕ) × ExplainsUnusable us die made fault said × (end ≡ start ++ said)
 numbers-and-fault us die made fault start middle end numbers (why, explained, put) = (
   numbers_text us die made ++ why,

@@ -32,7 +32,7 @@ ExplainsDies us die (made ∷ more) said =
     (first rest : List ℕ) × (said ≡ first ++ rest) × ExplainsDie us die made first × ExplainsDies us (die + 1) more rest
 
 -- how far the logical pages, the blocks and the caps of a die may change by its bound, and the terms of its tasks
-pub record SaysChanges (made : DieTerms) (die : ℕ) (said : List ℕ) : Type 0 where
+pub record SaysChanges (us : Option ℕ) (made : DieTerms) (die : ℕ) (said : List ℕ) : Type 0 where
   pub logical : Option ℕ
   pub greatest : FindsLogical made.plan logical
   pub blocks : Option ℕ
@@ -40,17 +40,17 @@ pub record SaysChanges (made : DieTerms) (die : ℕ) (said : List ℕ) : Type 0 
   pub caps : List ℕ
   pub largest : SaysCaps made.plan die 0 made.plan.caps caps
   pub tasks : List ℕ
-  pub margins : SaysMargins made die 0 made.terms.tasks tasks
+  pub margins : SaysMargins us made die 0 made.terms.tasks tasks
   pub is : said ≡ room_line die logical blocks ++ caps ++ tasks
 
 -- so it is of a die of a plan; and of the first so many
-abbrev pub SaysDieMargins : TermsNumbers → ℕ → List ℕ → Type 0
-SaysDieMargins plan die said = SaysChanges (die_of plan die) die said
+abbrev pub SaysDieMargins : Option ℕ → TermsNumbers → ℕ → List ℕ → Type 0
+SaysDieMargins us plan die said = SaysChanges us (die_of plan die) die said
 
-abbrev pub SaysAllMargins : TermsNumbers → ℕ → List ℕ → Type 0
-SaysAllMargins plan zero said = said ≡ []
-SaysAllMargins plan (suc die) said =
-    (first last : List ℕ) × SaysAllMargins plan die first × SaysDieMargins plan die last × (said ≡ first ++ last)
+abbrev pub SaysAllMargins : Option ℕ → TermsNumbers → ℕ → List ℕ → Type 0
+SaysAllMargins us plan zero said = said ≡ []
+SaysAllMargins us plan (suc die) said =
+    (first last : List ℕ) × SaysAllMargins us plan die first × SaysDieMargins us plan die last × (said ≡ first ++ last)
 
 -- the plan makes a store, of whose dies this is said; and of what each alpha comes to with the numbers that go with it
 pub record ExplainsStore (us : Option ℕ) (plan : TermsNumbers) (text : List ℕ) : Type 0 where
@@ -59,23 +59,26 @@ pub record ExplainsStore (us : Option ℕ) (plan : TermsNumbers) (text : List �
   pub said : List ℕ
   pub dies : ExplainsDies us 0 store said
   pub more : List ℕ
-  pub margins : SaysAllMargins plan plan.top.dies more
+  pub margins : SaysAllMargins us plan plan.top.dies more
   pub rows : List ℕ
   pub alphas : SaysAlphas us plan plan.top.pages rows
   pub is : text ≡ (codes "The plan is accepted" ++ full_stop) ++ said ++ more ++ rows
 
--- a die that doesn't meet its bound, with the other logical and blocks with which it would; or its tests' fault, with the other
--- numbers of its tasks with which it would pass them
-abbrev pub ExplainsDieFault : ℕ → DieTerms → DieFault → List ℕ → Type 0
-ExplainsDieFault die made die_fault.Bound said = (logical blocks : Option ℕ) × FindsLogical made.plan logical
-    × FindsBlocks made.plan blocks × (said ≡ bound_text die logical blocks)
-ExplainsDieFault die made (die_fault.Terms fault) said = (margins : List ℕ) × SaysMargins made die 0 made.terms.tasks margins
-    × (said ≡ terms_text die fault ++ margins)
+-- a die that doesn't meet its bound, with the other logical and blocks with which it would
+abbrev pub ExplainsBound : ℕ → DieTerms → List ℕ → Type 0
+ExplainsBound die made said = (logical blocks : Option ℕ) × FindsLogical made.plan logical × FindsBlocks made.plan blocks
+    × (said ≡ bound_text die logical blocks)
+
+-- that; or the fault of its tests, with the other numbers of its tasks with which it would pass them
+abbrev pub ExplainsDieFault : Option ℕ → ℕ → DieTerms → DieFault → List ℕ → Type 0
+ExplainsDieFault us die made die_fault.Bound said = ExplainsBound die made said
+ExplainsDieFault us die made (die_fault.Terms fault) said = (margins : List ℕ) × SaysMargins us made die 0 made.terms.tasks margins
+    × (said ≡ terms_text us die fault ++ margins)
 
 -- the numbers of a die that may not be used, and why
 pub record ExplainsUnusable (us : Option ℕ) (die : ℕ) (made : DieTerms) (fault : DieFault) (said : List ℕ) : Type 0 where
   pub why : List ℕ
-  pub explained : ExplainsDieFault die made fault why
+  pub explained : ExplainsDieFault us die made fault why
   pub is : said ≡ numbers_text us die made ++ why
 
 -- that, what each alpha comes to with the numbers that go with it, and the cheapest changes with which the plan would do

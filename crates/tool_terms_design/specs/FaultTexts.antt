@@ -1,4 +1,5 @@
--- Why a plan with terms is refused, in sentences.
+-- Why a plan with terms is refused, in sentences. Intervals and collect periods are followed by their times, where it is known
+-- how many us a slot takes.
 use Rattle.std.specs.Prelude.{ℕ, ◌+◌, ◌-◌, List, ◌++◌, codes, decimal, Option, Some, None}
 use Rattle.slot_types.specs.declared.refusals.Cause.{Cause}
 use Rattle.slot_types.specs.declared.refusals.Cause.TheVariants as cause
@@ -18,6 +19,7 @@ use Rattle.terms_texts.specs.declared.faults.Place.{Place}
 use Rattle.terms_texts.specs.declared.faults.Place.TheVariants.{Whole, In, At}
 use Rattle.terms_texts.specs.declared.faults.TableName.{TableName}
 use Rattle.terms_texts.specs.declared.faults.TableName.TheVariants.{Top, Task}
+use Rattle.tool_slot_times.specs.Times.{slots_text}
 use Rattle.tool_terms_design.specs.DieTexts.{full_stop, of_die, of_task}
 
 -- a table, as a sentence begins with it; `[[task]]` are counted from 1
@@ -87,26 +89,26 @@ abbrev pub overload_text : (load missing : ℕ) → List ℕ
 overload_text load missing = codes "in the long run " ++ decimal load ++ codes " of each 1000000 slots are asked for: " ++ decimal missing
     ++ codes " missing" ++ full_stop
 
-abbrev pub overfull_text : (slots demand excess : ℕ) → List ℕ
-overfull_text slots demand excess = codes "an interval of " ++ decimal slots ++ codes " slots may be asked for " ++ decimal demand ++ codes ": "
+abbrev pub overfull_text : Option ℕ → (slots demand excess : ℕ) → List ℕ
+overfull_text us slots demand excess = codes "an interval of " ++ slots_text us slots ++ codes " slots may be asked for " ++ decimal demand ++ codes ": "
     ++ decimal excess ++ codes " missing; no shorter one is overfull" ++ full_stop
 
 -- why a die doesn't pass the demand test
-abbrev pub demand_text : ℕ → DemandFault → List ℕ
-demand_text die (demand.Limits fault) = limit_text die fault
-demand_text die (demand.Load found) = of_die die ++ overload_text found (found - 1000000)
-demand_text die (demand.Overfull slots excess) = of_die die ++ overfull_text slots (slots + excess) excess
+abbrev pub demand_text : Option ℕ → ℕ → DemandFault → List ℕ
+demand_text us die (demand.Limits fault) = limit_text die fault
+demand_text us die (demand.Load found) = of_die die ++ overload_text found (found - 1000000)
+demand_text us die (demand.Overfull slots excess) = of_die die ++ overfull_text us slots (slots + excess) excess
 
 -- what a task lacks, and what would do
-abbrev pub lack_text : Lack → List ℕ
-lack_text (lack.CollectPeriod most) =
-    codes "its collections give it less than its jobs write; the greatest collect_period that would do is " ++ decimal most
-lack_text (lack.Cap least) = codes "its cap is too small; the least that would do is " ++ decimal least
+abbrev pub lack_text : Option ℕ → Lack → List ℕ
+lack_text us (lack.CollectPeriod most) =
+    codes "its collections give it less than its jobs write; the greatest collect_period that would do is " ++ slots_text us most
+lack_text us (lack.Cap least) = codes "its cap is too small; the least that would do is " ++ decimal least
 
 -- why it doesn't pass the supply test
-abbrev pub supply_text : ℕ → SupplyFault → List ℕ
-supply_text die fault = of_task die fault.task ++ lack_text fault.lack ++ full_stop
+abbrev pub supply_text : Option ℕ → ℕ → SupplyFault → List ℕ
+supply_text us die fault = of_task die fault.task ++ lack_text us fault.lack ++ full_stop
 
-abbrev pub terms_text : ℕ → TermsFault → List ℕ
-terms_text die (terms_fault.Demand fault) = demand_text die fault
-terms_text die (terms_fault.Supply fault) = supply_text die fault
+abbrev pub terms_text : Option ℕ → ℕ → TermsFault → List ℕ
+terms_text us die (terms_fault.Demand fault) = demand_text us die fault
+terms_text us die (terms_fault.Supply fault) = supply_text us die fault

@@ -9,7 +9,7 @@ ghost use Rattle.terms_texts.specs.Stores.{IsUsable, die_of};
 ghost use Rattle.terms_texts.specs.TermsText.{read_numbers};
 ghost use Rattle.tool_terms_changes.specs.Alphas.{SaysAlphas};
 ghost use Rattle.tool_terms_design.specs.DieTexts.{full_stop};
-ghost use Rattle.tool_terms_design.specs.Explaining.{ExplainsDie, ExplainsDieFault, ExplainsDies, ExplainsFirst, ExplainsRefusal};
+ghost use Rattle.tool_terms_design.specs.Explaining.{ExplainsBound, ExplainsDie, ExplainsDieFault, ExplainsDies, ExplainsFirst, ExplainsRefusal};
 ghost use Rattle.terms_texts.specs.declared.numbers.TermsNumbers.{TermsNumbers};
 ghost use Rattle.tool_terms_design.specs.Explaining.{ExplainsTerms, ExplainsUnusable, SaysAllMargins, SaysChanges, SaysDieMargins};
 
@@ -60,8 +60,13 @@ fn put_dies(text: &mut Vec<u8>, dies: &[DieTerms], slot_us: Option<u32>) -> Resu
 }
 
 /// Adds how far the logical pages, the blocks and the caps of a die may change by its bound, and the terms of its tasks.
-fn put_changes_of(text: &mut Vec<u8>, die: usize, made: DieTerms) -> io::Result<()>
-    ensures { OnOk result ((said : List ℕ) × SaysChanges made die said
+fn put_changes_of(
+    text: &mut Vec<u8>,
+    die: usize,
+    made: DieTerms,
+    slot_us: Option<u32>,
+) -> io::Result<()>
+    ensures { OnOk result ((said : List ℕ) × SaysChanges slot_us made die said
         × (text.new.items ≡ text.old.items ++ said)) }
 {
     let mut made = made;
@@ -69,7 +74,7 @@ fn put_changes_of(text: &mut Vec<u8>, die: usize, made: DieTerms) -> io::Result<
     let blocks = least_blocks(&mut made.plan);
     put_room(text, die, logical, blocks)?;
     let made = put_caps(text, die, made)?;
-    put_margins(text, die, made)
+    put_margins(text, die, made, slot_us)
 }
 
 /// Adds those of a die of a plan. The only refusal is NoMemory.
@@ -78,23 +83,30 @@ fn put_changes(
     text: &mut Vec<u8>,
     numbers: &TermsNumbers,
     die: u32,
+    slot_us: Option<u32>,
 ) -> Result<(), Refusal>
-    ensures said { IfOk result (λ _. (said : List ℕ) × SaysDieMargins numbers.now die said
+    ensures said { IfOk result (λ _. (said : List ℕ) × SaysDieMargins slot_us numbers.now die said
         × (text.new.items ≡ text.old.items ++ said)) }
     ensures refused { FailsForMemory result }
 {
     let made = die_terms(alloc, numbers, die)?;
-    written(put_changes_of(text, die as usize, made))
+    written(put_changes_of(text, die as usize, made, slot_us))
 }
 
 /// Adds those of all dies. The only refusal is NoMemory.
-fn put_all_changes(alloc: Global, text: &mut Vec<u8>, numbers: &TermsNumbers) -> Result<(), Refusal>
-    ensures said { IfOk result (λ _. (said : List ℕ) × SaysAllMargins numbers.now numbers.now.top.dies said
+fn put_all_changes(
+    alloc: Global,
+    text: &mut Vec<u8>,
+    numbers: &TermsNumbers,
+    slot_us: Option<u32>,
+) -> Result<(), Refusal>
+    ensures said { IfOk result (λ _. (said : List ℕ)
+        × SaysAllMargins slot_us numbers.now numbers.now.top.dies said
         × (text.new.items ≡ text.old.items ++ said)) }
     ensures refused { FailsForMemory result }
 {
     for die in 0..numbers.top.dies {
-        put_changes(alloc, text, numbers, die)?;
+        put_changes(alloc, text, numbers, die, slot_us)?;
     }
     Ok(())
 }
@@ -109,7 +121,7 @@ fn accepted(
     requires { All IsUsable dies.now }
     ensures said { IfOk result (λ text. (said : List ℕ) × ExplainsDies slot_us 0 dies.now said
         × (numbers : TermsNumbers) × (read_numbers plan.now ≡ Ok numbers)
-        × (more : List ℕ) × SaysAllMargins numbers numbers.top.dies more
+        × (more : List ℕ) × SaysAllMargins slot_us numbers numbers.top.dies more
         × (rows : List ℕ) × SaysAlphas slot_us numbers numbers.top.pages rows
         × (text.items ≡ (codes "The plan is accepted" ++ full_stop) ++ said ++ more ++ rows)) }
     ensures refused { FailsForMemory result }
@@ -120,14 +132,14 @@ fn accepted(
     let mut text = Vec::new(alloc);
     written(writeln!(text, "The plan is accepted."))?;
     put_dies(&mut text, dies, slot_us)?;
-    put_all_changes(alloc, &mut text, &numbers)?;
+    put_all_changes(alloc, &mut text, &numbers, slot_us)?;
     put_alphas(alloc, &mut text, &numbers, slot_us)?;
     Ok(text)
 }
 
 /// Adds that a die doesn't meet its bound, and with which numbers it would.
 fn put_bound_of(text: &mut Vec<u8>, die: usize, made: DieTerms) -> io::Result<()>
-    ensures { OnOk result ((said : List ℕ) × ExplainsDieFault die made DieFault.Bound said
+    ensures { OnOk result ((said : List ℕ) × ExplainsBound die made said
         × (text.new.items ≡ text.old.items ++ said)) }
 {
     let mut made = made;
@@ -137,22 +149,34 @@ fn put_bound_of(text: &mut Vec<u8>, die: usize, made: DieTerms) -> io::Result<()
 }
 
 /// Adds why a die doesn't pass its tests, and which numbers of its tasks would do, one at a time.
-fn put_terms_of(text: &mut Vec<u8>, die: usize, made: DieTerms, fault: TermsFault) -> io::Result<()>
-    ensures { OnOk result ((said : List ℕ) × ExplainsDieFault die made (DieFault.Terms fault) said
+fn put_terms_of(
+    text: &mut Vec<u8>,
+    die: usize,
+    made: DieTerms,
+    fault: TermsFault,
+    slot_us: Option<u32>,
+) -> io::Result<()>
+    ensures { OnOk result ((said : List ℕ) × ExplainsDieFault slot_us die made (DieFault.Terms fault) said
         × (text.new.items ≡ text.old.items ++ said)) }
 {
-    put_terms(text, die, fault)?;
-    put_margins(text, die, made)
+    put_terms(text, die, fault, slot_us)?;
+    put_margins(text, die, made, slot_us)
 }
 
 /// Adds why a die may not be used.
-fn put_die_fault(text: &mut Vec<u8>, die: usize, made: DieTerms, fault: DieFault) -> io::Result<()>
-    ensures { OnOk result ((said : List ℕ) × ExplainsDieFault die made fault said
+fn put_die_fault(
+    text: &mut Vec<u8>,
+    die: usize,
+    made: DieTerms,
+    fault: DieFault,
+    slot_us: Option<u32>,
+) -> io::Result<()>
+    ensures { OnOk result ((said : List ℕ) × ExplainsDieFault slot_us die made fault said
         × (text.new.items ≡ text.old.items ++ said)) }
 {
     match fault {
         DieFault::Bound => put_bound_of(text, die, made),
-        DieFault::Terms(fault) => put_terms_of(text, die, made, fault),
+        DieFault::Terms(fault) => put_terms_of(text, die, made, fault, slot_us),
     }
 }
 
@@ -168,7 +192,7 @@ fn put_unusable(
         × (text.new.items ≡ text.old.items ++ said)) }
 {
     put_numbers(text, die, &made, slot_us)?;
-    put_die_fault(text, die, made, fault)
+    put_die_fault(text, die, made, fault, slot_us)
 }
 
 /// Adds those of a die of a plan. The only refusal is NoMemory.
@@ -273,8 +297,8 @@ fn refused(
 /// spare, and by task what its collections give and what its cap has to cover; and then by die how far its logical pages,
 /// its blocks and its caps may change by its bound, and by task how far its terms may, one at a time. If it isn't, what is wrong first: the fault of the text and where it lies; or the
 /// numbers of the first die that doesn't meet its bound, has a number out of its limits or doesn't pass its tests, why, and
-/// what would do. Periods, deadlines, a collection's slots and the tightest interval are followed by their times, where it
-/// is known how many us a slot takes. The only refusal is NoMemory.
+/// what would do. Periods, deadlines, a collection's slots, and intervals that are the tightest or overfull are followed by
+/// their times, where it is known how many us a slot takes. The only refusal is NoMemory.
 pub fn explain_terms(alloc: Global, plan: &[u8], slot_us: Option<u32>) -> Result<Explained, Refusal>
     ensures said { IfOk result (λ explained.
         ExplainsTerms slot_us plan.now explained.is_accepted explained.text.items) }

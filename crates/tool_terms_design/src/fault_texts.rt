@@ -12,6 +12,7 @@ use slot_types::Cause;
 use std::io;
 use std::io::Write;
 use terms_texts::{Place, TableName};
+use tool_slot_times::Slots;
 
 /// Adds a table, as a sentence begins with it.
 fn put_table(text: &mut Vec<u8>, table: TableName) -> io::Result<()>
@@ -181,9 +182,20 @@ fn put_overload(text: &mut Vec<u8>, load: u64, missing: u64) -> io::Result<()>
 }
 
 /// Adds an interval that is overfull.
-fn put_overfull(text: &mut Vec<u8>, slots: u32, demand: u128, excess: u64) -> io::Result<()>
-    ensures { OnOk result (text.new.items ≡ text.old.items ++ overfull_text slots demand excess) }
+fn put_overfull(
+    text: &mut Vec<u8>,
+    slots: u32,
+    demand: u128,
+    excess: u64,
+    slot_us: Option<u32>,
+) -> io::Result<()>
+    ensures { OnOk result (text.new.items
+        ≡ text.old.items ++ overfull_text slot_us slots demand excess) }
 {
+    let slots = Slots {
+        count: u64::from(slots),
+        slot_us,
+    };
     writeln!(
         text,
         "an interval of {slots} slots may be asked for {demand}: {excess} missing; no shorter one is overfull."
@@ -191,8 +203,13 @@ fn put_overfull(text: &mut Vec<u8>, slots: u32, demand: u128, excess: u64) -> io
 }
 
 /// Adds why a die doesn't pass the demand test. Of a load of at most 1 nothing is missing.
-fn put_demand(text: &mut Vec<u8>, die: usize, fault: DemandFault) -> io::Result<()>
-    ensures { OnOk result (text.new.items ≡ text.old.items ++ demand_text die fault) }
+fn put_demand(
+    text: &mut Vec<u8>,
+    die: usize,
+    fault: DemandFault,
+    slot_us: Option<u32>,
+) -> io::Result<()>
+    ensures { OnOk result (text.new.items ≡ text.old.items ++ demand_text slot_us die fault) }
 {
     match fault {
         DemandFault::Limits(fault) => put_limit(text, die, fault),
@@ -203,20 +220,26 @@ fn put_demand(text: &mut Vec<u8>, die: usize, fault: DemandFault) -> io::Result<
         DemandFault::Overfull { slots, excess } => {
             put_die(text, die)?;
             let demand = u128::from(slots) + u128::from(excess);
-            put_overfull(text, slots, demand, excess)
+            put_overfull(text, slots, demand, excess, slot_us)
         }
     }
 }
 
 /// Adds what a task lacks, and what would do.
-fn put_lack(text: &mut Vec<u8>, lack: Lack) -> io::Result<()>
-    ensures { OnOk result (text.new.items ≡ text.old.items ++ lack_text lack) }
+fn put_lack(text: &mut Vec<u8>, lack: Lack, slot_us: Option<u32>) -> io::Result<()>
+    ensures { OnOk result (text.new.items ≡ text.old.items ++ lack_text slot_us lack) }
 {
     match lack {
-        Lack::CollectPeriod { most } => write!(
-            text,
-            "its collections give it less than its jobs write; the greatest collect_period that would do is {most}"
-        ),
+        Lack::CollectPeriod { most } => {
+            let most = Slots {
+                count: u64::from(most),
+                slot_us,
+            };
+            write!(
+                text,
+                "its collections give it less than its jobs write; the greatest collect_period that would do is {most}"
+            )
+        }
         Lack::Cap { least } => write!(
             text,
             "its cap is too small; the least that would do is {least}"
@@ -225,20 +248,30 @@ fn put_lack(text: &mut Vec<u8>, lack: Lack) -> io::Result<()>
 }
 
 /// Adds why a die doesn't pass the supply test.
-fn put_supply(text: &mut Vec<u8>, die: usize, fault: SupplyFault) -> io::Result<()>
-    ensures { OnOk result (text.new.items ≡ text.old.items ++ supply_text die fault) }
+fn put_supply(
+    text: &mut Vec<u8>,
+    die: usize,
+    fault: SupplyFault,
+    slot_us: Option<u32>,
+) -> io::Result<()>
+    ensures { OnOk result (text.new.items ≡ text.old.items ++ supply_text slot_us die fault) }
 {
     put_task(text, die, fault.task)?;
-    put_lack(text, fault.lack)?;
+    put_lack(text, fault.lack, slot_us)?;
     writeln!(text, ".")
 }
 
 /// Adds why a die doesn't pass its tests.
-pub fn put_terms(text: &mut Vec<u8>, die: usize, fault: TermsFault) -> io::Result<()>
-    ensures { OnOk result (text.new.items ≡ text.old.items ++ terms_text die fault) }
+pub fn put_terms(
+    text: &mut Vec<u8>,
+    die: usize,
+    fault: TermsFault,
+    slot_us: Option<u32>,
+) -> io::Result<()>
+    ensures { OnOk result (text.new.items ≡ text.old.items ++ terms_text slot_us die fault) }
 {
     match fault {
-        TermsFault::Demand(fault) => put_demand(text, die, fault),
-        TermsFault::Supply(fault) => put_supply(text, die, fault),
+        TermsFault::Demand(fault) => put_demand(text, die, fault, slot_us),
+        TermsFault::Supply(fault) => put_supply(text, die, fault, slot_us),
     }
 }

@@ -15,8 +15,8 @@ caps-from plan die task caps d found rest below finds more =
     rw (drop-cons caps task d below) (found, rest, finds, refl, rw (add-one task) (rw (add-one task) at more))
 
 -- the line of the task at a place, and then those after it
-pub lines-from : (made : DieTerms) (die task : ℕ) (tasks : List TaskTerms) (d : TaskTerms) (m : TaskMargins) (rest : List ℕ)
-    → task < length tasks → AreMargins made task (get_or tasks task d) m → SaysMargins made die (task + 1) (drop (task + 1) tasks) rest
-    → SaysMargins made die task (drop task tasks) (margins_line die task m ++ rest)
-lines-from made die task tasks d m rest below margins more =
+pub lines-from : (us : Option ℕ) (made : DieTerms) (die task : ℕ) (tasks : List TaskTerms) (d : TaskTerms) (m : TaskMargins) (rest : List ℕ)
+    → task < length tasks → AreMargins made task (get_or tasks task d) m → SaysMargins us made die (task + 1) (drop (task + 1) tasks) rest
+    → SaysMargins us made die task (drop task tasks) (margins_line us die task m ++ rest)
+lines-from us made die task tasks d m rest below margins more =
     rw (drop-cons tasks task d below) (m, rest, margins, refl, rw (add-one task) (rw (add-one task) at more))

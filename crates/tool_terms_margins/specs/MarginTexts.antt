@@ -3,6 +3,7 @@ use Rattle.std.specs.Prelude.{◌≡◌, ℕ, ◌+◌, List, [], ◌∷◌, ◌+
 use Rattle.demand_rules.specs.declared.terms.TaskTerms.{TaskTerms}
 use Rattle.slot_types.specs.declared.plans.DiePlan.{DiePlan}
 use Rattle.terms_texts.specs.declared.stores.DieTerms.{DieTerms}
+use Rattle.tool_slot_times.specs.Times.{slots_text}
 use Rattle.tool_terms_margins.specs.Changes.{AreMargins, FindsCap}
 use Rattle.tool_terms_margins.specs.declared.margins.TaskMargins.{TaskMargins}
 
@@ -10,6 +11,11 @@ use Rattle.tool_terms_margins.specs.declared.margins.TaskMargins.{TaskMargins}
 abbrev pub number_text : (what name : List ℕ) → Option ℕ → List ℕ
 number_text what name (Some n) = what ++ name ++ codes " " ++ decimal n
 number_text what name None = codes "no " ++ name
+
+-- the same of the least number of slots, which is followed by its time, where it is known how many us a slot takes
+abbrev pub shortest_text : Option ℕ → (name : List ℕ) → Option ℕ → List ℕ
+shortest_text us name (Some n) = codes "least " ++ name ++ codes " " ++ slots_text us n
+shortest_text us name None = codes "no " ++ name
 
 -- what a line on what a die's bound allows begins with
 abbrev pub of_bound : ℕ → List ℕ
@@ -42,16 +48,16 @@ SaysCaps plan die task (cap ∷ more) said = (found : Option ℕ) × (rest : Lis
 abbrev pub asked_text : TaskMargins → List ℕ
 asked_text m = number_text (codes "greatest ") (codes "work") m.work ++ codes ", " ++ number_text (codes "greatest ") (codes "writes") m.writes
 
-abbrev pub times_text : TaskMargins → List ℕ
-times_text m = number_text (codes "least ") (codes "period") m.period ++ codes ", " ++ number_text (codes "least ") (codes "deadline") m.deadline
-    ++ codes ", " ++ number_text (codes "least ") (codes "collect_deadline") m.collect_deadline
+abbrev pub times_text : Option ℕ → TaskMargins → List ℕ
+times_text us m = shortest_text us (codes "period") m.period ++ codes ", " ++ shortest_text us (codes "deadline") m.deadline
+    ++ codes ", " ++ shortest_text us (codes "collect_deadline") m.collect_deadline
 
-abbrev pub margins_line : (die task : ℕ) → TaskMargins → List ℕ
-margins_line die task m = codes "die " ++ decimal die ++ codes " task " ++ decimal task ++ codes ": one at a time, these would do: "
-    ++ asked_text m ++ codes ", " ++ times_text m ++ codes "." ++ 10 ∷ []
+abbrev pub margins_line : Option ℕ → (die task : ℕ) → TaskMargins → List ℕ
+margins_line us die task m = codes "die " ++ decimal die ++ codes " task " ++ decimal task ++ codes ": one at a time, these would do: "
+    ++ asked_text m ++ codes ", " ++ times_text us m ++ codes "." ++ 10 ∷ []
 
 -- a line for each of these tasks of a die, the first of which has this number: how far its numbers may change
-abbrev pub SaysMargins : DieTerms → (die task : ℕ) → List TaskTerms → List ℕ → Type 0
-SaysMargins made die task [] said = said ≡ []
-SaysMargins made die task (own ∷ more) said = (m : TaskMargins) × (rest : List ℕ) × AreMargins made task own m
-    × (said ≡ margins_line die task m ++ rest) × SaysMargins made die (task + 1) more rest
+abbrev pub SaysMargins : Option ℕ → DieTerms → (die task : ℕ) → List TaskTerms → List ℕ → Type 0
+SaysMargins us made die task [] said = said ≡ []
+SaysMargins us made die task (own ∷ more) said = (m : TaskMargins) × (rest : List ℕ) × AreMargins made task own m
+    × (said ≡ margins_line us die task m ++ rest) × SaysMargins us made die (task + 1) more rest

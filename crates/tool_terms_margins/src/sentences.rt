@@ -2,13 +2,14 @@
 
 ghost use Rattle.std.specs.Prelude.{◌≡◌, ◌++◌, ℕ, List, IfOk, OnOk, codes};
 ghost use Rattle.tool_terms_margins.specs.MarginTexts.{SaysCaps, SaysMargins, asked_text, cap_line, margins_line, number_text, room_line};
-ghost use Rattle.tool_terms_margins.specs.MarginTexts.{of_bound, room_text, times_text};
+ghost use Rattle.tool_terms_margins.specs.MarginTexts.{of_bound, room_text, shortest_text, times_text};
 
 use crate::caps::{CapMargin, cap_margin};
 use crate::margins::{Margins, TaskMargins, task_margins};
 use std::io;
 use std::io::Write;
 use terms_texts::DieTerms;
+use tool_slot_times::Slots;
 
 /// Adds the greatest number that would do, or that none would.
 fn put_greatest(text: &mut Vec<u8>, name: &str, found: Option<u32>) -> io::Result<()>
@@ -28,6 +29,28 @@ fn put_least(text: &mut Vec<u8>, name: &str, found: Option<u32>) -> io::Result<(
 {
     match found {
         Some(n) => write!(text, "least {name} {n}"),
+        None => write!(text, "no {name}"),
+    }
+}
+
+/// Adds the least number of slots that would do, or that none would.
+fn put_shortest(
+    text: &mut Vec<u8>,
+    name: &str,
+    found: Option<u32>,
+    slot_us: Option<u32>,
+) -> io::Result<()>
+    ensures { OnOk result (text.new.items
+        ≡ text.old.items ++ shortest_text slot_us name.now found) }
+{
+    match found {
+        Some(n) => {
+            let slots = Slots {
+                count: u64::from(n),
+                slot_us,
+            };
+            write!(text, "least {name} {slots}")
+        }
         None => write!(text, "no {name}"),
     }
 }
@@ -103,19 +126,25 @@ fn put_asked(text: &mut Vec<u8>, margins: &TaskMargins) -> io::Result<()>
 }
 
 /// Adds how far its times may shrink.
-fn put_times(text: &mut Vec<u8>, margins: &TaskMargins) -> io::Result<()>
-    ensures { OnOk result (text.new.items ≡ text.old.items ++ times_text margins.now) }
+fn put_times(text: &mut Vec<u8>, margins: &TaskMargins, slot_us: Option<u32>) -> io::Result<()>
+    ensures { OnOk result (text.new.items ≡ text.old.items ++ times_text slot_us margins.now) }
 {
-    put_least(text, "period", margins.period)?;
+    put_shortest(text, "period", margins.period, slot_us)?;
     write!(text, ", ")?;
-    put_least(text, "deadline", margins.deadline)?;
+    put_shortest(text, "deadline", margins.deadline, slot_us)?;
     write!(text, ", ")?;
-    put_least(text, "collect_deadline", margins.collect_deadline)
+    put_shortest(text, "collect_deadline", margins.collect_deadline, slot_us)
 }
 
 /// Adds how far the numbers of a task may change, one at a time.
-fn put_line(text: &mut Vec<u8>, die: usize, task: usize, margins: &TaskMargins) -> io::Result<()>
-    ensures { OnOk result (text.new.items ≡ text.old.items ++ margins_line die task margins.now) }
+fn put_line(
+    text: &mut Vec<u8>,
+    die: usize,
+    task: usize,
+    margins: &TaskMargins,
+    slot_us: Option<u32>,
+) -> io::Result<()>
+    ensures { OnOk result (text.new.items ≡ text.old.items ++ margins_line slot_us die task margins.now) }
 {
     write!(
         text,
@@ -123,20 +152,26 @@ fn put_line(text: &mut Vec<u8>, die: usize, task: usize, margins: &TaskMargins) 
     )?;
     put_asked(text, margins)?;
     write!(text, ", ")?;
-    put_times(text, margins)?;
+    put_times(text, margins, slot_us)?;
     writeln!(text, ".")
 }
 
-/// Adds how far the numbers of each task of a die may change, one at a time, a line for each task.
-pub fn put_margins(text: &mut Vec<u8>, die: usize, made: DieTerms) -> io::Result<()>
-    ensures { OnOk result ((said : List ℕ) × SaysMargins made die 0 made.terms.tasks said
+/// Adds how far the numbers of each task of a die may change, one at a time, a line for each task. Numbers of slots are
+/// followed by their times, where it is known how many us a slot takes.
+pub fn put_margins(
+    text: &mut Vec<u8>,
+    die: usize,
+    made: DieTerms,
+    slot_us: Option<u32>,
+) -> io::Result<()>
+    ensures { OnOk result ((said : List ℕ) × SaysMargins slot_us made die 0 made.terms.tasks said
         × (text.new.items ≡ text.old.items ++ said)) }
 {
     let tasks = made.terms.tasks.len();
     let mut trial = made;
     for task in 0..tasks {
         let Margins { made, margins } = task_margins(trial, task);
-        put_line(text, die, task, &margins)?;
+        put_line(text, die, task, &margins, slot_us)?;
         trial = made;
     }
     Ok(())

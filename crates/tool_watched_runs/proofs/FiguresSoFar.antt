@@ -2,6 +2,7 @@
 use Rattle.std.proofs.Common.{◌≡◌, ◌∙◌, ap, sym, subst, ℕ, zero, suc, ◌+◌, List, [], ◌∷◌, ◌++◌, get_or, length, map, refl, arith}
 use Rattle.std.specs.Prelude.{IfSome, slice_get}
 use Rattle.std.proofs.lemmas.List.{length-append, length-map}
+use Rattle.tool_run_figures.specs.declared.lives.Life.{Life}
 use Rattle.tool_run_figures.specs.declared.records.Records.{Records}
 use Rattle.tool_script_runs.specs.RunningDies.{RunningDie}
 use Rattle.tool_script_runs.specs.declared.refused.RefusedRow.{RefusedRow}
@@ -23,26 +24,27 @@ read_there {D} f P (x ∷ xs) zero own is so = subst (λ (d : D). P (f d)) is so
 read_there f P (x ∷ xs) (suc place) own is so = read_there f P xs place own is so
 
 -- the figures of the dies before a place
-pub record AreSoFar (refused : List RefusedRow) (dies : List RunningDie) (place : ℕ) (all : List Records) : Type 0 where
+pub record AreSoFar (refused : List RefusedRow) (life : Life) (dies : List RunningDie) (place : ℕ) (all : List Records) : Type 0 where
   pub count : length all ≡ place
   pub each : (number : ℕ) → IfSome (slice_get all number) (λ figures.
-      IfSome (slice_get dies number) (λ die. AreFiguresOf number refused die figures))
+      IfSome (slice_get dies number) (λ die. AreFiguresOf number refused life die figures))
 
-pub none_yet : (refused : List RefusedRow) (dies : List RunningDie) (all : List Records) → all ≡ [] → AreSoFar refused dies 0 all
-none_yet refused dies all are = rw are (record { count = refl; each = λ number. tt })
+pub none_yet : (refused : List RefusedRow) (life : Life) (dies : List RunningDie) (all : List Records) → all ≡ []
+    → AreSoFar refused life dies 0 all
+none_yet refused life dies all are = rw are (record { count = refl; each = λ number. tt })
 
-pub one_more : {D : Type 0} (f : D → RunningDie) (refused : List RefusedRow) (xs : List D) (place : ℕ) (own : D) (old new : List Records)
-    (figures : Records) → own ≡ get_or xs place own → AreFiguresOf place refused (f own) figures → new ≡ old ++ figures ∷ []
-    → AreSoFar refused (map f xs) place old → AreSoFar refused (map f xs) (place + 1) new
-one_more f refused xs place own old new figures is are pushed so_far = record {
+pub one_more : {D : Type 0} (f : D → RunningDie) (refused : List RefusedRow) (life : Life) (xs : List D) (place : ℕ) (own : D) (old new : List Records)
+    (figures : Records) → own ≡ get_or xs place own → AreFiguresOf place refused life (f own) figures → new ≡ old ++ figures ∷ []
+    → AreSoFar refused life (map f xs) place old → AreSoFar refused life (map f xs) (place + 1) new
+one_more f refused life xs place own old new figures is are pushed so_far = record {
   count = ap length pushed ∙ omega (arith, length-append old (figures ∷ []), so_far.count);
-  each = rw pushed (each_push (λ n r. IfSome (slice_get (map f xs) n) (λ die. AreFiguresOf n refused die r)) old figures so_far.each
-      (rw so_far.count (read_there f (λ die. AreFiguresOf place refused die figures) xs place own is are)));
+  each = rw pushed (each_push (λ n r. IfSome (slice_get (map f xs) n) (λ die. AreFiguresOf n refused life die r)) old figures so_far.each
+      (rw so_far.count (read_there f (λ die. AreFiguresOf place refused life die figures) xs place own is are)));
 }
 
-pub all_told : {D : Type 0} (f : D → RunningDie) (refused : List RefusedRow) (xs : List D) (place : ℕ) (all : List Records)
-    → place ≡ length xs → AreSoFar refused (map f xs) place all → HaveFigures refused (map f xs) all
-all_told f refused xs place all is so_far = record {
+pub all_told : {D : Type 0} (f : D → RunningDie) (refused : List RefusedRow) (life : Life) (xs : List D) (place : ℕ) (all : List Records)
+    → place ≡ length xs → AreSoFar refused life (map f xs) place all → HaveFigures refused life (map f xs) all
+all_told f refused life xs place all is so_far = record {
   all = so_far.count ∙ (is ∙ sym (length-map xs f));
   each = so_far.each;
 }

@@ -5,3 +5,5 @@ pub mod JobEnds
 pub mod FiguresSoFar
 mod WornDies
 mod RunsOf
+pub mod TablesSoFar
+pub mod OneStarted

@@ -2,8 +2,7 @@
 use Rattle.std.proofs.Common.{◌≡◌, ℕ, false, List, [], ◌∷◌, All, map, refl, ap, sym, ◌∙◌, subst, Option}
 use Rattle.std.specs.Global.{Box}
 use Rattle.std.proofs.lemmas.List.Elements.{All-map}
-use Rattle.slot_types.specs.declared.plans.DiePlan.{DiePlan}
-use Rattle.die_log.specs.Model.Start.{fresh}
+use Rattle.die_log.specs.Model.Start.{Start}
 use Rattle.tool_script_runs.specs.Counted.{CountsRows}
 use Rattle.tool_script_runs.specs.RunningDies.{RunningDie}
 use Rattle.tool_script_runs.specs.declared.counted.RefusedRows.{RefusedRows}
@@ -11,7 +10,7 @@ use Rattle.tool_script_runs.specs.declared.refused.RefusedRow.{RefusedRow}
 use Rattle.tool_script_runs.specs.ScriptRuns.{IsRunOf}
 use Rattle.tool_watched_runs.specs.Runs.{running, worn_of}
 use Rattle.tool_watched_runs.specs.Wear.{IsWorn, IsWornWell, Worn}
-use Rattle.tool_watched_runs.specs.WearText.{IsWearText, wear_text}
+use Rattle.tool_watched_runs.specs.WearText.{IsWearFrom, wear_text}
 use Rattle.tool_watched_runs.specs.declared.die_runs.DieRun.{DieRun}
 use Rattle.tool_watched_runs.specs.declared.tallies.Tally.{Tally}
 
@@ -19,15 +18,15 @@ pub map_twice : {X Y Z : Type 0} (f : Y → Z) (g : X → Y) (xs : List X) → m
 map_twice f g [] = refl
 map_twice {X} {Y} {Z} f g (x ∷ xs) = ap (λ (l : List Z). f (g x) ∷ l) (map_twice f g xs)
 
-pub is_wear_text : (plans : List DiePlan) (script : Option (List ℕ)) (slots : ℕ) (refused : List RefusedRow) (counts : RefusedRows)
+pub is_wear_text : (starts : List Start) (script : Option (List ℕ)) (slots : ℕ) (refused : List RefusedRow) (counts : RefusedRows)
     (dies : List (Box DieRun)) (tallies : List Tally) (text : List ℕ)
-    → IsRunOf (map fresh plans) script slots refused (map running dies) → CountsRows refused counts
+    → IsRunOf starts script slots refused (map running dies) → CountsRows refused counts
     → tallies ≡ map (λ (run : Box DieRun). (worn_of run).tally) dies
-    → All (λ (run : Box DieRun). IsWornWell (worn_of run)) dies → text ≡ wear_text tallies → IsWearText plans script slots counts text
-is_wear_text plans script slots refused counts dies tallies text ran counted are worn is = record {
+    → All (λ (run : Box DieRun). IsWornWell (worn_of run)) dies → text ≡ wear_text tallies → IsWearFrom starts script slots counts text
+is_wear_text starts script slots refused counts dies tallies text ran counted are worn is = record {
   dies = map worn_of dies;
   refused = refused;
-  ran = subst (λ (l : List RunningDie). IsRunOf (map fresh plans) script slots refused l)
+  ran = subst (λ (l : List RunningDie). IsRunOf starts script slots refused l)
       (sym (map_twice (λ (die : Worn). die.run) worn_of dies)) ran;
   counted = counted;
   none_stopped = All-map (λ (die : Worn). die.run.stopped ≡ false) worn_of dies (λ n here within. (worn n here within).1);

@@ -1,24 +1,27 @@
 -- Dies that run.
-use Rattle.std.specs.Prelude.{◌≡◌, ◌==◌, Bool, true, ℕ, List, Option, Some, None, box_value, if◌then◌else◌, map, option_map, slice_get}
+use Rattle.std.specs.Prelude.{◌≡◌, ◌==◌, Bool, ℕ, List, Option, Some, None, box_value, if◌then◌else◌, map, option_map, slice_get}
 use Rattle.std.specs.Global.{Box}
 use Rattle.slot_types.specs.declared.plans.DiePlan.{DiePlan}
-use Rattle.die_log.specs.Model.Start.{fresh}
+use Rattle.die_log.specs.Model.Start.{Start, fresh}
 use Rattle.flash_die.specs.Fuse.{Fuse}
 use Rattle.flash_die.specs.Memory.{Memory}
 use Rattle.slot_core.specs.Core.{Core}
 use Rattle.tool_script_runs.specs.RunningDies.{RunningDie, running_of}
 use Rattle.tool_script_runs.specs.ScriptRuns.{IsRunAs, IsRunOf}
-use Rattle.tool_run_figures.specs.Csv.{csv_text}
+use Rattle.tool_slot_times.specs.declared.units.Units.{Units}
+use Rattle.tool_run_figures.specs.declared.lives.Life.{Life}
 use Rattle.tool_run_figures.specs.declared.records.Records.{Records}
 use Rattle.tool_script_runs.specs.Counted.{CountsRows}
 use Rattle.tool_script_runs.specs.declared.refused.RefusedRow.{RefusedRow}
 use Rattle.tool_watched_runs.specs.Failing.{failure_in}
 use Rattle.tool_watched_runs.specs.Figures.{HaveFigures}
+use Rattle.tool_watched_runs.specs.ReportText.{TellsFigures}
 use Rattle.tool_watched_runs.specs.Wear.{Worn}
 use Rattle.tool_watched_runs.specs.declared.die_runs.DieRun.{DieRun}
 use Rattle.tool_watched_runs.specs.declared.failing.FailAt.{FailAt}
 use Rattle.tool_watched_runs.specs.declared.failing.Failure.{Failure}
 use Rattle.tool_watched_runs.specs.declared.script_runs.Reported.{Reported}
+use Rattle.tool_watched_runs.specs.declared.started_dies.StartedDie.{StartedDie}
 
 -- the die itself
 abbrev pub core_of : Box DieRun → Core (Fuse Memory)
@@ -27,6 +30,10 @@ core_of run = box_value (box_value run).core
 -- as one that runs the rows of a script
 abbrev pub running : Box DieRun → RunningDie
 running run = running_of (core_of run)
+
+-- a die that was started, as one that runs the rows of a script
+abbrev pub begun : StartedDie → RunningDie
+begun die = running_of (box_value die.core)
 
 -- what it wore so far
 abbrev pub worn_of : Box DieRun → Worn
@@ -42,32 +49,42 @@ abbrev pub failure_among : {N : Type 0} → Option FailAt → List (Core N) → 
 failure_among None dies = None
 failure_among (Some at) dies = option_map (failure_in at) (slice_get dies at.die)
 
--- Fresh dies of these plans ran a script, where its text is known, and so many slots, and this became of the device of one
--- that was to fail. So many of the script's rows were refused. The text, if it is CSV, is that of the dies' figures.
-pub record IsReportOf (plans : List DiePlan) (script : Option (List ℕ)) (slots : ℕ) (fail : Option FailAt) (as_csv : Bool)
-    (said : Reported) : Type 0 where
+-- Dies that start so ran a script, where its text is known, and so many slots, and this became of the device of one that was
+-- to fail. So many of the script's rows were refused. The text is that of the dies' figures, by this life of a block and these
+-- units.
+pub record IsReportFrom (starts : List Start) (script : Option (List ℕ)) (slots : ℕ) (life : Life) (units : Units) (as_csv : Bool)
+    (fail : Option FailAt) (said : Reported) : Type 0 where
   pub dies : List (Core (Fuse Memory))
   pub refused : List RefusedRow
-  pub ran : IsRunOf (map fresh plans) script slots refused (map running_of dies)
+  pub ran : IsRunOf starts script slots refused (map running_of dies)
   pub counted : CountsRows refused said.refused
   pub failure_is : said.failure ≡ failure_among fail dies
   pub figures : List Records
-  pub figured : HaveFigures refused (map running_of dies) figures
-  pub text_is : as_csv ≡ true → said.text.items ≡ csv_text figures
+  pub figured : HaveFigures refused life (map running_of dies) figures
+  pub text_is : TellsFigures as_csv units figures said.text.items
+
+-- so it is of fresh dies of these plans
+abbrev pub IsReportOf : List DiePlan → Option (List ℕ) → ℕ → Life → Units → Bool → Option FailAt → Reported → Type 0
+IsReportOf plans script slots life units as_csv fail said = IsReportFrom (map fresh plans) script slots life units as_csv fail said
 
 -- what is said of dies that ran, which refused these rows
-pub record Tells (dies : List (Box DieRun)) (refused : List RefusedRow) (as_csv : Bool) (fail : Option FailAt) (said : Reported) : Type 0 where
+pub record Tells (dies : List (Box DieRun)) (refused : List RefusedRow) (life : Life) (units : Units) (as_csv : Bool)
+    (fail : Option FailAt) (said : Reported) : Type 0 where
   pub counted : CountsRows refused said.refused
   pub failure_is : said.failure ≡ failure_among fail (map core_of dies)
   pub figures : List Records
-  pub figured : HaveFigures refused (map running dies) figures
-  pub text_is : as_csv ≡ true → said.text.items ≡ csv_text figures
+  pub figured : HaveFigures refused life (map running dies) figures
+  pub text_is : TellsFigures as_csv units figures said.text.items
 
--- the die of this number ran alone, and this became of its device
-pub record IsDrawingOf (plans : List DiePlan) (script : Option (List ℕ)) (slots number : ℕ) (fail : Option FailAt) (said : Reported)
+-- of dies that start so that of this number ran alone, and this became of its device
+pub record IsDrawingFrom (starts : List Start) (script : Option (List ℕ)) (slots number : ℕ) (fail : Option FailAt) (said : Reported)
     : Type 0 where
   pub die : Core (Fuse Memory)
   pub refused : List RefusedRow
-  pub ran : IsRunAs (map fresh plans) script slots number refused (running_of die)
+  pub ran : IsRunAs starts script slots number refused (running_of die)
   pub counted : CountsRows refused said.refused
   pub failure_is : said.failure ≡ failure_as number fail die
+
+-- so it is of fresh dies of these plans
+abbrev pub IsDrawingOf : List DiePlan → Option (List ℕ) → ℕ → ℕ → Option FailAt → Reported → Type 0
+IsDrawingOf plans script slots number fail said = IsDrawingFrom (map fresh plans) script slots number fail said

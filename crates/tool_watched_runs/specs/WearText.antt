@@ -3,7 +3,7 @@ use Rattle.std.specs.Prelude.{◌≡◌, ◌==◌, ℕ, ◌+◌, ◌*◌, ◌/�
 use Rattle.std.specs.Prelude.{Option, All, false, map, ◌++◌, List, [], ◌∷◌, flat_map, codes, decimal}
 use Rattle.std.specs.List.{enumerate_from}
 use Rattle.slot_types.specs.declared.plans.DiePlan.{DiePlan}
-use Rattle.die_log.specs.Model.Start.{fresh}
+use Rattle.die_log.specs.Model.Start.{Start, fresh}
 use Rattle.tool_script_runs.specs.Counted.{CountsRows}
 use Rattle.tool_script_runs.specs.ScriptRuns.{IsRunOf}
 use Rattle.tool_script_runs.specs.declared.counted.RefusedRows.{RefusedRows}
@@ -46,13 +46,17 @@ header = codes "row,die,block,erases,written,copied,amplification" ++ 10 ∷ []
 abbrev pub wear_text : List Tally → List ℕ
 wear_text dies = header ++ flat_map (λ (p : ℕ × Tally). records_of p.0 p.1) (enumerate_from 0 dies)
 
--- the text of what dies wore that began fresh by these plans, and ran this script, where it is known, and so many slots; no
--- device failed, so all rows came, and all slots were carried out
-pub record IsWearText (plans : List DiePlan) (script : Option (List ℕ)) (slots : ℕ) (counts : RefusedRows) (text : List ℕ) : Type 0 where
+-- the text of what dies wore that start so, and ran this script, where it is known, and so many slots; no device failed, so
+-- all rows came, and all slots were carried out
+pub record IsWearFrom (starts : List Start) (script : Option (List ℕ)) (slots : ℕ) (counts : RefusedRows) (text : List ℕ) : Type 0 where
   pub dies : List Worn
   pub refused : List RefusedRow
-  pub ran : IsRunOf (map fresh plans) script slots refused (map (λ (die : Worn). die.run) dies)
+  pub ran : IsRunOf starts script slots refused (map (λ (die : Worn). die.run) dies)
   pub counted : CountsRows refused counts
   pub none_stopped : All (λ (die : Worn). die.run.stopped ≡ false) dies
   pub worn : All IsWorn dies
   pub is : text ≡ wear_text (map (λ (die : Worn). die.tally) dies)
+
+-- so it is of fresh dies of these plans
+abbrev pub IsWearText : List DiePlan → Option (List ℕ) → ℕ → RefusedRows → List ℕ → Type 0
+IsWearText plans script slots counts text = IsWearFrom (map fresh plans) script slots counts text

@@ -8,6 +8,7 @@ use crate::windows::Carried;
 use std::alloc::Global;
 use std::io;
 use std::io::Write;
+use tool_slot_times::Units;
 
 /// Draws the number of a cell's page or block, where it is wide enough.
 fn put_number(text: &mut Vec<u8>, carried: &Carried, spot: Spot, cell: u32) -> io::Result<()> {
@@ -25,14 +26,20 @@ fn put_number(text: &mut Vec<u8>, carried: &Carried, spot: Spot, cell: u32) -> i
 }
 
 /// Draws what a slot carried.
-fn put_cell(text: &mut Vec<u8>, carried: &Carried, spot: Spot, cell: u32) -> io::Result<()> {
+fn put_cell(
+    text: &mut Vec<u8>,
+    carried: &Carried,
+    spot: Spot,
+    cell: u32,
+    units: Units,
+) -> io::Result<()> {
     let (x, y, width) = (spot.x, spot.y.saturating_add(3), cell.saturating_sub(1));
     let (class, words, of) = (
         class_of(carried.brief.kind),
         words_of(carried.brief.kind),
         carried.brief.of,
     );
-    let (slot, kind) = (carried.slot, carried.whose.kind());
+    let (slot, kind) = (units.slots(u64::from(carried.slot)), carried.whose.kind());
     let (job, task) = (carried.whose.job, carried.whose.task);
     let done = if carried.last { ", and is done" } else { "" };
     writeln!(
@@ -54,7 +61,7 @@ fn put_cell(text: &mut Vec<u8>, carried: &Carried, spot: Spot, cell: u32) -> io:
 pub fn put_cells(text: &mut Vec<u8>, scene: &Scene<'_>, layout: &Layout) -> io::Result<()> {
     for carried in &scene.window.carried {
         if let Some(spot) = layout.spot(carried.slot, carried.whose) {
-            put_cell(text, carried, spot, layout.cell)?;
+            put_cell(text, carried, spot, layout.cell, scene.units)?;
         }
     }
     Ok(())
@@ -65,7 +72,8 @@ pub fn put_waivers(text: &mut Vec<u8>, scene: &Scene<'_>, layout: &Layout) -> io
     for waiver in &scene.window.waived {
         if let Some(spot) = layout.spot(waiver.slot, waiver.whose) {
             let x = spot.x.saturating_add(u64::from(layout.cell / 2));
-            let (y, slot, given) = (spot.y, waiver.slot, waiver.given);
+            let (y, given) = (spot.y, waiver.given);
+            let slot = scene.units.slots(u64::from(waiver.slot));
             let (job, task) = (waiver.whose.job, waiver.whose.task);
             writeln!(
                 text,

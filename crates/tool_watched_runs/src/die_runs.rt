@@ -1,20 +1,18 @@
 //! A die that runs the rows of a script, and what is noted of it.
 
-ghost use Rattle.std.specs.Prelude.{◌≡◌, ℕ, ◌<◌, ◌∷◌, [], length, option_map, IfOk};
+ghost use Rattle.std.specs.Prelude.{◌≡◌, ℕ, ◌<◌, ◌∷◌, length, option_map, IfOk};
 ghost use Rattle.std.specs.Box.{box_value};
 ghost use Rattle.slot_types.specs.Refusal.{FailsForMemory};
-ghost use Rattle.plan_rules.specs.Bound.{MeetsBound};
-ghost use Rattle.die_log.specs.Model.Start.{fresh};
 ghost use Rattle.die_log.specs.Model.Log.{Log, job_at, now};
-ghost use Rattle.tool_script_runs.specs.RunningDies.{TakesSlot, running_of};
+ghost use Rattle.tool_script_runs.specs.RunningDies.{HasEmptyLog, TakesSlot, running_of};
 ghost use Rattle.tool_watched_runs.specs.SlotsCarried.{AreCountsOf};
 ghost use Rattle.tool_watched_runs.specs.Wear.{IsWearOf, slot_entry};
 
 use crate::failing::RunNand;
+use crate::started_dies::StartedDie;
 use crate::{Level, Tally, Waiver, Whose, Window};
-use flash_die::{FuseNand, MemoryNand};
 use slot_core::{DieCore, Overdue, Stage};
-use slot_types::{DiePlan, Event, JobNo, MAX_SLOT, Op, Refusal, SlotReply};
+use slot_types::{Event, JobNo, MAX_SLOT, Op, Refusal, SlotReply};
 use std::alloc::Global;
 use tool_run_figures::{DieCounts, Levels};
 use tool_script_runs::{ScriptDie, arrive};
@@ -165,23 +163,6 @@ fn asked_of(event: &Event) -> (u32, u32) {
     }
 }
 
-/// A fresh die of a plan, without what is noted of it. The only refusal is NoMemory.
-fn fresh_core(alloc: Global, plan: DiePlan, calls: u64) -> Result<Box<DieCore<RunNand>>, Refusal>
-    requires { MeetsBound plan }
-    ensures start { IfOk result (λ core. (box_value core).start ≡ fresh plan) }
-    ensures log { IfOk result (λ core. (box_value core).log ≡ []) }
-    ensures calls { IfOk result (λ core. (box_value core).device.left ≡ calls) }
-    ensures refused { FailsForMemory result }
-{
-    let Ok(nand) = MemoryNand::new(alloc, plan.shape) else {
-        return Err(Refusal::NoMemory);
-    };
-    match DieCore::boxed(alloc, plan, FuseNand::new(nand, calls)) {
-        Ok(core) => Ok(core),
-        Err(_) => Err(Refusal::NoMemory),
-    }
-}
-
 /// A value in a box. It is of any type, so that nothing is said of the parts of a large one. The only refusal is NoMemory.
 fn in_box<T: Drop>(alloc: Global, value: T) -> Result<Box<T>, Refusal>
     ensures value { IfOk result (λ boxed. box_value boxed ≡ value) }
@@ -191,26 +172,23 @@ fn in_box<T: Drop>(alloc: Global, value: T) -> Result<Box<T>, Refusal>
 }
 
 impl DieRun {
-    /// A fresh die of a plan, of which the slots from one to before another are looked at, on a device in memory that makes
-    /// so many calls well and fails from then on. The only refusal is NoMemory.
+    ghost use Rattle.tool_watched_runs.specs.Runs.{begun, core_of};
+
+    /// A die that was started, of which the slots from one to before another are looked at. The only refusal is NoMemory.
     pub fn new(
         alloc: Global,
         die: u32,
-        plan: DiePlan,
-        calls: u64,
+        started: StartedDie,
         seen: (u32, u32),
     ) -> Result<DieRun, Refusal>
-        requires { MeetsBound plan }
-        ensures start { IfOk result (λ run. (box_value run.core).start ≡ fresh plan) }
-        ensures log { IfOk result (λ run. (box_value run.core).log ≡ []) }
-        ensures calls { IfOk result (λ run. (box_value run.core).device.left ≡ calls) }
+        requires { HasEmptyLog (begun started) }
+        ensures core { IfOk result (λ run. box_value run.core ≡ box_value started.core) }
         ensures die { IfOk result (λ run. run.die ≡ die) }
         ensures refused { FailsForMemory result }
     {
-        let tally = Tally::new(alloc, plan.shape.blocks)?;
-        let counts = DieCounts::new(alloc, plan.caps.len())?;
-        let levels = Levels::new(alloc, &plan)?;
-        let core = fresh_core(alloc, plan, calls)?;
+        let StartedDie { core, levels } = started;
+        let tally = Tally::new(alloc, core.plan().shape.blocks)?;
+        let counts = DieCounts::new(alloc, core.plan().caps.len())?;
         Ok(DieRun {
             die,
             core,
@@ -221,20 +199,18 @@ impl DieRun {
         })
     }
 
-    /// A fresh die as [`new`](DieRun::new) makes it, in a box, since a die is large to move. The only refusal is NoMemory.
+    /// A die as [`new`](DieRun::new) makes it, in a box, since a die is large to move. The only refusal is NoMemory.
     pub fn boxed(
         alloc: Global,
         die: u32,
-        plan: DiePlan,
-        calls: u64,
+        started: StartedDie,
         seen: (u32, u32),
     ) -> Result<Box<DieRun>, Refusal>
-        requires { MeetsBound plan }
-        ensures start { IfOk result (λ run. (box_value (box_value run).core).start ≡ fresh plan) }
-        ensures log { IfOk result (λ run. (box_value (box_value run).core).log ≡ []) }
+        requires { HasEmptyLog (begun started) }
+        ensures core { IfOk result (λ run. core_of run ≡ box_value started.core) }
         ensures refused { FailsForMemory result }
     {
-        in_box(alloc, DieRun::new(alloc, die, plan, calls, seen)?)
+        in_box(alloc, DieRun::new(alloc, die, started, seen)?)
     }
 
     /// Carries out the present slot, and notes what was done in it. It is refused as by the die; or with NoMemory.

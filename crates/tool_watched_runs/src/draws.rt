@@ -1,25 +1,28 @@
 //! Runs that are drawn.
 
-ghost use Rattle.std.specs.Prelude.{◌≡◌, ◌+◌, ◌<◌, ◌≤◌, [], true, All, length, map, slice_get, IfOk, IfSome, None, Option};
+ghost use Rattle.std.specs.Prelude.{◌≡◌, ℕ, ◌+◌, ◌<◌, ◌≤◌, [], true, All, List, length, map, slice_get, IfOk, IfSome, None, Option, Some};
 ghost use Rattle.slot_types.specs.Refusal.{FailsForMemory};
 ghost use Rattle.plan_rules.specs.Bound.{MeetsBound};
-ghost use Rattle.die_log.specs.Model.Start.{Start, fresh};
+ghost use Rattle.die_log.specs.Model.Start.{Start};
 ghost use Rattle.script_texts.specs.ScriptLeft.{script_left, slots_of};
 ghost use Rattle.tool_script_runs.specs.Counted.{CountsRows};
-ghost use Rattle.tool_script_runs.specs.ScriptRuns.{IsRunAs, RanAsDie};
+ghost use Rattle.tool_script_runs.specs.RunningDies.{HasEmptyLog, starts_of};
+ghost use Rattle.tool_script_runs.specs.ScriptRuns.{IsRunAs, RanAsDie, script_in};
 ghost use Rattle.tool_watched_runs.specs.Failing.{IsBeyond};
-ghost use Rattle.tool_watched_runs.specs.Runs.{IsDrawingOf, core_of, failure_as, running};
+ghost use Rattle.tool_watched_runs.specs.Runs.{IsDrawingFrom, IsDrawingOf, begun, core_of, failure_as, running};
 
 use crate::die_runs::{DieRun, whose};
-use crate::failing::{FailAt, Failure, RunNand, calls_of, check_failing, failure_in};
+use crate::failing::{FailAt, Failure, RunNand, check_failing, failure_in};
 use crate::script_runs::{Reported, Sights};
+use crate::started_dies::{StartedDie, fresh_dies};
 use crate::{End, Kind, Level, Row, Scene, Whose, Window, Worst, lines, picture};
 use script_texts::ScriptReader;
 use slot_core::{DieCore, Job, Stage};
-use slot_types::{DiePlan, JobNo, MAX_JOBS, MAX_SLOT, Refusal, StorePlan};
+use slot_types::{JobNo, MAX_JOBS, MAX_SLOT, Refusal, StorePlan};
 use std::alloc::Global;
 use std::io::Read;
 use tool_script_runs::{RefusedRow, RefusedRows, run_die};
+use tool_slot_times::Units;
 
 /// The collections that were waived in a window, by number, each with the slot. The only refusal is NoMemory.
 fn waivers_of(alloc: Global, window: &Window) -> Result<Vec<(u32, u32)>, Refusal>
@@ -156,6 +159,7 @@ fn picture_of(
         rows: &rows,
         worst,
         failed: failed_in(&run.core),
+        units: frame.shown.units,
     };
     if frame.shown.as_text {
         lines(alloc, &scene)
@@ -164,7 +168,7 @@ fn picture_of(
     }
 }
 
-/// Which slots are drawn.
+/// Which slots are drawn, and how.
 #[derive(Clone, Copy, Drop)]
 pub struct Shown {
     /// The first one, and the one before which the picture ends.
@@ -176,6 +180,8 @@ pub struct Shown {
     pub as_text: bool,
     /// Whether all of them are drawn, however many they are.
     pub all: bool,
+    /// In which units slots and pages are said.
+    pub units: Units,
 }
 
 /// The most slots of a picture, unless all that are asked for are drawn.
@@ -299,34 +305,36 @@ impl Shown {
     }
 }
 
-/// The plan of a die. UnknownDie where there is none, and nothing else.
-fn plan_of(plan: StorePlan, die: u32) -> Result<DiePlan, Refusal>
-    requires { All MeetsBound plan }
-    ensures bound { IfOk result MeetsBound }
-    ensures is { IfOk result (λ found. slice_get plan die ≡ Some found) }
+/// The die of a store that is drawn; the others are given up. UnknownDie where it isn't there, and nothing else.
+#[tactic(auto, using(crate::proofs::OneStarted::starts_there, crate::proofs::OneStarted::empty_there))]
+fn one_of(dies: Vec<StartedDie>, die: u32) -> Result<StartedDie, Refusal>
+    requires { All HasEmptyLog (map begun dies.items) }
+    ensures start { IfOk result (λ started.
+        slice_get (starts_of (map begun dies.items)) die ≡ Some (begun started).start) }
+    ensures log { IfOk result (λ started. HasEmptyLog (begun started)) }
 {
-    let mut plans = plan.into_vec();
-    if die as usize >= plans.len() {
+    let mut dies = dies;
+    if die as usize >= dies.len() {
         return Err(Refusal::UnknownDie);
     }
-    Ok(plans.swap_remove(die as usize))
+    Ok(dies.swap_remove(die as usize))
 }
 
-/// The fresh die of a store that is drawn. UnknownDie where it isn't there; or NoMemory.
+/// The die of a store that is drawn, of which the slots from one to before another are looked at. UnknownDie where it isn't
+/// there; or NoMemory.
 fn one_die(
     alloc: Global,
-    plan: StorePlan,
+    dies: Vec<StartedDie>,
     die: u32,
-    calls: u64,
     seen: (u32, u32),
 ) -> Result<Box<DieRun>, Refusal>
-    requires { All MeetsBound plan }
+    requires { All HasEmptyLog (map begun dies.items) }
     ensures start { IfOk result (λ run.
-        slice_get (map fresh plan) die ≡ Some (core_of run).start) }
+        slice_get (starts_of (map begun dies.items)) die ≡ Some (core_of run).start) }
     ensures log { IfOk result (λ run. (core_of run).log ≡ []) }
 {
-    let plan = plan_of(plan, die)?;
-    DieRun::boxed(alloc, die, plan, calls, seen)
+    let started = one_of(dies, die)?;
+    DieRun::boxed(alloc, die, started, seen)
 }
 
 /// A die of a store that ran a script, and which of its rows it refused.
@@ -360,25 +368,26 @@ fn run_made<R: Read + Drop>(
     Ok(RanDie { die: made, refused })
 }
 
-/// Runs a script on a fresh die of a store, of which the slots from one to before another are looked at.
+/// Runs a script on a die of a store, of which the slots from one to before another are looked at.
 fn run_one<R: Read + Drop>(
     alloc: Global,
-    plan: StorePlan,
-    script: R,
+    script: &mut ScriptReader<R>,
+    dies: Vec<StartedDie>,
     slots: u32,
     die: u32,
     seen: (u32, u32),
-    fail: Option<FailAt>,
 ) -> Result<RanDie, Refusal>
     requires few { slots ≤ MAX_SLOT }
-    requires bound { All MeetsBound plan }
-    ensures { IfOk result (λ ran.
-        IsRunAs (map fresh plan) (R.remaining script) slots die ran.refused.items
+    requires slots { slots_of script.old ≡ slots }
+    requires empty { All HasEmptyLog (map begun dies.items) }
+    ensures { (text : Option (List ℕ)) →
+        script_left R.remaining script.old ≡ script_in (length dies.items) slots text →
+        IfOk result (λ ran.
+        IsRunAs (starts_of (map begun dies.items)) text slots die ran.refused.items
         (running ran.die)) }
 {
-    let mut script = ScriptReader::new(alloc, script, &plan, slots)?;
-    let made = one_die(alloc, plan, die, calls_of(fail, die), seen);
-    run_made(alloc, &mut script, made, die, slots)
+    let made = one_die(alloc, dies, die, seen);
+    run_made(alloc, script, made, die, slots)
 }
 
 /// Draws a die that ran, and tells what of it is worth a picture. The only refusal is NoMemory.
@@ -433,14 +442,44 @@ fn drawn(
     })
 }
 
-/// Runs a script on a die of a store, and draws what its slots carried: those that are asked for, or the busy interval
-/// of the worst, of which there are at most [`MOST_SLOTS`] unless all are asked for; as SVG, or as lines for a terminal.
-/// It doesn't ask whether the picture has too many slots: [`Shown::too_many`] does. Its time and its memory grow with
-/// the slots, the rows and the operations, and not with how many of them wait at once. One device may be to fail: where it is that of this die, the die
-/// stays in that slot, and refuses all later rows.
+/// Runs a script on a die of those that were started, and draws what its slots carried: those that are asked for, or the
+/// busy interval of the worst, of which there are at most [`MOST_SLOTS`] unless all are asked for; as SVG, or as lines for
+/// a terminal. It doesn't ask whether the picture has too many slots: [`Shown::too_many`] does. Its time and its memory grow
+/// with the slots, the rows and the operations, and not with how many of them wait at once. Where the device of this die is
+/// to fail, the die stays in that slot, and refuses all later rows. The script is lent, since a reader is large to free
+/// where a row stops the run.
 ///
-/// Refused with UnknownDie where the die whose device is to fail isn't there, or the one that is drawn; with the first
-/// fault of the script, as [`ScriptReader`] tells it; or with ReadFault or NoMemory.
+/// Refused with UnknownDie where the die isn't there; with the first fault of the script, as [`ScriptReader`] tells it; or
+/// with ReadFault or NoMemory.
+pub fn draw_of<R: Read + Drop>(
+    alloc: Global,
+    script: &mut ScriptReader<R>,
+    dies: Vec<StartedDie>,
+    slots: u32,
+    die: u32,
+    shown: Shown,
+    fail: Option<FailAt>,
+) -> Result<Reported, Refusal>
+    requires few { slots ≤ MAX_SLOT }
+    requires slots { slots_of script.old ≡ slots }
+    requires empty { All HasEmptyLog (map begun dies.items) }
+    ensures ran { (text : Option (List ℕ)) →
+        script_left R.remaining script.old ≡ script_in (length dies.items) slots text →
+        IfOk result (λ reported.
+        IsDrawingFrom (starts_of (map begun dies.items)) text slots die fail reported) }
+{
+    let frame = Frame {
+        shown,
+        dies: u32::try_from(dies.len()).unwrap_or(u32::MAX),
+    };
+    let ran = run_one(alloc, script, dies, slots, die, shown.seen(slots))?;
+    drawn(alloc, ran, frame, die, fail)
+}
+
+/// Runs a script on a die of a store of fresh dies, and draws what its slots carried, as [`draw_of`] does. One device may
+/// be to fail.
+///
+/// Refused with UnknownDie where the die whose device is to fail isn't there; else as there.
 pub fn draw<R: Read + Drop>(
     alloc: Global,
     plan: StorePlan,
@@ -457,10 +496,7 @@ pub fn draw<R: Read + Drop>(
         IsDrawingOf plan (R.remaining script) slots die fail reported) }
 {
     check_failing(fail, plan.len())?;
-    let frame = Frame {
-        shown,
-        dies: u32::try_from(plan.len()).unwrap_or(u32::MAX),
-    };
-    let ran = run_one(alloc, plan, script, slots, die, shown.seen(slots), fail)?;
-    drawn(alloc, ran, frame, die, fail)
+    let mut script = ScriptReader::new(alloc, script, &plan, slots)?;
+    let dies = fresh_dies(alloc, plan, fail)?;
+    draw_of(alloc, &mut script, dies, slots, die, shown, fail)
 }

@@ -6,6 +6,8 @@ use crate::rows::{End, Row};
 use crate::spans::Span;
 use std::io;
 use std::io::Write;
+use tool_run_figures::Quantity;
+use tool_slot_times::Units;
 
 /// Draws how long a lane's jobs wait in a band.
 fn put_wait(text: &mut Vec<u8>, span: &Span, band: &Band, cell: u32) -> io::Result<()> {
@@ -40,9 +42,11 @@ fn put_times_of(
     layout: &Layout,
 ) -> io::Result<()> {
     let (kind, job, task) = (row.whose.kind(), row.whose.job, row.whose.task);
-    let (release, due, last) = (row.release, row.due, row.last_in_time());
-    if scene.window.has(release) {
-        if let Some(spot) = layout.spot(release, row.whose) {
+    let last = row.last_in_time();
+    let release = scene.units.slots(u64::from(row.release));
+    let due = scene.units.slots(u64::from(row.due));
+    if scene.window.has(row.release) {
+        if let Some(spot) = layout.spot(row.release, row.whose) {
             let (x, y) = (spot.x, spot.y);
             writeln!(
                 text,
@@ -73,28 +77,37 @@ pub fn put_times(text: &mut Vec<u8>, scene: &Scene<'_>, layout: &Layout) -> io::
 }
 
 /// Tells what became of a job.
-fn put_end(text: &mut Vec<u8>, row: &Row) -> io::Result<()> {
+fn put_end(text: &mut Vec<u8>, row: &Row, units: Units) -> io::Result<()> {
     match row.end {
         End::Waiting => write!(text, "it waits"),
         End::Waived { .. } => write!(text, "waived"),
         End::Done { completion } => {
-            let lateness = i64::from(completion) - i64::from(row.due);
-            write!(text, "completed {completion}, lateness {lateness}")
+            let slots_late = i64::from(completion) - i64::from(row.due);
+            let completed = units.slots(u64::from(completion));
+            let lateness = Quantity::lateness(slots_late, units);
+            write!(text, "completed {completed}, lateness {lateness}")
         }
     }
 }
 
 /// Names the lane of a job.
-fn put_label(text: &mut Vec<u8>, row: &Row, y: u64, is_worst: bool) -> io::Result<()> {
+fn put_label(
+    text: &mut Vec<u8>,
+    row: &Row,
+    y: u64,
+    is_worst: bool,
+    units: Units,
+) -> io::Result<()> {
     let class = if is_worst { "l late" } else { "l" };
     let (x, y) = (LEFT.saturating_sub(8), y.saturating_add(13));
     let (kind, job, task) = (row.whose.kind(), row.whose.job, row.whose.task);
-    let (release, due) = (row.release, row.due);
+    let release = units.slots(u64::from(row.release));
+    let due = units.slots(u64::from(row.due));
     write!(
         text,
         "<text class=\"{class}\" x=\"{x}\" y=\"{y}\">{kind} {job}, task {task}<title>release {release}, due {due}, "
     )?;
-    put_end(text, row)?;
+    put_end(text, row, units)?;
     writeln!(text, "</title></text>")
 }
 
@@ -111,7 +124,7 @@ fn put_label_at(
         None => false,
     };
     match layout.spot(slot, row.whose) {
-        Some(spot) => put_label(text, row, spot.y, is_worst),
+        Some(spot) => put_label(text, row, spot.y, is_worst, scene.units),
         None => Ok(()),
     }
 }

@@ -10,6 +10,7 @@ use slot_types::Refusal;
 use std::alloc::Global;
 use std::io;
 use std::io::Write;
+use tool_slot_times::Units;
 
 /// Tells what waits past its deadline, and that the die had too much to do: since some slot it carried only work that was
 /// due no later.
@@ -18,10 +19,13 @@ fn put_overdue(
     die: usize,
     core: &DieCore<RunNand>,
     overdue: Overdue,
+    units: Units,
 ) -> io::Result<()> {
     let of = whose(core, overdue.job);
-    let (kind, job, task, slots) = (of.kind(), of.job, of.task, core.now());
-    let Overdue { due, late_by, .. } = overdue;
+    let (kind, job, task) = (of.kind(), of.job, of.task);
+    let slots = units.slots(u64::from(core.now()));
+    let due = units.slots(u64::from(overdue.due));
+    let late_by = units.slots(overdue.late_by);
     write!(text, "die {die} is overloaded: {kind} {job} (task {task}, ")?;
     write!(text, "due {due}) isn't done in {slots} slots, and will be ")?;
     writeln!(
@@ -48,14 +52,18 @@ fn put_cert(
     die: usize,
     core: &DieCore<RunNand>,
     cert: &Certificate,
+    units: Units,
 ) -> io::Result<()> {
-    let late = cert.completion.saturating_sub(cert.due);
-    if late == 0 {
+    let slots_late = cert.completion.saturating_sub(cert.due);
+    if slots_late == 0 {
         return Ok(());
     }
     let of = whose(core, cert.job);
-    let (kind, job, task, due) = (of.kind(), of.job, of.task, cert.due);
-    let (start, end) = (cert.start, cert.completion);
+    let (kind, job, task) = (of.kind(), of.job, of.task);
+    let due = units.slots(u64::from(cert.due));
+    let late = units.slots(u64::from(slots_late));
+    let start = units.slots(u64::from(cert.start));
+    let end = units.slots(u64::from(cert.completion));
     write!(text, "die {die}: {kind} {job} (task {task}, due {due}) ")?;
     write!(
         text,
@@ -70,13 +78,14 @@ fn put_worst(
     text: &mut Vec<u8>,
     die: usize,
     core: &DieCore<RunNand>,
+    units: Units,
 ) -> Result<(), Refusal>
     ensures { FailsForMemory result }
 {
     let Some(cert) = core.certificate(alloc)? else {
         return Ok(());
     };
-    match put_cert(text, die, core, &cert) {
+    match put_cert(text, die, core, &cert, units) {
         Ok(()) => Ok(()),
         Err(_) => Err(Refusal::NoMemory),
     }
@@ -88,14 +97,15 @@ pub fn put_lateness(
     text: &mut Vec<u8>,
     die: usize,
     run: &mut DieRun,
+    units: Units,
 ) -> Result<(), Refusal>
     ensures { FailsForMemory result }
 {
-    put_worst(alloc, text, die, &run.core)?;
+    put_worst(alloc, text, die, &run.core, units)?;
     let Some(overdue) = run.overdue() else {
         return Ok(());
     };
-    match put_overdue(text, die, &run.core, overdue) {
+    match put_overdue(text, die, &run.core, overdue, units) {
         Ok(()) => Ok(()),
         Err(_) => Err(Refusal::NoMemory),
     }

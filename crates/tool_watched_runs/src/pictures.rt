@@ -15,6 +15,7 @@ use slot_types::Refusal;
 use std::alloc::Global;
 use std::io;
 use std::io::Write;
+use tool_slot_times::Units;
 
 /// The job or collection with the greatest lateness, and the busy interval of its certificate.
 #[derive(Clone, Copy, Drop)]
@@ -42,6 +43,8 @@ pub struct Scene<'a> {
     pub worst: Option<Worst>,
     /// The slot in which the die failed, if it did: it was not carried out, nor was a later one.
     pub failed: Option<u32>,
+    /// In which units slots and pages are said.
+    pub units: Units,
 }
 
 /// Draws what is behind the cells.
@@ -56,7 +59,7 @@ fn put_back(
     put_legend(text)?;
     put_curves(text, series_in(&scene.window.levels))?;
     put_busy_interval(text, scene, layout)?;
-    put_rulers(text, layout)?;
+    put_rulers(text, scene.units, layout)?;
     put_levels(alloc, text, scene, layout)?;
     put_waits(text, layout)
 }

@@ -1,22 +1,28 @@
 //! Runs whose figures are printed.
 
-ghost use Rattle.std.specs.Prelude.{◌≡◌, ◌≤◌, ◌++◌, ◌∷◌, [], true, All, IfOk, OnOk, length, map};
+ghost use Rattle.std.specs.Prelude.{◌≡◌, ℕ, ◌≤◌, ◌++◌, ◌∷◌, [], List, Option, All, IfOk, OnOk, length, map};
 ghost use Rattle.std.specs.Box.{box_value};
 ghost use Rattle.slot_types.specs.Refusal.{FailsForMemory};
 ghost use Rattle.plan_rules.specs.Bound.{MeetsBound};
 ghost use Rattle.tool_run_figures.specs.Csv.{csv_text};
-ghost use Rattle.tool_script_runs.specs.RunningDies.{running_of};
+ghost use Rattle.tool_run_figures.specs.Tables.{table_text};
+ghost use Rattle.script_texts.specs.ScriptLeft.{dies_of, script_left, slots_of};
+ghost use Rattle.tool_script_runs.specs.RunningDies.{HasEmptyLog, running_of, starts_of};
+ghost use Rattle.tool_script_runs.specs.ScriptRuns.{script_in};
 ghost use Rattle.tool_watched_runs.specs.Ends.{end_in, ended_in, ends_of, refused_end, refused_ends};
 ghost use Rattle.tool_watched_runs.specs.Failing.{IsBeyond};
 ghost use Rattle.tool_watched_runs.specs.Figures.{AreFiguresOf, HaveFigures};
-ghost use Rattle.tool_watched_runs.specs.Runs.{IsReportOf, Tells, running};
+ghost use Rattle.tool_watched_runs.specs.ReportText.{AreTables, TellsFigures};
+ghost use Rattle.tool_watched_runs.specs.Runs.{IsReportFrom, IsReportOf, Tells, begun, running};
 
 use crate::die_runs::DieRun;
 use crate::failing::{FailAt, RunNand, check_failing};
 use crate::overloads::put_lateness;
-use crate::script_runs::{Ran, Reported, Sights, failure_of, run_store};
+use crate::script_runs::{Ran, Reported, Sights, failure_of, run_started};
+use crate::started_dies::{StartedDie, fresh_dies};
 use die_log::exact_keeps_limits;
 use late_cert::lateness;
+use script_texts::ScriptReader;
 use slot_core::{DieCore, Job, Stage};
 use slot_types::{JobNo, MAX_JOBS, MAX_SLOT, Refusal, StorePlan};
 use std::alloc::Global;
@@ -25,6 +31,7 @@ use tool_run_figures::{
     DieFigures, Ended, JobEnd, Life, Records, Wearing, put_csv, put_table, records_of,
 };
 use tool_script_runs::{RefusedRow, RefusedRows};
+use tool_slot_times::Units;
 
 /// What became of a job or a collection of this stage, of a die that carried out so many slots. One
 /// that waits can't be done before the end of the next slot.
@@ -110,7 +117,7 @@ fn figures_of(
     rows: &[RefusedRow],
     life: Life,
 ) -> Result<Records, Refusal>
-    ensures is { IfOk result (AreFiguresOf die rows.now (running_of (box_value run.now.core))) }
+    ensures is { IfOk result (AreFiguresOf die rows.now life (running_of (box_value run.now.core))) }
     ensures refused { FailsForMemory result }
 {
     run.core.promises();
@@ -142,7 +149,7 @@ fn all_figures(
     rows: &[RefusedRow],
     life: Life,
 ) -> Result<Vec<Records>, Refusal>
-    ensures is { IfOk result (λ all. HaveFigures rows.now (map running dies.now) all.items) }
+    ensures is { IfOk result (λ all. HaveFigures rows.now life (map running dies.now) all.items) }
     ensures refused { FailsForMemory result }
 {
     let mut all = Vec::new(alloc);
@@ -164,22 +171,56 @@ fn csv_of(alloc: Global, all: &[Records]) -> Result<Vec<u8>, Refusal>
     }
 }
 
+/// What is said below the table of a die: what was late, and why. The only refusal is NoMemory.
+fn lateness_of(
+    alloc: Global,
+    die: usize,
+    dies: &mut Vec<Box<DieRun>>,
+    units: Units,
+) -> Result<Vec<u8>, Refusal>
+    ensures { FailsForMemory result }
+{
+    let mut text = Vec::new(alloc);
+    if die < dies.len() {
+        put_lateness(alloc, &mut text, die, &mut dies[die], units)?;
+    }
+    Ok(text)
+}
+
+/// Adds the figures of a die as a table for eyes, and what is said below it. The only refusal is NoMemory.
+fn put_figures(
+    alloc: Global,
+    text: &mut Vec<u8>,
+    die: usize,
+    records: &Records,
+    said: &[u8],
+    units: Units,
+) -> Result<(), Refusal>
+    ensures ok { OnOk result
+        (text.new.items ≡ text.old.items ++ table_text die records.now units ++ said.now) }
+    ensures refused { FailsForMemory result }
+{
+    if put_table(alloc, text, die, records, units).is_err() {
+        return Err(Refusal::NoMemory);
+    }
+    text.extend_from_slice(said)?;
+    Ok(())
+}
+
 /// The figures of dies, as tables for eyes, and below each what was late, and why. The only refusal is NoMemory.
 fn tables_of(
     alloc: Global,
     all: &[Records],
     dies: &mut Vec<Box<DieRun>>,
+    units: Units,
 ) -> Result<Vec<u8>, Refusal>
-    ensures { FailsForMemory result }
+    ensures text { IfOk result (λ text. AreTables 0 units all.now text.items) }
+    ensures refused { FailsForMemory result }
 {
     let mut text = Vec::new(alloc);
     for die in 0..all.len() {
-        if put_table(alloc, &mut text, die, &all[die]).is_err() {
-            return Err(Refusal::NoMemory);
-        }
-        if die < dies.len() {
-            put_lateness(alloc, &mut text, die, &mut dies[die])?;
-        }
+        let said = lateness_of(alloc, die, dies, units)?;
+        put_figures(alloc, &mut text, die, &all[die], said.as_slice(), units)?;
     }
     Ok(text)
 }
@@ -189,15 +230,16 @@ fn text_of(
     alloc: Global,
     all: &[Records],
     dies: &mut Vec<Box<DieRun>>,
+    units: Units,
     as_csv: bool,
 ) -> Result<Vec<u8>, Refusal>
-    ensures text { IfOk result (λ text. as_csv ≡ true → text.items ≡ csv_text all.now) }
+    ensures text { IfOk result (λ text. TellsFigures as_csv units all.now text.items) }
     ensures refused { FailsForMemory result }
 {
     if as_csv {
         csv_of(alloc, all)
     } else {
-        tables_of(alloc, all, dies)
+        tables_of(alloc, all, dies, units)
     }
 }
 
@@ -206,15 +248,16 @@ fn reported(
     alloc: Global,
     ran: Ran,
     life: Life,
+    units: Units,
     as_csv: bool,
     fail: Option<FailAt>,
 ) -> Result<Reported, Refusal>
-    ensures { IfOk result (Tells ran.dies.items ran.refused.items as_csv fail) }
+    ensures { IfOk result (Tells ran.dies.items ran.refused.items life units as_csv fail) }
 {
     let Ran { mut dies, refused } = ran;
     let figures = all_figures(alloc, &dies, &refused, life)?;
     let failure = failure_of(fail, dies.as_slice());
-    let text = text_of(alloc, &figures, &mut dies, as_csv)?;
+    let text = text_of(alloc, &figures, &mut dies, units, as_csv)?;
     Ok(Reported {
         text,
         refused: RefusedRows::of(&refused),
@@ -223,18 +266,48 @@ fn reported(
     })
 }
 
-/// Runs a script on a store of dies in memory, and tells what it came to, by die and task: as a table for eyes, or as
-/// CSV. With an endurance and the length of a slot above 0, it tells when a block will be worn out. One device may be to
-/// fail: its die stays in that slot, and refuses all later rows.
+/// Runs a script on dies that were started, and tells what it came to, by die and task: as a table for eyes, or as CSV.
+/// With an endurance and the length of a slot above 0, it tells how long blocks last. For eyes each number of slots is
+/// followed by its time, and each of pages by how many bytes a second that is, where the units are known. The device that
+/// is to fail is that of a started die: its die stays in that slot, and refuses all later rows. The script is lent, since a
+/// reader is large to free where a row stops the run.
 ///
-/// Refused with UnknownDie where there is no such die; with the first fault of the script, as
-/// [`ScriptReader`](script_texts::ScriptReader) tells it; or with ReadFault or NoMemory.
+/// Refused with the first fault of the script, as [`ScriptReader`](script_texts::ScriptReader) tells it; or with ReadFault
+/// or NoMemory.
+pub fn report_of<R: Read + Drop>(
+    alloc: Global,
+    script: &mut ScriptReader<R>,
+    dies: Vec<StartedDie>,
+    slots: u32,
+    life: Life,
+    units: Units,
+    as_csv: bool,
+    fail: Option<FailAt>,
+) -> Result<Reported, Refusal>
+    requires few { slots ≤ MAX_SLOT }
+    requires slots { slots_of script.old ≡ slots }
+    requires dies { dies_of script.old ≡ length dies.items }
+    requires empty { All HasEmptyLog (map begun dies.items) }
+    ensures ran { (text : Option (List ℕ)) →
+        script_left R.remaining script.old ≡ script_in (length dies.items) slots text →
+        IfOk result (λ reported.
+        IsReportFrom (starts_of (map begun dies.items)) text slots life units as_csv fail reported) }
+{
+    let ran = run_started(alloc, script, dies, slots)?;
+    reported(alloc, ran, life, units, as_csv, fail)
+}
+
+/// Runs a script on a store of fresh dies in memory, and tells what it came to, as [`report_of`] does. One device may be to
+/// fail.
+///
+/// Refused with UnknownDie where there is no such die; else as there.
 pub fn report<R: Read + Drop>(
     alloc: Global,
     plan: StorePlan,
     script: R,
     slots: u32,
     life: Life,
+    units: Units,
     as_csv: bool,
     fail: Option<FailAt>,
 ) -> Result<Reported, Refusal>
@@ -242,9 +315,10 @@ pub fn report<R: Read + Drop>(
     requires bound { All MeetsBound plan }
     ensures unknown { IsBeyond fail (length plan) → result ≡ Err Refusal.UnknownDie }
     ensures ran { IfOk result (λ reported.
-        IsReportOf plan (R.remaining script) slots fail as_csv reported) }
+        IsReportOf plan (R.remaining script) slots life units as_csv fail reported) }
 {
     check_failing(fail, plan.len())?;
-    let ran = run_store(alloc, plan, script, slots, fail)?;
-    reported(alloc, ran, life, as_csv, fail)
+    let mut script = ScriptReader::new(alloc, script, &plan, slots)?;
+    let dies = fresh_dies(alloc, plan, fail)?;
+    report_of(alloc, &mut script, dies, slots, life, units, as_csv, fail)
 }

@@ -6,6 +6,7 @@ use crate::layouts::{Band, CURVES, LANE, LEFT, Layout, RULER, SPAN};
 use crate::pictures::{Scene, Worst};
 use std::io;
 use std::io::Write;
+use tool_slot_times::Units;
 
 /// Shades every other lane of a band.
 fn put_stripes(text: &mut Vec<u8>, band: &Band, cell: u32) -> io::Result<()> {
@@ -43,19 +44,29 @@ fn width_of(slot: u32) -> u64 {
     digits.saturating_mul(6).saturating_add(6)
 }
 
+/// Draws the number of a slot at its tick, with its time where it is known how long a slot is, and answers how wide it is,
+/// with a margin.
+fn put_number(text: &mut Vec<u8>, x: u64, y: u64, slot: u32, units: Units) -> io::Result<u64> {
+    write!(text, "<text class=\"n\" x=\"{x}\" y=\"{y}\">")?;
+    let before = text.len();
+    let at = units.slots(u64::from(slot));
+    write!(text, "{at}")?;
+    let signs = text.len().saturating_sub(before) as u64;
+    write!(text, "</text>")?;
+    Ok(signs.saturating_mul(6).saturating_add(6))
+}
+
 /// Draws the tick of a slot, without its number.
 fn put_tick(text: &mut Vec<u8>, band: &Band, x: u64) -> io::Result<()> {
     let (top, below) = (band.top.saturating_add(RULER), band.bottom());
     write!(text, "<path class=\"tick\" d=\"M{x},{top}V{below}\"/>")
 }
 
-/// Draws the ticks of a band, and the numbers of those that have room for one after the number of the first.
-fn put_ticks(text: &mut Vec<u8>, band: &Band, cell: u32) -> io::Result<()> {
+/// Draws the ticks of a band, and the numbers of those that have room for one after the number before.
+fn put_ticks(text: &mut Vec<u8>, band: &Band, cell: u32, units: Units) -> io::Result<()> {
     let every = tick_of(cell);
     let y = band.top.saturating_add(11);
-    let free = band
-        .x_of(band.first, cell)
-        .saturating_add(width_of(band.end));
+    let mut free: u64 = 0;
     for slot in band.first..band.end.saturating_add(1) {
         if slot % every != 0 && slot != band.first {
             continue;
@@ -63,7 +74,8 @@ fn put_ticks(text: &mut Vec<u8>, band: &Band, cell: u32) -> io::Result<()> {
         let x = band.x_of(slot, cell);
         put_tick(text, band, x)?;
         if slot == band.first || x >= free {
-            write!(text, "<text class=\"n\" x=\"{x}\" y=\"{y}\">{slot}</text>")?;
+            let wide = put_number(text, x, y, slot, units)?;
+            free = x.saturating_add(wide.max(width_of(band.end)));
         }
         writeln!(text)?;
     }
@@ -78,16 +90,22 @@ fn put_axis(text: &mut Vec<u8>, band: &Band) -> io::Result<()> {
 }
 
 /// Draws the axes and the ticks of all bands.
-pub fn put_rulers(text: &mut Vec<u8>, layout: &Layout) -> io::Result<()> {
+pub fn put_rulers(text: &mut Vec<u8>, units: Units, layout: &Layout) -> io::Result<()> {
     for band in &layout.bands {
         put_axis(text, band)?;
-        put_ticks(text, band, layout.cell)?;
+        put_ticks(text, band, layout.cell, units)?;
     }
     Ok(())
 }
 
 /// Shades the busy interval of the worst in a band.
-fn put_part(text: &mut Vec<u8>, worst: &Worst, band: &Band, cell: u32) -> io::Result<()> {
+fn put_part(
+    text: &mut Vec<u8>,
+    worst: &Worst,
+    band: &Band,
+    cell: u32,
+    units: Units,
+) -> io::Result<()> {
     let (first, end) = (worst.start.max(band.first), worst.completion.min(band.end));
     if first >= end {
         return Ok(());
@@ -96,7 +114,9 @@ fn put_part(text: &mut Vec<u8>, worst: &Worst, band: &Band, cell: u32) -> io::Re
     let width = band.x_of(end, cell).saturating_sub(x);
     let height = band.bottom().saturating_sub(y);
     let (kind, job) = (worst.whose.kind(), worst.whose.job);
-    let (start, completion, due) = (worst.start, worst.completion, worst.due);
+    let start = units.slots(u64::from(worst.start));
+    let completion = units.slots(u64::from(worst.completion));
+    let due = units.slots(u64::from(worst.due));
     writeln!(
         text,
         "<rect class=\"busy_interval\" x=\"{x}\" y=\"{y}\" width=\"{width}\" height=\"{height}\"><title>certificate of {kind} {job}: \
@@ -109,14 +129,21 @@ pub fn put_busy_interval(text: &mut Vec<u8>, scene: &Scene<'_>, layout: &Layout)
     for band in &layout.bands {
         put_stripes(text, band, layout.cell)?;
         if let Some(worst) = &scene.worst {
-            put_part(text, worst, band, layout.cell)?;
+            put_part(text, worst, band, layout.cell, scene.units)?;
         }
     }
     Ok(())
 }
 
 /// Draws where a die failed: a line before the slot, and a word beside it where there is room.
-fn put_failed(text: &mut Vec<u8>, band: &Band, slot: u32, cell: u32) -> io::Result<()> {
+fn put_failed(
+    text: &mut Vec<u8>,
+    band: &Band,
+    slot: u32,
+    cell: u32,
+    units: Units,
+) -> io::Result<()> {
+    let at = units.slots(u64::from(slot));
     let (x, top) = (band.x_of(slot, cell), band.top.saturating_add(RULER));
     let bottom = band.bottom().saturating_add(CURVES).saturating_sub(4);
     let y = bottom.saturating_sub(4);
@@ -128,7 +155,7 @@ fn put_failed(text: &mut Vec<u8>, band: &Band, slot: u32, cell: u32) -> io::Resu
     };
     writeln!(
         text,
-        "<path class=\"failed\" d=\"M{x},{top}V{bottom}\"><title>the die failed in slot {slot}</title></path><text \
+        "<path class=\"failed\" d=\"M{x},{top}V{bottom}\"><title>the die failed in slot {at}</title></path><text \
          class=\"{class}\" x=\"{beside}\" y=\"{y}\">failed</text>"
     )
 }
@@ -139,7 +166,7 @@ pub fn put_failure(text: &mut Vec<u8>, scene: &Scene<'_>, layout: &Layout) -> io
         return Ok(());
     };
     match layout.band_at(slot) {
-        Some(band) => put_failed(text, band, slot, layout.cell),
+        Some(band) => put_failed(text, band, slot, layout.cell, scene.units),
         None => Ok(()),
     }
 }

@@ -1,19 +1,19 @@
 //! Scripts that are run, row by row, on dies whose devices are in memory.
 
-ghost use Rattle.std.specs.Prelude.{◌≡◌, ◌≤◌, ◌++◌, ◌∷◌, [], false, All, length, map, IfOk, OnOk};
+ghost use Rattle.std.specs.Prelude.{◌≡◌, ℕ, ◌≤◌, ◌++◌, ◌∷◌, [], List, Option, false, All, length, map, IfOk, OnOk};
 ghost use Rattle.std.specs.Box.{box_value};
 ghost use Rattle.plan_rules.specs.Bound.{MeetsBound};
-ghost use Rattle.die_log.specs.Model.Start.{fresh};
 ghost use Rattle.slot_types.specs.Refusal.{FailsForMemory};
 ghost use Rattle.script_texts.specs.ScriptLeft.{dies_of, script_left, slots_of};
 ghost use Rattle.tool_script_runs.specs.RunningDies.{HasEmptyLog, starts_of};
-ghost use Rattle.tool_script_runs.specs.ScriptRuns.{IsRunOf, RanScript};
-ghost use Rattle.tool_watched_runs.specs.Runs.{core_of, failure_among, running, worn_of};
+ghost use Rattle.tool_script_runs.specs.ScriptRuns.{IsRunOf, script_in};
+ghost use Rattle.tool_watched_runs.specs.Runs.{begun, core_of, failure_among, running, worn_of};
 ghost use Rattle.tool_watched_runs.specs.Wear.{IsWorn, IsWornWell};
-ghost use Rattle.tool_watched_runs.specs.WearText.{IsWearText};
+ghost use Rattle.tool_watched_runs.specs.WearText.{IsWearFrom, IsWearText};
 
 use crate::die_runs::DieRun;
-use crate::failing::{FailAt, Failure, calls_of, failure_in};
+use crate::failing::{FailAt, Failure, failure_in};
+use crate::started_dies::{StartedDie, fresh_dies};
 use crate::{Tally, wear_text};
 use script_texts::ScriptReader;
 use slot_types::{MAX_SLOT, Refusal, StorePlan};
@@ -64,26 +64,20 @@ pub fn push_run(dies: &mut Vec<Box<DieRun>>, run: Box<DieRun>) -> Result<(), Ref
     Ok(())
 }
 
-/// A fresh die for each plan, on a device that makes all calls well, but for one that is to fail. The only refusal is
-/// NoMemory.
-fn fresh_dies(
-    alloc: Global,
-    plan: StorePlan,
-    fail: Option<FailAt>,
-) -> Result<Vec<Box<DieRun>>, Refusal>
-    requires { All MeetsBound plan }
-    ensures starts { IfOk result (λ dies. starts_of (map running dies.items) ≡ map fresh plan) }
-    ensures empty { IfOk result (λ dies. All HasEmptyLog (map running dies.items)) }
+/// Dies that are watched while they run: those that were started. The only refusal is NoMemory.
+fn watched(alloc: Global, dies: Vec<StartedDie>) -> Result<Vec<Box<DieRun>>, Refusal>
+    requires { All HasEmptyLog (map begun dies.items) }
+    ensures same { IfOk result (λ runs. map running runs.items ≡ map begun dies.items) }
+    ensures refused { FailsForMemory result }
 {
-    let mut dies = Vec::new(alloc);
+    let mut runs = Vec::new(alloc);
     let mut die: u32 = 0;
-    for plan in plan.into_vec() {
-        let calls = calls_of(fail, die);
-        let run = DieRun::boxed(alloc, die, plan, calls, (0, 0))?;
-        push_run(&mut dies, run)?;
+    for started in dies {
+        let run = DieRun::boxed(alloc, die, started, (0, 0))?;
+        push_run(&mut runs, run)?;
         die = die.saturating_add(1);
     }
-    Ok(dies)
+    Ok(runs)
 }
 
 /// What became of the device that was to fail; none where none was, or its die isn't one of these.
@@ -95,47 +89,32 @@ pub fn failure_of(fail: Option<FailAt>, dies: &[Box<DieRun>]) -> Option<Failure>
     Some(failure_in(at, &run.core))
 }
 
-/// Runs a script on fresh dies, as [`run_store`] does. It is lent, since a reader is large to free where a row stops the
+/// Runs a script on dies that were started. The script is lent, since a reader is large to free where a row stops the
 /// run.
-fn run_lent<R: Read + Drop>(
+///
+/// Refused with the first fault of the script, as [`ScriptReader`] says it; or with ReadFault or NoMemory.
+pub fn run_started<R: Read + Drop>(
     alloc: Global,
     script: &mut ScriptReader<R>,
-    plan: StorePlan,
+    dies: Vec<StartedDie>,
     slots: u32,
-    fail: Option<FailAt>,
 ) -> Result<Ran, Refusal>
     requires few { slots ≤ MAX_SLOT }
     requires slots { slots_of script.old ≡ slots }
-    requires dies { dies_of script.old ≡ length plan }
-    requires bound { All MeetsBound plan }
-    ensures starts { IfOk result (λ ran. starts_of (map running ran.dies.items) ≡ map fresh plan) }
-    ensures ran { IfOk result (λ ran.
-        RanScript (script_left R.remaining script.old) slots ran.refused.items
+    requires dies { dies_of script.old ≡ length dies.items }
+    requires empty { All HasEmptyLog (map begun dies.items) }
+    ensures { (text : Option (List ℕ)) →
+        script_left R.remaining script.old ≡ script_in (length dies.items) slots text →
+        IfOk result (λ ran.
+        IsRunOf (starts_of (map begun dies.items)) text slots ran.refused.items
         (map running ran.dies.items)) }
 {
-    let mut dies = fresh_dies(alloc, plan, fail)?;
-    let refused = run_dies(alloc, script, &mut dies, slots)?;
-    Ok(Ran { dies, refused })
-}
-
-/// Runs a script on a store of fresh dies, of which one's device may be to fail.
-///
-/// Refused with the first fault of the script, as [`ScriptReader`] says it; or with ReadFault or NoMemory.
-pub fn run_store<R: Read + Drop>(
-    alloc: Global,
-    plan: StorePlan,
-    script: R,
-    slots: u32,
-    fail: Option<FailAt>,
-) -> Result<Ran, Refusal>
-    requires few { slots ≤ MAX_SLOT }
-    requires bound { All MeetsBound plan }
-    ensures { IfOk result (λ ran.
-        IsRunOf (map fresh plan) (R.remaining script) slots ran.refused.items
-        (map running ran.dies.items)) }
-{
-    let mut script = ScriptReader::new(alloc, script, &plan, slots)?;
-    run_lent(alloc, &mut script, plan, slots, fail)
+    let mut runs = watched(alloc, dies)?;
+    let refused = run_dies(alloc, script, &mut runs, slots)?;
+    Ok(Ran {
+        dies: runs,
+        refused,
+    })
 }
 
 /// What a die wore, which is given up. DeviceFault where its device has failed, and nothing else.
@@ -174,11 +153,41 @@ fn tallies_of(alloc: Global, dies: Vec<Box<DieRun>>) -> Result<Vec<Tally>, Refus
     Ok(tallies)
 }
 
-/// Runs a script on a store of dies in memory, and reports what it wore, as a text of records: the counts are those of
-/// the logs of dies that began fresh by these plans, and ran the whole script and so many slots.
+/// Runs a script on dies that were started, and reports what it wore, as a text of records: the counts are those of the
+/// dies' logs. The script is lent, since a reader is large to free where a row stops the run.
 ///
-/// Refused with the first fault of the script, as [`ScriptReader`] says it; with DeviceFault where a device has failed,
-/// which none in memory does; or with ReadFault or NoMemory.
+/// Refused with the first fault of the script, as [`ScriptReader`] says it; with DeviceFault where a device has failed; or
+/// with ReadFault or NoMemory.
+pub fn wear_of<R: Read + Drop>(
+    alloc: Global,
+    script: &mut ScriptReader<R>,
+    dies: Vec<StartedDie>,
+    slots: u32,
+) -> Result<Reported, Refusal>
+    requires few { slots ≤ MAX_SLOT }
+    requires slots { slots_of script.old ≡ slots }
+    requires dies { dies_of script.old ≡ length dies.items }
+    requires empty { All HasEmptyLog (map begun dies.items) }
+    ensures text { (text : Option (List ℕ)) →
+        script_left R.remaining script.old ≡ script_in (length dies.items) slots text →
+        IfOk result (λ reported.
+        IsWearFrom (starts_of (map begun dies.items)) text slots reported.refused
+        reported.text.items) }
+{
+    let Ran { dies, refused } = run_started(alloc, script, dies, slots)?;
+    let counts = RefusedRows::of(&refused);
+    let tallies = tallies_of(alloc, dies)?;
+    let text = wear_text(alloc, &tallies)?;
+    Ok(Reported {
+        text,
+        refused: counts,
+        sights: Sights::NONE,
+        failure: None,
+    })
+}
+
+/// Runs a script on a store of fresh dies in memory, and reports what it wore, as [`wear_of`] does. It is refused as there;
+/// no device in memory fails.
 pub fn wear<R: Read + Drop>(
     alloc: Global,
     plan: StorePlan,
@@ -190,14 +199,7 @@ pub fn wear<R: Read + Drop>(
     ensures text { IfOk result (λ reported.
         IsWearText plan (R.remaining script) slots reported.refused reported.text.items) }
 {
-    let Ran { dies, refused } = run_store(alloc, plan, script, slots, None)?;
-    let counts = RefusedRows::of(&refused);
-    let tallies = tallies_of(alloc, dies)?;
-    let text = wear_text(alloc, &tallies)?;
-    Ok(Reported {
-        text,
-        refused: counts,
-        sights: Sights::NONE,
-        failure: None,
-    })
+    let mut script = ScriptReader::new(alloc, script, &plan, slots)?;
+    let dies = fresh_dies(alloc, plan, None)?;
+    wear_of(alloc, &mut script, dies, slots)
 }

@@ -3,6 +3,8 @@
 use crate::pictures::{Scene, Worst};
 use std::io;
 use std::io::Write;
+use tool_run_figures::Quantity;
+use tool_slot_times::Units;
 
 /// A noun, as it stands after a number.
 fn noun(count: u32, one: &'static str, many: &'static str) -> &'static str {
@@ -23,7 +25,8 @@ fn put_failed(text: &mut Vec<u8>, scene: &Scene<'_>) -> io::Result<()> {
     let Some(slot) = scene.failed else {
         return Ok(());
     };
-    write!(text, "; it failed in slot {slot}")?;
+    let at = scene.units.slots(u64::from(slot));
+    write!(text, "; it failed in slot {at}")?;
     if slot < scene.window.from {
         write!(text, ", before these")?;
     }
@@ -32,10 +35,15 @@ fn put_failed(text: &mut Vec<u8>, scene: &Scene<'_>) -> io::Result<()> {
 
 /// Says which slots of which die are shown. The one in which it failed counts as one of its slots.
 pub fn put_title(text: &mut Vec<u8>, scene: &Scene<'_>) -> io::Result<()> {
-    let (from, to) = (scene.window.from, scene.window.to);
-    let slots = scene
+    let units = scene.units;
+    let (from, to) = (
+        units.slots(u64::from(scene.window.from)),
+        units.slots(u64::from(scene.window.to)),
+    );
+    let count = scene
         .slots
         .saturating_add(u32::from(scene.failed.is_some()));
+    let slots = units.slots(u64::from(count));
     put_die(text, scene)?;
     write!(text, ", slots {from} to {to} of {slots}")?;
     put_failed(text, scene)
@@ -43,10 +51,12 @@ pub fn put_title(text: &mut Vec<u8>, scene: &Scene<'_>) -> io::Result<()> {
 
 /// Tells the counts of the whole run.
 pub fn put_counts(text: &mut Vec<u8>, scene: &Scene<'_>) -> io::Result<()> {
-    let slots = scene.slots;
-    let (written, copied, erased) = (scene.tally.written, scene.tally.copied, scene.tally.erased);
-    let in_slots = noun(slots, "slot", "slots");
-    let pages = noun(written, "page", "pages");
+    let (count, units) = (scene.slots, scene.units);
+    let (slots, erased) = (units.slots(u64::from(count)), scene.tally.erased);
+    let written = Quantity::pages(scene.tally.written, count, units);
+    let copied = Quantity::pages(scene.tally.copied, count, units);
+    let in_slots = noun(count, "slot", "slots");
+    let pages = noun(scene.tally.written, "page", "pages");
     let blocks = noun(erased, "block", "blocks");
     write!(
         text,
@@ -55,10 +65,12 @@ pub fn put_counts(text: &mut Vec<u8>, scene: &Scene<'_>) -> io::Result<()> {
 }
 
 /// Tells a worst one, and the busy interval of its certificate.
-fn put_worst(text: &mut Vec<u8>, worst: &Worst) -> io::Result<()> {
+fn put_worst(text: &mut Vec<u8>, worst: &Worst, units: Units) -> io::Result<()> {
     let (kind, job, task) = (worst.whose.kind(), worst.whose.job, worst.whose.task);
-    let (start, due) = (worst.start, worst.due);
-    let (completion, lateness) = (worst.completion, worst.lateness);
+    let start = units.slots(u64::from(worst.start));
+    let due = units.slots(u64::from(worst.due));
+    let completion = units.slots(u64::from(worst.completion));
+    let lateness = Quantity::lateness(worst.lateness, units);
     write!(
         text,
         "Worst: {kind} {job} of task {task}, due {due}, completed {completion}, lateness {lateness}; from slot {start} on each \
@@ -69,7 +81,7 @@ fn put_worst(text: &mut Vec<u8>, worst: &Worst) -> io::Result<()> {
 /// Tells the worst one, if something is done.
 pub fn put_worst_of(text: &mut Vec<u8>, scene: &Scene<'_>) -> io::Result<()> {
     match &scene.worst {
-        Some(worst) => put_worst(text, worst),
+        Some(worst) => put_worst(text, worst, scene.units),
         None => write!(text, "Nothing is done."),
     }
 }

@@ -13,6 +13,7 @@ use slot_types::Refusal;
 use std::alloc::Global;
 use std::io;
 use std::io::Write;
+use tool_slot_times::{Time, Units};
 
 /// How wide the names of lanes are at least, with the blank after them.
 const NAMES: usize = 32;
@@ -186,10 +187,35 @@ fn put_ruler(text: &mut Vec<u8>, band: &Band, width: usize) -> io::Result<()> {
     writeln!(text)
 }
 
+/// Adds the times of these slots, each from its column on where there is room for it, where it is known how long a slot
+/// is.
+fn put_times(text: &mut Vec<u8>, band: &Band, width: usize, units: Units) -> io::Result<()> {
+    let Some(slot_us) = units.slot_us else {
+        return Ok(());
+    };
+    let start = text.len();
+    write!(text, "time")?;
+    put_blanks_after(text, start, width)?;
+    let left = text.len();
+    for slot in band.first..band.end {
+        let (used, column) = (
+            text.len().saturating_sub(left),
+            slot.saturating_sub(band.first) as usize,
+        );
+        if slot % 10 == 0 && (used == 0 || used < column) {
+            put_blanks_after(text, left, column)?;
+            let us = u128::from(slot) * u128::from(slot_us);
+            let time = Time { us };
+            write!(text, "{time}")?;
+        }
+    }
+    writeln!(text)
+}
+
 /// Names a job.
-fn put_job_name(text: &mut Vec<u8>, row: &Row) -> io::Result<()> {
+fn put_job_name(text: &mut Vec<u8>, row: &Row, units: Units) -> io::Result<()> {
     let Whose { job, task, .. } = row.whose;
-    let (kind, due) = (row.whose.kind(), row.due);
+    let (kind, due) = (row.whose.kind(), units.slots(u64::from(row.due)));
     write!(text, "{kind} {job}, task {task}, due {due}")
 }
 
@@ -197,7 +223,7 @@ fn put_job_name(text: &mut Vec<u8>, row: &Row) -> io::Result<()> {
 fn put_job_lane(text: &mut Vec<u8>, key: u32, scene: &Scene<'_>) -> io::Result<()> {
     let place = scene.rows.partition_point(|row| row.whose.job < key);
     match scene.rows.get(place) {
-        Some(row) if row.whose.job == key => put_job_name(text, row),
+        Some(row) if row.whose.job == key => put_job_name(text, row, scene.units),
         _ => Ok(()),
     }
 }
@@ -234,7 +260,7 @@ fn width_of(alloc: Global, layout: &Layout, scene: &Scene<'_>) -> io::Result<usi
     let mut name = Vec::new(alloc);
     for row in scene.rows {
         name.clear();
-        put_job_name(&mut name, row)?;
+        put_job_name(&mut name, row, scene.units)?;
         width = width.max(name.len().saturating_add(1));
     }
     Ok(width)
@@ -270,6 +296,7 @@ fn put_band(
 ) -> io::Result<()> {
     text.push(b'\n')?;
     put_ruler(text, band, width)?;
+    put_times(text, band, width, scene.units)?;
     for lane in 0..band.keys.len() {
         put_name(text, band.keys[lane], layout, scene, width)?;
         text.write_all(grid.lane(lane))?;

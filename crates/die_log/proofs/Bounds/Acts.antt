@@ -19,7 +19,7 @@ use Rattle.die_log.specs.Invariants.SoundCells.{AreSoundCells, IsClosed, MayRead
 use Rattle.die_log.specs.Invariants.TrueAccounts.{reserve_full}
 use Rattle.die_log.proofs.Cells.Collections.{last_push, is_block_says}
 use Rattle.die_log.proofs.Cells.Steps.{open_is}
-use Rattle.die_log.proofs.Standing.Quiet.{runs_with, runs_says}
+use Rattle.die_log.proofs.LogInvariants.AfterNoAct.{runs_with, runs_says}
 use Rattle.die_log.proofs.Tokens.Sums.{one_if}
 use Rattle.die_log.proofs.Tokens.Copying.{set_fewer, set_less, other_block, program_by, placed_at, some_valid}
 

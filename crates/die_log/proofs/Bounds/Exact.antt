@@ -26,10 +26,10 @@ use Rattle.die_log.proofs.Legality.{entry, exact_induction}
 use Rattle.die_log.proofs.Collecting.{no_acts}
 use Rattle.die_log.proofs.Choices.{OfSome}
 use Rattle.die_log.proofs.Cells.Steps.{opens}
-use Rattle.die_log.proofs.Standing.Finds.{FindsBy}
-use Rattle.die_log.proofs.Standing.Longer.{IsWaiting, waits, stands_at, same_job, act_own, act_other, acts_stay, acts_grow, victim_stays}
-use Rattle.die_log.proofs.Standing.Actors.{IsBegun, runs_from, collection_may, act_shows}
-use Rattle.die_log.proofs.Standing.Kept.{waiting_undone}
+use Rattle.die_log.proofs.LogInvariants.CellsFromAccounts.{FindsBy}
+use Rattle.die_log.proofs.LogInvariants.OneMoreEntry.{IsWaiting, waits, stands_at, same_job, act_own, act_other, acts_stay, acts_grow, victim_stays}
+use Rattle.die_log.proofs.LogInvariants.HeadActs.{IsBegun, runs_from, collection_may, act_shows}
+use Rattle.die_log.proofs.LogInvariants.EveryLog.{waiting_undone}
 use Rattle.die_log.proofs.Legal.Exact.{StandsWell, stands_well, well_served, chosen_is, event_finds, victim_begun, has_pages, has_slots}
 use Rattle.die_log.proofs.Tokens.Waivers.{Waits}
 use Rattle.die_log.proofs.Tokens.Slots.{IsTurn}

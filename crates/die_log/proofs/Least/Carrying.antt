@@ -22,7 +22,7 @@ use Rattle.die_log.specs.Model.Work as status
 use Rattle.die_log.specs.Results.Legal.{is_among, NothingWaits}
 use Rattle.die_log.specs.Invariants.RunningCollections.{AreNumbered}
 use Rattle.die_log.specs.Model.Rows.{row_for, rows, carried_numbers}
-use Rattle.die_log.proofs.Standing.Longer.{act_own, act_other, acts_stay, acts_grow, contained, number_at}
+use Rattle.die_log.proofs.LogInvariants.OneMoreEntry.{act_own, act_other, acts_stay, acts_grow, contained, number_at}
 use Rattle.die_log.proofs.Tokens.Waivers.{Waits}
 use Rattle.die_log.proofs.Tokens.Slots.{slot_entry}
 use Rattle.die_log.proofs.Least.Lookups.{rows_by, row_in, rows_rise, row_at}

@@ -26,7 +26,7 @@ use Rattle.die_log.specs.Model.Rows.{row_for, rows, carried_numbers, certificate
 use Rattle.die_log.proofs.Legality.{entry, exact_induction}
 use Rattle.die_log.proofs.Known.{all_append}
 use Rattle.die_log.proofs.Choices.{OfSome}
-use Rattle.die_log.proofs.Standing.Longer.{stands_at}
+use Rattle.die_log.proofs.LogInvariants.OneMoreEntry.{stands_at}
 use Rattle.die_log.proofs.Legal.Exact.{stands_well, has_slots}
 use Rattle.die_log.proofs.Least.Lookups.{row_in, row_at}
 use Rattle.die_log.proofs.Least.Worst.{worst_stands}

@@ -27,8 +27,8 @@ use Rattle.die_log.proofs.Exact.{moment_exact}
 use Rattle.die_log.proofs.Legality.{entry, in_time, exact_induction}
 use Rattle.die_log.proofs.Choices.{OfSome}
 use Rattle.die_log.proofs.Heads.{IsPassed, NotBefore}
-use Rattle.die_log.proofs.Standing.Longer.{IsWaiting, waits}
-use Rattle.die_log.proofs.Standing.Finds.{FindsVictim}
+use Rattle.die_log.proofs.LogInvariants.OneMoreEntry.{IsWaiting, waits}
+use Rattle.die_log.proofs.LogInvariants.CellsFromAccounts.{FindsVictim}
 use Rattle.die_log.proofs.Legal.Runs.{head_has_act, all_passed_ready, nothing_waits}
 use Rattle.die_log.proofs.Legal.Exact.{StandsWell, stands_well, well_served, chosen_is, finds_victim, has_slots}
 use Rattle.die_log.proofs.Tokens.Waivers.{Waits}

@@ -15,7 +15,7 @@ use Rattle.die_log.specs.Model.Answers.{IsExact}
 use Rattle.die_log.specs.Invariants.RunningCollections.{AreNumbered}
 use Rattle.die_log.specs.Model.Rows.{row_for, rows, carried_numbers}
 use Rattle.die_log.proofs.Collecting.{no_acts, not_waived}
-use Rattle.die_log.proofs.Standing.Longer.{numbered_push, at_end, elsewhere}
+use Rattle.die_log.proofs.LogInvariants.OneMoreEntry.{numbered_push, at_end, elsewhere}
 use Rattle.die_log.proofs.Least.Lookups.{rows_by, row_in, Named, rows_rise, row_at}
 use Rattle.die_log.proofs.Least.Steps.{IsNew, IsKept, accepts_by}
 use Rattle.die_log.specs.Model.Start.{Start}

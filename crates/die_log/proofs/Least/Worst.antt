@@ -10,7 +10,7 @@ use Rattle.slot_types.specs.declared.plans.DiePlan.{DiePlan}
 use Rattle.die_log.specs.Model.Log.{Log, Job, jobs}
 use Rattle.die_log.specs.Model.Work.{is_done, is_worse, worst, completion, IsWorst}
 use Rattle.die_log.proofs.Choices.{OfSome}
-use Rattle.die_log.proofs.Standing.Longer.{kept_both, best_all}
+use Rattle.die_log.proofs.LogInvariants.OneMoreEntry.{kept_both, best_all}
 use Rattle.die_log.proofs.Legal.Runs.{kept_in}
 
 -- below, a job by its completion, its deadline and its number

@@ -23,9 +23,9 @@ use Rattle.die_log.specs.Results.Legal.{FindsFree, IsLegalAct}
 use Rattle.die_log.specs.Invariants.SoundCells.{MayDo, MayEraseSlot}
 use Rattle.die_log.specs.Invariants.RunningCollections.{RunsOnBlock, KeepsJobsAndCells}
 use Rattle.die_log.proofs.Choices.{OfSome, names_waiting}
-use Rattle.die_log.proofs.Standing.Longer.{stands_at, kept_both, IsWaiting}
-use Rattle.die_log.proofs.Standing.Actors.{IsBegun, runs_from, act_shows, job_act, collection_may}
-use Rattle.die_log.proofs.Standing.Kept.{waiting_undone}
+use Rattle.die_log.proofs.LogInvariants.OneMoreEntry.{stands_at, kept_both, IsWaiting}
+use Rattle.die_log.proofs.LogInvariants.HeadActs.{IsBegun, runs_from, act_shows, job_act, collection_may}
+use Rattle.die_log.proofs.LogInvariants.EveryLog.{waiting_undone}
 use Rattle.die_log.specs.Model.Start.{Start}
 
 -- Operations

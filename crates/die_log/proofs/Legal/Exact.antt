@@ -18,21 +18,21 @@ use Rattle.die_log.specs.Model.Answers.{IsExact, reply_if_accepted, refusals, ac
 use Rattle.die_log.specs.Results.Legal.{IsLegal}
 use Rattle.die_log.specs.Invariants.SoundCells.{IsClosed}
 use Rattle.die_log.specs.Invariants.RunningCollections.{KeepsJobsAndCells}
-use Rattle.die_log.proofs.Standing.Finds.{FindsBy, FindsVictim}
+use Rattle.die_log.proofs.LogInvariants.CellsFromAccounts.{FindsBy, FindsVictim}
 use Rattle.die_log.proofs.Tokens.Waivers.{Waits, IsChosen}
 use Rattle.die_log.specs.Invariants.TrueAccounts.{is_pending, reserve_full, AreTrueAccounts}
 use Rattle.die_log.specs.Invariants.TrueAndLegal.{FewCopies, IsTrueAndLegal}
 use Rattle.die_log.proofs.Legality.{entry, exact_induction}
-use Rattle.die_log.proofs.Standing.Longer.{number_at, contained, no_victim}
-use Rattle.die_log.proofs.Standing.Actors.{runs_from, job_erases_not, op_act, job_act, collection_may}
-use Rattle.die_log.proofs.Standing.Kept.{waiting_undone, fresh_stands, accepted_stands}
+use Rattle.die_log.proofs.LogInvariants.OneMoreEntry.{number_at, contained, no_victim}
+use Rattle.die_log.proofs.LogInvariants.HeadActs.{runs_from, job_erases_not, op_act, job_act, collection_may}
+use Rattle.die_log.proofs.LogInvariants.EveryLog.{waiting_undone, fresh_stands, accepted_stands}
 use Rattle.die_log.proofs.Legal.Runs.{entry_legal}
 use Rattle.die_log.proofs.Tokens.Given.{CellsServe}
 use Rattle.die_log.proofs.Tokens.Opening.{true_opening}
 use Rattle.die_log.proofs.Tokens.Waivers.{choice_is}
 use Rattle.die_log.proofs.Tokens.Begins.{fresh_finds}
-use Rattle.die_log.proofs.Tokens.Whole.{all_known, keeps_slot, keeps, owed_is_free}
-use Rattle.die_log.proofs.Tokens.Wells.{copies_fit, keeps_few}
+use Rattle.die_log.proofs.Tokens.TrueAccounts.{all_known, keeps_slot, keeps, owed_is_free}
+use Rattle.die_log.proofs.Tokens.EveryLog.{copies_fit, keeps_few}
 use Rattle.die_log.specs.Model.Start.{Start}
 use Rattle.die_log.specs.Model.Opening.{IsOpening}
 

@@ -21,15 +21,15 @@ use Rattle.die_log.specs.Model.Answers.{Choice, choice, reply_if_accepted, victi
 use Rattle.die_log.specs.Model.Answers.{reply_with, slot_reply, refusals}
 use Rattle.die_log.specs.Results.Legal.{is_among, NothingWaits, AreWaivers, IsLegalRun, IsLegalReply, IsLegalEntry}
 use Rattle.die_log.specs.Invariants.RunningCollections.{KeepsToOps, KeepsJobsAndCells}
-use Rattle.die_log.proofs.Standing.Finds.{FindsBy, FindsVictim}
+use Rattle.die_log.proofs.LogInvariants.CellsFromAccounts.{FindsBy, FindsVictim}
 use Rattle.die_log.proofs.Choices.{OfSome}
 use Rattle.die_log.proofs.Heads.{IsPassed, NotBefore, all_passed}
 use Rattle.die_log.proofs.Legality.{entry, in_time}
 use Rattle.die_log.proofs.Numbered.{numbered}
 use Rattle.die_log.proofs.Known.{waived_is}
-use Rattle.die_log.proofs.Standing.Longer.{IsWaiting, waits}
-use Rattle.die_log.proofs.Standing.Actors.{runs_from}
-use Rattle.die_log.proofs.Standing.Kept.{waiting_undone}
+use Rattle.die_log.proofs.LogInvariants.OneMoreEntry.{IsWaiting, waits}
+use Rattle.die_log.proofs.LogInvariants.HeadActs.{runs_from}
+use Rattle.die_log.proofs.LogInvariants.EveryLog.{waiting_undone}
 use Rattle.die_log.proofs.Legal.Acts.{head_unwaived, head_legal}
 use Rattle.die_log.specs.Model.Start.{Start}
 

@@ -24,8 +24,8 @@ use Rattle.die_log.specs.Model.Lives.{all_erases_in, collections_taken}
 use Rattle.die_log.proofs.Legality.{entry, exact_induction}
 use Rattle.die_log.proofs.Legal.Exact.{StandsWell, stands_well, well_served, chosen_is}
 use Rattle.die_log.proofs.Limits.{keeps_limits}
-use Rattle.die_log.proofs.Standing.Kept.{waiting_undone}
-use Rattle.die_log.proofs.Standing.Longer.{number_at}
+use Rattle.die_log.proofs.LogInvariants.EveryLog.{waiting_undone}
+use Rattle.die_log.proofs.LogInvariants.OneMoreEntry.{number_at}
 use Rattle.die_log.proofs.Tokens.Changes.{one_less, Acts}
 use Rattle.die_log.proofs.Tokens.Slots.{idle_acts, ran_acts}
 use Rattle.die_log.proofs.Tokens.Sums.{one_if, le_at}

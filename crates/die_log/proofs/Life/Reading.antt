@@ -31,7 +31,7 @@ use Rattle.die_log.proofs.Legal.Exact.{exact_legal}
 use Rattle.die_log.proofs.Limits.{keeps_limits}
 use Rattle.die_log.proofs.Promises.{legal_act}
 use Rattle.die_log.proofs.Renewal.{contents_len}
-use Rattle.die_log.proofs.Standing.Longer.{contained}
+use Rattle.die_log.proofs.LogInvariants.OneMoreEntry.{contained}
 use Rattle.die_log.proofs.Life.Starting.{plan_same, life_opens, life_exact}
 
 -- The last of a list, or else this

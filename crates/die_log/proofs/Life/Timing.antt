@@ -25,7 +25,7 @@ use Rattle.die_log.proofs.Exact.{moment_exact}
 use Rattle.die_log.proofs.Least.Exact.{least_keys}
 use Rattle.die_log.proofs.Least.Lookups.{row_in, row_at}
 use Rattle.die_log.proofs.Legal.Exact.{stands_well}
-use Rattle.die_log.proofs.Standing.Longer.{number_at, contained}
+use Rattle.die_log.proofs.LogInvariants.OneMoreEntry.{number_at, contained}
 use Rattle.die_log.proofs.Life.Starting.{plan_same, ended_opens, ended_live}
 
 -- One log that has ended

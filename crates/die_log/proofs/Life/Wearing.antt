@@ -22,7 +22,7 @@ use Rattle.die_log.specs.Model.Lives.{Lives, start_after, AreLives, HaveEnded, e
 use Rattle.die_log.proofs.Legality.{entry, exact_induction}
 use Rattle.die_log.proofs.Cells.Steps.{within_blocks}
 use Rattle.die_log.proofs.Legal.Exact.{StandsWell, stands_well, well_served, chosen_is, erases_own, has_pages, has_slots}
-use Rattle.die_log.proofs.Standing.Actors.{all_is, erases_push, job_erases_not, op_act, job_act}
+use Rattle.die_log.proofs.LogInvariants.HeadActs.{all_is, erases_push, job_erases_not, op_act, job_act}
 use Rattle.die_log.proofs.Tokens.Waivers.{Waits}
 use Rattle.die_log.proofs.Life.Starting.{ended_live, ended_opens}
 

@@ -26,7 +26,7 @@ use Rattle.die_log.specs.Model.Work.{is_erase, are_all, is_done, completion}
 use Rattle.die_log.specs.Model.Answers.{IsExact}
 use Rattle.die_log.specs.Model.Rows.{row_for, rows, carried_numbers}
 use Rattle.die_log.specs.Results.InTime.{IsInTime}
-use Rattle.die_log.proofs.Standing.Longer.{contained, any_contained, number_at}
+use Rattle.die_log.proofs.LogInvariants.OneMoreEntry.{contained, any_contained, number_at}
 use Rattle.die_log.proofs.Legal.Exact.{stands_well}
 use Rattle.die_log.proofs.Least.Lookups.{row_in, row_at}
 use Rattle.die_log.proofs.Least.Exact.{least_keys}

@@ -15,7 +15,7 @@ use Rattle.die_log.specs.Invariants.TrueAccounts.{is_pending}
 use Rattle.die_log.specs.Results.InTime.{IsInTime}
 use Rattle.die_log.specs.Results.Supply.{pending_at}
 use Rattle.die_log.proofs.Tokens.Sums.{one_if}
-use Rattle.die_log.proofs.Standing.Longer.{contained}
+use Rattle.die_log.proofs.LogInvariants.OneMoreEntry.{contained}
 
 pub sum_zero : {X : Type 0} (f : X → ℕ) (xs : List X) → ((k : ℕ) (x : X) → slice_get xs k ≡ Some x → f x ≡ 0) → sum_by f xs ≡ 0
 sum_zero f [] h = refl

@@ -30,7 +30,7 @@ use Rattle.die_log.specs.Results.Supply.{hold_of}
 use Rattle.die_log.proofs.Tokens.Sums.{all_at}
 use Rattle.die_log.proofs.Tokens.Amounts.{at_itself, at_other}
 use Rattle.die_log.proofs.Supply.Held.{none_left, all_done}
-use Rattle.die_log.proofs.Standing.Longer.{contained}
+use Rattle.die_log.proofs.LogInvariants.OneMoreEntry.{contained}
 use Rattle.die_log.specs.Model.Start.{Start}
 use Rattle.die_log.specs.Results.Covered.{owed_after, written_before}
 use Rattle.die_log.proofs.Planned.Entered.{IsOf}

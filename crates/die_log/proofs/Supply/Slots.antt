@@ -15,7 +15,7 @@ use Rattle.die_log.proofs.Legality.{entry}
 use Rattle.die_log.proofs.Tokens.Given.{CellsServe}
 use Rattle.die_log.proofs.Tokens.Waivers.{Waits, choice_is}
 use Rattle.die_log.proofs.Tokens.Slots.{slot_entry}
-use Rattle.die_log.proofs.Tokens.Whole.{all_known}
+use Rattle.die_log.proofs.Tokens.TrueAccounts.{all_known}
 use Rattle.die_log.proofs.Supply.Gains.{Rises, Gains, rises_then, waivers_rise, act_rises}
 use Rattle.die_log.proofs.Supply.Closing.{idle_gains, turn_gains}
 use Rattle.die_log.specs.Model.Start.{Start}

@@ -17,7 +17,7 @@ use Rattle.die_log.specs.Results.Legal.{is_among, AreWaivers}
 use Rattle.die_log.proofs.Legality.{entry, exact_induction}
 use Rattle.die_log.proofs.Known.{waived_is}
 use Rattle.die_log.proofs.Legal.Exact.{stands_well, well_served, chosen_is}
-use Rattle.die_log.proofs.Standing.Longer.{elsewhere}
+use Rattle.die_log.proofs.LogInvariants.OneMoreEntry.{elsewhere}
 use Rattle.die_log.specs.Model.Start.{Start}
 use Rattle.die_log.specs.Model.Opening.{IsOpening}
 

@@ -17,7 +17,7 @@ use Rattle.die_log.specs.Invariants.TrueAccounts.{is_pending, HasTaskAndOps, Are
 use Rattle.die_log.proofs.Tokens.Sums.{all_at}
 use Rattle.die_log.proofs.Tokens.Reserves.{few_free}
 use Rattle.die_log.proofs.Tokens.Slots.{agree_waivers}
-use Rattle.die_log.proofs.Tokens.Finding.{takable, victim_found}
+use Rattle.die_log.proofs.Tokens.VictimsExist.{takable, victim_found}
 use Rattle.die_log.specs.Model.Start.{Start}
 use Rattle.die_log.specs.Model.Opening.{IsOpening}
 

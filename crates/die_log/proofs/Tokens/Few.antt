@@ -24,8 +24,8 @@ use Rattle.die_log.specs.Invariants.TrueAccounts.{is_pending, copied_of}
 use Rattle.die_log.proofs.Tokens.Sums.{one_if}
 use Rattle.die_log.proofs.Tokens.Doing.{IsOfCollection, buffer_of, act_kind}
 use Rattle.die_log.proofs.Cells.Steps.{opens}
-use Rattle.die_log.proofs.Standing.Longer.{act_own, no_victim, shown_other}
-use Rattle.die_log.proofs.Standing.Actors.{block_some}
+use Rattle.die_log.proofs.LogInvariants.OneMoreEntry.{act_own, no_victim, shown_other}
+use Rattle.die_log.proofs.LogInvariants.HeadActs.{block_some}
 use Rattle.die_log.proofs.Tokens.Changes.{pending_other}
 use Rattle.die_log.proofs.Tokens.Slots.{slot_waives, ran_acts, empty_if, IsTurn, was_pending}
 use Rattle.die_log.proofs.Tokens.Turns.{turn_log, turn_copy}

@@ -19,7 +19,7 @@ abbrev written : Log
 written = run roomy [] (submit 0 2 (put 3 ∷ []) ∷ slot ∷ [])
 
 a_write_programs_the_next_cell : needed_call roomy (run roomy written (submit 1 3 (Write 3 (bytes 17) ∷ []) ∷ []))
-    ≡ Some (calls.Program (at 0 1) (bytes 17))
+    ≡ Some (calls.Program (at 0 1) (Some 3) (bytes 17))
 unfolding answer
 a_write_programs_the_next_cell = refl
 
@@ -51,7 +51,7 @@ before n = drop n collected
 
 -- it reads the victim's page, programs it after the newest, and erases the victim
 a_collection_copies_and_erases : map (λ (log : Log). needed_call tight log) (before 5 ∷ before 4 ∷ before 3 ∷ before 2 ∷ before 1 ∷ [])
-    ≡ Some (calls.Read (at 1 0)) ∷ Some (calls.Program (at 3 2) (bytes 2)) ∷ Some (calls.EraseSlot 1) ∷ Some (calls.EraseSlot 1)
+    ≡ Some (calls.Read (at 1 0)) ∷ Some (calls.Program (at 3 2) (Some 2) (bytes 2)) ∷ Some (calls.EraseSlot 1) ∷ Some (calls.EraseSlot 1)
     ∷ Some (calls.EraseSlot 1) ∷ []
 unfolding answer
 a_collection_copies_and_erases = refl

@@ -22,17 +22,17 @@ next_place plan c = option_map (λ b. record { block = b; page = (block_at c b).
 abbrev pub read_of : Cells → ℕ → Option NandCall
 read_of c page = option_map (λ place. calls.Read place) (place_of c.places page)
 
--- a program of the next cell with these bytes
-abbrev pub program_of : DiePlan → Cells → PageData → Option NandCall
-program_of plan c bytes = option_map (λ place. calls.Program place bytes) (next_place plan c)
+-- a program of the next cell with these bytes of the page
+abbrev pub program_of : DiePlan → Cells → ℕ → PageData → Option NandCall
+program_of plan c page bytes = option_map (λ place. calls.Program place (Some page) bytes) (next_place plan c)
 
 -- the call that an act needs which comes after this log
 abbrev pub call_of : Start → Log → Act → Option NandCall
 call_of start past (does.Read page bytes) = read_of (cells start past) page
-call_of start past (does.Write page bytes) = program_of start.plan (cells start past) bytes
+call_of start past (does.Write page bytes) = program_of start.plan (cells start past) page bytes
 call_of start past (does.Trim page) = None
 call_of start past (does.CopyRead page) = read_of (cells start past) page
-call_of start past (does.CopyProgram page) = program_of start.plan (cells start past) (content start past page)
+call_of start past (does.CopyProgram page) = program_of start.plan (cells start past) page (content start past page)
 call_of start past (does.Erase block) = Some (calls.EraseSlot block)
 
 -- none where nothing is carried

@@ -33,7 +33,7 @@ use Rattle.power_loss.specs.Seen.{MaySeeAfter, MaySeeDuring, MaySeePlaced}
 use Rattle.power_loss.proofs.Aside.Parts.{part_counts, part_recoverable, part_sees, die_recoverable, die_idle, die_free}
 use Rattle.power_loss.proofs.Again.{cut_again}
 use Rattle.power_loss.proofs.Compacting.{can_end}
-use Rattle.power_loss.proofs.Finding.{less_fit}
+use Rattle.power_loss.proofs.TwoMounts.{less_fit}
 use Rattle.power_loss.proofs.FreeBlocks.{has_free_block}
 use Rattle.power_loss.proofs.MountActs.{all_go_on}
 use Rattle.power_loss.proofs.MountedStarts.{all_open, full_agree}

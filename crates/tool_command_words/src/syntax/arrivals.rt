@@ -6,6 +6,7 @@ ghost use Rattle.command_arguments.specs.Arguments.{default_rule, flag_rule};
 ghost use Rattle.tool_command_words.specs.Syntax.{IsCommand, arrivals_app, arrivals_drawn_app, arrivals_run_app, count_rule, load_rule};
 
 use crate::syntax::parts::{command, with_arg};
+use crate::syntax::shared::{begun_from, seed};
 use clap::{Arg, Command};
 use command_arguments::{defaulted, flag, plan_file, slots};
 use std::alloc::{AllocError, Global};
@@ -16,28 +17,15 @@ const ARRIVALS_HELP: &str =
 A collection of each task comes at each multiple of its collect_period, a job at each multiple of its period.
 A job has `work` operations, of which `writes` are writes; the seed draws which, and their pages.
 Of a task that writes one in eight of the others is a trim, the rest are reads.
-Of a plan with terms it is asked for in jobs of at most 64 operations, which are due `deadline` slots later; --fill, --phases,
---jitter and --load are for plans with times alone.
+Of a plan with terms it is asked for in jobs of at most 64 operations, which are due `deadline` slots later; --fill,
+--phases, --jitter, --load and --from are for plans with times alone.
 The pages of task t of n tasks are t, t + n, t + 2n and so on; a task beyond the last page has page t modulo `logical`.
 With --fill the writing tasks share all pages, and each first writes its own once, in order; nothing is trimmed.
+With --from the pages that lie in no cell of the checkpoint are filled likewise, without --fill.
 A task that fills its pages begins in slot 0, and leaves no job out and none late until it has.
 What is written says where it comes from: slot, task, page and place in the job, each in 8 digits.
 
 Example: flashplan arrivals plan.toml --slots 1000 > script.csv";
-
-/// What is left to chance.
-fn seed<'a>(alloc: Global) -> Arg<'a>
-    ensures rule { rule_of result ≡ count_rule (codes "seed") }
-    ensures local { result.global ≡ false }
-{
-    defaulted(
-        alloc,
-        "seed",
-        "S",
-        "0",
-        "Another one draws other pages and operations, from 0 to 1048576",
-    )
-}
 
 /// Whether the die is filled first.
 fn fill<'a>(alloc: Global) -> Arg<'a>
@@ -116,5 +104,6 @@ pub(crate) fn arrivals_words<'a>(alloc: Global) -> Result<Command<'a>, AllocErro
 {
     let phased = with_arg(arrivals_drawn(alloc), phases(alloc));
     let late = with_arg(phased, jitter(alloc));
-    with_arg(late, load(alloc))
+    let loaded = with_arg(late, load(alloc));
+    with_arg(loaded, begun_from(alloc))
 }

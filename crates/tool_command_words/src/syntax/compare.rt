@@ -3,10 +3,10 @@
 ghost use Rattle.std.specs.Prelude.{◌≡◌, false, codes, IfOk};
 ghost use Rattle.clap.specs.Words.{rule_of};
 ghost use Rattle.command_arguments.specs.Arguments.{flag_rule};
-ghost use Rattle.tool_command_words.specs.Syntax.{IsCommand, compare_app, compare_files_app, compare_forms_app, compare_run_app, count_rule, from_rule, pool_rule};
+ghost use Rattle.tool_command_words.specs.Syntax.{IsCommand, compare_app, compare_files_app, compare_forms_app, compare_of_task_app, compare_run_app, compare_timed_app, count_rule, from_rule, pool_rule};
 
 use crate::syntax::parts::{command, on_files, with_arg};
-use crate::syntax::shared::{csv, die};
+use crate::syntax::shared::{checkpoint, csv, die, page_bytes, slot_us, strict};
 use clap::{Arg, Command};
 use command_arguments::{defaulted, flag, slots};
 use std::alloc::{AllocError, Global};
@@ -19,6 +19,7 @@ fifo: first come, first served; rm: rate-monotonic; edf: earliest deadline first
 than 2 wholly free blocks, and nothing interrupts it. Of rm-back and edf-back it also begins in an idle slot with fewer
 than A, and gives way to jobs unless it is urgent; of edf-step it gives way in every slot.
 Counted are the jobs that are released from slot F on and due by slot N.
+With --checkpoint the store goes on as it was saved, and a plain layer begins with the same pages, one after the other.
 
 Example: flashplan compare plan.toml script.csv --slots 100000 --from 20000 --pool 4
          flashplan compare plan.toml script.csv --slots 100000 --from 20000 --draw --task 1 > late.svg";
@@ -96,10 +97,26 @@ fn compare_forms<'a>(alloc: Global) -> Result<Command<'a>, AllocError>
     with_arg(told, drawn(alloc))
 }
 
+/// The command `compare`, with what times come of.
+fn compare_timed<'a>(alloc: Global) -> Result<Command<'a>, AllocError>
+    ensures { IfOk result (λ c. IsCommand c compare_timed_app) }
+{
+    let timed = with_arg(compare_forms(alloc), slot_us(alloc));
+    with_arg(timed, page_bytes(alloc))
+}
+
+/// The command `compare`, with the task of a picture.
+fn compare_of_task<'a>(alloc: Global) -> Result<Command<'a>, AllocError>
+    ensures { IfOk result (λ c. IsCommand c compare_of_task_app) }
+{
+    let of_a_die = with_arg(compare_timed(alloc), die(alloc));
+    with_arg(of_a_die, task(alloc))
+}
+
 /// The command `compare`.
 pub(crate) fn compare_words<'a>(alloc: Global) -> Result<Command<'a>, AllocError>
     ensures { IfOk result (λ c. IsCommand c compare_app) }
 {
-    let of_a_die = with_arg(compare_forms(alloc), die(alloc));
-    with_arg(of_a_die, task(alloc))
+    let begun = with_arg(compare_of_task(alloc), checkpoint(alloc));
+    with_arg(begun, strict(alloc))
 }

@@ -3,10 +3,10 @@
 ghost use Rattle.std.specs.Prelude.{◌≡◌, false, codes, IfOk};
 ghost use Rattle.clap.specs.Words.{new_rule, rule_of};
 ghost use Rattle.command_arguments.specs.Arguments.{flag_rule, option_rule};
-ghost use Rattle.tool_command_words.specs.Syntax.{IsCommand, draw_app, draw_failing_app, draw_files_app, draw_forms_app, draw_run_app, draw_window_app, from_rule, to_rule};
+ghost use Rattle.tool_command_words.specs.Syntax.{IsCommand, draw_app, draw_failing_app, draw_files_app, draw_forms_app, draw_run_app, draw_timed_app, draw_window_app, from_rule, to_rule};
 
 use crate::syntax::parts::{command, with_arg};
-use crate::syntax::shared::{die, fail_at, strict};
+use crate::syntax::shared::{checkpoint, die, fail_at, page_bytes, slot_us, strict};
 use clap::{Arg, Command};
 use command_arguments::{defaulted, flag, option, plan_file};
 use std::alloc::{AllocError, Global};
@@ -163,10 +163,19 @@ fn draw_failing<'a>(alloc: Global) -> Result<Command<'a>, AllocError>
     with_arg(told, fail_at(alloc))
 }
 
+/// The command `draw`, with what times come of.
+fn draw_timed<'a>(alloc: Global) -> Result<Command<'a>, AllocError>
+    ensures { IfOk result (λ c. IsCommand c draw_timed_app) }
+{
+    let timed = with_arg(draw_failing(alloc), slot_us(alloc));
+    with_arg(timed, page_bytes(alloc))
+}
+
 /// The command `draw`.
 pub(crate) fn draw_words<'a>(alloc: Global) -> Result<Command<'a>, AllocError>
     ensures { IfOk result (λ c. IsCommand c draw_app) }
 {
-    let asked = with_arg(draw_failing(alloc), demand(alloc));
+    let begun = with_arg(draw_timed(alloc), checkpoint(alloc));
+    let asked = with_arg(begun, demand(alloc));
     with_arg(asked, strict(alloc))
 }

@@ -1,28 +1,13 @@
 //! The command `explain`.
 
-ghost use Rattle.std.specs.Prelude.{◌≡◌, false, codes, IfOk};
-ghost use Rattle.clap.specs.Words.{rule_of};
-ghost use Rattle.tool_command_words.specs.Syntax.{IsCommand, count_rule, explain_app, explain_files_app};
+ghost use Rattle.std.specs.Prelude.{IfOk};
+ghost use Rattle.tool_command_words.specs.Syntax.{IsCommand, explain_app, explain_files_app};
 
 use crate::syntax::parts::{command, with_arg};
-use crate::syntax::shared::{begun_from, slot_us};
-use clap::{Arg, Command};
-use command_arguments::{defaulted, plan_file};
+use crate::syntax::shared::{begun_from, page_bytes, slot_us};
+use clap::Command;
+use command_arguments::plan_file;
 use std::alloc::{AllocError, Global};
-
-/// How many bytes of a page are a job's.
-fn page_bytes<'a>(alloc: Global) -> Arg<'a>
-    ensures rule { rule_of result ≡ count_rule (codes "page-bytes") }
-    ensures local { result.global ≡ false }
-{
-    defaulted(
-        alloc,
-        "page-bytes",
-        "B",
-        "0",
-        "How many bytes a page has, from 0 to 1048576; 0 is unknown. With it, rates are told in MB/s",
-    )
-}
 
 /// The command `explain`, with its files.
 fn explain_files<'a>(alloc: Global) -> Result<Command<'a>, AllocError>

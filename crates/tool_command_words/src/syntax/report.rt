@@ -5,7 +5,7 @@ ghost use Rattle.clap.specs.Words.{rule_of};
 ghost use Rattle.tool_command_words.specs.Syntax.{IsCommand, count_rule, report_app, report_files_app, report_run_app, report_timed_app};
 
 use crate::syntax::parts::{command, on_files, with_arg};
-use crate::syntax::shared::{csv, fail_at, strict};
+use crate::syntax::shared::{begun_from, csv, fail_at, page_bytes, slot_us, strict};
 use clap::{Arg, Command};
 use command_arguments::{defaulted, slots};
 use std::alloc::{AllocError, Global};
@@ -20,21 +20,7 @@ fn endurance<'a>(alloc: Global) -> Arg<'a>
         "endurance",
         "E",
         "0",
-        "How often a block may be erased, from 0 to 1048576; with --slot-us, tells in how many years one wears out",
-    )
-}
-
-/// How long a slot takes.
-fn slot_us<'a>(alloc: Global) -> Arg<'a>
-    ensures rule { rule_of result ≡ count_rule (codes "slot-us") }
-    ensures local { result.global ≡ false }
-{
-    defaulted(
-        alloc,
-        "slot-us",
-        "U",
-        "0",
-        "How many microseconds a slot takes, from 0 to 1048576; 0 is unknown",
+        "How often a block may be erased, from 0 to 1048576; where a slot's length is known, says how long blocks last",
     )
 }
 
@@ -56,12 +42,13 @@ fn report_run<'a>(alloc: Global) -> Result<Command<'a>, AllocError>
     with_arg(long, csv(alloc))
 }
 
-/// The command `report`, with what years come of.
+/// The command `report`, with what years and times come of.
 fn report_timed<'a>(alloc: Global) -> Result<Command<'a>, AllocError>
     ensures { IfOk result (λ c. IsCommand c report_timed_app) }
 {
     let worn = with_arg(report_run(alloc), endurance(alloc));
-    with_arg(worn, slot_us(alloc))
+    let timed = with_arg(worn, slot_us(alloc));
+    with_arg(timed, page_bytes(alloc))
 }
 
 /// The command `report`.
@@ -69,5 +56,6 @@ pub(crate) fn report_words<'a>(alloc: Global) -> Result<Command<'a>, AllocError>
     ensures { IfOk result (λ c. IsCommand c report_app) }
 {
     let failing = with_arg(report_timed(alloc), fail_at(alloc));
-    with_arg(failing, strict(alloc))
+    let begun = with_arg(failing, begun_from(alloc));
+    with_arg(begun, strict(alloc))
 }

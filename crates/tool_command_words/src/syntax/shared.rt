@@ -3,7 +3,7 @@
 ghost use Rattle.std.specs.Prelude.{◌≡◌, false, codes};
 ghost use Rattle.clap.specs.Words.{rule_of};
 ghost use Rattle.command_arguments.specs.Arguments.{flag_rule, option_rule};
-ghost use Rattle.tool_command_words.specs.Syntax.{count_rule, die_rule, list_rule};
+ghost use Rattle.tool_command_words.specs.Syntax.{count_rule, die_rule, list_rule, page_rule};
 
 use clap::{Arg, ArgAction};
 use command_arguments::{defaulted, flag, option, required};
@@ -38,6 +38,33 @@ pub(crate) fn begun_from<'a>(alloc: Global) -> Arg<'a>
     )
 }
 
+/// The checkpoint from which dies go on, where `--from` is the first slot that is asked for.
+pub(crate) fn checkpoint<'a>(alloc: Global) -> Arg<'a>
+    ensures rule { rule_of result ≡ option_rule (codes "checkpoint") }
+    ensures local { result.global ≡ false }
+{
+    option(
+        alloc,
+        "checkpoint",
+        "CHECKPOINT",
+        "The checkpoint from which the dies go on, a CSV file; - is standard input",
+    )
+}
+
+/// What is left to chance.
+pub(crate) fn seed<'a>(alloc: Global) -> Arg<'a>
+    ensures rule { rule_of result ≡ count_rule (codes "seed") }
+    ensures local { result.global ≡ false }
+{
+    defaulted(
+        alloc,
+        "seed",
+        "S",
+        "0",
+        "Another one draws other pages and operations, from 0 to 1048576",
+    )
+}
+
 /// How long a slot of a plan takes.
 pub(crate) fn slot_us<'a>(alloc: Global) -> Arg<'a>
     ensures rule { rule_of result ≡ count_rule (codes "slot-us") }
@@ -49,6 +76,20 @@ pub(crate) fn slot_us<'a>(alloc: Global) -> Arg<'a>
         "U",
         "0",
         "How many microseconds a slot takes, from 0 to 1048576; 0 is as the plan's first line says, if it does",
+    )
+}
+
+/// How many bytes a page has.
+pub(crate) fn page_bytes<'a>(alloc: Global) -> Arg<'a>
+    ensures rule { rule_of result ≡ page_rule }
+    ensures local { result.global ≡ false }
+{
+    defaulted(
+        alloc,
+        "page-bytes",
+        "P",
+        "0",
+        "How many bytes a page has, from 0 to 1048576; 0 is unknown. With it, rates are reported in MB/s",
     )
 }
 

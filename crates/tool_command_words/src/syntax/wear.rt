@@ -4,7 +4,7 @@ ghost use Rattle.std.specs.Prelude.{IfOk};
 ghost use Rattle.tool_command_words.specs.Syntax.{IsCommand, wear_app, wear_files_app};
 
 use crate::syntax::parts::{command, on_files, with_arg};
-use crate::syntax::shared::strict;
+use crate::syntax::shared::{begun_from, strict};
 use clap::Command;
 use command_arguments::slots;
 use std::alloc::{AllocError, Global};
@@ -23,5 +23,6 @@ pub(crate) fn wear_words<'a>(alloc: Global) -> Result<Command<'a>, AllocError>
     ensures { IfOk result (λ c. IsCommand c wear_app) }
 {
     let long = with_arg(wear_files(alloc), slots(alloc));
-    with_arg(long, strict(alloc))
+    let begun = with_arg(long, begun_from(alloc));
+    with_arg(begun, strict(alloc))
 }

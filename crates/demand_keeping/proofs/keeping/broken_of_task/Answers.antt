@@ -7,7 +7,7 @@ use Rattle.demand_rules.specs.Keeping.{IsDemanded}
 use Rattle.demand_keeping.specs.declared.windows.Count.TheVariants as count
 use Rattle.demand_keeping.specs.Windows.{KeepsLimit}
 use Rattle.demand_keeping.specs.Overfull.{IsFirstOverfull}
-use Rattle.demand_keeping.proofs.Found.{none_is, some_is}
+use Rattle.demand_keeping.proofs.AnswersOfBreaches.{none_is, some_is}
 use Rattle.demand_keeping.proofs.keeping.broken_of_task.Goals as goal
 
 pub returns-in-Some-clause-first : goal.returns-in-Some-clause-first

@@ -1,7 +1,7 @@
 use Rattle.std.proofs.Common.{arith}
 use Rattle.plan_rules.proofs.Zips.{at_next}
 use Rattle.demand_keeping.specs.Breaches.{IsTaskKept}
-use Rattle.demand_keeping.proofs.Found.{none_is}
+use Rattle.demand_keeping.proofs.AnswersOfBreaches.{none_is}
 use Rattle.demand_keeping.proofs.keeping.first_broken_task.Goals as goal
 
 pub broken_of_task-requires-clause-kept : goal.broken_of_task-requires-clause-kept

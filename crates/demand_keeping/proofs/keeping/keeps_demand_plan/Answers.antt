@@ -3,7 +3,7 @@ use Rattle.std.proofs.lemmas.Bool.{true≢false}
 use Rattle.plan_rules.proofs.Walking.{how_many}
 use Rattle.demand_keeping.specs.Breaches.{IsFirstBreach}
 use Rattle.demand_keeping.proofs.Breaking.{breaks, keeps_if}
-use Rattle.demand_keeping.proofs.Found.{none_is, some_is}
+use Rattle.demand_keeping.proofs.AnswersOfBreaches.{none_is, some_is}
 use Rattle.demand_keeping.proofs.keeping.keeps_demand_plan.Goals as goal
 
 pub returns-then-slots-clause-breach : goal.returns-then-slots-clause-breach

@@ -15,4 +15,4 @@ returns-clause-draw c =
     let rows = rows_of (found_of c.args.met.now) in
     let met = c.in_ok-plan in
     when_scripted rows (draw_from rows) met.plan.now met.script.now met.slots _ (met.ensures.scripted (draw_from rows))
-    (rw (← c.in_ok-die.ensures.number, ← c.in_ok-from.ensures.number, ← c.in_ok-to.ensures.number, ← c.in_ok-value.ensures, ← c.in_ok-value-2.ensures, ← c.in_ok-value-3.ensures, ← c.in_ok-fail.ensures, c.eq-worst.ensures, c.eq-as_text.ensures, c.eq-all.ensures) refl)
+    (rw (← c.value-checkpoint.ensures, ← c.in_ok-die.ensures.number, ← c.in_ok-from.ensures.number, ← c.in_ok-to.ensures.number, ← c.in_ok-slot_us.ensures.number, ← c.in_ok-page_bytes.ensures.number, ← c.in_ok-value.ensures, ← c.in_ok-value-2.ensures, ← c.in_ok-value-3.ensures, ← c.in_ok-fail.ensures, c.eq-worst.ensures, c.eq-as_text.ensures, c.eq-all.ensures) refl)

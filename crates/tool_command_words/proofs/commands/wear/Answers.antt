@@ -1,6 +1,8 @@
-use Rattle.std.proofs.Common.{◌≡◌, ◌∙◌, None, rules, sym, option_map}
+use Rattle.std.proofs.Common.{◌≡◌, ◌∙◌, None, rules, refl, sym, option_map}
+use Rattle.clap.specs.Words.{found_of, rows_of}
 use Rattle.tool_command_words.specs.RequestTexts.{text_of_command}
 use Rattle.tool_command_words.specs.Commands.{wear_from}
+use Rattle.tool_command_words.proofs.Scripted.{when_scripted}
 use Rattle.tool_command_words.proofs.commands.wear.Goals as goal
 
 pub returns-in_err-plan-clause-wear : goal.returns-in_err-plan-clause-wear
@@ -9,4 +11,8 @@ returns-in_err-plan-clause-wear c =
     none ∙ sym (c.in_err-plan.ensures.scripted _)
 
 pub returns-clause-wear : goal.returns-clause-wear
-returns-clause-wear c = sym (c.in_ok-plan.ensures.scripted wear_from)
+returns-clause-wear c =
+    let rows = rows_of (found_of c.args.met.now) in
+    let met = c.in_ok-plan in
+    when_scripted rows (wear_from rows) met.plan.now met.script.now met.slots _ (met.ensures.scripted (wear_from rows))
+    (rw (← c.value-from.ensures) refl)

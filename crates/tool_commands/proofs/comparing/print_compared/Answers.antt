@@ -1,12 +1,18 @@
-use Rattle.std.proofs.Common.{inr, refl}
+use Rattle.std.proofs.Common.{inr, refl, subst, List}
+use Rattle.die_log.specs.Model.Start.{Start}
 use Rattle.text_base.proofs.WritingLaws.{on-error}
+use Rattle.tool_store_compare.specs.Runs.{HasStoreRun}
 use Rattle.tool_commands.proofs.comparing.print_compared.Goals as goal
 
 pub returns-clause-printed : goal.returns-clause-printed
 returns-clause-printed g c = record {
   store = c.in_ok-store.field-0.store;
   read = c.in_ok-store.ensures.store;
-  ran = c.in_ok-compared.ensures;
+  saved = c.in_ok-saved.saved;
+  begun = c.in_ok-saved.ensures;
+  counts = c.in_ok-compared.compared.refused;
+  ran = subst (λ (starts : List Start). HasStoreRun starts (g.S.Read.remaining c.args.script) c.args.measure.slots c.in_ok-compared.compared.refused)
+      c.in_ok-dies.ensures.starts (rw c.timed_measure-timed.ensures at c.in_ok-compared.ensures);
   text = (c.in_ok-compared.compared.text.items, rw c.deref.ensures.value at c.in_ok-write_whole.ensures.whole);
 }
 
@@ -20,7 +26,11 @@ returns-in_err-write_whole-clause-part g c =
         record {
           store = c.in_ok-store.field-0.store;
           read = c.in_ok-store.ensures.store;
-          ran = c.in_ok-compared.ensures;
+          saved = c.in_ok-saved.saved;
+          begun = c.in_ok-saved.ensures;
+          counts = c.in_ok-compared.compared.refused;
+          ran = subst (λ (starts : List Start). HasStoreRun starts (g.S.Read.remaining c.args.script) c.args.measure.slots c.in_ok-compared.compared.refused)
+              c.in_ok-dies.ensures.starts (rw c.timed_measure-timed.ensures at c.in_ok-compared.ensures);
           text = (c.in_ok-compared.compared.text.items, refl);
         },
         rw c.deref.ensures.value at c.in_err-write_whole.ensures.part,

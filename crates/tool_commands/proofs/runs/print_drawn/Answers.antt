@@ -4,8 +4,10 @@ use Rattle.tool_commands.proofs.runs.print_drawn.Goals as goal
 
 pub returns-clause-printed : goal.returns-clause-printed
 returns-clause-printed g c = record {
-  store = c.in_ok-store.store;
-  read = c.in_ok-store.ensures.store;
+  store = c.in_ok-timed.timed.store;
+  read = c.in_ok-timed.ensures.store;
+  saved = c.in_ok-from.from;
+  begun = c.in_ok-from.ensures;
   said = c.in_ok-drawn.drawn;
   ran = c.in_ok-drawn.ensures.ran;
   written = rw c.deref.ensures.value at c.in_ok-write_whole.ensures.whole;
@@ -19,8 +21,10 @@ returns-in_err-write_whole-clause-part g c =
       (
         c.in_ok-drawn.drawn.text.items,
         record {
-          store = c.in_ok-store.store;
-          read = c.in_ok-store.ensures.store;
+          store = c.in_ok-timed.timed.store;
+          read = c.in_ok-timed.ensures.store;
+          saved = c.in_ok-from.from;
+          begun = c.in_ok-from.ensures;
           said = c.in_ok-drawn.drawn;
           ran = c.in_ok-drawn.ensures.ran;
           written = refl;

@@ -4,9 +4,13 @@ use Rattle.tool_commands.proofs.runs.print_report.Goals as goal
 
 pub returns-clause-printed : goal.returns-clause-printed
 returns-clause-printed g c = record {
-  store = c.in_ok-store.store;
-  read = c.in_ok-store.ensures.store;
+  store = c.in_ok-timed.timed.store;
+  read = c.in_ok-timed.ensures.store;
+  saved = c.in_ok-from.from;
+  begun = c.in_ok-from.ensures;
   said = c.in_ok-said.said;
+  life = c.life_of-life.result;
+  units = c.units_with-units.result;
   ran = c.in_ok-said.ensures.ran;
   written = rw c.deref.ensures.value at c.in_ok-write_whole.ensures.whole;
 }
@@ -19,9 +23,13 @@ returns-in_err-write_whole-clause-part g c =
       (
         c.in_ok-said.said.text.items,
         record {
-          store = c.in_ok-store.store;
-          read = c.in_ok-store.ensures.store;
+          store = c.in_ok-timed.timed.store;
+          read = c.in_ok-timed.ensures.store;
+          saved = c.in_ok-from.from;
+          begun = c.in_ok-from.ensures;
           said = c.in_ok-said.said;
+          life = c.life_of-life.result;
+          units = c.units_with-units.result;
           ran = c.in_ok-said.ensures.ran;
           written = refl;
         },

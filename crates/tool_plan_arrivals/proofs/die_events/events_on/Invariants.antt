@@ -1,6 +1,6 @@
-use Rattle.std.proofs.Common.{◌≡◌, ◌≤◌, length}
+use Rattle.std.proofs.Common.{◌≤◌, length}
 use Rattle.std.specs.Prelude.{option_map}
-use Rattle.script_texts.specs.ScriptLeft.{dies_of, script_left, slots_of}
+use Rattle.script_texts.specs.ScriptLeft.{script_left}
 use Rattle.script_texts.specs.Script.{script_of}
 use Rattle.tool_plan_arrivals.proofs.Reading.{HasCome}
 use Rattle.tool_plan_arrivals.proofs.die_events.events_on.Given as goal

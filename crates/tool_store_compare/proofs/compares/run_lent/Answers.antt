@@ -1,9 +1,15 @@
-use Rattle.std.proofs.Common.{sym, ◌∙◌}
-use Rattle.die_log.specs.Model.Start.{fresh}
-use Rattle.tool_script_runs.proofs.TextRuns.{as_many}
-use Rattle.tool_store_compare.specs.Runs.{running}
+use Rattle.std.proofs.Common.{ap, length, sym, subst, ◌∙◌}
+use Rattle.std.specs.Prelude.{All}
+use Rattle.std.proofs.lemmas.List.{length-map}
+use Rattle.tool_script_runs.specs.RunningDies.{HasEmptyLog}
+use Rattle.tool_store_compare.specs.Runs.{begun, running}
 use Rattle.tool_store_compare.proofs.compares.run_lent.Goals as goal
 
 pub run_dies-requires-clause-dies : goal.run_dies-requires-clause-dies
 run_dies-requires-clause-dies g c =
-    c.requires.dies ∙ sym (as_many running fresh c.in_ok-dies.dies.items c.args.plan.now c.in_ok-dies.ensures.starts)
+    c.requires.dies
+    ∙ sym (sym (length-map c.in_ok-dies.dies.items running) ∙ ap length c.in_ok-dies.ensures.running
+    ∙ length-map c.args.started.items begun)
+
+pub run_dies-requires-clause-empty : goal.run_dies-requires-clause-empty
+run_dies-requires-clause-empty g c = subst (All HasEmptyLog) (sym c.in_ok-dies.ensures.running) c.requires.empty

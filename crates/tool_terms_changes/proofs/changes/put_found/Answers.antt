@@ -1,6 +1,6 @@
 use Rattle.std.proofs.Common.{[], refl}
 use Rattle.std.proofs.lemmas.List.{append-nil, drop_all}
-use Rattle.tool_terms_changes.proofs.Found.{found-more}
+use Rattle.tool_terms_changes.proofs.ChangesSoFar.{found-more}
 use Rattle.tool_terms_changes.proofs.changes.put_found.Goals as goal
 
 pub loop-i-preserved : goal.loop-i-preserved

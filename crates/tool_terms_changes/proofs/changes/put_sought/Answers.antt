@@ -1,6 +1,6 @@
 use Rattle.std.proofs.Common.{◌∙◌, ◌++◌, ap}
 use Rattle.tool_terms_changes.specs.Changes.{change_of}
-use Rattle.tool_terms_changes.proofs.Found.{on-ok}
+use Rattle.tool_terms_changes.proofs.ChangesSoFar.{on-ok}
 use Rattle.tool_terms_changes.proofs.changes.put_sought.Goals as goal
 
 pub returns-clause-put : goal.returns-clause-put

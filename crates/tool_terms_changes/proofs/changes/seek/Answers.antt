@@ -1,4 +1,4 @@
-use Rattle.tool_terms_changes.proofs.Found.{finds-at}
+use Rattle.tool_terms_changes.proofs.ChangesSoFar.{finds-at}
 use Rattle.tool_terms_changes.proofs.changes.seek.Goals as goal
 
 pub returns-clause-found : goal.returns-clause-found

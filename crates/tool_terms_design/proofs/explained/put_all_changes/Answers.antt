@@ -11,6 +11,6 @@ loop-die-preserved c =
     let before = c.loop-die.invariant in
     let added = c.in_ok-put_changes.ensures.said in (
       before.0 ++ added.0,
-      one-more c.args.numbers.now c.loop-die.die before.0 added.0 before.1 added.1,
+      one-more c.args.slot_us c.args.numbers.now c.loop-die.die before.0 added.0 before.1 added.1,
       added.2 ∙ rw before.2 (append_assoc c.args.text.now.items before.0 added.0),
     )

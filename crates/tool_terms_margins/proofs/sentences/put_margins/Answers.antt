@@ -12,7 +12,7 @@ loop-task-preserved c =
     let made = c.args.made in
     let task = c.loop-task.task in
     let m = c.task_margins-made.result.margins in
-    let line : List ℕ = margins_line c.args.die task m in
+    let line : List ℕ = margins_line c.args.slot_us c.args.die task m in
     let before = c.loop-task.invariant.said in
     let below : task < length made.terms.tasks = omega (arith, c.loop-task-test.true, c.len-tasks.ensures) in
     let margins : AreMargins made task (get_or made.terms.tasks task no_terms) m =
@@ -23,7 +23,7 @@ loop-task-preserved c =
         before.0 ++ line,
         c.in_ok-put_line.ensures ∙ rw before.1 (append_assoc c.args.text.now.items before.0 line),
         λ rest more. rw (append_assoc before.0 line rest)
-            (before.2 (line ++ rest) (lines-from made c.args.die task made.terms.tasks no_terms m rest below margins more)),
+            (before.2 (line ++ rest) (lines-from c.args.slot_us made c.args.die task made.terms.tasks no_terms m rest below margins more)),
       );
     }
 

@@ -1,18 +1,20 @@
 use Rattle.std.proofs.Common.{◌≡◌, ap, sym, ◌∙◌, map, Some}
+use Rattle.std.specs.Box.{box_value}
 use Rattle.std.specs.Global.{Box}
-use Rattle.std.specs.Prelude.{option_map, slice_get}
-use Rattle.std.proofs.lemmas.Option.{slice_get-map}
+use Rattle.std.specs.Prelude.{slice_get}
 use Rattle.std.proofs.lemmas.Result.{IfOk-weaker}
-use Rattle.die_log.specs.Model.Start.{fresh}
-use Rattle.tool_watched_runs.specs.Runs.{core_of}
+use Rattle.flash_die.specs.Fuse.{Fuse}
+use Rattle.flash_die.specs.Memory.{Memory}
+use Rattle.slot_core.specs.Core.{Core}
+use Rattle.tool_script_runs.specs.RunningDies.{starts_of}
+use Rattle.tool_watched_runs.specs.Runs.{begun, core_of}
 use Rattle.tool_watched_runs.specs.declared.die_runs.DieRun.{DieRun}
 use Rattle.tool_watched_runs.proofs.draws.one_die.Goals as goal
 
 pub returns-clause-start : goal.returns-clause-start
 returns-clause-start c =
-    let plan = c.in_ok-plan.plan in
-    IfOk-weaker c.boxed.result (λ (run : Box DieRun). (core_of run).start ≡ fresh plan)
-    (λ (run : Box DieRun). slice_get (map fresh c.args.plan) c.args.die ≡ Some (core_of run).start)
-    (λ (run : Box DieRun) (is : (core_of run).start ≡ fresh plan).
-    slice_get-map fresh c.args.plan c.args.die ∙ (ap (option_map fresh) c.in_ok-plan.ensures.is ∙ ap Some (sym is)))
-    c.boxed.ensures.start
+    IfOk-weaker c.boxed.result (λ (run : Box DieRun). core_of run ≡ box_value c.in_ok-started.started.core)
+    (λ (run : Box DieRun). slice_get (starts_of (map begun c.args.dies.items)) c.args.die ≡ Some (core_of run).start)
+    (λ (run : Box DieRun) (is : core_of run ≡ box_value c.in_ok-started.started.core).
+    c.in_ok-started.ensures.start ∙ ap (λ (core : Core (Fuse Memory)). Some core.start) (sym is))
+    c.boxed.ensures.core

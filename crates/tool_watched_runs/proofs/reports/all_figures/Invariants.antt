@@ -4,4 +4,4 @@ use Rattle.tool_watched_runs.proofs.FiguresSoFar.{AreSoFar}
 use Rattle.tool_watched_runs.proofs.reports.all_figures.Given as goal
 
 abbrev pub invariant-loop-die : goal.invariant-loop-die
-invariant-loop-die l = AreSoFar l.rows (map running l.dies) l.die l.all.items
+invariant-loop-die l = AreSoFar l.rows l.life (map running l.dies) l.die l.all.items

@@ -19,10 +19,10 @@ pub returns-clause-is : goal.returns-clause-is
 returns-clause-is c =
     let die = box_value c.args.run.now.core in
     IfOk-weaker c.records_of.result
-    (AreRecords (ends_of die.start.plan die.log ++ refused_ends c.args.die c.args.rows.now) c.args.run.now.counts c.of.result)
-    (AreFiguresOf c.args.die c.args.rows.now (running_of die))
+    (AreRecords (ends_of die.start.plan die.log ++ refused_ends c.args.die c.args.rows.now) c.args.run.now.counts c.of.result c.args.life)
+    (AreFiguresOf c.args.die c.args.rows.now c.args.life (running_of die))
     (λ (records : Records)
-    (are : AreRecords (ends_of die.start.plan die.log ++ refused_ends c.args.die c.args.rows.now) c.args.run.now.counts c.of.result records).
+    (are : AreRecords (ends_of die.start.plan die.log ++ refused_ends c.args.die c.args.rows.now) c.args.run.now.counts c.of.result c.args.life records).
     record {
       counts = c.args.run.now.counts;
       counted = c.args.run.now.counted;
@@ -35,7 +35,7 @@ returns-clause-is c =
           (rw c.as_slice-2.ensures.value at c.of.ensures);
       are = are;
     })
-    (subst (λ (ends : List JobEnd). IfOk c.records_of.result (AreRecords ends c.args.run.now.counts c.of.result))
+    (subst (λ (ends : List JobEnd). IfOk c.records_of.result (AreRecords ends c.args.run.now.counts c.of.result c.args.life))
     (c.as_slice.ensures.value ∙ (c.in_ok-put_refused.ensures.ok
     ∙ ap (λ (ends : List JobEnd). ends ++ refused_ends c.args.die c.args.rows.now)
     (c.in_ok-ends.ensures.is ∙ ap (λ (core : Core (Fuse Memory)). ends_of core.start.plan core.log) c.deref-2.ensures)))

@@ -1,16 +1,20 @@
-use Rattle.std.proofs.lemmas.Result.{IfOk-weaker}
-use Rattle.tool_watched_runs.specs.Runs.{IsReportOf, Tells}
+use Rattle.std.proofs.Common.{◌∙◌, ℕ, List, ap, sym, subst}
+use Rattle.std.specs.Prelude.{IfOk}
+use Rattle.die_log.specs.Model.Start.{Start, fresh}
+use Rattle.tool_script_runs.specs.ScriptRuns.{script_in}
+use Rattle.tool_script_runs.proofs.TextRuns.{as_many}
+use Rattle.tool_watched_runs.specs.Runs.{IsReportFrom, begun}
 use Rattle.tool_watched_runs.specs.declared.script_runs.Reported.{Reported}
-use Rattle.tool_watched_runs.proofs.RunsOf.{is_report}
 use Rattle.tool_watched_runs.proofs.reports.report.Goals as goal
+
+pub report_of-requires-clause-dies : goal.report_of-requires-clause-dies
+report_of-requires-clause-dies g c =
+    c.in_ok-script.ensures.dies ∙ sym (as_many begun fresh c.in_ok-dies.dies.items c.args.plan c.in_ok-dies.ensures.starts)
 
 pub returns-clause-ran : goal.returns-clause-ran
 returns-clause-ran g c =
-    let dies = c.in_ok-ran.ran.dies.items in
-    let refused = c.in_ok-ran.ran.refused.items in
     let text = g.R.Read.remaining c.args.script in
-    IfOk-weaker c.reported.result (Tells dies refused c.args.as_csv c.args.fail)
-    (IsReportOf c.args.plan text c.args.slots c.args.fail c.args.as_csv)
-    (λ (said : Reported) (tells : Tells dies refused c.args.as_csv c.args.fail said).
-    is_report c.args.plan text c.args.slots c.args.fail c.args.as_csv dies refused said c.in_ok-ran.ensures tells)
-    c.reported.ensures
+    let many = as_many begun fresh c.in_ok-dies.dies.items c.args.plan c.in_ok-dies.ensures.starts in
+    subst (λ (starts : List Start). IfOk c.report_of.result (λ (said : Reported). IsReportFrom starts text c.args.slots c.args.life c.args.units c.args.as_csv c.args.fail said))
+    c.in_ok-dies.ensures.starts
+    (c.report_of.ensures.ran text (c.in_ok-script.ensures.script ∙ ap (λ (n : ℕ). script_in n c.args.slots text) (sym many)))

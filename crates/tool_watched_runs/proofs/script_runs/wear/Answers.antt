@@ -1,9 +1,23 @@
-use Rattle.tool_watched_runs.proofs.WornDies.{is_wear_text}
+use Rattle.std.proofs.Common.{◌∙◌, ℕ, List, ap, sym, subst}
+use Rattle.std.specs.Prelude.{IfOk}
+use Rattle.die_log.specs.Model.Start.{Start, fresh}
+use Rattle.tool_script_runs.specs.ScriptRuns.{script_in}
+use Rattle.tool_script_runs.proofs.TextRuns.{as_many}
+use Rattle.tool_watched_runs.specs.Runs.{begun}
+use Rattle.tool_watched_runs.specs.WearText.{IsWearFrom}
+use Rattle.tool_watched_runs.specs.declared.script_runs.Reported.{Reported}
 use Rattle.tool_watched_runs.proofs.script_runs.wear.Goals as goal
 
+pub wear_of-requires-clause-dies : goal.wear_of-requires-clause-dies
+wear_of-requires-clause-dies g c =
+    c.in_ok-script.ensures.dies ∙ sym (as_many begun fresh c.in_ok-dies.dies.items c.args.plan c.in_ok-dies.ensures.starts)
+
 pub returns : goal.returns
-returns g c = record {
-  text = is_wear_text c.args.plan _ c.args.slots _ c.of-counts.result _ c.in_ok-tallies.tallies.items
-      c.in_ok-text.text.items c.in_ok-dies.ensures (rw c.deref.ensures.value at c.of-counts.ensures) c.in_ok-tallies.ensures.tallies
-      c.in_ok-tallies.ensures.worn (rw c.deref-2.ensures.value at c.in_ok-text.ensures.text);
-}
+returns g c =
+    let text = g.R.Read.remaining c.args.script in
+    let many = as_many begun fresh c.in_ok-dies.dies.items c.args.plan c.in_ok-dies.ensures.starts in
+    record {
+      text = subst (λ (starts : List Start). IfOk c.wear_of.result (λ (said : Reported). IsWearFrom starts text c.args.slots said.refused said.text.items))
+          c.in_ok-dies.ensures.starts
+          (c.wear_of.ensures.text text (c.in_ok-script.ensures.script ∙ ap (λ (n : ℕ). script_in n c.args.slots text) (sym many)));
+    }

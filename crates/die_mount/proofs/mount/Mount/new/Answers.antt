@@ -5,7 +5,7 @@ use Rattle.power_loss.specs.Labels.{Shown, FitPlan}
 use Rattle.die_mount.specs.Beginning.{BeginsAt}
 use Rattle.die_mount.specs.Mounting.{BeginsWith}
 use Rattle.die_mount.specs.Scanned.{IsScanOf}
-use Rattle.die_mount.proofs.Finding.{idle_stays, none_found}
+use Rattle.die_mount.proofs.PagesFound.{idle_stays, none_found}
 use Rattle.die_mount.proofs.Outcomes.{ok_more}
 use Rattle.die_mount.proofs.mount.Mount.new.Goals as goal
 

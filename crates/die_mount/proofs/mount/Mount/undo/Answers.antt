@@ -6,7 +6,7 @@ use Rattle.power_loss.specs.Recovery.{MayErase, without_block}
 use Rattle.die_mount.specs.Beginning.{BeginsAt}
 use Rattle.die_mount.specs.Mounting.{BeginsWith}
 use Rattle.die_mount.specs.Scanned.{IsScanOf}
-use Rattle.die_mount.proofs.Finding.{found_places}
+use Rattle.die_mount.proofs.PagesFound.{found_places}
 use Rattle.die_mount.proofs.Outcomes.{ok_more}
 use Rattle.die_mount.proofs.mount.Mount.undo.Goals as goal
 

@@ -4,7 +4,7 @@ use Rattle.slot_types.specs.declared.plans.Shape.{Shape}
 use Rattle.power_loss.specs.Mounted.{all_count, mounted_places}
 use Rattle.power_loss.specs.Recovery.{without_block}
 use Rattle.die_mount.specs.Scanned.{Scanned}
-use Rattle.die_mount.proofs.Finding.{none_found, none_counted, newest_block, no_labels, idle_stays}
+use Rattle.die_mount.proofs.PagesFound.{none_found, none_counted, newest_block, no_labels, idle_stays}
 use Rattle.die_mount.proofs.scan.Scan.first_erase.Goals as goal
 
 pub returns-then-valid-eq0-clause-first : goal.returns-then-valid-eq0-clause-first

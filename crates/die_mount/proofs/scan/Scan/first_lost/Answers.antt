@@ -1,7 +1,7 @@
 use Rattle.std.proofs.Common.{rules, ◌≡◌, None}
 use Rattle.std.specs.Prelude.{IsSome}
 use Rattle.slot_types.specs.Places.{place_of}
-use Rattle.die_mount.proofs.Finding.{only_blank}
+use Rattle.die_mount.proofs.PagesFound.{only_blank}
 use Rattle.die_mount.proofs.scan.Scan.first_lost.Goals as goal
 
 pub returns-then-is_none-clause-undone : goal.returns-then-is_none-clause-undone

@@ -1,7 +1,7 @@
 use Rattle.std.proofs.Common.{count_by, ap, ◌∙◌}
 use Rattle.slot_types.specs.Places.{is_in}
 use Rattle.die_mount.specs.Scanned.{Scanned}
-use Rattle.die_mount.proofs.Finding.{found_places}
+use Rattle.die_mount.proofs.PagesFound.{found_places}
 use Rattle.die_mount.proofs.scan.Scan.valid.Goals as goal
 
 pub returns : goal.returns

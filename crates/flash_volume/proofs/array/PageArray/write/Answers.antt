@@ -23,9 +23,9 @@ ready g c =
       in_list = rw (← c.self.view_is) at c.requires.page;
     }
 
-pub program-requires-clause-next : goal.program-requires-clause-next
-program-requires-clause-next g c =
-    let k = ready g (goal.at.program-requires-clause-next g c).After-next_cell-place in
+pub program_page-requires-clause-next : goal.program_page-requires-clause-next
+program_page-requires-clause-next g c =
+    let k = ready g (goal.at.program_page-requires-clause-next g c).After-next_cell-place in
     is_next k.stands k.fit
 
 pub bind-requires-clause-place : goal.bind-requires-clause-place
@@ -79,7 +79,7 @@ invariant_of-self-in-Ok g c = λ _.
     let worn_read : c.index-erases.result.now ≡ get_or worn block 0 = get_or_read worn block c.index-erases.result.now below
     c.index-erases.ensures 0 in
     rw (
-      c.program.ensures.shape,
+      c.program_page.ensures.shape,
       c.in-Ok.ensures.fails.well,
       c.in-Ok.ensures.blocks,
       c.left_open-still_open.ensures,
@@ -92,7 +92,7 @@ invariant_of-self-in-Ok g c = λ _.
       c.map.ensures,
       c.set.ensures,
       c.shape-pages.ensures,
-      c.program.ensures.shape,
+      c.program_page.ensures.shape,
       worn_read,
     ) (stands_written c.args.page c.args.bytes k.stands k.fit k.in_list)
 
@@ -107,7 +107,7 @@ returns-in-Ok-clause-placed g c =
       placing = search rules;
       pages = rw (c.in-Ok.ensures.blocks, c.bind.ensures, ← c.self.view_is)
           (contents_written c.args.page c.args.bytes k.stands k.fit k.in_list);
-      free = rw (c.program.ensures.shape, c.in-Ok.ensures.blocks, ← c.self.view_is) (free_written c.args.bytes k.fit);
+      free = rw (c.program_page.ensures.shape, c.in-Ok.ensures.blocks, ← c.self.view_is) (free_written c.args.bytes k.fit);
       closed = record {
         others = grind (arith, common_steps);
         closes = rw (
@@ -121,7 +121,7 @@ returns-in-Ok-clause-placed g c =
           c.place-before.ensures.place,
           c.map.ensures,
           c.shape-pages.ensures,
-          c.program.ensures.shape,
+          c.program_page.ensures.shape,
           k.is,
         )
             (closes_filled c.args.page c.args.bytes k.stands (rw k.is at k.fit));

@@ -1,7 +1,7 @@
 use Rattle.std.proofs.Common.{◌≡◌, ◌+◌, map, ◌∙◌, arith}
 use Rattle.die_log.specs.Model.Log.{now}
 use Rattle.ongoing_die.specs.Standing.{ask_in}
-use Rattle.ongoing_die.proofs.Standings.{clock_is}
+use Rattle.ongoing_die.proofs.OverAllLives.{clock_is}
 use Rattle.ongoing_die.proofs.ongoing_die.OngoingDie.clock.Goals as goal
 
 pub returns-clause-clock : goal.returns-clause-clock

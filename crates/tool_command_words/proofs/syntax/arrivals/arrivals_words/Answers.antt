@@ -4,4 +4,5 @@ pub returns : goal.returns
 returns c =
     let phased = c.with_arg-phased.ensures _ _ c.arrivals_drawn.ensures c.phases.ensures.rule in
     let late = c.with_arg-late.ensures _ _ phased c.jitter.ensures.rule in
-    c.with_arg.ensures _ _ late c.load.ensures.rule
+    let loaded = c.with_arg-loaded.ensures _ _ late c.load.ensures.rule in
+    c.with_arg.ensures _ _ loaded c.begun_from.ensures.rule

@@ -2,5 +2,5 @@ use Rattle.tool_command_words.proofs.syntax.compare.compare_words.Goals as goal
 
 pub returns : goal.returns
 returns c =
-    let of_a_die = c.with_arg-of_a_die.ensures _ _ c.compare_forms.ensures c.die.ensures.rule in
-    c.with_arg.ensures _ _ of_a_die c.task.ensures.rule
+    let begun = c.with_arg-begun.ensures _ _ c.compare_of_task.ensures c.checkpoint.ensures.rule in
+    c.with_arg.ensures _ _ begun c.strict.ensures.rule

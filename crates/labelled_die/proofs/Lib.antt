@@ -1,0 +1,4 @@
+pub mod Following
+pub mod Besides
+pub mod Passing
+pub mod Seeing

@@ -1,0 +1,4 @@
+pub mod Calls
+pub mod Looks
+pub mod Memory
+pub mod MemoryView

@@ -1,0 +1,7 @@
+pub mod Parts
+pub mod Tables
+pub mod Trying
+pub mod Preparing
+pub mod Spares
+pub mod Wearing
+pub mod WearingView

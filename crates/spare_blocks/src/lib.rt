@@ -1,0 +1,16 @@
+//! Spare blocks of a part take the place of blocks that fail.
+#![tactic(auto)]
+
+mod blocks;
+mod cells;
+mod fill;
+mod memory;
+mod part;
+mod prepare;
+mod table;
+
+pub use blocks::{Health, SpareBlocks};
+pub use cells::{BlockUse, Cell, Ended, Erased, Mark};
+pub use memory::{Failures, WearingMemory};
+pub use part::WearingNand;
+pub use table::BlockTable;

@@ -1,0 +1,408 @@
+//! A part in memory whose blocks fail.
+
+ghost use Rattle.std.specs.Prelude.{◌≡◌, ◌∷◌, ◌++◌, ◌+◌, ◌<◌, ◌≤◌, [], length, slice_set, IfOk, true, false, vec_capacity};
+ghost use Rattle.slot_types.specs.Refusal.{FailsForMemory};
+ghost use Rattle.spare_blocks.specs.Parts.{FaultsAlone, IsCell, IsFreeCell, part_block, cell_on, blocks_after_program, blocks_after_erase};
+ghost use Rattle.spare_blocks.specs.Wearing.{fresh_wearing};
+
+use crate::cells::{Cell, Ended, Erased, Mark};
+use crate::part::WearingNand;
+use slot_types::{PageData, Place, Refusal, Shape};
+use std::alloc::Global;
+use std::marker::Model;
+
+/// What becomes of a call.
+#[derive(Clone, Copy, PartialEq, Eq, Debug, Drop)]
+enum Fate {
+    Well,
+    Fails,
+    Faults,
+}
+
+/// When the blocks of a part in memory fail: at these of its programs, copies, last slots of an erase and whole erases,
+/// from 0; or at one in so many of them, by a seed; and when the part itself has a fault.
+#[derive(Drop)]
+pub struct Failures {
+    /// How many such calls there were.
+    calls: u64,
+    fails_at: Vec<u64>,
+    faults_at: Option<u64>,
+    seed: u64,
+    /// One call in so many fails; 0 for none.
+    one_in: u64,
+}
+
+impl Failures {
+    /// These calls fail, and this one finds the part at fault.
+    pub fn script(fails_at: Vec<u64>, faults_at: Option<u64>) -> Self {
+        Failures {
+            calls: 0,
+            fails_at,
+            faults_at,
+            seed: 0,
+            one_in: 0,
+        }
+    }
+
+    /// One call in so many fails, by a seed; none for 0.
+    pub fn seeded(alloc: Global, seed: u64, one_in: u64) -> Self {
+        Failures {
+            calls: 0,
+            fails_at: Vec::new(alloc),
+            faults_at: None,
+            seed,
+            one_in,
+        }
+    }
+
+    /// What becomes of the next call.
+    fn next(&mut self) -> Fate {
+        let call = self.calls;
+        self.calls = call.saturating_add(1);
+        if self.faults_at == Some(call) {
+            return Fate::Faults;
+        }
+        if self.fails_at.contains(&call) {
+            return Fate::Fails;
+        }
+        if self.one_in == 0 {
+            return Fate::Well;
+        }
+        self.seed = self
+            .seed
+            .wrapping_mul(6364136223846793005)
+            .wrapping_add(1442695040888963407);
+        if (self.seed >> 33) % self.one_in == 0 {
+            Fate::Fails
+        } else {
+            Fate::Well
+        }
+    }
+}
+
+/// A block: its programmed cells, the slots of its running erase, and whether it failed.
+#[derive(Drop)]
+struct WearingBlock {
+    cells: Vec<Cell>,
+    erasing: u32,
+    failed: bool,
+}
+
+/// A part in memory whose blocks fail when [`Failures`] says so. It keeps labels. A block that failed gets no further call
+/// by contract, so that it makes no difference whether it would fail again.
+#[derive(Drop)]
+pub struct WearingMemory {
+    shape: Shape,
+    blocks: Vec<WearingBlock>,
+    /// The serial of the next label.
+    next: u64,
+    /// How many cells were read or programmed, and slots of an erase done, up to the greatest number that there is.
+    spent: u64,
+    faulted: bool,
+    failures: Failures,
+}
+
+impl Model for WearingMemory {
+    ghost use Rattle.spare_blocks.specs.Wearing.{Wearing};
+    ghost use Rattle.spare_blocks.specs.WearingView.{wearing_of, IsSoundWearing};
+
+    ghost Value = { Wearing };
+
+    ghost view = { wearing_of };
+
+    ghost invariant = { IsSoundWearing };
+}
+
+impl WearingMemory {
+    /// A part whose blocks are free, and whose first label has this serial. It is refused with `BadShape` where it has no
+    /// slots of an erase, or else with `NoMemory` where there is no memory for the cells.
+    pub fn new(
+        alloc: Global,
+        shape: Shape,
+        serial: u64,
+        failures: Failures,
+    ) -> Result<Self, Refusal>
+        ensures fresh { IfOk result (λ part. part ≡ fresh_wearing shape serial) }
+        ensures bad_shape { shape.erase_slots ≡ 0 → result ≡ Err Refusal.BadShape }
+        ensures no_memory { 0 < shape.erase_slots → FailsForMemory result }
+    {
+        if shape.erase_slots == 0 {
+            return Err(Refusal::BadShape);
+        }
+        let mut blocks = Vec::new(alloc);
+        for _ in 0..shape.blocks {
+            blocks.push(WearingBlock {
+                cells: Vec::with_capacity(alloc, shape.pages as usize)?,
+                erasing: 0,
+                failed: false,
+            })?;
+        }
+        Ok(WearingMemory {
+            shape,
+            blocks,
+            next: serial,
+            spent: 0,
+            faulted: false,
+            failures,
+        })
+    }
+
+    /// What a cell holds, if it is programmed.
+    pub fn look(&self, place: Place) -> Option<Cell> {
+        match self.blocks.get(place.block as usize) {
+            Some(block) => block.cells.get(place.page as usize).copied(),
+            None => None,
+        }
+    }
+
+    /// How many cells were read or programmed, and slots of an erase done.
+    pub fn spent(&self) -> u64
+        ensures { result ≡ self.now.spent }
+    {
+        self.spent
+    }
+}
+
+/// Programs the next cell of a block, for which there is room.
+fn fill_cell(block: &mut WearingBlock, cell: Cell)
+    requires room { length block.old.cells.items < vec_capacity block.old.cells }
+    ensures cells { block.new.cells.items ≡ block.old.cells.items ++ cell ∷ [] }
+    ensures erasing { block.new.erasing ≡ block.old.erasing }
+    ensures failed { block.new.failed ≡ block.old.failed }
+    ensures capacity { vec_capacity block.new.cells ≡ vec_capacity block.old.cells }
+{
+    block.cells.push_reserved(cell);
+}
+
+/// A program of the block failed.
+fn fail_block(block: &mut WearingBlock)
+    ensures cells { block.new.cells.items ≡ block.old.cells.items }
+    ensures erasing { block.new.erasing ≡ block.old.erasing }
+    ensures failed { block.new.failed ≡ true }
+    ensures capacity { vec_capacity block.new.cells ≡ vec_capacity block.old.cells }
+{
+    block.failed = true;
+}
+
+/// The block was erased, or its erase failed.
+fn empty_block(block: &mut WearingBlock, failed: bool)
+    ensures cells { block.new.cells.items ≡ [] }
+    ensures erasing { block.new.erasing ≡ 0 }
+    ensures failed { block.new.failed ≡ failed }
+    ensures capacity { vec_capacity block.new.cells ≡ vec_capacity block.old.cells }
+{
+    block.cells.clear();
+    block.erasing = 0;
+    block.failed = failed;
+}
+
+/// A slot of the block's erase that isn't the last.
+fn erase_on(block: &mut WearingBlock)
+    requires few { block.old.erasing < 4294967295 }
+    ensures cells { block.new.cells.items ≡ block.old.cells.items }
+    ensures erasing { block.new.erasing ≡ block.old.erasing + 1 }
+    ensures failed { block.new.failed ≡ block.old.failed }
+    ensures capacity { vec_capacity block.new.cells ≡ vec_capacity block.old.cells }
+{
+    block.erasing += 1;
+}
+
+impl WearingMemory {
+    /// A program of the block fails.
+    fn fail(&mut self, block: u32)
+        requires whole { (part_block self.old.blocks block).failed ≡ false }
+        ensures { self.new ≡ record self.old {
+          blocks = slice_set self.old.blocks block
+              (record (part_block self.old.blocks block) { failed = true });
+        } }
+    {
+        fail_block(&mut self.blocks[block as usize]);
+    }
+
+    /// The cell is programmed.
+    fn fill(&mut self, place: Place, cell: Cell)
+        requires free { IsFreeCell self.old.blocks self.old.shape.pages place }
+        ensures { self.new ≡ record self.old {
+          blocks = slice_set self.old.blocks place.block
+              (record (part_block self.old.blocks place.block) {
+                cells = (part_block self.old.blocks place.block).cells ++ cell ∷ [];
+              });
+        } }
+    {
+        fill_cell(&mut self.blocks[place.block as usize], cell);
+    }
+
+    /// The block is erased, or its erase fails.
+    fn clear(&mut self, block: u32, failed: bool)
+        requires whole { (part_block self.old.blocks block).failed ≡ false }
+        ensures { self.new ≡ record self.old {
+          blocks = slice_set self.old.blocks block
+              (record { cells = []; erasing = 0; failed = failed });
+        } }
+    {
+        empty_block(&mut self.blocks[block as usize], failed);
+    }
+
+    /// A slot of the block's erase that isn't the last.
+    fn go_on(&mut self, block: u32)
+        requires whole { (part_block self.old.blocks block).failed ≡ false }
+        requires more { (part_block self.old.blocks block).erasing + 1
+            < self.old.shape.erase_slots }
+        ensures { self.new ≡ record self.old {
+          blocks = slice_set self.old.blocks block
+              (record (part_block self.old.blocks block) {
+                erasing = (part_block self.old.blocks block).erasing + 1;
+              });
+        } }
+    {
+        erase_on(&mut self.blocks[block as usize]);
+    }
+
+    /// How many slots the block's running erase has had.
+    fn erasing(&self, block: u32) -> u32
+        requires whole { (part_block self.now.blocks block).failed ≡ false }
+        ensures erasing { result ≡ (part_block self.now.blocks block).erasing }
+        ensures few { result < self.now.shape.erase_slots }
+    {
+        self.blocks[block as usize].erasing
+    }
+
+    /// Programs a cell, or fails its block, or has a fault.
+    fn put(&mut self, place: Place, cell: Cell) -> Result<Ended, Refusal>
+        requires free { IsFreeCell self.old.blocks self.old.shape.pages place }
+        requires well { self.old.faulted ≡ false }
+        ensures blocks { IfOk result (λ ended. self.new.blocks
+            ≡ blocks_after_program ended self.old.blocks place.block cell) }
+        ensures faults { FaultsAlone result self.new.faulted }
+        ensures next { self.new.next ≡ self.old.next }
+        ensures shape { self.new.shape ≡ self.old.shape }
+        ensures spent { self.new.spent ≡ self.old.spent }
+    {
+        match self.failures.next() {
+            Fate::Faults => {
+                self.faulted = true;
+                Err(Refusal::DeviceFault)
+            }
+            Fate::Fails => {
+                self.fail(place.block);
+                Ok(Ended::Failed)
+            }
+            Fate::Well => {
+                self.fill(place, cell);
+                Ok(Ended::Done)
+            }
+        }
+    }
+
+    /// Empties a block, or fails it, or has a fault.
+    fn empty(&mut self, block: u32) -> Result<Ended, Refusal>
+        requires whole { (part_block self.old.blocks block).failed ≡ false }
+        requires well { self.old.faulted ≡ false }
+        ensures blocks { IfOk result (λ ended. self.new.blocks
+            ≡ blocks_after_erase ended self.old.blocks block) }
+        ensures faults { FaultsAlone result self.new.faulted }
+        ensures next { self.new.next ≡ self.old.next }
+        ensures shape { self.new.shape ≡ self.old.shape }
+        ensures spent { self.new.spent ≡ self.old.spent }
+    {
+        match self.failures.next() {
+            Fate::Faults => {
+                self.faulted = true;
+                Err(Refusal::DeviceFault)
+            }
+            Fate::Fails => {
+                self.clear(block, true);
+                Ok(Ended::Failed)
+            }
+            Fate::Well => {
+                self.clear(block, false);
+                Ok(Ended::Done)
+            }
+        }
+    }
+
+    /// One more was spent, or two.
+    fn spend(&mut self, more: u64)
+        ensures spent { self.new.spent ≤ self.old.spent + more }
+        ensures rest { self.new ≡ record self.old { spent = self.new.spent } }
+    {
+        self.spent = self.spent.saturating_add(more);
+    }
+
+    /// What a programmed cell holds.
+    fn cell(&self, place: Place) -> Cell
+        requires cell { IsCell self.now.blocks place }
+        ensures { result ≡ cell_on self.now.blocks place }
+    {
+        self.blocks[place.block as usize].cells[place.page as usize]
+    }
+}
+
+impl WearingNand for WearingMemory {
+    ghost shape_of = { λ m. m.shape };
+
+    ghost blocks = { λ m. m.blocks };
+
+    ghost next = { λ m. m.next };
+
+    ghost faulted = { λ m. m.faulted };
+
+    ghost spent = { λ m. m.spent };
+
+    ghost keeps_labels = { true };
+
+    fn shape(&self) -> Shape {
+        self.shape
+    }
+
+    fn read(&mut self, place: Place) -> Result<PageData, Refusal> {
+        self.spend(1);
+        Ok(self.cell(place).bytes)
+    }
+
+    fn program(
+        &mut self,
+        place: Place,
+        page: Option<u32>,
+        bytes: PageData,
+    ) -> Result<Ended, Refusal> {
+        self.spend(1);
+        match page {
+            None => self.put(place, Cell { bytes, mark: None }),
+            Some(number) => {
+                let mark = Some(Mark {
+                    page: number,
+                    serial: self.next,
+                });
+                let ended = self.put(place, Cell { bytes, mark })?;
+                match ended {
+                    Ended::Done => self.next = self.next.saturating_add(1),
+                    Ended::Failed => {}
+                }
+                Ok(ended)
+            }
+        }
+    }
+
+    fn copy(&mut self, from: Place, to: Place) -> Result<Ended, Refusal> {
+        self.spend(2);
+        let cell = self.cell(from);
+        self.put(to, cell)
+    }
+
+    fn erase_slot(&mut self, block: u32) -> Result<Erased, Refusal> {
+        self.spend(1);
+        if self.erasing(block) + 1 < self.shape.erase_slots {
+            self.go_on(block);
+            return Ok(Erased::Partly);
+        }
+        match self.empty(block)? {
+            Ended::Done => Ok(Erased::Wholly),
+            Ended::Failed => Ok(Erased::Failed),
+        }
+    }
+
+    fn erase(&mut self, block: u32) -> Result<Ended, Refusal> {
+        self.empty(block)
+    }
+}

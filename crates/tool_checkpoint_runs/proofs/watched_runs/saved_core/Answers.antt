@@ -1,0 +1,27 @@
+use Rattle.std.proofs.Common.{ap, sym, ◌∙◌, subst}
+use Rattle.die_checkpoint.specs.declared.checkpoint.Checkpoint.{Checkpoint}
+use Rattle.flash_die.specs.Fuse.{Fuse}
+use Rattle.flash_die.specs.Memory.{Memory}
+use Rattle.flash_volume.specs.Checkpoints.{IsAsLeft}
+use Rattle.slot_core.specs.Core.{Core}
+use Rattle.slot_core.specs.Resumptions.{resumed_start}
+use Rattle.tool_checkpoint_runs.proofs.GoingOn.{resumed_as_saved}
+use Rattle.tool_checkpoint_runs.proofs.watched_runs.saved_core.Goals as goal
+
+pub resume-requires : goal.resume-requires
+resume-requires c = record {
+  left = λ shape fits.
+      rw c.new.ensures (
+      subst (λ (made : Checkpoint). IsAsLeft made c.in_ok-device.device.blocks 0) (sym c.in_ok-checkpoint.ensures.checkpoint)
+      c.in_ok-device.ensures.left);
+}
+
+pub returns-in-Ok : goal.returns-in-Ok
+returns-in-Ok c = record {
+  ok = ap (λ (core : Core (Fuse Memory)). core.start) c.in-Ok.ensures.ok
+      ∙ ap (λ (device : Fuse Memory). resumed_start c.args.plan c.in_ok-checkpoint.checkpoint device.inner.blocks) c.new.ensures
+      ∙ resumed_as_saved c.args.plan c.args.saved.now c.in_ok-checkpoint.checkpoint c.in_ok-device.device.blocks
+      c.in_ok-checkpoint.ensures.checkpoint c.in_ok-device.ensures.holds;
+  log = ap (λ (core : Core (Fuse Memory)). core.log) c.in-Ok.ensures.ok;
+  calls = ap (λ (core : Core (Fuse Memory)). core.device.left) c.in-Ok.ensures.ok ∙ ap (λ (device : Fuse Memory). device.left) c.new.ensures;
+}

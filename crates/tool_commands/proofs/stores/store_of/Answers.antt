@@ -1,7 +1,0 @@
-use Rattle.tool_design_pages.proofs.PlanBounds.{bound-in}
-use Rattle.tool_commands.proofs.stores.store_of.Goals as goal
-
-pub returns-in_ok-plans-in-WithTerms-clause-bound : goal.returns-in_ok-plans-in-WithTerms-clause-bound
-returns-in_ok-plans-in-WithTerms-clause-bound g c =
-    let read = rw c.in-WithTerms.is at c.in_ok-store.ensures in
-    bound-in c.in-WithTerms.store c.in_ok-plans-in-WithTerms.plans c.in_ok-plans-in-WithTerms.ensures.plans read.usable

@@ -1,0 +1,13 @@
+//! Full dies: the dies of a store after so many lives by their plan that each of their logical pages lies in a cell.
+#![tactic(auto)]
+
+mod copies;
+mod faults;
+mod fills;
+mod lives;
+mod pages;
+mod writers;
+
+pub use faults::FillFault;
+pub use fills::{Filled, MOST_LIVES, fill};
+pub use pages::{HeldPages, are_full, held_pages};

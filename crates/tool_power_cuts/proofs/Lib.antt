@@ -1,0 +1,4 @@
+pub mod Holding
+pub mod Running
+pub mod TextRuns
+pub mod Telling

@@ -1,0 +1,4 @@
+pub mod Writes
+pub mod CutDies
+pub mod Said
+pub mod Runs

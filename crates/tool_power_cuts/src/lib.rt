@@ -1,0 +1,21 @@
+//! Runs of a script on a die over a part in memory, whose cells keep labels: the power goes in a call, the part is
+//! mounted, and it is said what each page gives then, and what the mount cost.
+#![tactic(auto)]
+
+mod cut_dies;
+mod mounted_dies;
+mod page_writes;
+mod runs;
+mod said;
+mod saving;
+mod texts;
+mod trials;
+
+pub use cut_dies::{CutDie, Ended, part_call};
+pub use mounted_dies::mounted_die;
+pub use page_writes::PageWrite;
+pub use runs::{CutAt, CutFault, CutRun, TriedRun, cut_at, cut_each};
+pub use said::{Gives, Lost, PageSaid, content_of, gives_of, is_right, say_all, writing_of};
+pub use saving::save_mounted;
+pub use texts::{put_cut, put_tried};
+pub use trials::{Amiss, Tally, Trials, Tries, WrongCut};
