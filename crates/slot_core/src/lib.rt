@@ -7,7 +7,7 @@ mod devices;
 mod die_core;
 mod events;
 mod faults;
-pub mod head_step;
+mod head_step;
 mod head_steps;
 mod job_records;
 pub mod laws;

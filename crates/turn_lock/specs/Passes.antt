@@ -8,7 +8,8 @@ use Rattle.turn_lock.specs.Log.{times, StartsWith, entry, calls_by, NoneBy}
 use Rattle.turn_lock.specs.Views.{numbers_of, left_part, right_part, joined_view}
 
 module _ {E R A : Type 0} where
-  -- the pass has seen what others did since: no entry of its own, nor of a pass that was joined into it
+  -- the pass has seen what others did since: no entry of its own, nor of a pass that was joined into it, and none at all
+  -- where no other pass was left
   pub record SeesMore (fits : A → List (Entry E R) → Type 0) (v w : View E R A) : Type 0 where
     pub more : List (Entry E R)
     pub made : ℕ
@@ -16,6 +17,7 @@ module _ {E R A : Type 0} where
     pub sole : Bool
     pub view_is : w ≡ record v { seen = v.seen ++ more; made = made; sole = sole }
     pub none : NoneBy (numbers_of v) more
+    pub alone : v.sole ≡ true → more ≡ []
     pub later : v.made ≤ made
     pub stays_sole : v.sole ≡ true → sole ≡ true
     pub about_is : v.about ≡ Some topic

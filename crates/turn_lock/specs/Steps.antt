@@ -34,11 +34,12 @@ module _ {E R A : Type 0} where
       × ((p : ℕ) → times p (numbers_of m.0) ≤ 1) × (length (numbers_of m.0) ≤ 65536) × SeesFitting fits m.0
 
 module _ {E R A B : Type 0} (log : B → List (Entry E R)) (about : B → A) where
-  -- a look: the pass has seen all entries
+  -- a look: the pass has seen all entries, which are those that it had seen where no other pass is left
   abbrev pub looked : (A → List (Entry E R) → Type 0) → Step (Option (Kept B)) → Me (Option (Kept B)) (View E R A) → ℕ
       → Me (Option (Kept B)) (View E R A) → Type 0
   looked fits st m r m' = (m'.1 ≡ m.1)
-      × ((more : List (Entry E R)) × (m'.0 ≡ record m.0 { seen = m.0.seen ++ more }) × NoneBy (numbers_of m.0) more)
+      × ((more : List (Entry E R)) × (m'.0 ≡ record m.0 { seen = m.0.seen ++ more }) × NoneBy (numbers_of m.0) more
+        × (m.0.sole ≡ true → more ≡ []))
       × ((b : ℕ) × (b < 2) × (r ≡ 2 * length m'.0.seen + b))
       × ((a : A) × (m.0.about ≡ Some a) × fits a m'.0.seen)
 
