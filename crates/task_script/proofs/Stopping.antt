@@ -1,4 +1,4 @@
--- A die of which no other pass is left is stopped for want of memory alone, since its slots end by the last one.
+-- A die of which no other pass is left is stopped out of memory alone, since its slots end by the last one.
 use Rattle.std.proofs.Common.{◌≡◌, ℕ, zero, suc, ◌+◌, ◌<◌, ◌≤◌, true, List, [], ◌∷◌, ◌++◌, refl, ap, sym, ◌∙◌, subst, take, drop, length}
 use Rattle.std.proofs.Common.{arith, inl, inr, map, replicate, All, Option, Some, None, Result, Ok, Err}
 use Rattle.std.specs.Prelude.{IfSome}
@@ -209,7 +209,7 @@ few_slots (suc left) clock arrivals saids (fed, rest, split, asked, inl (slot, m
 
 -- A batch
 
--- a slot was refused for want of memory, if one was
+-- a slot was refused out of memory, if one was
 abbrev pub StopsForMemory : DieEnd → Type 0
 StopsForMemory end = IfSome end.stop (λ stop. stop.refusal ≡ because.NoMemory)
 
@@ -284,7 +284,7 @@ module _ (until : ℕ) (last : until ≤ MAX_SLOT) where
       reach,
     )
 
-  -- each die is stopped for want of memory alone, and its pass stays the only one
+  -- each die is stopped out of memory alone, and its pass stays the only one
   abbrev StopAndStay : List DieEnd → List DiePass → List Progress → Type 0
   StopAndStay ends qs after = AllByRecursion StopsForMemory ends × AllZip IsAlone qs after
 

@@ -119,7 +119,7 @@ fn add_rows(lines: &[u32], refused: &[RefusedEvent], count: &mut RunCount)
     }
 }
 
-/// Whether each die carried out all its slots; refused as the first slot that was refused, which is for want of memory.
+/// Whether each die carried out all its slots; refused as the first slot that was refused, which is out of memory.
 fn none_stopped(ends: &[DieEnd]) -> Result<(), Refusal>
     requires memory { All (λ end. IfSome end.stop (λ stop. stop.refusal ≡ NoMemory)) ends.now }
     ensures ok { OnOk result (All (λ end. end.stop ≡ None) ends.now) }
