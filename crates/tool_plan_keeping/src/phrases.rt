@@ -6,21 +6,40 @@ use std::io;
 use std::io::Write;
 use tool_slot_times::Slots;
 
+/// A slot, or so many of them, with the time where it is known how many us one takes.
+pub fn slots_in(count: u32, slot_us: Option<u32>) -> Slots {
+    Slots {
+        count: u64::from(count),
+        slot_us,
+    }
+}
+
+/// The slot that comes so many slots after another one.
+pub fn slot_after(slot: u32, slots: u32, slot_us: Option<u32>) -> Slots {
+    Slots {
+        count: u64::from(slot).saturating_add(u64::from(slots)),
+        slot_us,
+    }
+}
+
 /// Tells which row it is.
 pub fn put_row(text: &mut Vec<u8>, die: u32, line: &Line, slot_us: Option<u32>) -> io::Result<()> {
     let (record, task) = (line.record, line.task);
-    let at = Slots {
-        count: u64::from(line.at),
-        slot_us,
-    };
+    let at = slots_in(line.at, slot_us);
     write!(
         text,
         "die {die} record {record} slot {at} task {task} breaks its plan: "
     )
 }
 
-/// Tells which number isn't what it has to be.
-pub fn put_number(text: &mut Vec<u8>, name: &str, is: u64, has: u64, why: &str) -> io::Result<()> {
+/// Tells which slot of a row isn't the one that it has to be.
+pub fn put_number(
+    text: &mut Vec<u8>,
+    name: &str,
+    is: Slots,
+    has: Slots,
+    why: &str,
+) -> io::Result<()> {
     writeln!(text, "{name} is {is}, and has to be {has}, {why}")
 }
 
@@ -36,24 +55,30 @@ pub fn put_task(text: &mut Vec<u8>, plan: &DiePlan) -> io::Result<()> {
 }
 
 /// Tells the release of a row that comes in another slot.
-pub fn put_release(text: &mut Vec<u8>, line: &Line) -> io::Result<()> {
+pub fn put_release(text: &mut Vec<u8>, line: &Line, slot_us: Option<u32>) -> io::Result<()> {
     put_number(
         text,
         "release",
-        u64::from(line.release),
-        u64::from(line.at),
+        slots_in(line.release, slot_us),
+        slots_in(line.at, slot_us),
         "the slot before which it comes",
     )
 }
 
 /// Tells a deadline that is beyond the last one.
-pub fn put_last_due(text: &mut Vec<u8>, due: u64) -> io::Result<()> {
-    writeln!(text, "due is {due}, and may be at most {MAX_SLOT}")
+pub fn put_last_due(text: &mut Vec<u8>, due: Slots) -> io::Result<()> {
+    let last = slots_in(MAX_SLOT, due.slot_us);
+    writeln!(text, "due is {due}, and may be at most {last}")
 }
 
 /// Tells a release that is no multiple of the collect period.
-pub fn put_multiple(text: &mut Vec<u8>, line: &Line, period: u32) -> io::Result<()> {
-    let release = line.release;
+pub fn put_multiple(
+    text: &mut Vec<u8>,
+    line: &Line,
+    period: u32,
+    slot_us: Option<u32>,
+) -> io::Result<()> {
+    let (release, period) = (slots_in(line.release, slot_us), slots_in(period, slot_us));
     writeln!(
         text,
         "release is {release}, and has to be a multiple of {period}, the collect period"
@@ -61,12 +86,23 @@ pub fn put_multiple(text: &mut Vec<u8>, line: &Line, period: u32) -> io::Result<
 }
 
 /// Tells a release that is after the last slot.
-pub fn put_end(text: &mut Vec<u8>, line: &Line, slots: u32) -> io::Result<()> {
-    let release = line.release;
+pub fn put_end(
+    text: &mut Vec<u8>,
+    line: &Line,
+    slots: u32,
+    slot_us: Option<u32>,
+) -> io::Result<()> {
+    let (release, slots) = (slots_in(line.release, slot_us), slots_in(slots, slot_us));
     writeln!(
         text,
         "release is {release}, and has to be below {slots}, the number of slots"
     )
+}
+
+/// Tells that a run has more slots than it may.
+pub fn put_many_slots(text: &mut Vec<u8>, slots: u32, slot_us: Option<u32>) -> io::Result<()> {
+    let (slots, most) = (slots_in(slots, slot_us), slots_in(MAX_SLOT, slot_us));
+    writeln!(text, "the run has {slots} slots, and may have {most}")
 }
 
 /// Tells a collection that doesn't come.
@@ -78,10 +114,7 @@ pub fn put_missing(
     period: u32,
     slot_us: Option<u32>,
 ) -> io::Result<()> {
-    let slot = Slots {
-        count: u64::from(slot),
-        slot_us,
-    };
+    let (slot, period) = (slots_in(slot, slot_us), slots_in(period, slot_us));
     writeln!(
         text,
         "die {die} slot {slot} task {task} breaks its plan: no collection comes, and one has to at each multiple of {period}"

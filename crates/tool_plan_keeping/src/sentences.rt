@@ -2,20 +2,26 @@
 
 use crate::die_rows::{Line, die_lines};
 use crate::phrases::{
-    put_count, put_end, put_last_due, put_missing, put_multiple, put_number, put_release, put_row,
-    put_task, second_of,
+    put_count, put_end, put_last_due, put_many_slots, put_missing, put_multiple, put_number,
+    put_release, put_row, put_task, second_of, slot_after, slots_in,
 };
 use crate::verdicts::Broken;
-use slot_types::{DiePlan, MAX_JOBS, MAX_SLOT, Refusal, StorePlan, TaskTimes};
+use slot_types::{DiePlan, MAX_JOBS, Refusal, StorePlan, TaskTimes};
 use std::alloc::Global;
 use std::io;
 use std::io::Write;
 use tool_plan_breaches::{Breach, CollectionRule, JobRule, task_times};
 
 /// Tells the deadline of a row that has another time left.
-fn put_due(text: &mut Vec<u8>, line: &Line, period: u32, why: &str) -> io::Result<()> {
-    let due = u64::from(line.release).saturating_add(u64::from(period));
-    put_number(text, "due", u64::from(line.due), due, why)
+fn put_due(
+    text: &mut Vec<u8>,
+    line: &Line,
+    period: u32,
+    slot_us: Option<u32>,
+    why: &str,
+) -> io::Result<()> {
+    let due = slot_after(line.release, period, slot_us);
+    put_number(text, "due", slots_in(line.due, slot_us), due, why)
 }
 
 /// Tells which condition on a job doesn't hold.
@@ -25,12 +31,19 @@ fn put_job(
     own: TaskTimes,
     line: &Line,
     rule: JobRule,
+    slot_us: Option<u32>,
 ) -> io::Result<()> {
     match rule {
         JobRule::Task => put_task(text, plan),
-        JobRule::Release => put_release(text, line),
-        JobRule::Due => put_due(text, line, own.period, "a period after its release"),
-        JobRule::LastDue => put_last_due(text, u64::from(line.due)),
+        JobRule::Release => put_release(text, line, slot_us),
+        JobRule::Due => put_due(
+            text,
+            line,
+            own.period,
+            slot_us,
+            "a period after its release",
+        ),
+        JobRule::LastDue => put_last_due(text, slots_in(line.due, slot_us)),
         JobRule::SomeOps | JobRule::FewOps => {
             put_count(text, line.ops as u64, "operations", 1, own.work)
         }
@@ -53,25 +66,32 @@ fn put_collection(
     line: &Line,
     slots: u32,
     rule: CollectionRule,
+    slot_us: Option<u32>,
 ) -> io::Result<()> {
     let period = own.collect_period;
     match rule {
         CollectionRule::Task => put_task(text, plan),
-        CollectionRule::Release => put_release(text, line),
-        CollectionRule::Multiple => put_multiple(text, line, period),
-        CollectionRule::BeforeEnd => put_end(text, line, slots),
-        CollectionRule::Due => put_due(text, line, period, "a collect period after its release"),
-        CollectionRule::LastDue => put_last_due(
-            text,
-            u64::from(line.release).saturating_add(u64::from(period)),
-        ),
+        CollectionRule::Release => put_release(text, line, slot_us),
+        CollectionRule::Multiple => put_multiple(text, line, period, slot_us),
+        CollectionRule::BeforeEnd => put_end(text, line, slots, slot_us),
+        CollectionRule::Due => {
+            let why = "a collect period after its release";
+            put_due(text, line, period, slot_us, why)
+        }
+        CollectionRule::LastDue => put_last_due(text, slot_after(line.release, period, slot_us)),
     }
 }
 
 /// Tells a job that comes too soon after another one.
-fn put_period(text: &mut Vec<u8>, own: TaskTimes, first: &Line, second: &Line) -> io::Result<()> {
-    let from = u64::from(first.release).saturating_add(u64::from(own.period));
-    let (release, record) = (second.release, first.record);
+fn put_period(
+    text: &mut Vec<u8>,
+    own: TaskTimes,
+    first: &Line,
+    second: &Line,
+    slot_us: Option<u32>,
+) -> io::Result<()> {
+    let from = slot_after(first.release, own.period, slot_us);
+    let (release, record) = (slots_in(second.release, slot_us), first.record);
     writeln!(
         text,
         "release is {release}, and has to be at least {from}, a period after that of record {record}"
@@ -121,12 +141,13 @@ impl Reported<'_> {
         put_row(text, self.die, line, self.slot_us)?;
         let own = self.own(line.task);
         match breach {
-            Breach::Job { rule, .. } => put_job(text, self.plan, own, line, rule),
+            Breach::Job { rule, .. } => put_job(text, self.plan, own, line, rule, self.slot_us),
             Breach::Collection { rule, .. } => {
-                put_collection(text, self.plan, own, line, self.slots, rule)
+                let (slots, slot_us) = (self.slots, self.slot_us);
+                put_collection(text, self.plan, own, line, slots, rule, slot_us)
             }
             Breach::Period { earlier, .. } => match self.lines.get(earlier) {
-                Some(first) => put_period(text, own, first, line),
+                Some(first) => put_period(text, own, first, line, self.slot_us),
                 None => Ok(()),
             },
             _ => writeln!(
@@ -144,8 +165,7 @@ impl Reported<'_> {
             Breach::Count { task, slot, came } => return self.put_came(text, task, slot, came),
             Breach::TooMany => MAX_JOBS as usize,
             Breach::TooManySlots => {
-                let slots = self.slots;
-                return writeln!(text, "the run has {slots} slots, and may have {MAX_SLOT}");
+                return put_many_slots(text, self.slots, self.slot_us);
             }
         };
         match self.lines.get(place) {
@@ -156,7 +176,7 @@ impl Reported<'_> {
 }
 
 /// What breaks the plan of a die, in a sentence: the record, its slot and its task, what is asked, and what the plan
-/// allows. The slot is followed by its time, where it is known how many us one takes.
+/// allows. Each slot, and each number of slots, is followed by its time, where it is known how many us one takes.
 pub fn sentence(
     alloc: Global,
     text: &[u8],

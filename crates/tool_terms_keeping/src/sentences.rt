@@ -4,19 +4,20 @@ use crate::verdicts::Broken;
 use crate::windows::{Excess, Window};
 use demand_keeping::{Breach, CollectionRule, Count, JobRule};
 use demand_rules::TaskTerms;
-use slot_types::{MAX_JOBS, MAX_OPS, MAX_SLOT, Refusal};
+use slot_types::{MAX_JOBS, MAX_OPS, Refusal};
 use std::alloc::Global;
 use std::io;
 use std::io::Write;
 use terms_texts::{DieTerms, StoreTerms, plans_of};
 use tool_plan_keeping::phrases::{
-    put_count, put_end, put_last_due, put_missing, put_multiple, put_number, put_release, put_row,
-    put_task, second_of,
+    put_count, put_end, put_last_due, put_many_slots, put_missing, put_multiple, put_number,
+    put_release, put_row, put_task, second_of, slot_after, slots_in,
 };
 use tool_plan_keeping::{Line, die_lines};
+use tool_slot_times::Slots;
 
 /// Tells which number is too small.
-fn put_least(text: &mut Vec<u8>, name: &str, is: u32, least: u64, why: &str) -> io::Result<()> {
+fn put_least(text: &mut Vec<u8>, name: &str, is: Slots, least: Slots, why: &str) -> io::Result<()> {
     writeln!(
         text,
         "{name} is {is}, and has to be at least {least}, {why}"
@@ -24,26 +25,33 @@ fn put_least(text: &mut Vec<u8>, name: &str, is: u32, least: u64, why: &str) -> 
 }
 
 /// Tells which number is too great.
-fn put_most(text: &mut Vec<u8>, name: &str, is: u32, most: u64, why: &str) -> io::Result<()> {
+fn put_most(text: &mut Vec<u8>, name: &str, is: Slots, most: Slots, why: &str) -> io::Result<()> {
     writeln!(text, "{name} is {is}, and has to be at most {most}, {why}")
 }
 
 /// Tells a deadline that comes too soon after the release of its job.
-fn put_soon(text: &mut Vec<u8>, line: &Line, own: &TaskTerms) -> io::Result<()> {
-    let least = u64::from(line.release).saturating_add(u64::from(own.deadline));
-    put_least(text, "due", line.due, least, "a deadline after its release")
+fn put_soon(
+    text: &mut Vec<u8>,
+    line: &Line,
+    own: &TaskTerms,
+    slot_us: Option<u32>,
+) -> io::Result<()> {
+    let due = slots_in(line.due, slot_us);
+    let least = slot_after(line.release, own.deadline, slot_us);
+    put_least(text, "due", due, least, "a deadline after its release")
 }
 
 /// Tells a deadline that comes too long after its job.
-fn put_held(text: &mut Vec<u8>, line: &Line, own: &TaskTerms) -> io::Result<()> {
-    let most = u64::from(line.at).saturating_add(u64::from(own.held));
-    put_most(
-        text,
-        "due",
-        line.due,
-        most,
-        "as long after it comes as it may be held",
-    )
+fn put_held(
+    text: &mut Vec<u8>,
+    line: &Line,
+    own: &TaskTerms,
+    slot_us: Option<u32>,
+) -> io::Result<()> {
+    let due = slots_in(line.due, slot_us);
+    let most = slot_after(line.at, own.held, slot_us);
+    let why = "as long after it comes as it may be held";
+    put_most(text, "due", due, most, why)
 }
 
 /// Tells which condition on a job doesn't hold.
@@ -53,17 +61,18 @@ fn put_job(
     own: &TaskTerms,
     line: &Line,
     rule: JobRule,
+    slot_us: Option<u32>,
 ) -> io::Result<()> {
     match rule {
         JobRule::Task => put_task(text, &made.plan),
         JobRule::Release => {
-            let least = u64::from(line.at);
+            let (release, least) = (slots_in(line.release, slot_us), slots_in(line.at, slot_us));
             let why = "the slot before which it comes";
-            put_least(text, "release", line.release, least, why)
+            put_least(text, "release", release, least, why)
         }
-        JobRule::Due => put_soon(text, line, own),
-        JobRule::Held => put_held(text, line, own),
-        JobRule::LastDue => put_last_due(text, u64::from(line.due)),
+        JobRule::Due => put_soon(text, line, own, slot_us),
+        JobRule::Held => put_held(text, line, own, slot_us),
+        JobRule::LastDue => put_last_due(text, slots_in(line.due, slot_us)),
         JobRule::SomeOps | JobRule::FewOps => {
             put_count(text, line.ops as u64, "operations", 1, MAX_OPS)
         }
@@ -85,16 +94,17 @@ fn put_collection(
     line: &Line,
     slots: u32,
     rule: CollectionRule,
+    slot_us: Option<u32>,
 ) -> io::Result<()> {
-    let due = u64::from(line.release).saturating_add(u64::from(own.collect_deadline));
+    let due = slot_after(line.release, own.collect_deadline, slot_us);
     match rule {
         CollectionRule::Task => put_task(text, &made.plan),
-        CollectionRule::Release => put_release(text, line),
-        CollectionRule::Multiple => put_multiple(text, line, own.collect_period),
-        CollectionRule::BeforeEnd => put_end(text, line, slots),
+        CollectionRule::Release => put_release(text, line, slot_us),
+        CollectionRule::Multiple => put_multiple(text, line, own.collect_period, slot_us),
+        CollectionRule::BeforeEnd => put_end(text, line, slots, slot_us),
         CollectionRule::Due => {
             let why = "a collect_deadline after its release";
-            put_number(text, "due", u64::from(line.due), due, why)
+            put_number(text, "due", slots_in(line.due, slot_us), due, why)
         }
         CollectionRule::LastDue => put_last_due(text, due),
     }
@@ -107,8 +117,13 @@ fn put_excess(
     counted: u64,
     window: &Window,
     limit: u32,
+    slot_us: Option<u32>,
 ) -> io::Result<()> {
-    let (first, last) = (window.start, window.end.saturating_sub(1));
+    let first = slots_in(window.start, slot_us);
+    let last = Slots {
+        count: window.end.saturating_sub(1),
+        slot_us,
+    };
     match count {
         Count::Operations => writeln!(
             text,
@@ -173,7 +188,8 @@ impl Reported<'_> {
             return Ok(());
         };
         put_row(text, self.die, &line, self.slot_us)?;
-        put_job(text, self.made, &self.own(line.task), &line, rule)
+        let own = self.own(line.task);
+        put_job(text, self.made, &own, &line, rule, self.slot_us)
     }
 
     /// Tells what breaks the plan at a collection.
@@ -188,7 +204,8 @@ impl Reported<'_> {
         };
         put_row(text, self.die, &line, self.slot_us)?;
         let own = self.own(line.task);
-        put_collection(text, self.made, &own, &line, self.slots, rule)
+        let (slots, slot_us) = (self.slots, self.slot_us);
+        put_collection(text, self.made, &own, &line, slots, rule, slot_us)
     }
 
     /// Tells in which period a task asks for too much, and with which row.
@@ -209,7 +226,7 @@ impl Reported<'_> {
         match window.excess(count, limit, self.lines) {
             Some(Excess { line, counted }) => {
                 put_row(text, self.die, &line, self.slot_us)?;
-                put_excess(text, count, counted, &window, limit)
+                put_excess(text, count, counted, &window, limit, self.slot_us)
             }
             None => Ok(()),
         }
@@ -246,13 +263,13 @@ impl Reported<'_> {
 
     /// Tells what breaks the plan.
     fn put(&self, text: &mut Vec<u8>, breach: Breach) -> io::Result<()> {
-        let (die, slots) = (self.die, self.slots);
+        let die = self.die;
         match breach {
             Breach::Limits(_) => writeln!(
                 text,
                 "die {die}: a number of its terms is out of its limits"
             ),
-            Breach::Slots => writeln!(text, "the run has {slots} slots, and may have {MAX_SLOT}"),
+            Breach::Slots => put_many_slots(text, self.slots, self.slot_us),
             Breach::Arrivals => self.put_many(text),
             Breach::Job { index, rule } => self.put_job(text, index, rule),
             Breach::Collection { index, rule } => self.put_collection(text, index, rule),
@@ -266,7 +283,8 @@ impl Reported<'_> {
 }
 
 /// What breaks the plan of a die first, in a sentence: the record, its slot and its task, what is asked, and what the plan
-/// allows. The slot is followed by its time, where it is known how many us one takes. It refuses what the reader of scripts refuses, and NoMemory.
+/// allows. Each slot, and each number of slots, is followed by its time, where it is known how many us one takes. It
+/// refuses what the reader of scripts refuses, and NoMemory.
 pub fn sentence(
     alloc: Global,
     text: &[u8],
