@@ -14,6 +14,7 @@ import subprocess
 import sys
 import tempfile
 import threading
+import time
 import unittest
 from pathlib import Path
 
@@ -89,12 +90,35 @@ class Case(unittest.TestCase):
         self.assertEqual(self.on_terminal(words, "xterm"), "\x1b[K" + said)
         self.assertEqual(self.on_terminal(words, "dumb"), said)
 
+    def in_parts(self, name, text):
+        """A pipe of this name, through which a text comes in two parts, the second a third of a second later."""
+        path = self.at / name
+        os.mkfifo(path)
+
+        def write():
+            with open(path, "wb", buffering=0) as pipe:
+                pipe.write(text[:40])
+                time.sleep(0.3)
+                pipe.write(text[40:])
+
+        writer = threading.Thread(target=write)
+        writer.start()
+        self.addCleanup(writer.join)
+
     def no_part(self):
         self.assertEqual([path.name for path in self.at.rglob("*.part")], [])
 
 
 class Planned(Case):
     """Of flashplan."""
+
+    def test_an_audit_tells_how_much_it_read(self):
+        report = (DATA / "one_die.report.csv").read_bytes()
+        self.in_parts("slow.csv", report)
+        said = self.on_terminal("audit slow.csv", "xterm")
+        self.assertTrue(said.endswith(f"\x1b[K{len(report)} bytes were read\r\x1b[K"), said)
+        self.in_parts("quiet.csv", report)
+        self.assertEqual(self.on_terminal("audit quiet.csv --quiet", "xterm"), "")
 
     def setUp(self):
         super().setUp()

@@ -21,11 +21,14 @@ use tool_command_words::{Asked, read_words};
 use tool_commands::{act_asked, slots_of, texts_of};
 use whole_files::DiskShelf;
 
-/// What is shown of the files that are read: on a terminal, of a script, how far it is run.
+/// What is shown on a terminal of the files that are read: of a script how far it is run, of others how much was read.
 fn shown_of(asked: &Asked<'_>, is_terminal: bool) -> Shown {
+    if !is_terminal || asked.quiet {
+        return Shown::Nothing;
+    }
     match slots_of(&asked.request) {
-        Some(all) if is_terminal && !asked.quiet => Shown::Slots { all },
-        _ => Shown::Nothing,
+        Some(all) => Shown::Slots { all },
+        None => Shown::Bytes,
     }
 }
 

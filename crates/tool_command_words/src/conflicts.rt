@@ -1,6 +1,6 @@
 //! Which options of the words say nothing because of others.
 
-use crate::values::number_in;
+use crate::values::{fail_in, number_in};
 use command_arguments::value_in;
 use std::fmt;
 use std::fmt::{Display, Formatter};
@@ -140,15 +140,42 @@ fn beside_demand(words: &[String]) -> Option<Conflict<'_>> {
     None
 }
 
+/// A die whose device is to fail, and another one that is drawn.
+fn beside_failing(words: &[String]) -> Option<Conflict<'_>> {
+    let (fail, die) = (
+        value_in(words, "--fail-at")?,
+        value_in(words, "--die").unwrap_or("0"),
+    );
+    if fail_in(fail.as_bytes())?.die == number_in(die)? {
+        return None;
+    }
+    Some(Conflict {
+        option: "--fail-at",
+        value: fail,
+        other: "--die",
+        other_value: die,
+        why: "the die that fails isn't drawn",
+    })
+}
+
+/// The options of the picture of the worst that say nothing.
+fn beside_worst(words: &[String]) -> Option<Conflict<'_>> {
+    let why = "the picture of the worst has its own slots";
+    let from = some_beside(words, "--from", "--worst", why);
+    from.or(beside(words, "--to", "--worst", why))
+}
+
 /// The options of `draw` that don't go together.
 fn in_draw(words: &[String]) -> Option<Conflict<'_>> {
     if has(words, "--demand") {
         return beside_demand(words);
     }
+    let failing = beside_failing(words);
+    if failing.is_some() {
+        return failing;
+    }
     if has(words, "--worst") {
-        let why = "the picture of the worst has its own slots";
-        let from = some_beside(words, "--from", "--worst", why);
-        return from.or(beside(words, "--to", "--worst", why));
+        return beside_worst(words);
     }
     let (from, to) = (
         value_in(words, "--from").unwrap_or("0"),

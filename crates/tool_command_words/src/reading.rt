@@ -91,7 +91,7 @@ fn parsed<'a>(
 ///   where with `--csv` P doesn't go, and U with E alone;
 /// - `draw PLAN SCRIPT --slots N --die D --from A --to B --worst --text --all --fail-at DIE:K --slot-us U
 ///   --page-bytes P --checkpoint CHECKPOINT`: the picture begins with slot A, and ends before slot B, or with the run;
-///   `--worst` goes with neither;
+///   `--worst` goes with neither, and DIE is D;
 /// - `draw PLAN --demand --die D`, which takes no other option;
 /// - `compare PLAN SCRIPT --slots N --from F --pool A --csv --draw --slot-us U --page-bytes P --die D --task T
 ///   --checkpoint CHECKPOINT`, where `--csv` goes with neither `--draw` nor U, neither of these two flags with P, and D

@@ -2,9 +2,9 @@
 
 ghost use Rattle.std.specs.Prelude.{◌≡◌};
 ghost use Rattle.tool_command_words.specs.RequestTexts.{text_of_command};
-ghost use Rattle.tool_command_words.specs.Together.{goes_together, has_slots, has_units};
+ghost use Rattle.tool_command_words.specs.Together.{fails_drawn, goes_together, has_slots, has_units};
 
-use crate::asked::Command;
+use crate::asked::{Command, FailingDie};
 use slot_types::MAX_SLOT;
 
 /// Whether slots from `first` on, of so many that are run, are any, or none is named.
@@ -19,6 +19,16 @@ fn has_units(slot_us: u32, page_bytes: u32, as_csv: bool, draws: bool) -> bool
     ensures { result ≡ has_units slot_us page_bytes as_csv draws }
 {
     (!as_csv || slot_us == 0) && (!(as_csv || draws) || page_bytes == 0)
+}
+
+/// Whether the die whose device is to fail, if one is, is the one that is drawn.
+fn fails_drawn(die: u32, fail: Option<FailingDie>) -> bool
+    ensures { result ≡ fails_drawn die fail }
+{
+    match fail {
+        Some(fail) => fail.die == die,
+        None => true,
+    }
 }
 
 /// Whether no option of a command says nothing because of another one.
@@ -36,11 +46,16 @@ pub(crate) fn goes_together(command: Command<'_>) -> bool
         } => !as_csv || (page_bytes == 0 && (slot_us == 0 || 0 < endurance)),
         Command::Draw {
             slots,
+            die,
             from,
             to,
             worst,
+            fail,
             ..
-        } => (!worst || (from == 0 && to == MAX_SLOT)) && (from < to && has_slots(from, slots)),
+        } => {
+            let window = from < to && has_slots(from, slots);
+            (!worst || (from == 0 && to == MAX_SLOT)) && (window && fails_drawn(die, fail))
+        }
         Command::Compare {
             slots,
             from,

@@ -54,7 +54,7 @@ fn said_of(alloc: Global, plan: &[u8], asked: Units) -> Result<Explained, Refusa
     let slot_us = slot_for(alloc, plan, asked.slot_us)?;
     let units = units_with(asked, slot_us);
     let explained = tested(alloc, plan, units)?;
-    let lives = life_lines(alloc, plan, units)?;
+    let lives = life_lines(alloc, plan, asked, units, &explained.text)?;
     with_more(explained, &lives)
 }
 
@@ -103,25 +103,43 @@ fn store_in(alloc: Global, plan: &[u8]) -> Result<StorePlan, Refusal> {
     }
 }
 
-/// What is said of a checkpoint of the dies of a plan, where the plan is accepted and there is one.
+/// Why nothing is said of a checkpoint.
+const UNSAID: &str =
+    "plan: --from says nothing: the dies of a plan that isn't accepted go on from no checkpoint.";
+
+/// Says that nothing is said of a checkpoint. The only refusal is NoMemory.
+fn unsaid(alloc: Global) -> Result<Vec<u8>, Refusal> {
+    let mut text = Vec::new(alloc);
+    match writeln!(text, "{UNSAID}") {
+        Ok(()) => Ok(text),
+        Err(_) => Err(Refusal::NoMemory),
+    }
+}
+
+/// What is said of a checkpoint of the dies of a plan that is accepted.
+fn said_from<C: Read + Drop>(alloc: Global, plan: &[u8], from: C) -> Result<Vec<u8>, RunFault> {
+    let mut more = Vec::new(alloc);
+    let store = store_in(alloc, plan)?;
+    let saved = saved_in(alloc, from)?;
+    explain_checkpoint(alloc, &mut more, &store, &saved)?;
+    Ok(more)
+}
+
+/// What is said of a checkpoint of the dies of a plan, if there is one: of a plan that isn't accepted, that nothing is.
 fn more_of<C: Read + Drop>(
     alloc: Global,
     plan: &[u8],
     from: Option<C>,
     is_accepted: bool,
 ) -> Result<Vec<u8>, RunFault> {
-    let mut more = Vec::new(alloc);
-    if is_accepted {
-        if let Some(from) = from {
-            let store = store_in(alloc, plan)?;
-            let saved = saved_in(alloc, from)?;
-            explain_checkpoint(alloc, &mut more, &store, &saved)?;
-        }
+    match from {
+        Some(from) if is_accepted => said_from(alloc, plan, from),
+        Some(_) => Ok(unsaid(alloc)?),
+        None => Ok(Vec::new(alloc)),
     }
-    Ok(more)
 }
 
-/// What is said of a plan, and, where it is accepted, of a checkpoint of its dies.
+/// What is said of a plan, and of a checkpoint of its dies.
 fn explained_from<P: Read + Drop, C: Read + Drop>(
     alloc: Global,
     plan: P,
@@ -138,7 +156,7 @@ fn explained_from<P: Read + Drop, C: Read + Drop>(
     Ok(with_more(explained, &more)?)
 }
 
-/// Prints what is said of a plan, and, where it is accepted, of a checkpoint of its dies. Says whether it is accepted.
+/// Prints what is said of a plan, and of a checkpoint of its dies. Says whether it is accepted.
 fn print_explained_from<P: Read + Drop, C: Read + Drop, W: Output>(
     alloc: Global,
     plan: P,

@@ -1,5 +1,5 @@
-//! What is said of a plan behind its explanation: how long a life of a die with terms lasts, and how much its tasks write and
-//! read.
+//! What is said of a plan behind its explanation: how long a life of a die with terms lasts, how much its tasks write and
+//! read, and which options say nothing of it.
 
 ghost use Rattle.slot_types.specs.Refusal.{FailsForMemory};
 
@@ -81,33 +81,87 @@ fn put_dies(text: &mut Vec<u8>, dies: &[DieTerms], units: Units) -> io::Result<(
     Ok(())
 }
 
-/// Adds that the bytes of a page say nothing where it isn't known how long a slot is.
-fn put_unsaid(text: &mut Vec<u8>, units: Units) -> io::Result<()> {
-    if units.page_bytes.is_some() && units.slot_us.is_none() {
+/// How a time ends in what is said.
+const TIMES: [&[u8]; 5] = [b" us)", b" ms)", b" s)", b" min)", b" h)"];
+
+/// What stands behind a number of slots.
+const SLOTS: &[u8] = b" slots";
+
+/// How a rate ends.
+const RATE: &[u8] = b" MB/s";
+
+/// Whether these bytes stand in a text.
+fn has(text: &[u8], bytes: &[u8]) -> bool {
+    for at in 0..text.len() {
+        if text[at..].starts_with(bytes) {
+            return true;
+        }
+    }
+    false
+}
+
+/// Adds which options say nothing of a plan, of which this is said.
+fn put_unsaid(text: &mut Vec<u8>, asked: Units, known: Units, said: &[u8]) -> io::Result<()> {
+    let times = TIMES.iter().any(|time| has(said, time));
+    if asked.slot_us.is_some() && !times {
+        writeln!(
+            text,
+            "plan: --slot-us says nothing: no slots are counted here."
+        )?;
+    }
+    if known.page_bytes.is_none() || has(said, RATE) {
+        return Ok(());
+    }
+    if known.slot_us.is_none() && has(said, SLOTS) {
         writeln!(text, "plan: --page-bytes says nothing: {UNKNOWN_SLOT}.")
     } else {
-        Ok(())
+        writeln!(
+            text,
+            "plan: --page-bytes says nothing: no task's jobs are counted here."
+        )
     }
 }
 
-/// Adds what stands behind the explanation of a plan: how long lives last and what tasks write and read, of a plan with terms
-/// that is accepted; and what says nothing. Fails where memory is refused.
-fn put_lives(alloc: Global, text: &mut Vec<u8>, plan: &[u8], units: Units) -> Result<(), Refusal> {
+/// What stands behind the explanation of a plan with terms that is accepted: how long lives last, and what tasks write and
+/// read. Fails where memory is refused.
+fn lives_of(alloc: Global, plan: &[u8], known: Units) -> Result<Vec<u8>, Refusal> {
+    let mut text = Vec::new(alloc);
     match read_terms(alloc, plan) {
-        Ok(dies) => written(put_dies(text, dies.as_slice(), units))?,
+        Ok(dies) => written(put_dies(&mut text, dies.as_slice(), known))?,
         Err(TermsRefusal::Outside(_)) => return Err(Refusal::NoMemory),
         Err(_) => {}
     }
-    written(put_unsaid(text, units))
+    Ok(text)
 }
 
-/// These lines. The only refusal is NoMemory.
-pub(crate) fn life_lines(alloc: Global, plan: &[u8], units: Units) -> Result<Vec<u8>, Refusal>
+/// These lines, and which options say nothing of the plan beside what was said of it already.
+fn put_lives(
+    alloc: Global,
+    plan: &[u8],
+    asked: Units,
+    known: Units,
+    said: &[u8],
+) -> Result<Vec<u8>, Refusal> {
+    let mut text = lives_of(alloc, plan, known)?;
+    let mut whole = Vec::from_slice(alloc, said)?;
+    whole.extend_from_slice(&text)?;
+    written(put_unsaid(&mut text, asked, known, &whole))?;
+    Ok(text)
+}
+
+/// What is said of a plan after this: of one with terms that is accepted how long lives last, and what tasks write and read;
+/// and which options say nothing of it. The only refusal is NoMemory.
+pub(crate) fn life_lines(
+    alloc: Global,
+    plan: &[u8],
+    asked: Units,
+    known: Units,
+    said: &[u8],
+) -> Result<Vec<u8>, Refusal>
     ensures refused { FailsForMemory result }
 {
-    let mut text = Vec::new(alloc);
-    match put_lives(alloc, &mut text, plan, units) {
-        Ok(()) => Ok(text),
+    match put_lives(alloc, plan, asked, known, said) {
+        Ok(text) => Ok(text),
         Err(_) => Err(Refusal::NoMemory),
     }
 }

@@ -67,20 +67,10 @@ fn files_of<'a>(command: Command<'a>) -> (&'a str, Option<&'a str>, Option<&'a s
     }
 }
 
-/// The die and the task that the options of a command name, each with its option. Of two dies it is the greater one,
-/// which isn't there where one isn't.
+/// The die and the task that the options of a command name, each with its option.
 fn parts_of(command: Command<'_>) -> (Option<(&'static str, u32)>, Option<(&'static str, u32)>) {
     match command {
-        Command::Draw {
-            die,
-            fail: Some(fail),
-            ..
-        } if fail.die <= die => (Some(("--die", die)), None),
-        Command::Draw {
-            fail: Some(fail),
-            ..
-        }
-        | Command::Report {
+        Command::Report {
             fail: Some(fail),
             ..
         }

@@ -11,8 +11,8 @@ use std::alloc::{AllocError, Global};
 /// What is found for a datasheet.
 const FIT_HELP: &str =
     "A datasheet has read_us, program_us, erase_us, suspend_us, resume_us, blocks, pages and logical, and may have transfer_us,
-margin_us, program_typical_us and suspends. A [[task]] has period_ms, reads and writes; or burst_pages and at_most_once_in_s;
-or pages_per_s; and may have deadline_ms. man maulgreen-texts says more. The plan says how long a slot is, and what is to spare.
+margin_us, slot_us, program_typical_us, suspends and endurance. A [[task]] has period_ms, reads and writes; or burst_pages and
+at_most_once_in_s; or pages_per_s; and may have deadline_ms. man maulgreen-texts says more. The plan says how long a slot is, and what is to spare.
 Ends with 3 where no plan was found, and says what stands against it.
 
 Example: flashplan fit part.toml > plan.toml";
