@@ -8,6 +8,7 @@ ghost use Rattle.tool_command_words.specs.Syntax.{IsCommand, flashplan_app, name
 mod arrivals;
 mod audit;
 mod compare;
+mod cut;
 mod design;
 mod draw;
 mod explain;
@@ -26,6 +27,7 @@ use audit::audit_words;
 use clap::{Arg, Command};
 use command_arguments::{VERSION, flag};
 use compare::compare_words;
+use cut::cut_words;
 use design::design_words;
 use draw::draw_words;
 use explain::explain_words;
@@ -121,5 +123,6 @@ pub fn program_words<'a>(alloc: Global) -> Result<Command<'a>, AllocError>
     let comparing = with_command(alloc, drawing, compare_words(alloc));
     let importing = with_command(alloc, comparing, import_words(alloc));
     let running = with_command(alloc, importing, run_words(alloc));
-    with_command(alloc, running, audit_words(alloc))
+    let cutting = with_command(alloc, running, cut_words(alloc));
+    with_command(alloc, cutting, audit_words(alloc))
 }
