@@ -1,13 +1,13 @@
 #!/usr/bin/env -S python3 -B
-"""Losses of power, a second time: the die by the rules (plain_die.py), and the part with its labels, the mount and what is
-said of each page by the pages of crates/power_loss, crates/die_mount, crates/tool_labelled_parts and crates/flashplan
-("cut") alone. It reads nothing of the program.
+"""Losses of power, a second time: the die by the rules (plain_die.py), and the part with its labels, the mount and what
+is said of each page by the pages of crates/power_loss, crates/die_mount, crates/tool_labelled_parts and
+crates/flashplan ("cut") alone. It reads nothing of the program.
 
-    .ci/second_reading/plain_cuts.py PLAN SCRIPT SLOTS K LEAVES SEED    what `flashplan cut` has to say of a cut of die 0
+    .ci/second_reading/plain_cuts.py PLAN SCRIPT SLOTS K LEAVES SEED    what has to be said of a cut of die 0
     .ci/second_reading/plain_cuts.py PLAN SCRIPT SLOTS each SEED        and of cuts at each call
 
-Its plans are plain ones (version 1 or 2), whose times make no difference here. `.ci/second_reading/chance-cuts` puts it beside
-the program."""
+Its plans are plain ones (version 1 or 2), whose times make no difference here. `.ci/second_reading/chance-cuts` puts
+it beside the program."""
 import copy
 import re
 import sys
@@ -47,8 +47,8 @@ class Words:
 # The part
 
 class Cell:
-    """What a cell shows: a label, which is a page and a serial, with bytes; or none. And whether it was erased since the
-    power came: it may be programmed then, and no other one may."""
+    """What a cell shows: a label, which is a page and a serial, with bytes; or none. And whether it was erased since
+    the power came: it may be programmed then, and no other one may."""
 
     def __init__(self, label=None, content=None, is_erased=False):
         self.label, self.content, self.is_erased = label, content, is_erased
@@ -127,8 +127,8 @@ class LabelFlash(plain_die.Flash):
 
 
 class Lost:
-    """A die as it stood before the slot in which its power goes, what the slot does, the call of the part, and its number;
-    and what was written before."""
+    """A die as it stood before the slot in which its power goes, what the slot does, the call of the part, and its
+    number; and what was written before."""
 
     def __init__(self, die, number, call, job, act, writes):
         self.die, self.number, self.call, self.job, self.act, self.writes = die, number, call, job, act, writes
@@ -161,8 +161,8 @@ class Lost:
 
 
 class Run:
-    """A script on a die. `losses` goes through its calls: of each, or of one alone, how the power goes in it. A slot makes
-    one call at most."""
+    """A script on a die. `losses` goes through its calls: of each, or of one alone, how the power goes in it. A slot
+    makes one call at most."""
 
     def __init__(self, plan, rows, slots):
         self.die, self.rows, self.slots = plain_die.Die(plan, 0), rows, slots
@@ -285,13 +285,14 @@ class Mount:
         return [self.part.read(*self.at[page]) if page in self.at else BLANK for page in range(self.plan.logical)]
 
     def checkpoint(self):
-        """The text of what stands on the die that begins where the mount has ended, which is the only one of its store. It
-        has the blocks but the one aside, and the part's last one under the number of that."""
+        """The text of what stands on the die that begins where the mount has ended, which is the only one of its store.
+        It has the blocks but the one aside, and the part's last one under the number of that."""
         last = self.part.count - 1
         lines = ["checkpoint,1"]
         for page, content in enumerate(self.contents()):
             block, cell = self.at.get(page, (None, None))
-            lines.append(f"page,{self.aside if block == last else block},{cell},{content}" if page in self.at else "page,,,")
+            number = self.aside if block == last else block
+            lines.append(f"page,{number},{cell},{content}" if page in self.at else "page,,,")
         own = [last if block == self.aside else block for block in range(self.plan.blocks)]
         lines += [f"block,{self.filled[block]},{self.erased[block]}" for block in own]
         lines += [f"task,{cap}" for cap in self.plan.caps]
@@ -338,7 +339,8 @@ def told_erasing(part):
 def told_mount(mount, slot_us):
     if mount.undone is not None:
         yield f": the mount undoes block {mount.undone}"
-    yield (f": mount: labels {mount.labels}, copies {mount.copies}, erases {sum(mount.erased.values())}, erase slots {mount.slots}, "
+    erases = sum(mount.erased.values())
+    yield (f": mount: labels {mount.labels}, copies {mount.copies}, erases {erases}, erase slots {mount.slots}, "
            f"slots {slots_of(mount.took(), slot_us)}, at most {slots_of(mount.most, slot_us)}")
     yield f": then block {mount.aside} stands aside, and the next serial is {mount.serial}"
 
@@ -367,7 +369,8 @@ def say(lost, die, leaves, seed, slot_us=None):
 
 
 class Each:
-    """Cuts at each call of a run, each with what may be left of it, and where it is asked for at each call of the mount."""
+    """Cuts at each call of a run, each with what may be left of it, and where it is asked for at each call of the
+    mount."""
 
     def __init__(self, plan, rows, slots, seed, asked=LEAVES, mounts=False):
         self.tally, self.most = Counter(), Counter()
@@ -401,10 +404,13 @@ class Each:
     def told(self, die, slot_us=None):
         tally, most = self.tally, self.most
         assert tally["wrong"] == 0, "a page is wrong by the second reading"
+        cuts = {"calls": "calls", "cuts": "cuts", "cuts of mounts": "mounts", "blocks undone": "undone"}
+        pages = {"last write": "last", "in progress": "in progress", "blank": "blank", "trimmed": "earlier"}
+        slots = slots_of(most["slots"], slot_us)
         return lines_of(die, (
-            f": calls {tally['calls']}, cuts {tally['cuts']}, cuts of mounts {tally['mounts']}, blocks undone {tally['undone']}",
-            f": pages: last write {tally['last']}, in progress {tally['in progress']}, blank {tally['blank']}, trimmed {tally['earlier']}",
-            f": at most of a mount: copies {most['copies']}, erases {most['erases']}, slots {slots_of(most['slots'], slot_us)}",
+            ": " + ", ".join(f"{word} {tally[name]}" for word, name in cuts.items()),
+            ": pages: " + ", ".join(f"{word} {tally[name]}" for word, name in pages.items()),
+            f": at most of a mount: copies {most['copies']}, erases {most['erases']}, slots {slots}",
             ": none was wrong"))
 
 

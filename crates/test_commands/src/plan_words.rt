@@ -17,8 +17,8 @@ fn words_in(alloc: Global, line: &str) -> Result<Vec<String>, AllocError> {
 const FAULTS: [(&str, &str); 13] = [
     (
         "flashplan",
-        "error: a command is wanted: explain, fit, design, arrivals, fill, keeps, wear, report, draw, compare, import, run or \
-         audit\n",
+        "error: a command is wanted: explain, fit, design, arrivals, fill, keeps, wear, report, draw, compare, import, run, cut \
+         or audit\n",
     ),
     (
         "flashplan wear p.toml s.csv --slots 12a",

@@ -222,7 +222,7 @@ fn in_run(words: &[String]) -> Option<Conflict<'_>> {
 /// The options of `cut` that don't go together.
 fn in_cut(words: &[String]) -> Option<Conflict<'_>> {
     if has(words, "--every") {
-        let at = beside(words, "--at", "--every", "the power goes at each call");
+        let at = some_beside(words, "--at", "--every", "the power goes at each call");
         return at.or(beside(
             words,
             "--to",

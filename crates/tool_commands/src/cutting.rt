@@ -17,6 +17,7 @@ use text_base::{Output, write_whole};
 use tool_command_words::Leftover;
 use tool_labelled_parts::{Leaves, Loss};
 use tool_power_cuts::{CutAt, CutFault, Told, Tries, tell_cut, tell_each};
+use tool_script_runs::RefusedRows;
 
 /// Where the power goes, and how it is said.
 #[derive(Clone, Copy, Drop)]
@@ -210,6 +211,23 @@ fn end_uncut<E: Write>(err: &mut E, uncut: Uncut, die: u32) -> u8
     }
 }
 
+/// The rows that a die refused before its power went, if it did: those that come after it are refused with DieStopped, and
+/// aren't worth a report.
+fn before_cut(refused: RefusedRows) -> RefusedRows {
+    let stopped = Refusal::DieStopped.number() as usize;
+    let mut kinds = refused.kinds;
+    let Some(after) = kinds.get_mut(stopped) else {
+        return refused;
+    };
+    let count = refused.count.saturating_sub(*after);
+    *after = 0;
+    RefusedRows {
+        count,
+        first: if count == 0 { None } else { refused.first },
+        kinds,
+    }
+}
+
 /// Puts the checkpoint of a mounted die into a file, where there is one, and answers the status. A writer that fails is
 /// passed over.
 fn put_saved<K: Shelf, E: Write>(
@@ -232,7 +250,7 @@ fn put_saved<K: Shelf, E: Write>(
 ///
 /// Answers the status: 0; 3 where a page is wrong, or the part isn't mounted; 1 where something was refused, which is
 /// reported, and nothing was written, or not the whole; and where the text is printed, and there is such a file, 1 where it
-/// can't be written. Rows that the die refused are reported, those that came after the power went among them.
+/// can't be written. Rows that the die refused before its power went are reported.
 pub fn act_cut<P: Read + Drop, S: Read + Drop, K: Shelf, W: Output, E: Write>(
     alloc: Global,
     plan: P,
@@ -257,7 +275,7 @@ pub fn act_cut<P: Read + Drop, S: Read + Drop, K: Shelf, W: Output, E: Write>(
         Ok(told) => told,
         Err(uncut) => return end_uncut(err, uncut, cuts.die),
     };
-    report_refused(err, told.refused);
+    report_refused(err, before_cut(told.refused));
     if !told.right {
         return 3;
     }
