@@ -3,7 +3,7 @@
 ghost use Rattle.std.specs.Prelude.{◌≡◌, ◌⊎◌, ◌≤◌, IfOk, OnErr};
 ghost use Rattle.text_base.specs.Writing.{IsNotWhole};
 ghost use Rattle.tool_commands.specs.Acts.{Says};
-ghost use Rattle.tool_commands.specs.CutActs.{EndsCut, PrintsCut, PrintsCutting, PrintsEach, cut_named, leaves_named, leaves_or_blank};
+ghost use Rattle.tool_commands.specs.CutActs.{CutStatus, EndsCut, PrintsCut, PrintsCutting, PrintsEach, cut_named, leaves_named, leaves_or_blank};
 
 use crate::checkpoint_acts::put_text;
 use crate::endings::{end_refused, report_refused};
@@ -244,6 +244,60 @@ fn put_saved<K: Shelf, E: Write>(
     }
 }
 
+/// Cuts the power in one call, or in each where none is named, and prints what came of it.
+#[tactic(auto, using(crate::proofs::CutSo::each_printed, crate::proofs::CutSo::each_part, crate::proofs::CutSo::one_printed, crate::proofs::CutSo::one_part))]
+fn print_cuts<P: Read + Drop, S: Read + Drop, W: Output>(
+    alloc: Global,
+    plan: P,
+    script: S,
+    cuts: Cuts,
+    saves: bool,
+    out: &mut W,
+) -> Result<Told, Uncut>
+    requires slots { cuts.slots ≤ MAX_SLOT }
+    ensures printed { IfOk result (λ told.
+        PrintsCutting (P.remaining plan) (S.remaining script) cuts.slots cuts.die cuts.at
+        cuts.leaves cuts.looks told.right (W.contents out.old) (W.contents out.new)) }
+    ensures part { OnErr result (IsNotWhole W.contents W.has_failed
+        (Says (PrintsCutting (P.remaining plan) (S.remaining script) cuts.slots cuts.die cuts.at
+        cuts.leaves cuts.looks)) out.old out.new) }
+{
+    if cuts.at == 0 {
+        print_each(alloc, plan, script, cuts, out)
+    } else {
+        print_cut(alloc, plan, script, cuts, saves, out)
+    }
+}
+
+/// Reports what was refused of a run whose text is printed, puts the checkpoint of the mounted die into a file, where there
+/// is one and nothing is wrong, and answers the status. A writer that fails is passed over.
+fn end_told<K: Shelf, E: Write>(shelf: &K, to: Option<&str>, told: Told, err: &mut E) -> u8
+    ensures { CutStatus told.right result }
+{
+    report_refused(err, before_cut(told.refused));
+    if !told.right {
+        return 3;
+    }
+    put_saved(shelf, to, told.saved, err)
+}
+
+/// Ends a command, of which this was told, and answers the status. A writer that fails is passed over.
+fn end_cut<K: Shelf, E: Write>(
+    shelf: &K,
+    to: Option<&str>,
+    die: u32,
+    ran: Result<Told, Uncut>,
+    err: &mut E,
+) -> u8
+    ensures told { IfOk ran (λ told. CutStatus told.right result) }
+    ensures untold { OnErr ran ((result ≡ 1) ⊎ (result ≡ 3)) }
+{
+    match ran {
+        Ok(told) => end_told(shelf, to, told, err),
+        Err(uncut) => end_uncut(err, uncut, die),
+    }
+}
+
 /// Runs a script on a die of a plan whose power goes in a call, or tries that at each call where `at` is 0, and prints what
 /// came of it, as [`tell_cut`] and [`tell_each`] tell it. Puts the checkpoint of the mounted die into the file `to`, if
 /// there is one, and no page is wrong.
@@ -251,6 +305,7 @@ fn put_saved<K: Shelf, E: Write>(
 /// Answers the status: 0; 3 where a page is wrong, or the part isn't mounted; 1 where something was refused, which is
 /// reported, and nothing was written, or not the whole; and where the text is printed, and there is such a file, 1 where it
 /// can't be written. Rows that the die refused before its power went are reported.
+#[tactic(auto, using(crate::proofs::CutSo::ends_cut))]
 pub fn act_cut<P: Read + Drop, S: Read + Drop, K: Shelf, W: Output, E: Write>(
     alloc: Global,
     plan: P,
@@ -266,18 +321,6 @@ pub fn act_cut<P: Read + Drop, S: Read + Drop, K: Shelf, W: Output, E: Write>(
         (PrintsCutting (P.remaining plan) (S.remaining script) cuts.slots cuts.die cuts.at
         cuts.leaves cuts.looks) out.old out.new result }
 {
-    let ran = if cuts.at == 0 {
-        print_each(alloc, plan, script, cuts, out)
-    } else {
-        print_cut(alloc, plan, script, cuts, to.is_some(), out)
-    };
-    let told = match ran {
-        Ok(told) => told,
-        Err(uncut) => return end_uncut(err, uncut, cuts.die),
-    };
-    report_refused(err, before_cut(told.refused));
-    if !told.right {
-        return 3;
-    }
-    put_saved(shelf, to, told.saved, err)
+    let ran = print_cuts(alloc, plan, script, cuts, to.is_some(), out);
+    end_cut(shelf, to, cuts.die, ran, err)
 }
