@@ -44,7 +44,7 @@ fn loss_of(cut: &Cut) -> CutAt {
     }
 }
 
-/// What is told of a cut, where a slot takes so many us.
+/// What is said of a cut, where a slot takes so many us.
 fn told_of(alloc: Global, run: &Run, cut: &Cut, slot_us: Option<u32>) -> Result<Told, Fail> {
     let store = read_plan(alloc, run.plan.as_bytes())?;
     let script = run.script.as_bytes();
@@ -62,7 +62,7 @@ fn told_of(alloc: Global, run: &Run, cut: &Cut, slot_us: Option<u32>) -> Result<
     }
 }
 
-/// What is told of cuts at each call.
+/// What is said of cuts at each call.
 fn tried_of(alloc: Global, run: &Run, each: &Each) -> Result<Told, Fail> {
     let store = read_plan(alloc, run.plan.as_bytes())?;
     let tries = Tries {

@@ -281,7 +281,7 @@ fn end_told<K: Shelf, E: Write>(shelf: &K, to: Option<&str>, told: Told, err: &m
     put_saved(shelf, to, told.saved, err)
 }
 
-/// Ends a command, of which this was told, and answers the status. A writer that fails is passed over.
+/// Ends a command of which this is known, and answers the status. A writer that fails is passed over.
 fn end_cut<K: Shelf, E: Write>(
     shelf: &K,
     to: Option<&str>,

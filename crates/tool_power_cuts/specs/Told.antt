@@ -1,4 +1,4 @@
--- What is told of a run whose power goes.
+-- What is said of a run whose power goes.
 use Rattle.std.specs.Prelude.{◌≡◌, ◌↔◌, ℕ, All, IsTrue, is_none, List, Option}
 use Rattle.slot_types.specs.declared.plans.DiePlan.{DiePlan}
 use Rattle.tool_power_cuts.specs.Runs.{HasTried, IsCutRun}

@@ -1,4 +1,4 @@
-//! What is told of a run whose power goes: its text, and whether it is right.
+//! What is said of a run whose power goes: its text, and whether it is right.
 
 ghost use Rattle.std.specs.Prelude.{◌≤◌, All, IfOk, length};
 ghost use Rattle.plan_rules.specs.Bound.{MeetsBound};
@@ -16,7 +16,7 @@ use std::alloc::Global;
 use std::io::Read;
 use tool_script_runs::RefusedRows;
 
-/// What is told of a run.
+/// What is said of a run.
 #[derive(Drop)]
 pub struct Told {
     /// Its sentences, a line each.
