@@ -51,7 +51,8 @@ fn name<'a>(alloc: Global) -> Command<'a>
         .after_help(
             "Ends with 0 where all went well, 1 where a plan isn't accepted, or something was refused or failed,\n\
              2 for a fault of the words, 3 where a script breaks its plan, no plan was found, no checkpoint may\n\
-             be taken, or a certificate is refused, 4 where --strict finds something refused or late.\n\n\
+             be taken, a certificate is refused, or a page is wrong after a cut, 4 where --strict finds something\n\
+             refused or late.\n\n\
              Example: flashplan explain plan.toml\n\
              man maulgreen-texts has the texts; share/doc/maulgreen/docs/DESIGNING.md walks through a recorder's plan",
         )

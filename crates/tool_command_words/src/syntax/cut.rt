@@ -13,10 +13,11 @@ use std::alloc::{AllocError, Global};
 
 /// What is done, and what the status says.
 const CUT_HELP: &str =
-    "The die has a part in memory with one block more than the plan, whose cells keep labels. Its power goes in the K-th call of
-the part, the first being 1; then the part is mounted. Prints in which call it went, which blocks were in erase, what
-the mount cost, and what each page gives. With --every it goes at each call of the run, each time on a part of its own,
-and leaves each of the three, unless --leaves names one. Ends with 3 where a page is wrong, or a part isn't mounted.
+    "The die begins fresh, on a part in memory with one block more than the plan, whose cells keep labels. Its power goes in
+the K-th call of the part: a read, a program or a slot of an erase, the first being 1. Then the part is mounted. Prints
+in which call the power went, which blocks were in erase, what the mount cost, and what each page gives. With --every
+it goes in each call of the run, each time on a part of its own, and leaves each of the three, unless --leaves names
+one. Ends with 3 where a page is wrong, or a part isn't mounted. The plan may be of any kind.
 
 Example: flashplan cut plan.toml script.csv --slots 1000 --at 17 --leaves torn --looks 3
          flashplan cut plan.toml script.csv --slots 1000 --every --mounts";
