@@ -140,6 +140,7 @@ module _ (never : Bool) (slots from : ℕ) where
           live = live_after s.pass.view t.pass.view live o.asks.far.live o.asks.same.1 o.asks.same.2 o.asks.far.later;
           later = o.asks.far.later;
           sole = o.asks.far.sole;
+          alone = o.asks.far.alone;
           end_is = rw (o.slots_are, o.stop, noted) refl;
           whole = λ running. o.slots_are ∙ (o.whole (sym o.stop ∙ running) ∙ slots_are);
         },

@@ -156,6 +156,9 @@ module _ (never : Bool) (start : Start) where
     live = g.live ∙ f.live;
     later = omega (arith, f.later, g.later);
     sole = λ h. g.sole (f.sole h);
+    alone = λ h. g.alone (f.sole h) ∙ ((λ i. f.alone h i ++ accepted_by (same i) ys)
+        ∙ (append_assoc v.seen (accepted_by v.number xs) (accepted_by v.number ys)
+        ∙ ap (λ l. v.seen ++ l) (sym (accepted_more v.number xs ys))));
     own = own_more v.number _ _ _ xs ys (subst (λ (n : ℕ). calls_by n x.seen ≡ calls_by n w.seen ++ accepted_by n ys) same g.own) f.own;
     refused = λ before after event refused is. by before after event refused (splits xs ys before after (asked_event event (Err refused)) is);
   }
@@ -180,6 +183,7 @@ far_looks never v w g own = record {
   live = still_live v w g;
   later = made_later v w g;
   sole = λ h. ap (λ u. u.sole) g.view_is ∙ g.stays_sole h;
+  alone = λ h. ap (λ u. u.seen) g.view_is ∙ ap (λ l. v.seen ++ l) (g.alone h);
   own = own ∙ sym (append-nil (calls_by v.number v.seen));
   refused = λ before after event refused is. absurd (no_more before after (asked_event event (Err refused)) is);
 }
@@ -204,6 +208,9 @@ far_accepts never v w event reply a = record {
   live = ap (λ u. u.live) a.view_is ∙ still_live v a.before a.grown;
   later = subst (λ (n : ℕ). v.made ≤ n) (sym (ap (λ u. u.made) a.view_is)) (made_later v a.before a.grown);
   sole = λ h. ap (λ u. u.sole) a.view_is ∙ (ap (λ u. u.sole) a.grown.view_is ∙ a.grown.stays_sole h);
+  alone = λ h. ap (λ u. u.seen) a.view_is ∙ (ap (λ u. u.seen ++ entry v.number event (Ok reply) ∷ []) a.grown.view_is
+      ∙ ap (λ l. (v.seen ++ l) ++ entry v.number event (Ok reply) ∷ []) (a.grown.alone h)
+      ∙ ap (λ l. l ++ entry v.number event (Ok reply) ∷ []) (append-nil v.seen));
   own = a.own;
   refused = λ before after other refused is. absurd (no_error event other reply refused
       (alone (asked_event event (Ok reply)) (asked_event other (Err refused)) before after is).1);
@@ -219,6 +226,7 @@ far_refuses never v w event refused a = record {
   live = still_live v w a.grown;
   later = made_later v w a.grown;
   sole = λ h. ap (λ u. u.sole) a.grown.view_is ∙ a.grown.stays_sole h;
+  alone = λ h. ap (λ u. u.seen) a.grown.view_is ∙ ap (λ l. v.seen ++ l) (a.grown.alone h);
   own = a.own ∙ sym (append-nil (calls_by v.number v.seen));
   refused = λ before after other by is. reason before other by (alone (asked_event event (Err refused)) (asked_event other (Err by)) before after is);
 }
@@ -270,6 +278,7 @@ asks_none never p c fit = record {
     live = refl;
     later = omega arith;
     sole = λ h. h;
+    alone = λ h. sym (append-nil p.view.seen);
     own = sym (append-nil (calls_by p.view.number p.view.seen));
     refused = λ before after event refused is. absurd (no_more before after (asked_event event (Err refused)) is);
   };

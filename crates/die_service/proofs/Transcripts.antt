@@ -25,7 +25,7 @@ accepted_more : (xs ys : List AskedEvent) → accepted_by 0 (xs ++ ys) ≡ accep
 accepted_more xs ys = ap (map (λ (s : AskedEvent). entry 0 s.event s.reply)) (filter-append was_accepted xs ys)
     ∙ map-append (λ (s : AskedEvent). entry 0 s.event s.reply) (filter was_accepted xs) (filter was_accepted ys)
 
-log_more : (cs ds : List DieCall) → log_of (cs ++ ds) ≡ log_of ds ++ log_of cs
+pub log_more : (cs ds : List DieCall) → log_of (cs ++ ds) ≡ log_of ds ++ log_of cs
 log_more cs ds = ap reverse (map-append entry_of cs ds) ∙ reverse-append (map entry_of cs) (map entry_of ds)
 
 said_more : (xs ys : List AskedEvent) → said_log (xs ++ ys) ≡ log_of (accepted_by 0 ys) ++ said_log xs

@@ -86,6 +86,7 @@ pub record Far (never_fails : Bool) (start : Start) (v : DieView) (saids : List 
   pub live : w.live ≡ v.live
   pub later : v.made ≤ w.made
   pub sole : v.sole ≡ true → w.sole ≡ true
+  pub alone : v.sole ≡ true → w.seen ≡ v.seen ++ accepted_by v.number saids
 
 -- these were asked, and those of a feed that were refused are noted
 pub record Asks (never_fails : Bool) (p : DiePass) (c : Course) (saids : List AskedEvent) (q : DiePass) (d : Course) : Type 0 where

@@ -113,7 +113,7 @@ pub record IsReasoned (never_fails : Bool) (start : Start) (v : DieView) (before
 -- A pass that knew `v` ran the slots of this batch with its feed, and knows `w`: it has seen an exact log, its own
 -- entries are those that it had and then the accepted calls in the order of the clock, those of each number that was
 -- joined into it are those that it had, and each refused call has its reason. It is live, and knows of no fewer passes
--- made than before; where no other pass was left, none is.
+-- made than before; where no other pass was left, none is, and the accepted calls are all that came.
 pub record HasRun (never_fails : Bool) (batch : Batch) (v : DieView) (end : DieEnd) (w : DieView) : Type 0 where
   pub saids : List AskedEvent
   pub start : Start
@@ -128,6 +128,7 @@ pub record HasRun (never_fails : Bool) (batch : Batch) (v : DieView) (end : DieE
   pub live : IsLive w
   pub later : v.made ≤ w.made
   pub sole : v.sole ≡ true → w.sole ≡ true
+  pub alone : v.sole ≡ true → w.seen ≡ v.seen ++ accepted_by v.number saids
   pub end_is : end ≡ end_of saids
   pub whole : end.stop ≡ None → end.slots ≡ batch.slots
 

@@ -18,7 +18,7 @@
 #![tactic(auto)]
 
 mod batches;
-pub mod book;
+mod book;
 mod callers;
 mod closing;
 mod courses;
@@ -30,7 +30,7 @@ mod gate;
 pub mod laws;
 mod opening;
 mod promised;
-pub mod queries;
+mod queries;
 mod refused;
 mod renewing;
 mod runs;

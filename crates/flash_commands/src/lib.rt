@@ -6,7 +6,7 @@ pub mod audits;
 mod command_line;
 mod commands;
 mod faults;
-pub mod figures;
+mod figures;
 mod files;
 mod heard;
 mod hints;
@@ -20,7 +20,7 @@ mod report_hints;
 mod report_needs;
 mod run_numbers;
 mod script_hints;
-pub mod syntax;
+mod syntax;
 mod values;
 mod word_faults;
 

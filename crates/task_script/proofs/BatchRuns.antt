@@ -1,20 +1,17 @@
 -- A die that ran its rows in batches, of which no other pass called it, ran them as one.
 use Rattle.std.proofs.Common.{◌≡◌, ℕ, ◌+◌, ◌-◌, ◌≤◌, max, true, List, [], ◌∷◌, ◌++◌, refl, ap, sym, ◌∙◌, subst, take, drop, arith}
-use Rattle.std.proofs.Common.{length, inl, inr, None, Err, All}
-use Rattle.std.proofs.lemmas.Bool.{false≢true}
+use Rattle.std.proofs.Common.{length, None, Err, All}
 use Rattle.std.proofs.lemmas.List.{take-append-drop}
 use Rattle.std.proofs.lemmas.List.Elements.{All-weaker}
 use Rattle.slot_types.specs.Arrivals.{IsArrival}
 use Rattle.slot_types.specs.declared.plans.DiePlan.{DiePlan}
-use Rattle.slot_types.specs.declared.events.Event.{Event}
-use Rattle.slot_types.specs.declared.refusals.Refusal.{Refusal}
 use Rattle.plan_rules.specs.Bound.{MeetsBound}
 use Rattle.turn_lock.specs.Log.{calls_by, AllBy}
 use Rattle.turn_lock.specs.Views.{first_view, IsSamePass}
 use Rattle.turn_lock.proofs.Counts.{calls_append}
 use Rattle.die_log.specs.Model.Log.{Log, now}
 use Rattle.die_log.specs.Model.Answers.{IsExact}
-use Rattle.slot_core.specs.Calls.{RefusedBy, MayRefuse}
+use Rattle.slot_core.specs.Calls.{MayRefuse}
 use Rattle.slot_core.specs.Core.{Core}
 use Rattle.die_service.proofs.Driving.{far_joins}
 use Rattle.die_service.proofs.LastPasses.{same_plan}
@@ -31,6 +28,7 @@ use Rattle.task_script.proofs.BatchCalls.{latest_all, latest_more, calls_join}
 use Rattle.task_script.proofs.Calling.{ran_more}
 use Rattle.task_script.proofs.Counting.{counts_more}
 use Rattle.task_script.proofs.FeedRuns.{ComesTo, slots_run}
+use Rattle.task_script.proofs.Stopping.{of_log}
 use Rattle.task_script.proofs.Transcripts.{AreReported}
 use Rattle.task_script.specs.Batches.{HasComeTo, after_batch, batch_of, end_slot, fresh_progress, latest_slot}
 use Rattle.task_script.specs.DieRuns as run
@@ -52,13 +50,6 @@ none_first (x ∷ xs) ys is = absurd cc
 all_front : (ns : List ℕ) (front more : List DieCall) → AllBy ns (front ++ more) → AllBy ns front
 all_front ns front more all = λ p other. none_first (calls_by p front) (calls_by p more)
     (sym (calls_append p front more) ∙ all p other)
-
--- a device in memory doesn't fail
-of_log : (plan : DiePlan) (past : Log) (event : Event) (refusal : Refusal) → MayRefuse true (fresh plan) past event refusal
-    → RefusedBy (fresh plan) past event refusal
-of_log plan past event refusal (inl h) = h
-of_log plan past event refusal (inr (inl h)) = absurd (false≢true (sym h.0))
-of_log plan past event refusal (inr (inr h)) = absurd (false≢true (sym h.0))
 
 -- What the log says to the calls of a die's first pass, where no other pass called it
 
@@ -88,7 +79,7 @@ module _ (plan : DiePlan) (first p : DiePass) (first_is : first.view ≡ first_v
     refused = λ before after event refused is.
         let why = far.refused before after event refused is in
         let these = own_front (take refused.entries p.view.seen) before (taken_front refused.entries) why.own in
-        of_log plan (said_log before) event refused.refusal
+        of_log (fresh plan) (said_log before) event refused.refusal
         (subst (λ (l : List DieCall). MayRefuse true (fresh plan) (log_of l) event refused.refusal) these why.reason);
   }
 
@@ -110,6 +101,7 @@ begins plan p first_is bound = record {
     live = refl;
     later = omega arith;
     sole = λ h. h;
+    alone = λ h. refl;
   });
   ends = [];
   clock_is = refl;
@@ -137,6 +129,7 @@ far_of batch v end w r live = record {
   live = r.live.0 ∙ sym live;
   later = r.later;
   sole = r.sole;
+  alone = r.alone;
 }
 
 module _ (plan : DiePlan) (items more : List ScriptItem) (until : ℕ) (p q : DiePass) (at : Progress) (end : DieEnd)

@@ -6,10 +6,11 @@ use Rattle.std.specs.Prelude.{option_map}
 use Rattle.std.specs.List.{AllByRecursion}
 use Rattle.std.proofs.lemmas.List.{length-map}
 use Rattle.std.proofs.lemmas.List.Sums.{sum_by-cons}
-use Rattle.std.proofs.lemmas.List.Elements.{All-append, All-from_recursion, All-get_or, All-map, All-same}
+use Rattle.std.proofs.lemmas.List.Elements.{All-append, All-from_recursion, All-get_or, All-same}
 use Rattle.std.proofs.lemmas.List.Elements.{filter-append}
 use Rattle.std.proofs.lemmas.List.Elements.{recursion_from_All}
 use Rattle.slot_types.specs.Arrivals.{IsArrival}
+use Rattle.slot_types.specs.declared.limits.TheConstants.{MAX_SLOT}
 use Rattle.slot_types.specs.declared.plans.DiePlan.{DiePlan}
 use Rattle.slot_types.specs.declared.refusals.Refusal.{Refusal}
 use Rattle.plan_rules.specs.Bound.{MeetsBound}
@@ -20,18 +21,18 @@ use Rattle.die_service.specs.Runs.{HaveRun}
 use Rattle.die_service.specs.Stores.{DiePass}
 use Rattle.die_service.specs.declared.batches.Batch.{Batch}
 use Rattle.die_service.specs.declared.ends.DieEnd.{DieEnd}
-use Rattle.die_service.specs.declared.feeds.Arrival.{Arrival}
 use Rattle.script_texts.specs.Arrivals.{Arrives}
 use Rattle.script_texts.specs.AskedPages.{RowHasPages, RowsHavePages}
 use Rattle.script_texts.specs.Script.{Script, script_of}
 use Rattle.script_texts.specs.declared.script_rows.ScriptItem.{ScriptItem}
 use Rattle.task_script.proofs.BatchRuns.{begins, goes_on}
 use Rattle.task_script.proofs.Counting.{rows_of_batch}
+use Rattle.task_script.proofs.Stopping.{rows_come}
 use Rattle.task_script.proofs.ReadSoFar.{FailsIn, IsDealt, IsReadTo, fault_on, known_by}
 use Rattle.task_script.specs.Batches.{HasComeTo, HaveComeTo, RanRows, after_batch, batches_of, end_slot, fresh_progress, kept_of}
 use Rattle.task_script.specs.Batches.{progress_after, latest_slot, rows_counted, rows_kept}
 use Rattle.task_script.specs.Feeds.{AllArrive, AreInTime, RefusesScript, feed_of, rows_dealt}
-use Rattle.task_script.specs.RowEnds.{arrival_of, arrivals_of, lines_of}
+use Rattle.task_script.specs.RowEnds.{lines_of}
 use Rattle.task_script.specs.RunCounts.{rows_in}
 use Rattle.task_script.specs.declared.batches.KeptRows.{KeptRows}
 use Rattle.task_script.specs.declared.batches.Progress.{Progress}
@@ -166,24 +167,20 @@ as_many_reached until progress after rows ps qs same ran =
     ap length ran.after_is
     ∙ progress_length progress (kept_of until progress rows) ran.ends (omega (arith, long.1, same)) (omega (arith, long.0, ends, same))
 
-rows_arrive : (items : List ScriptItem) → All (λ item. IsArrival item.event) items → run.AllArrive (arrivals_of items)
-rows_arrive items h = All-map (λ (arrival : Arrival). IsArrival arrival.event) arrival_of items h
-
-batches_by : (until : ℕ) (progress : List Progress) (rows : List (List ScriptItem))
-    → AllByRecursion (All (λ item. IsArrival item.event)) rows
+batches_by : (until : ℕ) (progress : List Progress) (rows : List (List ScriptItem)) → AllByRecursion (AllArrive MAX_SLOT) rows
     → AllByRecursion (λ (batch : Batch). run.AllArrive batch.feed) (batches_of until progress rows)
 batches_by until [] rows arrive = tt
 batches_by until (at ∷ progress) [] arrive = tt
-batches_by until (at ∷ progress) (items ∷ rows) arrive = (rows_arrive items arrive.0, batches_by until progress rows arrive.1)
+batches_by until (at ∷ progress) (items ∷ rows) arrive = (rows_come items arrive.0, batches_by until progress rows arrive.1)
 
 -- their feeds bring jobs and collections alone
 pub batches_arrive : (until : ℕ) (progress : List Progress) (rows : List (List ScriptItem)) (batches : List Batch)
-    → batches ≡ batches_of until progress rows → All (All (λ item. IsArrival item.event)) rows
+    → batches ≡ batches_of until progress rows → All (AllArrive MAX_SLOT) rows
     → All (λ (batch : Batch). run.AllArrive batch.feed) batches
 batches_arrive until progress rows batches are arrive =
     All-same (λ (batch : Batch). run.AllArrive batch.feed) batches (batches_of until progress rows) are
     (All-from_recursion (λ (batch : Batch). run.AllArrive batch.feed) (batches_of until progress rows)
-    (batches_by until progress rows (recursion_from_All (All (λ item. IsArrival item.event)) rows arrive)))
+    (batches_by until progress rows (recursion_from_All (AllArrive MAX_SLOT) rows arrive)))
 
 -- each pass knows that it is the only one of its die
 pub all_sole : (until : ℕ) (feed : ℕ → List ScriptItem) (number : ℕ) (plans : List DiePlan) (ps : List DiePass) (progress : List Progress)

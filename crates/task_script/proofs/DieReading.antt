@@ -6,6 +6,7 @@ use Rattle.std.specs.List.{AllByRecursion}
 use Rattle.std.proofs.lemmas.Bool.{eqb-true, eq-eqb}
 use Rattle.std.proofs.lemmas.List.Elements.{All-filter, All-from_get_or, All-from_recursion, All-weaker, filter_passes}
 use Rattle.std.proofs.lemmas.List.Elements.{recursion_from_All}
+use Rattle.slot_types.specs.declared.limits.TheConstants.{MAX_SLOT}
 use Rattle.slot_types.specs.declared.refusals.Refusal.{Refusal}
 use Rattle.script_texts.specs.Arrivals.{Arrives, IsHeadFor}
 use Rattle.script_texts.specs.AskedPages.{RowHasPages}
@@ -13,6 +14,7 @@ use Rattle.script_texts.specs.RowTexts.{RowText, item_in}
 use Rattle.script_texts.specs.Script.{Script, with_front}
 use Rattle.script_texts.specs.declared.script_rows.ScriptItem.{ScriptItem}
 use Rattle.task_script.specs.Feeds.{feed_of}
+use Rattle.task_script.specs.RowBatches.{AreInReach}
 use Rattle.task_script.specs.RowTexts.{AreDealt, AreOfOneDie, AreRead, Ascend, IsFirstFault}
 use Rattle.task_script.specs.RowTexts.{order_of, read_of, texts_of}
 use Rattle.task_script.proofs.ReadSoFar.{IsDealt}
@@ -147,6 +149,13 @@ module _ (dies slots from behind : ℕ) (rows : List RowText) (texts : List (Lis
         (All-weaker (λ (row : RowText). (row.head.die == k) ≡ true) (λ row. row.head.die ≡ k)
         (λ (row : RowText) same. eqb-true row.head.die k same) (texts_of rows k) (filter_passes (λ row. row.head.die == k) rows)),
   ))
+
+  pub in_reach_each : slots ≤ MAX_SLOT → All AreInReach texts
+  in_reach_each few = All-from_get_or AreInReach texts [] (λ k below.
+      subst AreInReach (sym (d.own k (omega (arith, below, d.all))))
+      (All-filter (λ (row : RowText). row.head.die == k) (λ row. row.head.at ≤ MAX_SLOT) rows
+      (All-weaker (λ (row : RowText). IsHeadFor dies slots row.head) (λ row. row.head.at ≤ MAX_SLOT)
+      (λ (row : RowText) h. omega (arith, h.1, few)) rows d.heads)))
 
   heads : AllByRecursion (λ (row : RowText). IsHeadFor dies slots row.head) rows
   heads = recursion_from_All (λ (row : RowText). IsHeadFor dies slots row.head) rows d.heads

@@ -4,12 +4,10 @@ use Rattle.std.proofs.Common.{append_assoc, arith, inl, inr, Option, None, Some,
 use Rattle.std.proofs.lemmas.Bool.{eq-eqb, ne_eqb}
 use Rattle.std.proofs.lemmas.List.{append-nil}
 use Rattle.std.proofs.lemmas.List.Elements.{All-nil, All-cons, All-head, All-tail}
-use Rattle.slot_types.specs.declared.limits.TheConstants.{MAX_SLOT}
 use Rattle.slot_types.specs.declared.plans.DiePlan.{DiePlan}
 use Rattle.slot_types.specs.declared.events.Event.{Event}
 use Rattle.slot_types.specs.declared.events.Event.TheVariants as events
 use Rattle.slot_types.specs.declared.refusals.Refusal.{Refusal}
-use Rattle.slot_types.specs.declared.refusals.Refusal.TheVariants as because
 use Rattle.slot_types.specs.declared.replies.Reply.{Reply}
 use Rattle.slot_types.specs.declared.replies.Reply.TheVariants as replies
 use Rattle.slot_types.specs.declared.replies.SlotReply.{SlotReply}
@@ -28,7 +26,7 @@ use Rattle.script_texts.specs.declared.script_rows.ScriptItem.{ScriptItem}
 use Rattle.task_script.specs.declared.run_counts.RowEnd.{RowEnd}
 use Rattle.task_script.specs.DieRuns.{ScriptCall, Row, Slot, DieRun, Accepts, Ends, MakesCalls, run_at, end_of, row_slot, calls_from}
 use Rattle.task_script.specs.RowEnds.{arrival_of, arrivals_of, lines_of, row_end, ends_from}
-use Rattle.die_service.proofs.SlotCalls.{numbered, slot_counted, slot_refused, taken_stays}
+use Rattle.die_service.proofs.SlotCalls.{numbered, slot_counted, taken_stays}
 use Rattle.task_script.proofs.Calling.{ran_more}
 use Rattle.die_service.proofs.Transcripts.{said_log, said_accepted, said_refused}
 use Rattle.task_script.proofs.Transcripts.{AreReported}
@@ -241,9 +239,6 @@ pub record ComesTo (plan : DiePlan) (saids before : List AskedEvent) (ends : Lis
   pub slots : now (said_log saids) ≡ time
   pub ended_is : ended ≡ ends_from place lines (refused_from place rest)
 
-same_refused : (a b : RefusedAt) → ◌≡◌ {A = Option RefusedAt} (Some a) (Some b) → a ≡ b
-same_refused a b e = cc
-
 stopped_not : (refused : RefusedAt) → ◌≡◌ {A = Option RefusedAt} (Some refused) None → ⊥
 stopped_not refused e = absurd cc
 
@@ -362,32 +357,3 @@ slots_run plan saids said (suc left) clock items before rest ends place is (fed,
           ∙ (sym (ends_split now_due later fed tail place f.asked f.arrive)
           ∙ λ i. ends_from place (lines_of (arrived_and_later row_slot clock items i)) (refused_from place (sym rest_is i)));
     }
-
--- A slot that is refused
-
-pub slots_stop : (plan : DiePlan) (saids : List AskedEvent) → AreReported plan saids
-    → (left clock : ℕ) (items : List ScriptItem) (before rest : List AskedEvent) (stop : RefusedAt)
-    → saids ≡ before ++ rest → InClockOrder left clock (arrivals_of items) rest → now (said_log before) ≡ clock → stop_of rest ≡ Some stop
-    → clock + left ≤ MAX_SLOT → All (λ item. item.at ≤ clock + left) items → All (λ item. IsArrival item.event) items → stop.refusal
-    ≡ because.NoMemory
-slots_stop plan saids said zero clock items before rest stop is ordered at_now stopped few due arrive =
-    let in_time : All (λ item. item.at ≤ clock) items = subst (λ (n : ℕ). All (λ item. item.at ≤ n) items) (omega arith) due in
-    let asked : AreAsked (arrivals_of items) rest = subst (λ (xs : List Arrival). AreAsked xs rest) (same_arrived clock items
-    ∙ ap arrivals_of (arrived_all row_slot clock items in_time)) ordered in
-    let none : stop_of rest ≡ None = ap stop_of (sym (append-nil rest)) ∙ stop_after items rest [] asked arrive in
-    absurd (stopped_not stop (sym stopped ∙ none))
-slots_stop plan saids said (suc left) clock items before rest stop is (fed, beyond, split, asked, inr (refused, last)) at_now stopped few
-    due arrive =
-    let tail = asked_event events.Slot (Err refused) ∷ [] in
-    let f = rows_fed plan saids said clock items before fed tail rest is (split ∙ ap (λ (xs : List AskedEvent). fed ++ xs) last) asked at_now
-    arrive in
-    ap (λ (r : RefusedAt). r.refusal) (sym (same_refused refused stop (sym f.stops ∙ stopped)))
-    ∙ slot_refused (fresh plan) (said_log (before ++ fed)) refused.refusal (omega (arith, f.stays, few))
-    (said.refused (before ++ fed) [] events.Slot refused f.next)
-slots_stop plan saids said (suc left) clock items before rest stop is (fed, beyond, split, asked, inl (slot, more, first, ordered)) at_now
-    stopped few due arrive =
-    let f = rows_fed plan saids said clock items before fed (carried slot ∷ more) rest is (split ∙ ap (λ (xs : List AskedEvent). fed ++ xs) first)
-    asked at_now arrive in
-    let c = slot_carried plan saids said left clock items (before ++ fed) more slot f.next f.stays ordered due arrive in
-    slots_stop plan saids said left (clock + 1) (arrivals_after row_slot clock items) ((before ++ fed) ++ carried slot ∷ []) more stop
-    c.next c.ordered c.counted (sym f.stops ∙ stopped) (omega (arith, few)) c.due c.arrive

@@ -12,6 +12,7 @@ pub mod Parting
 pub mod Gathering
 pub mod Transcripts
 pub mod FeedRuns
+pub mod Stopping
 pub mod BatchCalls
 pub mod Counting
 pub mod BatchRuns

@@ -168,6 +168,16 @@ arrive [] (item ∷ items) zip = absurd zip
 arrive (row ∷ rows) [] zip = absurd zip
 arrive (row ∷ rows) (item ∷ items) zip = (zip.0.arrives, arrive rows items zip.1)
 
+pub arrive_by : (slots : ℕ) (rows : List RowText) (items : List ScriptItem) → AllByRecursion (λ (row : RowText). row.head.at ≤ slots) rows
+    → AllZip IsItemOf rows items → AllByRecursion (Arrives slots) items
+arrive_by slots [] [] by zip = tt
+arrive_by slots [] (item ∷ items) by zip = absurd zip
+arrive_by slots (row ∷ rows) [] by zip = absurd zip
+arrive_by slots (row ∷ rows) (item ∷ items) by zip = (
+  (let within : item.at ≤ slots = omega (arith, by.0, zip.0.at) in within, zip.0.arrives),
+  arrive_by slots rows items by.1 zip.1,
+)
+
 pub in_time : (dies slots : ℕ) (rows : List RowText) (items : List ScriptItem) → AllByRecursion (λ (row : RowText). IsHeadFor dies slots row.head) rows
     → AllZip IsItemOf rows items → AllByRecursion (λ (item : ScriptItem). Arrives slots item × RowHasPages item) items
 in_time dies slots [] [] heads zip = tt

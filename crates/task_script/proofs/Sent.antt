@@ -9,17 +9,18 @@ use Rattle.std.proofs.lemmas.List.{append-nil, length-map}
 use Rattle.std.proofs.lemmas.List.Elements.{All-from_recursion, All-weaker, recursion_from_All}
 use Rattle.std.proofs.lemmas.List.Sums.{sum_by-cons}
 use Rattle.std.proofs.Math.ListN.{set}
+use Rattle.slot_types.specs.declared.limits.TheConstants.{MAX_SLOT}
 use Rattle.script_texts.specs.RowTexts.{RowText}
 use Rattle.script_texts.specs.Script.{Reading}
 use Rattle.task_script.specs.Feeds.{rows_dealt}
-use Rattle.task_script.specs.RowBatches.{IsSameSender, MayFollow, batch_with, rows_of_batches, sent_by, until_of}
+use Rattle.task_script.specs.RowBatches.{AreInReach, IsSameSender, MayFollow, batch_with, rows_of_batches, sent_by, until_of}
 use Rattle.task_script.specs.RowTexts.{AreOfOneDie, HasReadTexts}
 use Rattle.task_script.specs.Sending.{AreSent, MayAllFollow, SameBatches, rows_sent}
 use Rattle.task_script.specs.declared.row_batches.BatchSender.{BatchSender}
 use Rattle.task_script.specs.declared.row_batches.RowBatch.{RowBatch}
 use Rattle.task_script.specs.declared.feeds.ReadEnd.{ReadEnd}
 use Rattle.task_script.specs.declared.feeds.ReadEnd.TheVariants.{More}
-use Rattle.task_script.proofs.DieReading.{one_die_each}
+use Rattle.task_script.proofs.DieReading.{in_reach_each, one_die_each}
 use Rattle.task_script.proofs.Dealing.{reads_none, reads_on}
 
 -- Two lists, place by place
@@ -127,20 +128,22 @@ no_rows_sent (sender ∷ senders) none =
 -- All dies
 
 pub may_follow : (until count : ℕ) (rows : List (List RowText)) (senders : List BatchSender) → length rows ≡ length senders
-    → AllByRecursion AreOfOneDie rows → rows_dealt rows ≤ 8192 → AllByRecursion (λ (sender : BatchSender). GoOn count (sent_by sender)) senders
-    → count ≤ 1000002 → MayAllFollow until rows senders
-may_follow until count [] [] long own few before below = tt
-may_follow until count [] (sender ∷ senders) long own few before below = absurd (omega (arith, long))
-may_follow until count (r ∷ rows) [] long own few before below = absurd (omega (arith, long))
-may_follow until count (r ∷ rows) (sender ∷ senders) long own few before below =
+    → AllByRecursion AreOfOneDie rows → AllByRecursion AreInReach rows → until ≤ MAX_SLOT → rows_dealt rows ≤ 8192
+    → AllByRecursion (λ (sender : BatchSender). GoOn count (sent_by sender)) senders → count ≤ 1000002 → MayAllFollow until rows senders
+may_follow until count [] [] long own reach last few before below = tt
+may_follow until count [] (sender ∷ senders) long own reach last few before below = absurd (omega (arith, long))
+may_follow until count (r ∷ rows) [] long own reach last few before below = absurd (omega (arith, long))
+may_follow until count (r ∷ rows) (sender ∷ senders) long own reach last few before below =
     let dealt = sum_by-cons (λ (xs : List RowText). length xs) r rows in (
       record {
         one_die = own.0;
+        in_reach = reach.0;
+        within = last;
         short = omega (arith, dealt, few);
         few = omega (arith, before.0.0, below);
         goes_on = before.0.1;
       },
-      may_follow until count rows senders (omega (arith, long)) own.1 (omega (arith, dealt, few)) before.1 below,
+      may_follow until count rows senders (omega (arith, long)) own.1 reach.1 last (omega (arith, dealt, few)) before.1 below,
     )
 
 -- the first of them have sent theirs, and the others may
@@ -295,9 +298,11 @@ module _ (old now new : Option (Reading RowText)) (dies slots from line next cou
   counts_kept = same_sent (GoOn count) senders taken kept s.counts
 
   -- they may be sent
-  pub follows : rows_dealt rows ≤ 8192 → count ≤ 1000002 → MayAllFollow until rows taken
-  follows few below = may_follow until count rows taken (sym long)
-      (recursion_from_All AreOfOneDie rows (one_die_each dies slots line read.behind read.rows rows read.dealt)) few counts_kept below
+  pub follows : slots ≤ MAX_SLOT → until ≤ MAX_SLOT → rows_dealt rows ≤ 8192 → count ≤ 1000002 → MayAllFollow until rows taken
+  follows in_reach last few below = may_follow until count rows taken (sym long)
+      (recursion_from_All AreOfOneDie rows (one_die_each dies slots line read.behind read.rows rows read.dealt))
+      (recursion_from_All AreInReach rows (in_reach_each dies slots line read.behind read.rows rows read.dealt in_reach)) last few
+      counts_kept below
 
   -- and are
   module _ (news : List BatchSender) (sent : AreSent until rows taken news) where

@@ -1,6 +1,7 @@
 -- Rows of a script that are run on fresh dies, a batch of each die at a time, and how far each die has come.
-use Rattle.std.specs.Prelude.{◌≡◌, ℕ, ◌+◌, ◌-◌, max, true, List, [], ◌∷◌, All, None, length, sum_by}
+use Rattle.std.specs.Prelude.{◌≡◌, ℕ, ◌+◌, ◌-◌, ◌<◌, ◌≤◌, max, true, List, [], ◌∷◌, All, None, get_or, length, sum_by}
 use Rattle.std.specs.List.{AllZip}
+use Rattle.slot_types.specs.declared.limits.TheConstants.{MAX_SLOT}
 use Rattle.slot_types.specs.declared.plans.DiePlan.{DiePlan}
 use Rattle.flash_die.specs.Memory.{Memory}
 use Rattle.turn_lock.specs.Log.{AllBy}
@@ -70,6 +71,15 @@ rows_counted progress = sum_by (λ (at : Progress). rows_in at.count) progress
 -- how many rows are in batches
 abbrev pub rows_kept : List KeptRows → ℕ
 rows_kept kept = sum_by (λ (k : KeptRows). length k.lines) kept
+
+-- A pass is the only one of its die, and has seen no slot from the die's clock on: no other can carry one out. The clock
+-- stands at the last slot that a die reaches, or before it.
+abbrev pub IsAlone : DiePass → Progress → Type 0
+IsAlone p at = (p.view.sole ≡ true) × (now (log_of p.view.seen) ≤ at.clock) × (at.clock ≤ MAX_SLOT)
+
+-- so is each pass of a store
+abbrev pub AreAlone : List DiePass → List Progress → Type 0
+AreAlone ps progress = (k : ℕ) (p : DiePass) (at : Progress) → k < length ps → IsAlone (get_or ps k p) (get_or progress k at)
 
 -- these rows were run on their dies, each up to its last row, but not less than up to slot `until`
 pub record RanRows (until : ℕ) (rows : List (List ScriptItem)) (ps : List DiePass) (before : List Progress) (qs : List DiePass)

@@ -1,6 +1,7 @@
 -- The batches of a die's rows that are sent to where it is run.
-use Rattle.std.specs.Prelude.{◌≡◌, ℕ, ◌≤◌, max, List, [], ◌∷◌, flat_map, length}
+use Rattle.std.specs.Prelude.{◌≡◌, ℕ, ◌≤◌, max, List, [], ◌∷◌, All, flat_map, length}
 use Rattle.rtrb.specs.Ring.{SameProducer, sent}
+use Rattle.slot_types.specs.declared.limits.TheConstants.{MAX_SLOT}
 use Rattle.script_texts.specs.RowTexts.{RowText}
 use Rattle.task_script.specs.RowTexts.{AreOfOneDie}
 use Rattle.task_script.specs.declared.row_batches.BatchSender.{BatchSender}
@@ -19,9 +20,16 @@ until_of (batch ∷ batches) = max batch.until (until_of batches)
 abbrev pub batch_with : ℕ → List RowText → RowBatch
 batch_with until rows = record { rows = rows; until = until }
 
--- a batch may be sent after these: it is of one die and short, they are few, and none of them has an `until`
+-- these rows come by the last slot that a die reaches
+abbrev pub AreInReach : List RowText → Type 0
+AreInReach rows = All (λ (row : RowText). row.head.at ≤ MAX_SLOT) rows
+
+-- A batch may be sent after these: it is of one die and short, and runs up to no slot that a die doesn't reach; they are
+-- few, and none of them has an `until`.
 pub record MayFollow (before : List RowBatch) (batch : RowBatch) : Type 0 where
   pub one_die : AreOfOneDie batch.rows
+  pub in_reach : AreInReach batch.rows
+  pub within : batch.until ≤ MAX_SLOT
   pub short : length batch.rows ≤ 8192
   pub few : length before ≤ 1000002
   pub goes_on : until_of before ≡ 0

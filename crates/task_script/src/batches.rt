@@ -1,10 +1,10 @@
 //! Rows of a script that are run on dies in memory, a batch of each die at a time.
 
-ghost use Rattle.std.specs.Prelude.{◌≡◌, ◌+◌, ◌<◌, ◌≤◌, ◌^◌, length, map, replicate, All, IfOk, OnOk};
-ghost use Rattle.slot_types.specs.Arrivals.{IsArrival};
+ghost use Rattle.std.specs.Prelude.{◌≡◌, ◌+◌, ◌<◌, ◌≤◌, ◌^◌, length, map, replicate, All, IfOk, IfSome, None, OnOk};
 ghost use Rattle.slot_types.specs.Refusal.{FailsForMemory};
-ghost use Rattle.task_script.specs.Batches.{RanRows, batches_of, fresh_progress, kept_of, progress_after, rows_counted, rows_kept};
-ghost use Rattle.task_script.specs.Feeds.{rows_dealt};
+ghost use Rattle.slot_types.specs.declared.refusals.Refusal.TheVariants.{NoMemory};
+ghost use Rattle.task_script.specs.Batches.{AreAlone, RanRows, batches_of, fresh_progress, kept_of, progress_after, rows_counted, rows_kept};
+ghost use Rattle.task_script.specs.Feeds.{AllArrive, rows_dealt};
 ghost use Rattle.task_script.specs.RowEnds.{ends_from, taken_at};
 ghost use Rattle.task_script.specs.RunCounts.{counted_after, rows_in};
 
@@ -12,7 +12,7 @@ use crate::rows::{DieRows, Lines};
 use crate::run_counts::{RowEnd, RunCount};
 use die_service::{Batch, DieEnd, DiePass, FreeGate, RefusedEvent, Store, run_batches};
 use flash_die::MemoryNand;
-use slot_types::Refusal;
+use slot_types::{MAX_SLOT, Refusal};
 use std::alloc::Global;
 use std::sync::Wait;
 use std::thread::Threads;
@@ -119,16 +119,15 @@ fn add_rows(lines: &[u32], refused: &[RefusedEvent], count: &mut RunCount)
     }
 }
 
-/// Whether each die carried out all its slots. The only refusal is NoMemory: a slot of a device in memory is refused for
-/// that, or at the end of the clock, and a script's slots end before it. No contract rules the second out: that no other
-/// pass has moved the clock is known once the lock is closed, and not before.
+/// Whether each die carried out all its slots; refused as the first slot that was refused, which is out of memory.
 fn none_stopped(ends: &[DieEnd]) -> Result<(), Refusal>
+    requires memory { All (λ end. IfSome end.stop (λ stop. stop.refusal ≡ NoMemory)) ends.now }
     ensures ok { OnOk result (All (λ end. end.stop ≡ None) ends.now) }
     ensures refused { FailsForMemory result }
 {
     for end in ends {
         match end.stop {
-            Some(_) => return Err(Refusal::NoMemory),
+            Some(stop) => return Err(stop.refusal),
             None => {}
         }
     }
@@ -160,8 +159,11 @@ fn go_on(
 }
 
 /// Runs these rows on their dies, by so many workers, each die up to its last row, but not less than up to slot
-/// `until`. All rows so far are few enough to be counted. The only refusal is NoMemory, after which the dies are given
-/// up.
+/// `until`; no row comes after the last slot that a die reaches. All rows so far are few enough to be counted. No other
+/// pass may call these dies.
+///
+/// The only refusal is NoMemory, after which the dies are given up: a slot of a device in memory is refused for that, or
+/// at the clock's end, and nobody but these passes moves the clock, which they move up to the last slot at most.
 pub fn run_rows<R: Threads + Wait + Sync>(
     rt: &R,
     alloc: Global,
@@ -174,7 +176,9 @@ pub fn run_rows<R: Threads + Wait + Sync>(
     requires own { map (λ pass. pass.lock) dies.passes.items ≡ store.now }
     requires rows { length rows.items ≡ length store.now }
     requires progress { length dies.progress.items ≡ length store.now }
-    requires arrive { All (λ items. All (λ item. IsArrival item.event) items) rows.items }
+    requires alone { AreAlone dies.passes.items dies.progress.items }
+    requires arrive { All (AllArrive MAX_SLOT) rows.items }
+    requires until { until ≤ MAX_SLOT }
     requires few { rows_counted dies.progress.items + rows_dealt rows.items < 2 ^ 64 }
     requires workers { (1 ≤ workers) × (workers ≤ 16) }
     ensures counted { IfOk result (λ ran. rows_counted ran.progress.items
@@ -182,6 +186,7 @@ pub fn run_rows<R: Threads + Wait + Sync>(
     ensures ran { IfOk result (λ ran.
         RanRows until rows.items dies.passes.items dies.progress.items ran.passes.items
         ran.progress.items) }
+    ensures alone { IfOk result (λ ran. AreAlone ran.passes.items ran.progress.items) }
     ensures own { IfOk result (λ ran. map (λ pass. pass.lock) ran.passes.items ≡ store.now) }
     ensures refused { FailsForMemory result }
 {

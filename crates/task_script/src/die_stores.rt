@@ -1,17 +1,17 @@
 //! A die of a script's run, as a store of its own.
 
-ghost use Rattle.std.specs.Prelude.{◌≡◌, ◌<◌, ◌+◌, ◌^◌, [], All, IfOk, length, map};
-ghost use Rattle.slot_types.specs.Arrivals.{IsArrival};
+ghost use Rattle.std.specs.Prelude.{◌≡◌, ◌<◌, ◌≤◌, ◌+◌, ◌^◌, [], IfOk, length, map};
 ghost use Rattle.slot_types.specs.Refusal.{FailsForMemory};
 ghost use Rattle.plan_rules.specs.Bound.{MeetsBound};
-ghost use Rattle.task_script.specs.Batches.{rows_counted};
+ghost use Rattle.task_script.specs.Batches.{AreAlone, rows_counted};
+ghost use Rattle.task_script.specs.Feeds.{AllArrive};
 
 use crate::batches::{RunDies, no_progress, run_rows};
 use crate::rows::DieRows;
 use crate::stores::new_store;
 use die_service::Store;
 use flash_die::MemoryNand;
-use slot_types::{DiePlan, Refusal};
+use slot_types::{DiePlan, MAX_SLOT, Refusal};
 use std::alloc::Global;
 use std::slice;
 use std::sync::Wait;
@@ -25,6 +25,7 @@ pub struct DieStore {
     ghost own: { map (λ pass. pass.lock) dies.passes.items ≡ store },
     ghost one: { length store ≡ 1 },
     ghost far: { length dies.progress.items ≡ 1 },
+    ghost alone: { AreAlone dies.passes.items dies.progress.items },
 }
 
 impl DieStore {
@@ -43,8 +44,8 @@ impl DieStore {
         Ok(DieStore { store, dies })
     }
 
-    /// Runs these rows, up to the last one, but not less than up to slot `until`. The only refusal is NoMemory, after
-    /// which the die is given up.
+    /// Runs these rows, up to the last one, but not less than up to slot `until`, as far as a die reaches. The only refusal
+    /// is NoMemory, after which the die is given up.
     pub fn run<R: Threads + Wait + Sync>(
         self,
         rt: &R,
@@ -52,7 +53,8 @@ impl DieStore {
         rows: DieRows,
         until: u32,
     ) -> Result<DieStore, Refusal>
-        requires arrive { All (λ item. IsArrival item.event) rows }
+        requires arrive { AllArrive MAX_SLOT rows }
+        requires until { until ≤ MAX_SLOT }
         requires few { rows_counted self.dies.progress.items + length rows < 2 ^ 64 }
         ensures ran { IfOk result (HasRunOn until rows self) }
         ensures refused { FailsForMemory result }

@@ -23,7 +23,8 @@ pub struct RowBatch {
     pub until: u32,
 }
 
-/// Batches, each of one die, few enough to be counted, none after one that has an `until`.
+/// Batches, each of one die and within the slots that a die reaches, few enough to be counted, none after one that has an
+/// `until`.
 #[derive(Clone, Copy)]
 pub struct InOrder;
 

@@ -6,6 +6,7 @@ ghost use Rattle.rtrb.specs.Ring.{received};
 ghost use Rattle.slot_types.specs.Refusal.{FailsForMemory};
 ghost use Rattle.plan_rules.specs.Bound.{MeetsBound};
 ghost use Rattle.task_script.specs.Batches.{rows_counted};
+ghost use Rattle.task_script.specs.RowBatches.{AreInReach};
 ghost use Rattle.task_script.specs.RowTexts.{AreOfOneDie};
 ghost use Rattle.task_script.specs.DieBatches.{RunsOn};
 
@@ -14,7 +15,7 @@ use crate::row_batches::{BATCHES_AHEAD, BatchSender, Emptied, InOrder, LISTS_BAC
 use crate::rows::DieRows;
 use rtrb::{Consumer, Producer, RingBuffer};
 use script_texts::RowTexts;
-use slot_types::{DiePlan, Refusal};
+use slot_types::{DiePlan, MAX_SLOT, Refusal};
 use std::alloc::Global;
 use std::mem;
 use std::sync::Wait;
@@ -39,6 +40,8 @@ fn run_on<R: Threads + Wait + Sync>(
     batch: &RowBatch,
 ) -> Result<DieStore, Refusal>
     requires one_die { AreOfOneDie batch.now.rows }
+    requires in_reach { AreInReach batch.now.rows }
+    requires within { batch.now.until ≤ MAX_SLOT }
     requires few { ForOk die (λ d.
         rows_counted d.dies.progress.items + length batch.now.rows < 2 ^ 64) }
     ensures { RunsOn die batch.now result }

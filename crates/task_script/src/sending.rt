@@ -22,7 +22,7 @@ use crate::sent_rows::SentRows;
 use crate::shares::Share;
 use crate::workers::{Signal, end_all, gather, run_here, share_out, signals};
 use script_texts::{RowTexts, ScriptReader};
-use slot_types::{DiePlan, Refusal};
+use slot_types::{DiePlan, MAX_SLOT, Refusal};
 use std::alloc::Global;
 use std::io::Read;
 use std::sync::Wait;
@@ -83,6 +83,8 @@ fn send_all<R: Threads + Wait + Sync, S: Read + Drop>(
 ) -> Result<ReadEnd, Refusal>
     requires dies { length senders.old ≡ dies_of script.old }
     requires first { 1 ≤ line_of script.old }
+    requires slots { slots_of script.old ≡ slots }
+    requires few { slots ≤ MAX_SLOT }
     requires none { All (λ sender. sent_by sender ≡ []) senders.old }
     ensures rows { IfOk result (HasReadTexts (script_rows_left S.remaining script.old)
         (script_rows_left S.remaining script.new) (dies_of script.old) (slots_of script.old)
@@ -129,6 +131,8 @@ fn send_by<'s, 'e: 's, R: Threads + Wait + Sync, S: Read + Drop>(
 ) -> Result<SentRows<S>, Refusal>
     requires dies { length senders.items ≡ dies_of script }
     requires first { 1 ≤ line_of script }
+    requires slots { slots_of script ≡ slots }
+    requires few { slots ≤ MAX_SLOT }
     requires none { All (λ sender. sent_by sender ≡ []) senders.items }
     ensures sent { IfOk result
         (HasSentRows S.remaining slots script senders.items dies.items) }
@@ -176,6 +180,8 @@ pub fn send_script<R: Threads + Wait + Sync, S: Read + Drop>(
 ) -> Result<RanRows<S>, Refusal>
     requires dies { length plans.now ≡ dies_of script }
     requires first { 1 ≤ line_of script }
+    requires slots { slots_of script ≡ slots }
+    requires few { slots ≤ MAX_SLOT }
     requires bound { All MeetsBound plans.now }
     ensures ran { IfOk result (λ sent. AllRan plans.now sent.dies.items) }
     ensures rows { IfOk result (λ sent.
@@ -198,7 +204,8 @@ pub fn send_script<R: Threads + Wait + Sync, S: Read + Drop>(
         thread::scope_env(),
         rt,
         move |scope| -> Result<SentRows<S>, Refusal>
-            requires { (length senders.items ≡ dies_of script) × (1 ≤ line_of script) × All (λ sender. sent_by sender ≡ []) senders.items }
+            requires { (length senders.items ≡ dies_of script) × (1 ≤ line_of script) × (slots_of script ≡ slots) × (slots ≤ MAX_SLOT)
+                × All (λ sender. sent_by sender ≡ []) senders.items }
             ensures { FailsForMemory result × IfOk result
                 (HasSentRows S.remaining slots script senders.items dies.items) }
         {

@@ -132,6 +132,7 @@ fn run_script<R: Threads + Wait + Sync, S: Read + Drop>(
 ) -> Result<RanStore, RefusedRun<S>>
     requires dies { length plan.now ≤ 8 }
     requires bound { All MeetsBound plan.now }
+    requires few { slots ≤ MAX_SLOT }
     requires workers { 1 ≤ workers }
     ensures ran { IfOk result (λ ran.
         RanScript (S.remaining script) plan.now slots ran.parts.items ran.count) }

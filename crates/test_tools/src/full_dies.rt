@@ -34,16 +34,22 @@ work = 1
 writes = 1
 ";
 
-/// How many lives full dies of the plan had, and how many rows were refused in them, with a text in the place of
-/// another.
-fn lives(
-    alloc: Global,
-    old: &str,
-    new: &str,
-    least: u32,
-) -> Result<Result<(u32, u64), FillFault>, Fail> {
-    let text = PLAN.replace(alloc, old, new)?;
-    let plan = read_plan(alloc, text.as_str().as_bytes())?;
+/// A plan that nobody can ask to the full, since it doesn't say how often tasks ask.
+const WITHOUT_TIMES: &str = "version = 1
+dies = 1
+blocks = 8
+pages = 4
+erase_slots = 3
+logical = 12
+alpha = 2
+[[task]]
+die = 0
+cap = 4
+";
+
+/// How many lives full dies of a plan had, and how many rows were refused in them.
+fn lives_of(alloc: Global, text: &str, least: u32) -> Result<Result<(u32, u64), FillFault>, Fail> {
+    let plan = read_plan(alloc, text.as_bytes())?;
     if plan.is_empty() || plan.len() > 8 {
         return Ok(Ok((0, 0)));
     }
@@ -52,6 +58,17 @@ fn lives(
         Ok(_) => Ok(Ok((0, 0))),
         Err(fault) => Ok(Err(fault)),
     }
+}
+
+/// The same of the plan with a text in the place of another.
+fn lives(
+    alloc: Global,
+    old: &str,
+    new: &str,
+    least: u32,
+) -> Result<Result<(u32, u64), FillFault>, Fail> {
+    let text = PLAN.replace(alloc, old, new)?;
+    lives_of(alloc, text.as_str(), least)
 }
 
 #[test]
@@ -77,10 +94,9 @@ fn what_cannot_be_filled_is_refused(rt: HostRuntime) -> Result<(), Fail> {
             Err(FillFault::NeverFull { die: 0 })
         )
     );
-    let bad = lives(alloc, "common = 1000", "common = 999", 0)?;
     assert!(rt;
         matches!(
-            &bad,
+            &lives_of(alloc, WITHOUT_TIMES, 0)?,
             Err(FillFault::Unplanned(Fault::Refused(Refusal::BadPlan)))
         )
     );

@@ -41,6 +41,11 @@ AllowsErases suspends.Any erase_slots tasks = ⊤
 AllowsErases suspends.One erase_slots tasks = (tasks ≤ 1) ⊎ (erase_slots ≤ 1)
 AllowsErases suspends.No erase_slots tasks = erase_slots ≤ 1
 
+-- a slot has the length that the datasheet says, if it says one
+abbrev pub IsAskedSlot : Option ℕ → (slot_us : ℕ) → Type 0
+IsAskedSlot None slot_us = ⊤
+IsAskedSlot (Some asked_us) slot_us = slot_us ≡ asked_us
+
 -- the terms of a task that asks for reads and writes once a period, which they come no seldomer than
 pub record IsPeriodic (slot_us period_us reads writes : ℕ) (t : TaskTerms) : Type 0 where
   pub period : t.period * slot_us ≤ period_us
@@ -85,6 +90,7 @@ pub record IsOfPart (sheet : Sheet) (slot_us : ℕ) (plan : DiePlan) : Type 0 wh
   pub blocks : plan.shape.blocks ≡ sheet.part.blocks
   pub pages : plan.shape.pages ≡ sheet.part.pages
   pub logical : plan.logical ≡ sheet.part.logical
+  pub slot : IsAskedSlot sheet.part.slot_us slot_us
   pub commands : HoldsCommands sheet.part slot_us plan.shape.erase_slots
   pub erases : AllowsErases sheet.part.suspends plan.shape.erase_slots (length sheet.needs)
 

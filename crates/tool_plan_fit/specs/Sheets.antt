@@ -66,6 +66,7 @@ pub record IsPartOf (ms : Members) (part : Part) : Type 0 where
   pub resume_us : TurnAt ms (codes "resume_us") part.suspends part.resume_us
   pub transfer_us : PartsOrZero ms (codes "transfer_us") 1 part.transfer_us
   pub margin_us : PartsOrZero ms (codes "margin_us") 1 part.margin_us
+  pub slot_us : PartsOrNone ms (codes "slot_us") 1 part.slot_us
   pub endurance : PartsOrNone ms (codes "endurance") 1 part.endurance
   pub blocks : number_at ms (codes "blocks") ≡ Some part.blocks
   pub pages : number_at ms (codes "pages") ≡ Some part.pages

@@ -1,6 +1,6 @@
 //! With which other numbers, one at a time, a plan is found. Each number that is named was tried.
 
-use crate::datasheets::{Asked, Need, Needs, Sheet};
+use crate::datasheets::{Asked, Need, Needs, Part, Sheet};
 use crate::decimals::Decimal;
 use crate::faults::{Advice, LongerTime};
 use crate::searches::{Aim, search};
@@ -123,19 +123,21 @@ fn sheet_with(alloc: Global, sheet: &Sheet, which: Changed, n: u32) -> Result<Sh
     })
 }
 
-/// Whether a plan is found for a datasheet.
-fn has_plan(alloc: Global, sheet: &Sheet) -> Result<bool, Refusal> {
+/// How long a slot is of a plan that is found for a datasheet, if one is.
+fn found_slot(alloc: Global, sheet: &Sheet) -> Result<Option<u32>, Refusal> {
     if sheet.is_plain() {
-        Ok(search(alloc, sheet, Aim::Any)?.found.is_some())
+        let searched = search(alloc, sheet, Aim::Any)?;
+        Ok(searched.found.as_ref().map(|found| found.slot_us))
     } else {
-        Ok(search_terms(alloc, sheet, Aim::Any)?.found.is_some())
+        let searched = search_terms(alloc, sheet, Aim::Any)?;
+        Ok(searched.found.as_ref().map(|found| found.slot_us))
     }
 }
 
 /// Whether a plan is found with one number changed.
 fn finds(alloc: Global, sheet: &Sheet, which: Changed, n: u32) -> Result<bool, Refusal> {
     let changed = sheet_with(alloc, sheet, which, n)?;
-    has_plan(alloc, &changed)
+    Ok(found_slot(alloc, &changed)?.is_some())
 }
 
 /// A number with which a plan is found, next to one with which none is. With the second none is found; with the first
@@ -251,9 +253,29 @@ fn longer_times(alloc: Global, sheet: &Sheet) -> Result<Vec<LongerTime>, Refusal
     Ok(times)
 }
 
+/// A datasheet that doesn't say how long a slot is to be.
+fn without_slot(alloc: Global, sheet: &Sheet) -> Result<Sheet, Refusal> {
+    Ok(Sheet {
+        part: Part {
+            slot_us: None,
+            ..sheet.part
+        },
+        needs: Needs::from_vec(Vec::from_slice(alloc, sheet.needs.as_slice())?),
+    })
+}
+
+/// How long a slot is of a plan that is found where that isn't asked for, for a datasheet that asks for it.
+fn other_slot(alloc: Global, sheet: &Sheet) -> Result<Option<u32>, Refusal> {
+    match sheet.part.slot_us {
+        Some(_) => found_slot(alloc, &without_slot(alloc, sheet)?),
+        None => Ok(None),
+    }
+}
+
 /// With which numbers, one at a time, a plan is found for a datasheet that has none. The only refusal is NoMemory.
 pub fn advice_of(alloc: Global, sheet: &Sheet) -> Result<Advice, Refusal> {
     Ok(Advice {
+        slot_us: other_slot(alloc, sheet)?,
         logical: nearest(alloc, sheet, Changed::Logical, 1, sheet.part.logical)?,
         blocks: nearest(alloc, sheet, Changed::Blocks, MAX_BLOCKS, sheet.part.blocks)?,
         times: longer_times(alloc, sheet)?,

@@ -2,10 +2,10 @@
 
 ghost use Rattle.std.specs.Prelude.{◌≡◌, ℕ, ◌+◌, ◌*◌, ◌≤◌, IfSome, IsTrue, None, All};
 ghost use Rattle.demand_rules.specs.declared.terms.TaskTerms.{TaskTerms};
-ghost use Rattle.tool_plan_fit.specs.Fits.{AllowsErases, DoesWork, HoldsCommands, IsDue, IsPaced, IsPlain, Serves, erasing};
+ghost use Rattle.tool_plan_fit.specs.Fits.{AllowsErases, DoesWork, HoldsCommands, IsAskedSlot, IsDue, IsPaced, IsPlain, Serves, erasing};
 
 use crate::faults::WholeErase;
-use slot_types::{Items, MAX_SLOT};
+use slot_types::{Items, MAX_ERASE_SLOTS, MAX_SLOT};
 
 /// So many millionths of a page in so many microseconds are a page in a second.
 const PAGE_SECOND: u64 = 1_000_000_000_000;
@@ -39,6 +39,8 @@ pub struct Part {
     pub transfer_us: u32,
     /// What is left free of each slot, for what the driver does in it and for how late it may begin.
     pub margin_us: u32,
+    /// How long a slot is to be; where nothing is said, that is chosen.
+    pub slot_us: Option<u32>,
     /// How often a block may be erased. No plan rests on it.
     pub endurance: Option<u32>,
     pub blocks: u32,
@@ -56,6 +58,16 @@ impl Part {
             Suspends::Any => true,
             Suspends::One => tasks <= 1 || erase_slots <= 1,
             Suspends::No => erase_slots <= 1,
+        }
+    }
+
+    /// Whether a slot of a length is as long as it is to be.
+    pub fn allows_slot(&self, slot_us: u32) -> bool
+        ensures { IsTrue result → IsAskedSlot self.now.slot_us slot_us }
+    {
+        match self.slot_us {
+            Some(asked_us) => slot_us == asked_us,
+            None => true,
         }
     }
 
@@ -303,5 +315,21 @@ impl Sheet {
             Some(_) => self.part.shortest_slot(self.part.erase_us),
             None => self.part.shortest_slot(1),
         }
+    }
+
+    /// The shortest slot with which an erase has as many slots as it may, too.
+    pub fn least_slot(&self) -> u32 {
+        match self.whole_erase() {
+            Some(_) => self.shortest_slot(),
+            None => {
+                let erase_us = self.part.erase_us.div_ceil(MAX_ERASE_SLOTS).max(1);
+                self.part.shortest_slot(erase_us)
+            }
+        }
+    }
+
+    /// The shortest slot that is tried.
+    pub fn first_slot(&self) -> u32 {
+        self.part.slot_us.unwrap_or(self.shortest_slot())
     }
 }

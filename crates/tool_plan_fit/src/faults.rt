@@ -13,7 +13,12 @@ pub enum Reason {
     Erase {
         slots: u32,
     },
-    /// A period or a deadline is shorter than the shortest slot.
+    /// A slot is to be shorter than the least that would do.
+    Slot {
+        slot_us: u32,
+        least: u32,
+    },
+    /// A period or a deadline is shorter than the shortest slot that is tried.
     Period {
         slot_us: u32,
     },
@@ -63,11 +68,23 @@ pub struct LongerTime {
 /// With which numbers, one at a time, a plan is found. Each was tried.
 #[derive(Drop)]
 pub struct Advice {
+    /// The length of a slot, where another one is asked for.
+    pub slot_us: Option<u32>,
     /// The greatest such.
     pub logical: Option<u32>,
     /// The least such.
     pub blocks: Option<u32>,
     pub times: Vec<LongerTime>,
+}
+
+impl Advice {
+    /// Whether there is none.
+    fn is_empty(&self) -> bool {
+        self.slot_us.is_none()
+            && self.logical.is_none()
+            && self.blocks.is_none()
+            && self.times.is_empty()
+    }
 }
 
 /// Why no plan was found, and what would do.
@@ -98,6 +115,10 @@ impl Display for Reason {
             Reason::Erase { slots } => {
                 write!(f, "an erase takes {slots} slots, and may take 64")
             }
+            Reason::Slot { slot_us, least } => write!(
+                f,
+                "`slot_us` is {slot_us}, and has to be at least {least}: a slot holds a read, a program, and a 64th of an erase"
+            ),
             Reason::Period { slot_us } => {
                 write!(
                     f,
@@ -160,10 +181,13 @@ impl Display for LongerTime {
 
 impl Display for Advice {
     fn fmt<W: Write>(&self, f: &mut Formatter<W>) -> fmt::Result {
-        if self.logical.is_none() && self.blocks.is_none() && self.times.is_empty() {
+        if self.is_empty() {
             return f.write_str(
                 "\nwith no other logical or blocks, and no longer time of one task, a plan is found",
             );
+        }
+        if let Some(slot_us) = self.slot_us {
+            write!(f, "\nwith a slot_us of {slot_us} a plan is found")?;
         }
         if let Some(logical) = self.logical {
             write!(f, "\nwith a logical of at most {logical} a plan is found")?;

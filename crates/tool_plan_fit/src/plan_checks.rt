@@ -148,6 +148,7 @@ fn is_of_part(sheet: &Sheet, slot_us: u32, plan: &DiePlan) -> bool
     plan.shape.blocks == part.blocks
         && plan.shape.pages == part.pages
         && plan.logical == part.logical
+        && part.allows_slot(slot_us)
         && holds_commands(part, slot_us, plan.shape.erase_slots)
         && part.allows_erases(plan.shape.erase_slots, sheet.needs.len())
 }

@@ -82,8 +82,8 @@ pub fn caps_of(alloc: Global, needs: &[Need], slot_us: u32, alpha: u32) -> Resul
     Ok(caps)
 }
 
-/// The plan of a choice; none where a slot doesn't hold each command, or has to hold a whole erase and doesn't, or a task's
-/// collections can't give back what it writes. It isn't judged. The only refusal is NoMemory.
+/// The plan of a choice; none where a slot isn't as long as it is to be, doesn't hold each command, or has to hold a whole
+/// erase and doesn't, or a task's collections can't give back what it writes. It isn't judged. The only refusal is NoMemory.
 pub fn plan_of(
     alloc: Global,
     sheet: &Sheet,
@@ -96,7 +96,7 @@ pub fn plan_of(
         return Ok(None);
     };
     let needs = sheet.needs.as_slice();
-    if !part.allows_erases(erase_slots, sheet.needs.len()) {
+    if !part.allows_erases(erase_slots, sheet.needs.len()) || !part.allows_slot(choice.slot_us) {
         return Ok(None);
     }
     let caps = caps_of(alloc, needs, choice.slot_us, choice.alpha)?;

@@ -299,7 +299,7 @@ impl Tries<'_> {
 
 /// Whether a part and its tasks meet the bound with an alpha.
 fn meets_bound(alloc: Global, sheet: &Sheet, alpha: u32) -> Result<bool, Refusal> {
-    let slot_us = sheet.shortest_slot();
+    let slot_us = sheet.first_slot();
     let caps = caps_of(alloc, sheet.needs.as_slice(), slot_us, alpha)?;
     Ok(bound(&untimed_plan(&sheet.part, alpha, caps)).is_ok())
 }
@@ -348,9 +348,9 @@ fn found_of(alloc: Global, sheet: &Sheet, pick: &Pick) -> Result<Option<Found>, 
     }
 }
 
-/// Whether a task's period or deadline is shorter than the shortest slot.
-pub fn has_short_period(sheet: &Sheet) -> bool {
-    let shortest = sheet.shortest_slot();
+/// Whether a task's period or deadline is shorter than the shortest slot that is tried.
+fn has_short_period(sheet: &Sheet) -> bool {
+    let shortest = sheet.first_slot();
     for need in sheet.needs.as_slice() {
         let wanted = need.in_slots(shortest);
         if wanted.period == 0 || wanted.deadline == 0 {
@@ -360,6 +360,18 @@ pub fn has_short_period(sheet: &Sheet) -> bool {
     false
 }
 
+/// What stands against each slot that is tried: it is to be too short for the part, or too long for a task.
+pub fn slot_reason(sheet: &Sheet) -> Option<Reason> {
+    let (slot_us, least) = (sheet.first_slot(), sheet.least_slot());
+    if sheet.part.slot_us.is_some() && slot_us < least {
+        return Some(Reason::Slot { slot_us, least });
+    }
+    if has_short_period(sheet) {
+        return Some(Reason::Period { slot_us });
+    }
+    None
+}
+
 /// What stood against the closest that was tried.
 fn reason_of(
     sheet: &Sheet,
@@ -367,10 +379,8 @@ fn reason_of(
     closest: Option<(Share, u32)>,
     erase: Option<u32>,
 ) -> Reason {
-    if has_short_period(sheet) {
-        return Reason::Period {
-            slot_us: sheet.shortest_slot(),
-        };
+    if let Some(reason) = slot_reason(sheet) {
+        return reason;
     }
     match (closest, erase) {
         (Some((share, slot_us)), _) => Reason::Demand {

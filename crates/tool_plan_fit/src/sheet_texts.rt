@@ -45,7 +45,7 @@ const UNIT: u32 = 1_000_000;
 const MAX_PARTS: u32 = 4_294 * UNIT;
 
 /// The keys on top.
-const TOP_KEYS: [&str; 14] = [
+const TOP_KEYS: [&str; 15] = [
     "read_us",
     "program_us",
     "program_typical_us",
@@ -55,6 +55,7 @@ const TOP_KEYS: [&str; 14] = [
     "resume_us",
     "transfer_us",
     "margin_us",
+    "slot_us",
     "endurance",
     "blocks",
     "pages",
@@ -383,6 +384,13 @@ fn typical_in(table: &Table, program_us: u32) -> Result<Option<u32>, Wrong>
     parts_or_none(table, Timed::on_top("program_typical_us", 1, program_us))
 }
 
+/// How long a slot is to be.
+fn slot_in(table: &Table) -> Result<Option<u32>, Wrong>
+    ensures { IfOk result (PartsOrNone (table_view table.now) (codes "slot_us") 1) }
+{
+    parts_or_none(table, Timed::on_top("slot_us", 1, MAX_US))
+}
+
 /// How often a block may be erased.
 fn endurance_in(table: &Table) -> Result<Option<u32>, Wrong>
     ensures { IfOk result (PartsOrNone (table_view table.now) (codes "endurance") 1) }
@@ -407,6 +415,7 @@ fn part_of(table: &Table) -> Result<Part, Wrong>
         resume_us: turn_in(table, "resume_us", suspends)?,
         transfer_us: time_or_zero(table, "transfer_us")?,
         margin_us: time_or_zero(table, "margin_us")?,
+        slot_us: slot_in(table)?,
         endurance: endurance_in(table)?,
         blocks: count_in(table, "blocks", MIN_BLOCKS, MAX_BLOCKS)?,
         pages: count_in(table, "pages", MIN_PAGES, MAX_PAGES)?,

@@ -60,9 +60,17 @@ fn shared_time(needs: &[Need]) -> u32 {
     shared
 }
 
-/// The lengths of a slot that are tried, in microseconds: from the shortest on those that divide each period and each
-/// deadline, rising, and then the shortest itself.
+/// The lengths of a slot that are tried, in microseconds: that of the datasheet, if it says one; else from the shortest on
+/// those that divide each period and each deadline, rising, and then the shortest itself.
 pub fn lengths(alloc: Global, sheet: &Sheet) -> Result<Vec<u32>, AllocError> {
+    match sheet.part.slot_us {
+        Some(slot_us) => Vec::from_slice(alloc, &[slot_us]),
+        None => shared_lengths(alloc, sheet),
+    }
+}
+
+/// From the shortest length on those that divide each period and each deadline, rising, and then the shortest itself.
+fn shared_lengths(alloc: Global, sheet: &Sheet) -> Result<Vec<u32>, AllocError> {
     let shortest = sheet.shortest_slot().max(1);
     let shared = shared_time(sheet.needs.as_slice());
     let mut lengths = Vec::with_capacity(alloc, MOST)?;

@@ -124,8 +124,8 @@ fn tasks_of(alloc: Global, needs: &[Need], choice: &TermsChoice) -> Result<Terms
     Ok(tasks)
 }
 
-/// The plan of a choice; none where a slot doesn't hold each command, or has to hold a whole erase and doesn't. It isn't
-/// judged. The only refusal is NoMemory.
+/// The plan of a choice; none where a slot isn't as long as it is to be, doesn't hold each command, or has to hold a whole
+/// erase and doesn't. It isn't judged. The only refusal is NoMemory.
 pub fn die_of(
     alloc: Global,
     sheet: &Sheet,
@@ -138,7 +138,7 @@ pub fn die_of(
     let Some(erase_slots) = part.erase_slots(choice.slot_us) else {
         return Ok(None);
     };
-    if !part.allows_erases(erase_slots, sheet.needs.len()) {
+    if !part.allows_erases(erase_slots, sheet.needs.len()) || !part.allows_slot(choice.slot_us) {
         return Ok(None);
     }
     let wanted = wanted_of(alloc, needs, choice.slot_us)?;

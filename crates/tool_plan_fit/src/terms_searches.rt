@@ -7,7 +7,7 @@ ghost use Rattle.tool_plan_fit.specs.Fits.{IsTermsOf};
 
 use crate::datasheets::Sheet;
 use crate::faults::Reason;
-use crate::searches::{Aim, has_short_period};
+use crate::searches::{Aim, slot_reason};
 use crate::slots::lengths;
 use crate::terms_plans::{SIXTEENTHS, TermsChoice, die_of, greatest_alpha};
 use demand_rules::{DemandFault, DemandLoad, TermsFault, terms_test};
@@ -190,10 +190,8 @@ fn usable_lengths(alloc: Global, sheet: &Sheet) -> Result<(Vec<u32>, Option<u32>
 
 /// What stood against the closest that was tried.
 fn closest_reason(sheet: &Sheet, closest: Option<Reason>, fewest: Option<u32>) -> Reason {
-    if has_short_period(sheet) {
-        return Reason::Period {
-            slot_us: sheet.shortest_slot(),
-        };
+    if let Some(reason) = slot_reason(sheet) {
+        return reason;
     }
     match (closest, fewest) {
         (Some(reason), _) => reason,

@@ -39,7 +39,7 @@ module _ {E R A B : Type 0} (log : B → List (Entry E R)) (about : B → A) whe
       → Me (Option (Kept B)) (View E R A) → Type 0
   looked fits st m r m' = (m'.1 ≡ m.1)
       × ((more : List (Entry E R)) × (m'.0 ≡ record m.0 { seen = m.0.seen ++ more }) × NoneBy (numbers_of m.0) more
-        × (m.0.sole ≡ true → more ≡ []))
+      × (m.0.sole ≡ true → more ≡ []))
       × ((b : ℕ) × (b < 2) × (r ≡ 2 * length m'.0.seen + b))
       × ((a : A) × (m.0.about ≡ Some a) × fits a m'.0.seen)
 

@@ -1,4 +1,5 @@
 use Rattle.std.proofs.Common.{◌≡◌, ◌≤◌, ℕ, List, All, arith, refl, sym, ◌∙◌, subst}
+use Rattle.slot_types.specs.declared.limits.TheConstants.{MAX_SLOT}
 use Rattle.task_script.specs.RowBatches.{sent_by, until_of}
 use Rattle.task_script.specs.declared.row_batches.BatchSender.{BatchSender}
 use Rattle.std.specs.List.{AllZip}
@@ -28,9 +29,13 @@ loop-init g c = record {
 pub send_rows-requires : goal.send_rows-requires
 send_rows-requires g c =
     let read = texts_as _ _ _ _ _ _ _ _ _ _ c.loop.invariant.dies c.loop.invariant.slots c.in_ok-read.ensures.rows in
+    let last : c.match-read.until ≤ MAX_SLOT = elim c.match-read.branch [
+      | in-Ended w ↦ omega (arith, w.until-is, c.requires.few)
+      | in_default w ↦ omega (arith, w.until-is)
+    ] in
     record {
       follow = follows _ _ _ _ _ _ _ _ c.loop.counter c.match-read.until _ _ _ _ _ c.loop.invariant.sent c.in_ok-empty.ensures.same read
-          c.in_ok-read.ensures.few (few_batches _ _ c.loop.counter c.requires.first c.loop.invariant.later c.loop.invariant.below);
+          (omega (arith, c.requires.slots, c.requires.few)) last c.in_ok-read.ensures.few (few_batches _ _ c.loop.counter c.requires.first c.loop.invariant.later c.loop.invariant.below);
     }
 
 pub returns-in_default-end : goal.returns-in_default-end

@@ -9,4 +9,5 @@ invariant_of-result g c = record {
   far = as_many_reached c.args.until c.args.self.dies.progress.items c.in_ok-dies.dies.progress.items (c.args.rows ∷ [])
       c.args.self.dies.passes.items c.in_ok-dies.dies.passes.items c.args.self.far (rw (c.in_ok-push.ensures.items, c.new-all.ensures.items) at c.in_ok-dies.ensures.ran)
       ∙ c.args.self.far;
+  alone = c.in_ok-dies.ensures.alone;
 }
