@@ -325,6 +325,7 @@ fn put_cut(
 
 /// What came of a run whose power went: the call, the blocks in erase, what the mount did, and by logical page what it
 /// gives. With the length of a slot the time that the mount takes stands in brackets. The only refusal is NoMemory.
+#[tactic(auto, using(crate::proofs::Told::is_cut_text))]
 pub fn cut_text(
     alloc: Global,
     die: u32,
