@@ -1,0 +1,6 @@
+pub mod Erased
+pub mod Bearing
+pub mod Standing
+pub mod GoingOn
+pub mod Starting
+pub mod Carrying
