@@ -4,3 +4,4 @@ pub mod Standing
 pub mod GoingOn
 pub mod Starting
 pub mod Carrying
+pub mod Powered
