@@ -3,5 +3,5 @@ pub mod Bearing
 pub mod Standing
 pub mod GoingOn
 pub mod Starting
-pub mod Carrying
+pub mod Carried
 pub mod Powered
