@@ -1,0 +1,5 @@
+mod Moving
+mod Answered
+mod Passing
+mod GoingOn
+mod OngoingAnswers
