@@ -8,3 +8,5 @@ mod CarriedSlots
 mod NewDies
 mod Rooms
 mod AskEnds
+mod Shutting
+mod ResumedDies

@@ -3,7 +3,7 @@ use Rattle.demand_rules.specs.declared.terms.Terms.{Terms}
 use Rattle.demand_rules.specs.Demand.{terms_of}
 use Rattle.die_log.specs.Model.Start.{fresh}
 use Rattle.slot_core.specs.Core.{Core}
-use Rattle.planned_log.specs.Ongoing.{AreLongEnough}
+use Rattle.ongoing_log.specs.Ongoing.{AreLongEnough}
 use Rattle.planned_die.specs.Planned.{Planned}
 use Rattle.ongoing_die.specs.Standing.{ask_in, HaveRoom}
 use Rattle.ongoing_die.specs.OngoingPlans.{IsFirstTooLate}
