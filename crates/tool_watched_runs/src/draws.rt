@@ -13,8 +13,10 @@ ghost use Rattle.tool_watched_runs.specs.Runs.{IsDrawingFrom, IsDrawingOf, begun
 
 use crate::die_runs::{DieRun, whose};
 use crate::failing::{FailAt, Failure, RunNand, check_failing, failure_in};
+use crate::pictures::Chosen;
 use crate::script_runs::{Reported, Sights};
 use crate::started_dies::{StartedDie, fresh_dies};
+use crate::tightest::tightest_of;
 use crate::{End, Kind, Level, Row, Scene, Whose, Window, Worst, lines, picture};
 use script_texts::ScriptReader;
 use slot_core::{DieCore, Job, Stage};
@@ -97,6 +99,7 @@ fn worst_of(alloc: Global, core: &DieCore<RunNand>) -> Result<Option<Worst>, Ref
         None => Ok(None),
         Some(cert) => Ok(Some(Worst {
             whose: whose(core, cert.job),
+            chosen: Chosen::Latest,
             start: cert.start,
             due: cert.due,
             completion: cert.completion,
@@ -174,7 +177,8 @@ pub struct Shown {
     /// The first one, and the one before which the picture ends.
     pub from: u32,
     pub to: u32,
-    /// Whether the busy interval of the worst is drawn in their place, where something in the run is done.
+    /// Whether the busy interval of the worst is drawn in their place, where something in the run is done; where nothing is
+    /// late, that of the tightest.
     pub worst: bool,
     /// Whether they are drawn as lines for a terminal, and not as SVG.
     pub as_text: bool,
@@ -390,12 +394,23 @@ fn run_one<R: Read + Drop>(
     run_made(alloc, script, made, die, slots)
 }
 
+/// The worst that is drawn where its busy interval is asked for: the tightest, where the worst has slots to spare.
+fn drawn_worst(run: &DieRun, worst: Option<Worst>, asked: bool) -> Option<Worst> {
+    match worst {
+        Some(latest) if asked && latest.lateness < 0 => {
+            tightest_of(&run.core, &run.window).or(worst)
+        }
+        _ => worst,
+    }
+}
+
 /// Draws a die that ran, and tells what of it is worth a picture. The only refusal is NoMemory.
 fn draw_run(alloc: Global, run: &mut DieRun, frame: Frame) -> Result<(Vec<u8>, Sights), Refusal>
     ensures { FailsForMemory result }
 {
     let worst = worst_of(alloc, &run.core)?;
     let sights = sights_of(worst, &run.window);
+    let worst = drawn_worst(run, worst, frame.shown.worst);
     if frame.shown.worst
         && let Some(worst) = &worst
     {
@@ -443,8 +458,9 @@ fn drawn(
 }
 
 /// Runs a script on a die of those that were started, and draws what its slots carried: those that are asked for, or the
-/// busy interval of the worst, of which there are at most [`MOST_SLOTS`] unless all are asked for; as SVG, or as lines for
-/// a terminal. It doesn't ask whether the picture has too many slots: [`Shown::too_many`] does. Its time and its memory grow
+/// busy interval of the worst (where nothing is late, of the tightest: what took the greatest part of the slots from its
+/// release to its deadline, the first of these), of which there are at most [`MOST_SLOTS`] unless all are asked for; as SVG,
+/// or as lines for a terminal. It doesn't ask whether the picture has too many slots: [`Shown::too_many`] does. Its time and its memory grow
 /// with the slots, the rows and the operations, and not with how many of them wait at once. Where the device of this die is
 /// to fail, the die stays in that slot, and refuses all later rows. The script is lent, since a reader is large to free
 /// where a row stops the run.

@@ -2,7 +2,7 @@
 
 use crate::kinds::{KINDS, class_of, name_of};
 use crate::levels::put_class;
-use crate::pictures::Scene;
+use crate::pictures::{Chosen, Scene, Worst};
 use crate::sentences::{put_counts, put_title, put_worst_of};
 use std::io;
 use std::io::Write;
@@ -135,10 +135,23 @@ fn put_kinds(text: &mut Vec<u8>) -> io::Result<u64> {
     Ok(x)
 }
 
+/// Whose busy interval is shaded.
+fn shaded_of(worst: Option<Worst>) -> &'static str {
+    match worst {
+        Some(
+            Worst {
+                chosen: Chosen::Tightest { .. },
+                ..
+            },
+        ) => "busy interval of the tightest",
+        _ => "busy interval of the worst",
+    }
+}
+
 /// Adds what the colours and the marks mean.
-pub fn put_legend(text: &mut Vec<u8>) -> io::Result<()> {
+pub fn put_legend(text: &mut Vec<u8>, worst: Option<Worst>) -> io::Result<()> {
     let kinds = put_kinds(text)?;
-    put_sample(text, kinds, "busy_interval", "busy interval of the worst")?;
+    put_sample(text, kinds, "busy_interval", shaded_of(worst))?;
     writeln!(
         text,
         "<path class=\"gap\" d=\"M684,83h16\"/><text x=\"706\" y=\"87\">suspended erase</text>"

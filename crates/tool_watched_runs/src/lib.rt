@@ -23,6 +23,7 @@ mod spans;
 mod started_dies;
 mod tallies;
 mod terminals;
+mod tightest;
 mod wear_texts;
 mod windows;
 

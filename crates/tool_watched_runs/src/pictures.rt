@@ -17,10 +17,20 @@ use std::io;
 use std::io::Write;
 use tool_slot_times::Units;
 
-/// The job or collection with the greatest lateness, and the busy interval of its certificate.
+/// For what a job or a collection is the worst.
+#[derive(Clone, Copy, PartialEq, Eq, Drop)]
+pub enum Chosen {
+    /// It has the greatest lateness.
+    Latest,
+    /// Nothing is late, and it took the greatest part of the slots from its release to its deadline.
+    Tightest { release: u32 },
+}
+
+/// The worst job or collection, and its busy interval: of the latest that of its certificate.
 #[derive(Clone, Copy, Drop)]
 pub struct Worst {
     pub whose: Whose,
+    pub chosen: Chosen,
     /// The first slot of the busy interval, which ends with the completion.
     pub start: u32,
     pub due: u32,
@@ -56,7 +66,7 @@ fn put_back(
 ) -> io::Result<()> {
     put_styles(text)?;
     put_head(text, scene)?;
-    put_legend(text)?;
+    put_legend(text, scene.worst)?;
     put_curves(text, series_in(&scene.window.levels))?;
     put_busy_interval(text, scene, layout)?;
     put_rulers(text, scene.units, layout)?;

@@ -3,7 +3,7 @@
 ghost use Rattle.std.specs.Prelude.{◌<◌};
 
 use crate::layouts::{Band, CURVES, LANE, LEFT, Layout, RULER, SPAN};
-use crate::pictures::{Scene, Worst};
+use crate::pictures::{Chosen, Scene, Worst};
 use std::io;
 use std::io::Write;
 use tool_slot_times::Units;
@@ -117,9 +117,13 @@ fn put_part(
     let start = units.slots(u64::from(worst.start));
     let completion = units.slots(u64::from(worst.completion));
     let due = units.slots(u64::from(worst.due));
+    let what = match worst.chosen {
+        Chosen::Latest => "certificate",
+        Chosen::Tightest { .. } => "busy interval",
+    };
     writeln!(
         text,
-        "<rect class=\"busy_interval\" x=\"{x}\" y=\"{y}\" width=\"{width}\" height=\"{height}\"><title>certificate of {kind} {job}: \
+        "<rect class=\"busy_interval\" x=\"{x}\" y=\"{y}\" width=\"{width}\" height=\"{height}\"><title>{what} of {kind} {job}: \
          slots {start} to {completion} carried work due by {due}</title></rect>"
     )
 }

@@ -1,6 +1,6 @@
 //! What is said of a run above its picture, and above its lines for a terminal.
 
-use crate::pictures::{Scene, Worst};
+use crate::pictures::{Chosen, Scene, Worst};
 use std::io;
 use std::io::Write;
 use tool_run_figures::Quantity;
@@ -64,17 +64,44 @@ pub fn put_counts(text: &mut Vec<u8>, scene: &Scene<'_>) -> io::Result<()> {
     )
 }
 
-/// Tells a worst one, and the busy interval of its certificate.
-fn put_worst(text: &mut Vec<u8>, worst: &Worst, units: Units) -> io::Result<()> {
+/// Tells the latest one, and how late it is.
+fn put_latest(text: &mut Vec<u8>, worst: &Worst, units: Units) -> io::Result<()> {
     let (kind, job, task) = (worst.whose.kind(), worst.whose.job, worst.whose.task);
-    let start = units.slots(u64::from(worst.start));
     let due = units.slots(u64::from(worst.due));
     let completion = units.slots(u64::from(worst.completion));
     let lateness = Quantity::lateness(worst.lateness, units);
     write!(
         text,
-        "Worst: {kind} {job} of task {task}, due {due}, completed {completion}, lateness {lateness}; from slot {start} on each \
-         slot carried work due by {due}."
+        "Worst: {kind} {job} of task {task}, due {due}, completed {completion}, lateness {lateness}"
+    )
+}
+
+/// Tells the tightest one, and how many of its slots it took.
+fn put_tightest(text: &mut Vec<u8>, worst: &Worst, release: u32, units: Units) -> io::Result<()> {
+    let (kind, job, task) = (worst.whose.kind(), worst.whose.job, worst.whose.task);
+    let due = units.slots(u64::from(worst.due));
+    let completion = units.slots(u64::from(worst.completion));
+    let took = units.slots(u64::from(worst.completion.saturating_sub(release)));
+    let has = units.slots(u64::from(worst.due.saturating_sub(release)));
+    let released = units.slots(u64::from(release));
+    write!(
+        text,
+        "Tightest: {kind} {job} of task {task}, released {released}, due {due}, completed {completion}: it took {took} of {has} \
+         slots"
+    )
+}
+
+/// Tells a worst one, and its busy interval.
+fn put_worst(text: &mut Vec<u8>, worst: &Worst, units: Units) -> io::Result<()> {
+    match worst.chosen {
+        Chosen::Latest => put_latest(text, worst, units)?,
+        Chosen::Tightest { release } => put_tightest(text, worst, release, units)?,
+    }
+    let start = units.slots(u64::from(worst.start));
+    let due = units.slots(u64::from(worst.due));
+    write!(
+        text,
+        "; from slot {start} on each slot carried work due by {due}."
     )
 }
 

@@ -79,7 +79,7 @@ fn worst<'a>(alloc: Global) -> Arg<'a>
     flag(
         alloc,
         "worst",
-        "Draw the busy interval of the worst job, or its end, and ten slots before and after it, in place of A to B",
+        "Draw the busy interval of the worst, or of the tightest where nothing is late, and ten slots before and after it",
     )
 }
 
