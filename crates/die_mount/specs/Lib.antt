@@ -11,3 +11,4 @@ pub mod Choosing
 pub mod Beginning
 pub mod Cutting
 pub mod Ending
+pub mod Nexts

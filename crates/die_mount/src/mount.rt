@@ -16,6 +16,8 @@ ghost use Rattle.die_mount.specs.Scanned.{IsScanOf};
 ghost use Rattle.die_mount.specs.Choosing.{HasClosed, IsChosen, IsNextIn, LieFrom, LieWithin};
 ghost use Rattle.die_mount.specs.Mounting.{BeginsWith, IsAtEnd, IsMountOf, IsStep, IsTaken, acts_after, act_at, call_at, calls_left, carried_at, ends_erase_at};
 ghost use Rattle.die_mount.specs.Mounting.{free_of, goal_of, most_calls, programs_at, victim_at};
+ghost use Rattle.die_mount.specs.Nexts.{BeginsFirst, IsNextStage, IsPastFirst};
+ghost use Rattle.die_mount.specs.SoundMount.{StandsWell};
 
 use crate::begin_fault::BeginFault;
 use crate::label::Label;
@@ -70,6 +72,7 @@ impl Mount {
         requires { scan.told ≡ scan.shape.blocks }
         ensures ok { IfOk result (λ mount. (seen : Shown) → IsScanOf (part_of plan) scan seen
             → FitPlan (part_of plan) seen → BeginsWith plan seen mount) }
+        ensures first { IfOk result (BeginsFirst plan) }
         ensures fault { IfErr result (HasBeginFault plan scan (HasIdle scan)) }
     {
         if !scan.fits(&plan) {
@@ -99,6 +102,7 @@ impl Mount {
         ensures ok { IfOk result (λ mount. (seen : Shown) → IsScanOf (part_of plan) before.now seen
             → IsScanOf (part_of plan) again (without_block block seen)
             → MayErase (part_of plan) all_count seen block → BeginsWith plan seen mount) }
+        ensures first { IfOk result (BeginsFirst plan) }
         ensures fault { IfErr result (HasBeginFault plan again (IsIdleIn again block)) }
     {
         if !again.fits(&plan) {
@@ -110,9 +114,11 @@ impl Mount {
         begin(alloc, plan, again, block, before.next_serial())
     }
 
-    /// The next call of the part; none once enough pages are free.
+    /// The next call of the part; none once enough pages are free. It is one that the part may do: what is read is
+    /// programmed, what is programmed is the next cell of its block, and what is erased is closed.
     pub fn next(&self) -> Option<MountCall>
         ensures call { result ≡ call_at self.now.next self.now.stage }
+        ensures stands { StandsWell self.now }
         ensures end { IfNone result (IsAtEnd self.now) }
     {
         match self.stage {
@@ -151,7 +157,8 @@ impl Mount {
     /// The call that comes next was carried out.
     pub fn done(&mut self)
         requires { self.old.stage ≢ Stage.Done }
-        ensures { IsStep self.old self.new }
+        ensures step { IsStep self.old self.new }
+        ensures stage { IsNextStage self.old.plan.shape.erase_slots self.old.stage self.new.stage }
     {
         match self.stage {
             Stage::First { block, slots } => self.first_slot(block, slots),
@@ -194,8 +201,9 @@ impl Mount {
     /// of its first program. The mount stays as it is.
     ///
     /// The checkpoint fits the plan: each balance is its cap, pages lie where the mount left them, and of each block so
-    /// many cells count as programmed. A block's erases are those of this mount, since no label tells of others. It
-    /// takes memory for 12 bytes by page and 8 by block. Refused with `NoMemory` alone, and may be called again then.
+    /// many cells count as programmed. A block's erases are those of this mount, without its first one, before which the
+    /// counting begins: no label tells of others. It takes memory for 12 bytes by page and 8 by block. Refused with
+    /// `NoMemory` alone, and may be called again then.
     pub fn finish(&self, alloc: Global) -> Result<Mounted, Refusal>
         requires { self.now.stage ≡ Stage.Done }
         ensures end { IfOk result (IsEndOf self.now) }
@@ -238,7 +246,8 @@ impl Mount {
     /// The block that is erased first had one slot more of its erase.
     fn first_slot(&mut self, block: u32, slots: u32)
         requires { self.old.stage ≡ Stage.First block slots }
-        ensures { IsStep self.old self.new }
+        ensures step { IsStep self.old self.new }
+        ensures stage { IsNextStage self.old.plan.shape.erase_slots self.old.stage self.new.stage }
     {
         let all = self.plan.shape.erase_slots;
         if slots + 1 < all {
@@ -256,7 +265,8 @@ impl Mount {
     /// A page was read, and goes to the next cell.
     fn was_read(&mut self, page: u32, from: Place)
         requires { self.old.stage ≡ Stage.Read page from }
-        ensures { IsStep self.old self.new }
+        ensures step { IsStep self.old self.new }
+        ensures stage { IsNextStage self.old.plan.shape.erase_slots self.old.stage self.new.stage }
     {
         match self.part.next_cell() {
             Some(to) => self.stage = Stage::Program { page, from, to },
@@ -267,7 +277,8 @@ impl Mount {
     /// A page was programmed, and lies there.
     fn was_programmed(&mut self, page: u32, from: Place, to: Place)
         requires { self.old.stage ≡ Stage.Program page from to }
-        ensures { IsStep self.old self.new }
+        ensures step { IsStep self.old self.new }
+        ensures stage { IsNextStage self.old.plan.shape.erase_slots self.old.stage self.new.stage }
     {
         self.part.program(page, to);
         self.serial += 1;
@@ -277,7 +288,8 @@ impl Mount {
     /// The block whose pages were copied had one slot more of its erase.
     fn erase_slot(&mut self, block: u32, slots: u32)
         requires { self.old.stage ≡ Stage.Erase block slots }
-        ensures { IsStep self.old self.new }
+        ensures step { IsStep self.old self.new }
+        ensures stage { IsNextStage self.old.plan.shape.erase_slots self.old.stage self.new.stage }
     {
         self.part.erase_slot(block);
         if slots + 1 < self.plan.shape.erase_slots {
@@ -305,6 +317,7 @@ fn begin(
     requires idle { IsIdleIn scan block }
     requires serial { serial ≤ 2 ^ 63 }
     ensures ok { IfOk result (BeginsAt plan scan block serial) }
+    ensures first { IfOk result (BeginsFirst plan) }
     ensures err { IfErr result (λ fault. fault ≡ BeginFault.NoMemory) }
 {
     let fmax = figures(&plan).fmax;
@@ -329,7 +342,8 @@ fn chosen(part: &Part, goal: u32, rounds: u32) -> (Stage, u32)
     requires closed { part.now.free < goal → HasClosed part.now.shape.pages part.now }
     requires rounds { part.now.free < goal → 0 < rounds }
     requires within { LieWithin part.now.shape.pages part.now.cells }
-    ensures { IsChosen part.now goal rounds result.0 result.1 }
+    ensures chosen { IsChosen part.now goal rounds result.0 result.1 }
+    ensures past { IsPastFirst result.0 }
 {
     if goal <= part.free() {
         return (Stage::Done, rounds);
@@ -345,7 +359,8 @@ fn next_in(part: &Part, block: u32, from: u32) -> Stage
     requires block { block < part.now.shape.blocks }
     requires from { LieFrom part.now.cells block from }
     requires within { LieWithin part.now.shape.pages part.now.cells }
-    ensures { IsNextIn part.now.cells block from result }
+    ensures next { IsNextIn part.now.cells block from result }
+    ensures past { IsPastFirst result }
 {
     if part.valid(block) == 0 {
         return Stage::Erase { block, slots: 0 };

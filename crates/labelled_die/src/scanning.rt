@@ -45,8 +45,9 @@ fn label_of(look: Look) -> Option<Label>
     }
 }
 
-/// What the cells of a block show, in the place of what the list had.
-fn look_at<N: LabelledNand>(
+/// What the cells of a block show, in the place of what the list had: by cell its label, or none. The list takes no
+/// memory: it has room for the block's pages. Refused with `DeviceFault` where the part failed.
+pub fn look_at<N: LabelledNand>(
     part: &mut N,
     block: u32,
     pages: u32,
@@ -160,6 +161,9 @@ pub fn scan<N: LabelledNand>(alloc: Global, plan: &DiePlan, part: &mut N) -> Res
         part.new) }
     ensures plan { OnOk result (IsMountPlan plan.now) }
     ensures shape { OnOk result (N.shape_of part.old ≡ (part_of plan.now).shape) }
+    ensures fit { OnOk result ((block : ℕ) → block < (N.shape_of part.old).blocks
+        → HaveFitLabels plan.now.logical
+        (told_cells (cells_shown (N.labels part.old).blocks block plan.now.shape.pages))) }
     ensures fault { IfErr result (RefusesScan plan.now (N.shape_of part.old)
         (N.labels part.old).blocks (N.failures part.new)) }
 {

@@ -13,13 +13,10 @@ use Rattle.power_loss.specs.Labels.{Label, Labels, Shown, labels_in, label_at}
 use Rattle.die_mount.specs.declared.label.Label.{Label as Told}
 use Rattle.labelled_nand.specs.Looks.{Shows}
 use Rattle.labelled_nand.specs.declared.look.Look.TheVariants as looks
-use Rattle.labelled_nand.specs.Memory.{MarkedCells, device_block, block_labels, cell_label, label_of, no_cells}
+use Rattle.labelled_nand.specs.Memory.{MarkedCells, device_block, block_labels, cell_label, label_of, marked_at, no_cells}
 use Rattle.labelled_nand.specs.MemoryView.{cells_of, IsSoundBlock}
 use Rattle.labelled_nand.specs.declared.memory.MarkedBlock.{MarkedBlock}
 use Rattle.labelled_nand.specs.declared.memory.MarkedCell.{MarkedCell}
-
-abbrev pub marked_at : List MarkedCells → ℕ → MarkedCells
-marked_at blocks b = get_or blocks b no_cells
 
 pub device_at : (blocks : List MarkedCells) (b : ℕ) → b < length blocks → block_at (map device_block blocks) b ≡ device_block (marked_at blocks b)
 device_at blocks b lt = get_or-map device_block blocks b no_cells free_block lt

@@ -1,8 +1,10 @@
 -- A device in memory that keeps labels: by block its programmed cells.
-use Rattle.std.specs.Prelude.{◌≡◌, ℕ, Bool, true, List, [], Option, map, option_map, replicate}
+use Rattle.std.specs.Prelude.{◌≡◌, ℕ, ◌-◌, Bool, true, length, List, [], ◌++◌, Option, None, map, option_map, replicate}
+use Rattle.std.specs.Prelude.{slice_index_or, slice_set}
 use Rattle.slot_types.specs.declared.pages.PageData.{PageData}
+use Rattle.slot_types.specs.declared.pages.Place.{Place}
 use Rattle.slot_types.specs.declared.plans.Shape.{Shape}
-use Rattle.flash_die.specs.Flash.{Block}
+use Rattle.flash_die.specs.Flash.{Block, blank}
 use Rattle.flash_die.specs.declared.nand.NandCall.{NandCall}
 use Rattle.die_mount.specs.declared.label.Label.{Label as Told}
 use Rattle.power_loss.specs.Labels.{Label, Labels}
@@ -55,3 +57,27 @@ device_labels m = record { blocks = map block_labels m.blocks; next = m.next }
 pub record EndsMarked (before : Marked) (call : NandCall) (well : Bool) (after : Marked) : Type 0 where
   pub ends_well : well ≡ true
   pub labels : device_labels after ≡ labels_after_call before.shape.erase_slots (device_blocks before) call (device_labels before)
+
+-- Without power
+
+-- a cell without a label, as a program or an erase leaves it that was cut
+abbrev pub torn_cell : MarkedCell
+torn_cell = record { bytes = blank; label = None }
+
+abbrev pub marked_at : List MarkedCells → ℕ → MarkedCells
+marked_at blocks b = slice_index_or blocks b no_cells
+
+-- a block of which this cell is torn
+abbrev pub torn_at : ℕ → MarkedCells → MarkedCells
+torn_at page b = record b { cells = slice_set b.cells page torn_cell }
+
+abbrev pub with_torn : Place → Marked → Marked
+with_torn place m = record m { blocks = slice_set m.blocks place.block (torn_at place.page (marked_at m.blocks place.block)) }
+
+-- a block of so many pages counts as closed: each cell that wasn't programmed is one without a label
+abbrev pub closed_cells : (pages : ℕ) → MarkedCells → MarkedCells
+closed_cells pages b = record { cells = b.cells ++ replicate (pages - length b.cells) torn_cell; erasing = 0; erases = 0 }
+
+-- the device once its power has come again: programs are numbered from 0 on, until its owner says otherwise
+abbrev pub powered_up : Marked → Marked
+powered_up m = record m { blocks = map (closed_cells m.shape.pages) m.blocks; next = 0 }

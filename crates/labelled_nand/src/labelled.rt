@@ -27,8 +27,9 @@ use slot_types::{Place, Refusal};
 /// 5. A finished erase leaves cells that may be programmed. Nothing else may be, whatever it looks like.
 /// 6. An erase that was cut is no erase: it is done anew, from its first slot.
 ///
-/// A device that was powered up counts each block as closed, with all its cells programmed, until it is erased: those
-/// that aren't good have no label, and what is read of them may be anything.
+/// A device that was powered up (`IsPoweredUp`) counts each block as closed, with all its cells programmed, until it is
+/// erased: those that aren't good have no label, and what is read of them may be anything. It counts erases, and calls
+/// that fail, from then on.
 pub trait LabelledNand: Nand {
     ghost use Rattle.std.specs.Prelude.{◌≡◌, true};
     ghost use Rattle.flash_die.specs.declared.nand.NandCall.{NandCall};

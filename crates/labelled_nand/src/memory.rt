@@ -1,10 +1,12 @@
 //! A device in memory that keeps labels.
 
-ghost use Rattle.std.specs.Prelude.{◌≡◌, ◌↔◌, ◌∷◌, ◌++◌, ◌+◌, ◌==◌, ◌<◌, [], All, length, map, replicate, if◌then◌else◌, IfOk, Err, vec_capacity};
+ghost use Rattle.std.specs.Prelude.{◌≡◌, ◌↔◌, ◌∷◌, ◌++◌, ◌+◌, ◌==◌, ◌<◌, ◌≤◌, [], All, length, map, replicate, slice_set, if◌then◌else◌, IfOk, Err};
+ghost use Rattle.std.specs.Prelude.{slice_get, vec_capacity};
 ghost use Rattle.slot_types.specs.Refusal.{FailsForMemory};
 ghost use Rattle.slot_types.specs.Shapes.{IsShape};
-ghost use Rattle.labelled_nand.specs.Memory.{fresh_marked, no_cells};
+ghost use Rattle.labelled_nand.specs.Memory.{closed_cells, device_blocks, device_labels, fresh_marked, marked_at, no_cells, powered_up, torn_cell, with_torn};
 ghost use Rattle.labelled_nand.specs.MemoryView.{cells_of, IsSoundBlock};
+ghost use Rattle.labelled_nand.specs.PoweredUp.{IsPoweredUp};
 
 use crate::labelled::LabelledNand;
 use crate::look::Look;
@@ -21,6 +23,12 @@ pub struct MarkedCell {
     /// None where a program wasn't given its page, or where it was cut.
     pub label: Option<Label>,
 }
+
+/// A cell without a label, as a program or an erase leaves it that was cut.
+const TORN: MarkedCell = MarkedCell {
+    bytes: PageData::BLANK,
+    label: None,
+};
 
 /// A block: its programmed cells, the slots of its running erase, and its erases.
 #[derive(Drop)]
@@ -68,6 +76,84 @@ impl LabelledMemory {
             next: serial,
         })
     }
+
+    /// How many slots the running erase of a block has had; 0 where none runs, or there is no such block.
+    pub fn erasing(&self, block: u32) -> u32
+        ensures { result ≡ (marked_at self.now.blocks block).erasing }
+    {
+        let block = block as usize;
+        if block < self.blocks.len() {
+            self.blocks[block].erasing
+        } else {
+            0
+        }
+    }
+
+    /// What a cell holds, if it is programmed and there.
+    pub fn cell(&self, place: Place) -> Option<MarkedCell>
+        ensures { result ≡ slice_get (marked_at self.now.blocks place.block).cells place.page }
+    {
+        let block = place.block as usize;
+        if block < self.blocks.len() {
+            self.blocks[block].cells.get(place.page as usize).copied()
+        } else {
+            None
+        }
+    }
+
+    /// A programmed cell loses its label and its bytes, as one whose program was cut, or of a block that was in erase.
+    /// Where the cell isn't programmed nothing changes.
+    pub fn tear(&mut self, place: Place)
+        ensures { self.new ≡ with_torn place self.old }
+    {
+        let block = place.block as usize;
+        if block < self.blocks.len() {
+            tear_cell(&mut self.blocks[block], place.page as usize);
+        }
+    }
+
+    /// The power went, and has come again. No cell counts as free: each block is closed, by cells without a label where
+    /// it had fewer than its pages, and none is in erase. Erases are counted from here on, and programs are numbered
+    /// from 0 on, until the owner says otherwise (`number_from`).
+    ///
+    /// A cell with a label keeps it. What a call that was cut has torn, [`tear`](LabelledMemory::tear) says.
+    pub fn power_comes(&mut self)
+        ensures comes { self.new ≡ powered_up self.old }
+        ensures powered { IsPoweredUp self.new.shape (device_blocks self.new)
+            (device_labels self.new) 0 }
+    {
+        let pages = self.shape.pages;
+        for block in self.blocks.iter_mut() {
+            close_block(block, pages);
+        }
+        self.next = 0;
+    }
+}
+
+/// A cell of a block loses its label and its bytes, if it is programmed.
+fn tear_cell(block: &mut MarkedBlock, page: usize)
+    ensures cells { block.new.cells.items ≡ slice_set block.old.cells.items page torn_cell }
+    ensures capacity { vec_capacity block.new.cells ≡ vec_capacity block.old.cells }
+    ensures erasing { block.new.erasing ≡ block.old.erasing }
+    ensures erases { block.new.erases ≡ block.old.erases }
+{
+    if page < block.cells.len() {
+        block.cells[page] = TORN;
+    }
+}
+
+/// The block counts as closed, with so many pages, for which it has room.
+fn close_block(block: &mut MarkedBlock, pages: u32)
+    requires within { length block.old.cells.items ≤ pages }
+    requires room { pages ≤ vec_capacity block.old.cells }
+    ensures closed { cells_of block.new ≡ closed_cells pages (cells_of block.old) }
+    ensures capacity { vec_capacity block.new.cells ≡ vec_capacity block.old.cells }
+{
+    for _ in block.cells.len()..pages as usize {
+        block.cells.push_reserved(TORN);
+    }
+    block.erasing = 0;
+    block.erases = 0;
 }
 
 /// Blocks of which no page is programmed, with room for all.

@@ -11,9 +11,10 @@ use Rattle.planned_log.specs.declared.ask_kinds.AskKind.{AskKind}
 use Rattle.planned_log.specs.declared.refusals.AskRefusal.TheVariants as because
 use Rattle.planned_log.specs.Asks.{asked_by}
 use Rattle.planned_log.specs.Moves.{Move}
-use Rattle.planned_log.specs.Ongoing.{Ongoing, WaitingAsk, ongoing_after, AreLongEnough, IsOngoing}
+use Rattle.ongoing_log.specs.Ongoing.{Ongoing, WaitingAsk, ongoing_after, AreLongEnough, IsOngoing}
 use Rattle.planned_die.specs.Planned.{Planned, HasLived}
 use Rattle.planned_die.specs.declared.bursts.Burst.{Burst}
+use Rattle.ongoing_log.specs.PastLives.{counted}
 use Rattle.ongoing_die.specs.declared.waiting.Waiting.{Waiting}
 use Rattle.ongoing_die.specs.declared.answers.Taken.TheVariants as taken
 use Rattle.ongoing_die.specs.Standing.{OngoingParts, ask_in, StandsAs, HaveRoom}
@@ -34,7 +35,7 @@ module _ {N : Type 0} (law : Law) (kind : AskKind) (caller task : ℕ) (ops : Li
       → HasTaken kind caller task ops first d (taken.Enters release due burst.first burst.jobs) before (record { die = after; waiting = ws })
   entered burst release due asked at due_is first d before b =
       ask_enters first d before (record { die = die; waiting = ws }) b (law first die.terms die.life long d (b.stands.runs b.runs).goes_on) kind caller task ops
-      (record { die = after; waiting = ws }) (lives b.stands.earlier b.stands.lived) burst release due (asked b.stands.earlier b.stands.lived) at due_is refl
+      (record { die = after; waiting = ws }) (lives (counted b.stands.past) b.stands.lived) burst release due (asked (counted b.stands.past) b.stands.lived) at due_is refl
 
   pub waited : (release due : ℕ) (left : List (Option WaitingAsk))
       (asked : (earlier : Lives) → HasLived die earlier → IsDieAsk kind caller task ops earlier (Err because.LifeEnd) die after)
@@ -44,7 +45,7 @@ module _ {N : Type 0} (law : Law) (kind : AskKind) (caller task : ℕ) (ops : Li
       → HasTaken kind caller task ops first d (taken.Waits release due) before (record { die = after; waiting = left })
   waited release due left asked at due_is none kept first d before b =
       ask_waits first d before (record { die = die; waiting = ws }) b (law first die.terms die.life long d (b.stands.runs b.runs).goes_on) kind caller task ops
-      (record { die = after; waiting = left }) (lives b.stands.earlier b.stands.lived) release due (asked b.stands.earlier b.stands.lived) at due_is none kept
+      (record { die = after; waiting = left }) (lives (counted b.stands.past) b.stands.lived) release due (asked (counted b.stands.past) b.stands.lived) at due_is none kept
 
 -- What waits
 
@@ -59,8 +60,8 @@ module _ {N : Type 0} (first : Start) (d : Ongoing) (die after : Planned N) (ws 
     (runs : die.core.stopped ≡ false) (kind : AskKind) (caller task : ℕ) (ops : List Op)
     (asked : (earlier : Lives) → HasLived die earlier → IsDieAsk kind caller task ops earlier (Err because.LifeEnd) die after) where
   late : (task < length die.core.start.plan.caps) × (length ops ≤ (terms_of die.terms task).work)
-  late = late_ask die.core.start.plan die.terms die.life (all_slots s.earlier) (now die.core.log) (asked_by task (die.core.log ∷ s.earlier)) kind task ops
-      (refused_by kind caller task ops s.earlier because.LifeEnd die after runs (asked s.earlier s.lived))
+  late = late_ask die.core.start.plan die.terms die.life (all_slots (counted s.past)) (now die.core.log) (asked_by task (die.core.log ∷ counted s.past)) kind task ops
+      (refused_by kind caller task ops (counted s.past) because.LifeEnd die after runs (asked (counted s.past) s.lived))
 
   pub late_known : task < length ws
   late_known = omega (arith, late.0, s.one_each, length-map ws ask_in)

@@ -13,7 +13,7 @@ use Rattle.demand_rules.specs.declared.terms.Terms.{Terms}
 use Rattle.demand_rules.specs.Demand.{terms_of}
 use Rattle.die_log.specs.Model.Log.{Log, now}
 use Rattle.die_log.specs.Model.Start.{Start}
-use Rattle.die_log.specs.Model.Lives.{Lives, all_slots, start_after}
+use Rattle.die_log.specs.Model.Lives.{Lives, all_slots}
 use Rattle.die_log.specs.Model.Answers.{bad_page}
 use Rattle.planned_log.specs.declared.ask_kinds.AskKind.{AskKind}
 use Rattle.planned_log.specs.declared.ask_kinds.AskKind.TheVariants as kinds
@@ -22,10 +22,11 @@ use Rattle.planned_log.specs.declared.refusals.AskRefusal.TheVariants as because
 use Rattle.planned_log.specs.Asks.{Asked, refusals_above, first_refusal, has_room, room_at, counting}
 use Rattle.planned_log.specs.AskKinds.{most_of, refusal_as, jobs_as, with_jobs}
 use Rattle.planned_log.specs.Moves.{Move, Ask}
-use Rattle.planned_log.specs.Ongoing.{Ongoing, WaitingAsk, Answer, Refused, Enters, Waits, WaitsAlready, answer_by, answer_to, after_answer, start_of}
-use Rattle.planned_log.specs.Ongoing.{ongoing_after_move, ongoing_after, IsOngoing}
+use Rattle.ongoing_log.specs.Ongoing.{Ongoing, WaitingAsk, Answer, Refused, Enters, Waits, WaitsAlready, answer_by, answer_to, after_answer, start_of}
+use Rattle.ongoing_log.specs.Ongoing.{ongoing_after_move, ongoing_after, IsOngoing}
 use Rattle.planned_die.specs.Planned.{Planned, HasLived}
 use Rattle.planned_die.specs.declared.bursts.Burst.{Burst}
+use Rattle.ongoing_log.specs.PastLives.{starts_after, counted}
 use Rattle.ongoing_die.specs.declared.answers.Taken.{Taken}
 use Rattle.ongoing_die.specs.declared.answers.Taken.TheVariants as taken
 use Rattle.ongoing_die.specs.Standing.{OngoingParts, standing, StandsAs}
@@ -98,7 +99,7 @@ module _ {N : Type 0} (first : Start) (d : Ongoing) (parts : OngoingParts N) (s 
   log = die.core.log
 
   abbrev here : Ongoing
-  here = standing parts s.earlier
+  here = standing parts s.past
 
   abbrev deadline : ℕ
   deadline = (terms_of die.terms task).deadline
@@ -110,13 +111,13 @@ module _ {N : Type 0} (first : Start) (d : Ongoing) (parts : OngoingParts N) (s 
   is = within first d parts s runs early
 
   -- it is answered by what the plan says of it
-  answer_as : (o : Option AskRefusal) → refusal_of kind die s.earlier task ops ≡ o
+  answer_as : (o : Option AskRefusal) → refusal_of kind die (counted s.past) task ops ≡ o
       → answer_to first die.terms die.life d kind task ops ≡ answer_by die.first (now log) die.life deadline w o
   answer_as o e =
       ap (λ (x : Ongoing). answer_to first die.terms die.life x kind task ops) is
-      ∙ (ap (λ (t : Start). answer_by (all_slots s.earlier) (now log) die.life deadline w
-      (refusal_as kind t.plan die.terms die.life s.earlier log task ops)) (sym s.starts)
-      ∙ (ap (λ (v : Option AskRefusal). answer_by (all_slots s.earlier) (now log) die.life deadline w v) e
+      ∙ (ap (λ (t : Start). answer_by (all_slots (counted s.past)) (now log) die.life deadline w
+      (refusal_as kind t.plan die.terms die.life (counted s.past) log task ops)) (sym s.starts)
+      ∙ (ap (λ (v : Option AskRefusal). answer_by (all_slots (counted s.past)) (now log) die.life deadline w v) e
       ∙ ap (λ n. answer_by n (now log) die.life deadline w o) (sym s.lived.began)))
 
   -- the die stands as after the move
@@ -124,33 +125,33 @@ module _ {N : Type 0} (first : Start) (d : Ongoing) (parts : OngoingParts N) (s 
   next = ongoing_after_move first die.terms die.life d (Ask kind caller task ops)
 
   module _ (law : (moves : List Move) → IsOngoing first die.terms die.life (ongoing_after first die.terms die.life d moves)) (after : OngoingParts N)
-      (lived : HasLived after.die s.earlier) (terms_is : after.die.terms ≡ die.terms) (life_is : after.die.life ≡ die.life)
+      (lived : HasLived after.die (counted s.past)) (terms_is : after.die.terms ≡ die.terms) (life_is : after.die.life ≡ die.life)
       (start_is : after.die.core.start ≡ die.core.start) (whole : after.die.entered ≡ die.entered) where
-    then_stands : next ≡ standing after s.earlier → StandsAs first next after
-    then_stands e = stands_in first next after s.earlier lived (start_is ∙ s.starts) e
+    then_stands : next ≡ standing after s.past → StandsAs first next after
+    then_stands e = stands_in first next after s.past lived (start_is ∙ s.starts) e
         (subst (λ n. IsOngoing first after.die.terms n next) (sym life_is)
         (subst (λ (t : Terms). IsOngoing first t die.life next) (sym terms_is) (law (Ask kind caller task ops ∷ []))))
         (whole ∙ (s.runs runs).whole)
 
     -- an ask that enters
     module _ (release due : ℕ) (burst : Burst) (at : release ≡ die.first + now log) (due_is : due ≡ release + deadline)
-        (same : after.waiting ≡ parts.waiting) (h : HasAskedFor kind caller task ops s.earlier burst die after.die) where
+        (same : after.waiting ≡ parts.waiting) (h : HasAskedFor kind caller task ops (counted s.past) burst die after.die) where
       enters : answer_to first die.terms die.life d kind task ops ≡ Enters release due
       enters = answer_as None h.unrefused ∙ (λ i. Enters (sym at i) (due_here i))
         where
           due_here : die.first + now log + deadline ≡ due
           due_here = omega (arith, at, due_is)
 
-      logged : with_jobs (start_after first s.earlier) die.terms log caller task (jobs_as kind ops) ≡ after.die.core.log
+      logged : with_jobs (starts_after first s.past) die.terms log caller task (jobs_as kind ops) ≡ after.die.core.log
       logged =
           ap (λ (t : Start). with_jobs t die.terms log caller task (jobs_as kind ops)) (sym s.starts)
-          ∙ sym (jobs_log caller task s.earlier (jobs_as kind ops) burst.first die after.die h.asked)
+          ∙ sym (jobs_log caller task (counted s.past) (jobs_as kind ops) burst.first die after.die h.asked)
 
-      entered_is : next ≡ standing after s.earlier
+      entered_is : next ≡ standing after s.past
       entered_is =
           ap (after_answer first die.terms d kind caller task ops) enters
           ∙ (ap (λ (x : Ongoing). record x { log = with_jobs (start_of first x) die.terms x.log caller task (jobs_as kind ops) }) is
-          ∙ (λ i. record { earlier = s.earlier; log = logged i; waiting = sym same i }))
+          ∙ (λ i. record { earlier = s.past; log = logged i; waiting = sym same i }))
 
       pub has_entered : HasTaken kind caller task ops first d (taken.Enters release due burst.first burst.jobs) parts after
       has_entered = record {
@@ -159,7 +160,7 @@ module _ {N : Type 0} (first : Start) (d : Ongoing) (parts : OngoingParts N) (s 
         stands = then_stands entered_is;
         numbered = (
           h.counted,
-          jobs_numbered caller task s.earlier (jobs_as kind ops) burst.first die after.die h.asked
+          jobs_numbered caller task (counted s.past) (jobs_as kind ops) burst.first die after.die h.asked
               ∙ (ap (λ (t : Terms). with_numbered t caller task (jobs_as kind ops) burst.first log) (sym terms_is)
               ∙ ap (λ (x : Ongoing). with_numbered after.die.terms caller task (jobs_as kind ops) burst.first x.log) (sym is)),
         );
@@ -167,7 +168,7 @@ module _ {N : Type 0} (first : Start) (d : Ongoing) (parts : OngoingParts N) (s 
 
     -- one that waits
     module _ (release due : ℕ) (at : release ≡ die.first + die.life) (due_is : due ≡ release + deadline)
-        (late : refusal_of kind die s.earlier task ops ≡ Some because.LifeEnd) (none : w ≡ None)
+        (late : refusal_of kind die (counted s.past) task ops ≡ Some because.LifeEnd) (none : w ≡ None)
         (kept : after.waiting ≡ set parts.waiting task (Some (record { caller = caller; ops = ops }))) (log_is : after.die.core.log ≡ log) where
       waits : answer_to first die.terms die.life d kind task ops ≡ Waits release due
       waits =
@@ -178,11 +179,11 @@ module _ {N : Type 0} (first : Start) (d : Ongoing) (parts : OngoingParts N) (s 
           due_here : die.first + die.life + deadline ≡ due
           due_here = omega (arith, at, due_is)
 
-      waits_is : next ≡ standing after s.earlier
+      waits_is : next ≡ standing after s.past
       waits_is =
           ap (after_answer first die.terms d kind caller task ops) waits
           ∙ (ap (λ (x : Ongoing). record x { waiting = set x.waiting task (Some (record { caller = caller; ops = ops })) }) is
-          ∙ (λ i. record { earlier = s.earlier; log = sym log_is i; waiting = sym kept i }))
+          ∙ (λ i. record { earlier = s.past; log = sym log_is i; waiting = sym kept i }))
 
       pub has_waited : HasTaken kind caller task ops first d (taken.Waits release due) parts after
       has_waited = record {
@@ -193,13 +194,13 @@ module _ {N : Type 0} (first : Start) (d : Ongoing) (parts : OngoingParts N) (s 
       }
 
   -- one that is refused
-  pub waits_already : (v : WaitingAsk) → refusal_of kind die s.earlier task ops ≡ Some because.LifeEnd → w ≡ Some v
+  pub waits_already : (v : WaitingAsk) → refusal_of kind die (counted s.past) task ops ≡ Some because.LifeEnd → w ≡ Some v
       → answer_to first die.terms die.life d kind task ops ≡ WaitsAlready
   waits_already v late there =
       answer_as (Some because.LifeEnd) late
       ∙ ap (λ (x : Option WaitingAsk). answer_by die.first (now log) die.life deadline x (Some because.LifeEnd)) there
 
-  pub refused_so : (refusal : AskRefusal) → refusal_of kind die s.earlier task ops ≡ Some refusal → refusal ≢ because.LifeEnd
+  pub refused_so : (refusal : AskRefusal) → refusal_of kind die (counted s.past) task ops ≡ Some refusal → refusal ≢ because.LifeEnd
       → answer_to first die.terms die.life d kind task ops ≡ Refused refusal
   refused_so refusal why other = answer_as (Some refusal) why ∙ plain die.first (now log) die.life deadline w refusal other
 
@@ -233,33 +234,33 @@ module _ {N : Type 0} (first : Start) (d : Ongoing) (before between : OngoingPar
 -- What a call of the die below means
 module _ {N : Type 0} (first : Start) (d : Ongoing) (before between : OngoingParts N) (b : HasBegun first d before between)
     (law : (moves : List Move) → IsOngoing first between.die.terms between.die.life (ongoing_after first between.die.terms between.die.life d moves))
-    (kind : AskKind) (caller task : ℕ) (ops : List Op) (after : OngoingParts N) (lived : HasLived after.die b.stands.earlier) where
-  pub ask_enters : (burst : Burst) (release due : ℕ) → IsDieAsk kind caller task ops b.stands.earlier (Ok burst) between.die after.die
+    (kind : AskKind) (caller task : ℕ) (ops : List Op) (after : OngoingParts N) (lived : HasLived after.die (counted b.stands.past)) where
+  pub ask_enters : (burst : Burst) (release due : ℕ) → IsDieAsk kind caller task ops (counted b.stands.past) (Ok burst) between.die after.die
       → release ≡ after.die.first + now after.die.core.log → due ≡ release + (terms_of between.die.terms task).deadline → after.waiting ≡ between.waiting
       → HasTaken kind caller task ops first d (taken.Enters release due burst.first burst.jobs) before after
   ask_enters burst release due h at due_is same =
-      let kept = asked_same kind caller task ops b.stands.earlier between.die after.die (Ok burst) h in
+      let kept = asked_same kind caller task ops (counted b.stands.past) between.die after.die (Ok burst) h in
       taken_before first d before between b kind task ops caller (taken.Enters release due burst.first burst.jobs) after
       (has_entered first d between b.stands b.early b.runs kind caller task ops law after lived kept.terms kept.life kept.start kept.entered release due burst
       (omega (
         arith,
         at,
         kept.first,
-        ap now (jobs_numbered caller task b.stands.earlier (jobs_as kind ops) burst.first between.die after.die h.asked),
+        ap now (jobs_numbered caller task (counted b.stands.past) (jobs_as kind ops) burst.first between.die after.die h.asked),
         numbered_now between.die.terms caller task (jobs_as kind ops) burst.first between.die.core.log,
       ))
       due_is same h)
 
-  pub ask_waits : (release due : ℕ) → IsDieAsk kind caller task ops b.stands.earlier (Err because.LifeEnd) between.die after.die
+  pub ask_waits : (release due : ℕ) → IsDieAsk kind caller task ops (counted b.stands.past) (Err because.LifeEnd) between.die after.die
       → release ≡ after.die.first + after.die.life → due ≡ release + (terms_of between.die.terms task).deadline
       → get_or between.waiting task None ≡ None → after.waiting ≡ set between.waiting task (Some (record { caller = caller; ops = ops }))
       → HasTaken kind caller task ops first d (taken.Waits release due) before after
   ask_waits release due h at due_is none same =
-      let kept = asked_same kind caller task ops b.stands.earlier between.die after.die (Err because.LifeEnd) h in
+      let kept = asked_same kind caller task ops (counted b.stands.past) between.die after.die (Err because.LifeEnd) h in
       taken_before first d before between b kind task ops caller (taken.Waits release due) after
       (has_waited first d between b.stands b.early b.runs kind caller task ops law after lived kept.terms kept.life kept.start kept.entered release due
       (omega (arith, at, kept.first, kept.life)) due_is
-      (refused_by kind caller task ops b.stands.earlier because.LifeEnd between.die after.die b.runs h) none same (ap (λ (p : Planned N). p.core.log) h.0))
+      (refused_by kind caller task ops (counted b.stands.past) because.LifeEnd between.die after.die b.runs h) none same (ap (λ (p : Planned N). p.core.log) h.0))
 
 -- a refused ask leaves the die in its life
 pub begun_still : {N : Type 0} (first : Start) (d : Ongoing) (before between after : OngoingParts N) → after ≡ between → HasBegun first d before between

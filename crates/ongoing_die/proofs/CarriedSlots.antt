@@ -13,16 +13,17 @@ use Rattle.demand_rules.specs.declared.terms.TaskTerms.{TaskTerms}
 use Rattle.demand_rules.specs.declared.terms.Terms.{Terms}
 use Rattle.die_log.specs.Model.Log.{Log, now}
 use Rattle.die_log.specs.Model.Start.{Start}
-use Rattle.die_log.specs.Model.Lives.{Lives, start_after}
+use Rattle.die_log.specs.Model.Lives.{Lives}
 use Rattle.die_log.specs.Model.Answers.{with_answer, after_call, run}
 use Rattle.slot_core.specs.Core.{Core}
 use Rattle.slot_core.specs.Calls.{IsCall, RefusesCall}
 use Rattle.slot_core.proofs.Calling.{no_log_fault}
 use Rattle.planned_log.specs.KeptLogs.{collections_at}
 use Rattle.planned_log.specs.Moves.{Move, Slot, after_own, after_move}
-use Rattle.planned_log.specs.Ongoing.{Ongoing, start_of, going_on, ongoing_after_move, ongoing_after, WereInTime, IsOngoing}
+use Rattle.ongoing_log.specs.Ongoing.{Ongoing, start_of, going_on, ongoing_after_move, ongoing_after, IsOngoing}
 use Rattle.planned_die.specs.Planned.{Planned, HasLived}
 use Rattle.planned_die.specs.PlannedCalls.{own_calls, with_all_own, HasSlotted, RefusesSlot}
+use Rattle.ongoing_log.specs.PastLives.{PastLife, starts_after, counted, HavePassed}
 use Rattle.ongoing_die.specs.Standing.{OngoingParts, standing, StandsAs}
 use Rattle.ongoing_die.specs.OngoingCalls.{HasBegun, HaveOnePlan, HasCarried, HasFailed}
 use Rattle.ongoing_die.proofs.OverAllLives.{within}
@@ -68,17 +69,17 @@ module _ {N : Type 0} (caller : ℕ) (before : Planned N) (whole : before.entere
 
 module _ {N : Type 0} (ends : N → NandCall → Bool → N → Type 0) (failures : N → ℕ) (never : Bool) (caller : ℕ) (first : Start) (d : Ongoing)
     (before between : OngoingParts N) (b : HasBegun first d before between) (after : OngoingParts N) (waits : after.waiting ≡ between.waiting)
-    (lived : HasLived after.die b.stands.earlier) where
+    (lived : HasLived after.die (counted b.stands.past)) where
   abbrev die : Planned N
   die = between.die
 
-  abbrev earlier : Lives
-  earlier = b.stands.earlier
+  abbrev past : List PastLife
+  past = b.stands.past
 
   one_task : length die.terms.tasks ≤ length die.core.start.plan.caps
   one_task = omega (arith, b.stands.lived.kept.demand.has.one_each)
 
-  is : d ≡ standing between earlier
+  is : d ≡ standing between past
   is = within first d between b.stands b.runs b.early
 
   -- a slot that is carried out
@@ -96,27 +97,26 @@ module _ {N : Type 0} (ends : N → NandCall → Bool → N → Type 0) (failure
     start_is : after.die.core.start ≡ die.core.start
     start_is = h.carried.start_stays
 
-    moved : after_move (start_after first earlier) die.terms earlier die.life die.core.log (Slot caller) ≡ after.die.core.log
+    moved : after_move (starts_after first past) die.terms (counted past) die.life die.core.log (Slot caller) ≡ after.die.core.log
     moved =
-        ap (λ (t : Start). after_move t die.terms earlier die.life die.core.log (Slot caller)) (sym b.stands.starts)
-        ∙ sym (slot_log caller die (b.stands.runs b.runs).whole one_task ends failures never earlier after.die reply h)
+        ap (λ (t : Start). after_move t die.terms (counted past) die.life die.core.log (Slot caller)) (sym b.stands.starts)
+        ∙ sym (slot_log caller die (b.stands.runs b.runs).whole one_task ends failures never (counted past) after.die reply h)
 
-    next_is : next ≡ going_on first die.terms die.life (standing after earlier)
+    next_is : next ≡ going_on first die.terms die.life (standing after past)
     next_is =
         ap (λ (x : Ongoing). going_on first die.terms die.life
-        (record x { log = after_move (start_of first x) die.terms x.earlier die.life x.log (Slot caller) })) is
-        ∙ (λ i. going_on first die.terms die.life (record { earlier = earlier; log = moved i; waiting = sym waits i }))
+        (record x { log = after_move (start_of first x) die.terms (counted x.earlier) die.life x.log (Slot caller) })) is
+        ∙ (λ i. going_on first die.terms die.life (record { earlier = past; log = moved i; waiting = sym waits i }))
 
     stands_there : StandsAs first next after
     stands_there = record {
-      earlier = earlier;
+      past = past;
       lived = lived;
       starts = start_is ∙ b.stands.starts;
-      ended = b.stands.ended;
-      were = subst (λ n. WereInTime first n earlier) (sym life_is) b.stands.were;
+      passed = subst (λ n. HavePassed first n past) (sym life_is) b.stands.passed;
       one_each = ap (λ l. length l) waits ∙ (b.stands.one_each ∙ ap (λ (t : Start). length t.plan.caps) (sym start_is));
       runs = λ runs. record {
-        stands = next_is ∙ (λ i. going_on first (sym terms_is i) (sym life_is i) (standing after earlier));
+        stands = next_is ∙ (λ i. going_on first (sym terms_is i) (sym life_is i) (standing after past));
         goes_on = subst (λ n. IsOngoing first after.die.terms n next) (sym life_is)
             (subst (λ (t : Terms). IsOngoing first t die.life next) (sym terms_is) (law (Slot caller ∷ [])));
         whole = ap (λ (p : Planned N). p.entered) h.stays;
@@ -153,7 +153,7 @@ module _ {N : Type 0} (ends : N → NandCall → Bool → N → Type 0) (failure
     ]
 
     stopped : after.die.core.stopped ≡ true
-    stopped = (fault_stops caller die (b.stands.runs b.runs).whole one_task ends failures never earlier after.die after.die.core
+    stopped = (fault_stops caller die (b.stands.runs b.runs).whole one_task ends failures never (counted past) after.die after.die.core
         (subst (λ (r : Refusal). IsCall ends failures never caller events.Slot (Err r) (with_all_own caller die) after.die.core) is_fault.fault
         is_fault.call)).stops
 
@@ -165,11 +165,10 @@ module _ {N : Type 0} (ends : N → NandCall → Bool → N → Type 0) (failure
 
     stands_stopped : StandsAs first d after
     stands_stopped = record {
-      earlier = earlier;
+      past = past;
       lived = lived;
       starts = start_there ∙ b.stands.starts;
-      ended = b.stands.ended;
-      were = subst (λ n. WereInTime first n earlier) (sym life_there) b.stands.were;
+      passed = subst (λ n. HavePassed first n past) (sym life_there) b.stands.passed;
       one_each = ap (λ l. length l) waits ∙ (b.stands.one_each ∙ ap (λ (t : Start). length t.plan.caps) (sym start_there));
       runs = λ runs. absurd (true≢false (sym stopped ∙ runs));
     }

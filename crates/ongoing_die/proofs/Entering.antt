@@ -17,7 +17,7 @@ use Rattle.planned_log.specs.declared.refusals.AskRefusal.{AskRefusal}
 use Rattle.planned_log.specs.Asks.{asked_job}
 use Rattle.planned_log.specs.AskKinds.{jobs_as, with_jobs}
 use Rattle.planned_log.specs.Moves.{Ask, after_ask, after_move, after_moves}
-use Rattle.planned_log.specs.Ongoing.{WaitingAsk, asks_of}
+use Rattle.ongoing_log.specs.Ongoing.{WaitingAsk, asks_of}
 use Rattle.planned_die.specs.Planned.{Planned}
 use Rattle.planned_die.specs.declared.bursts.Burst.{Burst}
 use Rattle.planned_die.specs.PlannedCalls.{HasAsked, HaveAsked}

@@ -5,6 +5,11 @@ mod OverAllLives
 mod NextLives
 mod Asking
 mod CarriedSlots
+mod Lasting
 mod NewDies
 mod Rooms
 mod AskEnds
+mod Lacking
+mod Shutting
+mod ResumedDies
+mod Unrefused

@@ -8,7 +8,7 @@ use Rattle.die_log.specs.Model.Opening.{IsOpening}
 use Rattle.die_log.specs.Results.DemandedLives.{AreFull}
 use Rattle.planned_log.specs.Lives.{IsLife}
 use Rattle.planned_log.specs.Laws.{StartsFull}
-use Rattle.planned_log.specs.Ongoing.{WaitingAsk, IsOngoing, new_ongoing}
+use Rattle.ongoing_log.specs.Ongoing.{WaitingAsk, IsOngoing, new_ongoing}
 use Rattle.planned_die.specs.Planned.{Planned, HasLived}
 use Rattle.ongoing_die.specs.Standing.{StandsAs}
 use Rattle.ongoing_die.proofs.OverAllLives.{stands_in}

@@ -1,14 +1,15 @@
 -- The next life begins, and the die stands as it did.
-use Rattle.std.proofs.Common.{◌≡◌, ◌+◌, ◌<◌, false, [], ◌∷◌, map, None, refl, ap, sym, subst, ◌∙◌}
+use Rattle.std.proofs.Common.{◌≡◌, ◌+◌, ◌<◌, false, List, [], ◌∷◌, map, None, refl, ap, sym, subst, ◌∙◌}
 use Rattle.demand_rules.specs.declared.terms.Terms.{Terms}
 use Rattle.die_log.specs.Model.Log.{Log, now}
 use Rattle.die_log.specs.Model.Start.{Start}
-use Rattle.die_log.specs.Model.Lives.{Lives, start_after}
+use Rattle.die_log.specs.Model.Lives.{Lives}
 use Rattle.die_log.specs.Model.Opening.{renewed_start}
 use Rattle.slot_core.specs.Renewals.{renewed_core}
 use Rattle.planned_log.specs.Moves.{after_moves}
-use Rattle.planned_log.specs.Ongoing.{Ongoing, asks_of, AreLongEnough, IsOngoing}
+use Rattle.ongoing_log.specs.Ongoing.{Ongoing, asks_of, AreLongEnough, IsOngoing}
 use Rattle.planned_die.specs.Planned.{Planned, HasLived}
+use Rattle.ongoing_log.specs.PastLives.{PastLife, Renewed, starts_after, counted}
 use Rattle.ongoing_die.specs.Standing.{OngoingParts, standing, StandsAs, IsOngoingDie}
 use Rattle.ongoing_die.specs.Entering.{IsSameDie}
 use Rattle.ongoing_die.specs.OngoingCalls.{HasBegun, HaveOnePlan}
@@ -54,11 +55,14 @@ module _ {N : Type 0} (first : Start) (d : Ongoing) (before after : OngoingParts
       first = before.die.first + now before.die.core.log;
     })
     (same : IsSameDie renewed after.die) where
+  abbrev past : List PastLife
+  past = record { log = before.die.core.log; ended = Renewed } ∷ s.past
+
   abbrev lives : Lives
-  lives = before.die.core.log ∷ s.earlier
+  lives = counted past
 
   abbrev next : Start
-  next = start_after first lives
+  next = starts_after first past
 
   starts : renewed.core.start ≡ next
   starts = ap (λ (p : Planned N). p.core.start) is ∙ ap (λ (t : Start). renewed_start t before.die.core.log) s.starts
@@ -81,17 +85,17 @@ module _ {N : Type 0} (first : Start) (d : Ongoing) (before after : OngoingParts
         ∙ (ap (λ (t : Start). after_moves t renewed.terms lives renewed.life renewed.core.log (asks_of 0 before.waiting)) starts
         ∙ ap (λ (p : Planned N). after_moves next p.terms lives p.life p.core.log (asks_of 0 before.waiting)) is)
 
-    stands_so : d ≡ standing after lives
+    stands_so : d ≡ standing after past
     stands_so =
         (s.runs runs).stands
-        ∙ (has_ended first before.die.terms before.die.life (standing before s.earlier) over
-        ∙ (λ i. record { earlier = lives; log = sym entered i; waiting = sym none i }))
+        ∙ (has_ended first before.die.terms before.die.life (standing before s.past) over
+        ∙ (λ i. record { earlier = past; log = sym entered i; waiting = sym none i }))
 
     pub begun : HasBegun first d before after
     begun = record {
       ran = runs;
       runs = same.stopped ∙ (ap (λ (p : Planned N). p.core.stopped) is ∙ runs);
-      stands = stands_in first d after lives lived (same.start ∙ starts) stands_so
+      stands = stands_in first d after past lived (same.start ∙ starts) stands_so
           (subst (λ n. IsOngoing first after.die.terms n d) (sym plan.life)
           (subst (λ (t : Terms). IsOngoing first t before.die.life d) (sym plan.terms) k))
           (same.entered ∙ ap (λ (p : Planned N). p.entered) is);

@@ -9,7 +9,8 @@ use Rattle.demand_rules.specs.declared.terms.Terms.{Terms}
 use Rattle.demand_rules.specs.Demand.{terms_of}
 use Rattle.die_log.specs.Model.Log.{Log, now}
 use Rattle.die_log.specs.Model.Start.{Start}
-use Rattle.die_log.specs.Model.Lives.{Lives, all_slots, start_after, HaveEnded}
+use Rattle.die_log.specs.Model.Lives.{Lives, all_slots}
+use Rattle.ongoing_log.specs.PastLives.{PastLife, Renewed, starts_after, counted, HavePassed}
 use Rattle.die_log.specs.Model.Answers.{answer, answer_by, refusal_of, with_answer, after_call}
 use Rattle.planned_log.specs.declared.refusals.AskRefusal.{AskRefusal}
 use Rattle.planned_log.specs.declared.ask_kinds.AskKind.TheVariants as kinds
@@ -17,7 +18,7 @@ use Rattle.planned_log.specs.Asks.{asked_job, burst_refusal}
 use Rattle.planned_log.specs.AskKinds.{with_jobs}
 use Rattle.planned_log.specs.Bursts.{jobs_of}
 use Rattle.planned_log.specs.Moves.{Ask, after_ask, after_move, after_moves}
-use Rattle.planned_log.specs.Ongoing.{Ongoing, WaitingAsk, asks_of, start_of, next_life, going_on, WereInTime, IsOngoing}
+use Rattle.ongoing_log.specs.Ongoing.{Ongoing, WaitingAsk, asks_of, start_of, next_life, going_on, IsOngoing}
 use Rattle.planned_die.specs.Planned.{HasLived}
 use Rattle.ongoing_die.specs.Standing.{OngoingParts, standing, StandsAs}
 
@@ -35,22 +36,21 @@ has_ended first terms life d over =
 
 module _ {N : Type 0} (first : Start) (d : Ongoing) (parts : OngoingParts N) where
   -- within a life the die stands as its parts say
-  pub within : (s : StandsAs first d parts) → parts.die.core.stopped ≡ false → now parts.die.core.log < parts.die.life → d ≡ standing parts s.earlier
-  within s runs lt = (s.runs runs).stands ∙ not_ended first parts.die.terms parts.die.life (standing parts s.earlier) lt
+  pub within : (s : StandsAs first d parts) → parts.die.core.stopped ≡ false → now parts.die.core.log < parts.die.life → d ≡ standing parts s.past
+  within s runs lt = (s.runs runs).stands ∙ not_ended first parts.die.terms parts.die.life (standing parts s.past) lt
 
   -- what its parts say keeps the plan
-  pub stands_in : (earlier : Lives) → HasLived parts.die earlier → parts.die.core.start ≡ start_after first earlier → d ≡ standing parts earlier
+  pub stands_in : (past : List PastLife) → HasLived parts.die (counted past) → parts.die.core.start ≡ starts_after first past → d ≡ standing parts past
       → IsOngoing first parts.die.terms parts.die.life d → parts.die.entered ≡ 0 → StandsAs first d parts
-  stands_in earlier lived starts is k whole = record {
-    earlier = earlier;
+  stands_in past lived starts is k whole = record {
+    past = past;
     lived = lived;
     starts = starts;
-    ended = subst (λ (e : Ongoing). HaveEnded first e.earlier) is k.ended;
-    were = subst (λ (e : Ongoing). WereInTime first parts.die.life e.earlier) is k.were;
+    passed = subst (λ (e : Ongoing). HavePassed first parts.die.life e.earlier) is k.passed;
     one_each = ap (λ (e : Ongoing). length e.waiting) (sym is)
         ∙ (k.tasks ∙ (ap (λ (e : Ongoing). length (start_of first e).plan.caps) is ∙ ap (λ (s : Start). length s.plan.caps) (sym starts)));
     runs = λ runs. record {
-      stands = is ∙ sym (not_ended first parts.die.terms parts.die.life (standing parts earlier)
+      stands = is ∙ sym (not_ended first parts.die.terms parts.die.life (standing parts past)
           (subst (λ (e : Ongoing). now e.log < parts.die.life) is k.goes_on));
       goes_on = k;
       whole = whole;
@@ -91,19 +91,19 @@ entered_now start terms earlier life n (Some w ∷ ws) log =
 
 -- the next life begins in the slot in which the one before ended
 same_slot : (first : Start) (terms : Terms) (life : ℕ) (d : Ongoing) (b : Bool) → (now d.log == life) ≡ b
-    → all_slots (going_on first terms life d).earlier + now (going_on first terms life d).log ≡ all_slots d.earlier + now d.log
+    → all_slots (counted (going_on first terms life d).earlier) + now (going_on first terms life d).log ≡ all_slots (counted d.earlier) + now d.log
 same_slot first terms life d true e =
-    let lives : Lives = d.log ∷ d.earlier in
-    rw e (omega (arith, sum_by-cons now d.log d.earlier, entered_now (start_after first lives) terms lives life 0 d.waiting []))
+    let past : List PastLife = record { log = d.log; ended = Renewed } ∷ d.earlier in
+    rw e (omega (arith, sum_by-cons now d.log (counted d.earlier), entered_now (starts_after first past) terms (counted past) life 0 d.waiting []))
 same_slot first terms life d false e = rw e refl
 
 pub clock_is : {N : Type 0} (first : Start) (d : Ongoing) (parts : OngoingParts N) → StandsAs first d parts → parts.die.core.stopped ≡ false
-    → parts.die.first + now parts.die.core.log ≡ all_slots d.earlier + now d.log
+    → parts.die.first + now parts.die.core.log ≡ all_slots (counted d.earlier) + now d.log
 clock_is first d parts s runs =
-    let here : Ongoing = standing parts s.earlier in
+    let here : Ongoing = standing parts s.past in
     ap (λ n. n + now parts.die.core.log) s.lived.began
     ∙ (sym (same_slot first parts.die.terms parts.die.life here (now parts.die.core.log == parts.die.life) refl)
-    ∙ sym (ap (λ (e : Ongoing). all_slots e.earlier + now e.log) (s.runs runs).stands))
+    ∙ sym (ap (λ (e : Ongoing). all_slots (counted e.earlier) + now e.log) (s.runs runs).stands))
 
 -- there are few tasks
 pub few_wait : {N : Type 0} (first : Start) (d : Ongoing) (parts : OngoingParts N) → StandsAs first d parts → length parts.waiting ≤ 16

@@ -6,7 +6,7 @@ use Rattle.die_log.specs.Model.Start.{Start}
 use Rattle.die_log.specs.Model.Lives.{Lives}
 use Rattle.planned_log.specs.declared.ask_kinds.AskKind.TheVariants as kinds
 use Rattle.planned_log.specs.Moves.{Ask, after_move}
-use Rattle.planned_log.specs.Ongoing.{WaitingAsk}
+use Rattle.ongoing_log.specs.Ongoing.{WaitingAsk}
 use Rattle.planned_die.specs.Planned.{Planned}
 
 -- the log after the ask of one task, if one waited: a burst

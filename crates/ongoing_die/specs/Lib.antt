@@ -3,3 +3,4 @@ pub mod Entering
 pub mod DieAsks
 pub mod OngoingCalls
 pub mod OngoingPlans
+pub mod Resuming

@@ -13,8 +13,8 @@ use Rattle.planned_log.specs.declared.ask_kinds.AskKind.{AskKind}
 use Rattle.planned_log.specs.Asks.{asked_job}
 use Rattle.planned_log.specs.AskKinds.{jobs_as}
 use Rattle.planned_log.specs.Moves.{Ask, Slot}
-use Rattle.planned_log.specs.Ongoing.{Ongoing, Answer, answer_to, ongoing_after_move}
-use Rattle.planned_log.specs.Ongoing.{Enters, Waits, Refused, WaitsAlready}
+use Rattle.ongoing_log.specs.Ongoing.{Ongoing, Answer, answer_to, ongoing_after_move}
+use Rattle.ongoing_log.specs.Ongoing.{Enters, Waits, Refused, WaitsAlready}
 use Rattle.planned_die.specs.declared.refusals.LifeRefusal.TheVariants as lives
 use Rattle.planned_die.specs.PlannedCalls.{IsSlot, RefusesLife}
 use Rattle.ongoing_die.specs.declared.answers.Taken.{Taken}

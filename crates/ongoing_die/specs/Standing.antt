@@ -3,8 +3,8 @@ use Rattle.std.specs.Prelude.{◌≡◌, ℕ, ◌≤◌, ◌<◌, if◌then◌el
 use Rattle.demand_rules.specs.declared.terms.Terms.{Terms}
 use Rattle.demand_rules.specs.Demand.{terms_of}
 use Rattle.die_log.specs.Model.Start.{Start}
-use Rattle.die_log.specs.Model.Lives.{Lives, start_after, HaveEnded}
-use Rattle.planned_log.specs.Ongoing.{Ongoing, WaitingAsk, going_on, AreLongEnough, WereInTime, IsOngoing}
+use Rattle.ongoing_log.specs.PastLives.{PastLife, starts_after, counted, HavePassed}
+use Rattle.ongoing_log.specs.Ongoing.{Ongoing, WaitingAsk, going_on, AreLongEnough, IsOngoing}
 use Rattle.planned_die.specs.Planned.{Planned, HasLived}
 use Rattle.ongoing_die.specs.declared.waiting.Waiting.{Waiting}
 
@@ -22,27 +22,26 @@ abbrev pub HaveRoom : Terms → List Waiting → Type 0
 HaveRoom terms waiting =
     (task : ℕ) (d : Waiting) → task < length waiting → (terms_of terms task).work ≤ vec_capacity (slice_index_or waiting task d).ops
 
--- what stands, after these earlier lives
-abbrev pub standing : {N : Type 0} → OngoingParts N → Lives → Ongoing
-standing parts earlier = record { earlier = earlier; log = parts.die.core.log; waiting = parts.waiting }
+-- what stands, after these lives
+abbrev pub standing : {N : Type 0} → OngoingParts N → List PastLife → Ongoing
+standing parts past = record { earlier = past; log = parts.die.core.log; waiting = parts.waiting }
 
 -- This stands now, and keeps the plan; and if the log has reached the end of a life, the next one begins here, and the die
 -- does it with the next call.
-pub record RunsAs {N : Type 0} (first : Start) (d : Ongoing) (parts : OngoingParts N) (earlier : Lives) : Type 0 where
-  pub stands : d ≡ going_on first parts.die.terms parts.die.life (standing parts earlier)
+pub record RunsAs {N : Type 0} (first : Start) (d : Ongoing) (parts : OngoingParts N) (past : List PastLife) : Type 0 where
+  pub stands : d ≡ going_on first parts.die.terms parts.die.life (standing parts past)
   pub goes_on : IsOngoing first parts.die.terms parts.die.life d
   pub whole : parts.die.entered ≡ 0
 
--- From its first start on the die had some lives before the one of its log, and those ended quiet and in time. Unless a
--- fault has stopped it, it runs as this.
+-- From its first start on the die had some lives before the one of its log, whichever way each ended, and those passed, in
+-- time. Unless a fault has stopped it, it runs as this.
 pub record StandsAs {N : Type 0} (first : Start) (d : Ongoing) (parts : OngoingParts N) : Type 0 where
-  pub earlier : Lives
-  pub lived : HasLived parts.die earlier
-  pub starts : parts.die.core.start ≡ start_after first earlier
-  pub ended : HaveEnded first earlier
-  pub were : WereInTime first parts.die.life earlier
+  pub past : List PastLife
+  pub lived : HasLived parts.die (counted past)
+  pub starts : parts.die.core.start ≡ starts_after first past
+  pub passed : HavePassed first parts.die.life past
   pub one_each : length parts.waiting ≡ length parts.die.core.start.plan.caps
-  pub runs : parts.die.core.stopped ≡ false → RunsAs first d parts earlier
+  pub runs : parts.die.core.stopped ≡ false → RunsAs first d parts past
 
 -- its lives are long enough for a job of each task, and it stands somehow
 pub record IsOngoingDie {N : Type 0} (parts : OngoingParts N) : Type 0 where

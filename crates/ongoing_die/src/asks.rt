@@ -2,7 +2,7 @@
 
 ghost use Rattle.std.specs.Prelude.{};
 ghost use Rattle.die_log.specs.Model.Start.{Start};
-ghost use Rattle.planned_log.specs.Ongoing.{Ongoing};
+ghost use Rattle.ongoing_log.specs.Ongoing.{Ongoing};
 ghost use Rattle.ongoing_die.specs.Standing.{StandsAs};
 ghost use Rattle.ongoing_die.specs.OngoingCalls.{IsOngoingAsk, HaveOnePlan};
 
@@ -13,7 +13,8 @@ use crate::ongoing_die::OngoingDie;
 use crate::refusals::AskStop;
 use crate::waiting::keep_waiting;
 use flash_die::Nand;
-use planned_log::{AskKind, AskRefusal, a_die_goes_on_by_itself};
+use ongoing_log::a_die_goes_on_by_itself;
+use planned_log::{AskKind, AskRefusal};
 use slot_types::{Op, TaskNo};
 use std::alloc::Global;
 

@@ -5,15 +5,22 @@
 mod answers;
 mod asks;
 mod die_asks;
+mod laws;
 mod lengths;
 mod next_life;
 mod ongoing_die;
 mod refusals;
+mod resumptions;
 mod slots;
 mod waiting;
 
 pub use answers::Taken;
+pub use laws::stocked_checkpoints_go_on;
 pub use ongoing_die::OngoingDie;
+pub use planned_die::{PlanResumeRefusal, Shortage};
 pub use planned_log::{AskKind, AskRefusal};
-pub use refusals::{AskStop, LifeStop, OngoingRefusal, SlotStop};
+pub use refusals::{
+    AskStop, LifeStop, OngoingCheckpointRefusal, OngoingNotResumed, OngoingRefusal,
+    OngoingResumeRefusal, SlotStop,
+};
 pub use waiting::Waiting;

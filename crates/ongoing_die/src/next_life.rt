@@ -5,7 +5,7 @@ ghost use Rattle.die_log.specs.Model.Log.{now};
 ghost use Rattle.die_log.specs.Model.Start.{Start};
 ghost use Rattle.die_log.specs.Model.Lives.{Lives};
 ghost use Rattle.planned_log.specs.Moves.{after_moves};
-ghost use Rattle.planned_log.specs.Ongoing.{Ongoing, asks_of};
+ghost use Rattle.ongoing_log.specs.Ongoing.{Ongoing, asks_of};
 ghost use Rattle.planned_die.specs.Planned.{HasLived};
 ghost use Rattle.ongoing_die.specs.declared.waiting.Waiting.{Waiting};
 ghost use Rattle.ongoing_die.specs.Standing.{ask_in, StandsAs};

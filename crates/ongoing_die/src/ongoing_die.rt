@@ -7,7 +7,8 @@ ghost use Rattle.die_log.specs.Model.Start.{Start, fresh};
 ghost use Rattle.die_log.specs.Model.Lives.{all_slots};
 ghost use Rattle.slot_core.specs.Core.{nothing_reserved};
 ghost use Rattle.planned_log.specs.Laws.{AreDoneInTime};
-ghost use Rattle.planned_log.specs.Ongoing.{Ongoing, new_ongoing, ops_of, AreLongEnough};
+ghost use Rattle.ongoing_log.specs.PastLives.{counted};
+ghost use Rattle.ongoing_log.specs.Ongoing.{Ongoing, new_ongoing, ops_of, AreLongEnough};
 ghost use Rattle.planned_die.specs.Planned.{IsReservedFor, with_life};
 ghost use Rattle.ongoing_die.specs.Standing.{StandsAs};
 ghost use Rattle.ongoing_die.specs.OngoingPlans.{RefusesOngoing, IsLongestLife};
@@ -17,8 +18,8 @@ use crate::refusals::OngoingRefusal;
 use crate::waiting::{Waiting, none_waiting};
 use demand_rules::Terms;
 use flash_die::Nand;
+use ongoing_log::a_die_goes_on_by_itself;
 use planned_die::{PlanRefusal, PlannedDie};
-use planned_log::a_die_goes_on_by_itself;
 use slot_types::{DiePlan, Op, Refusal, TaskNo};
 use std::alloc::Global;
 use std::marker::Model;
@@ -94,10 +95,10 @@ impl<N: Nand> OngoingDie<N> {
         Ok(OngoingDie { die, waiting })
     }
 
-    /// It goes on by itself: from its first start on it stands somehow over all its lives, of which each that ended did so
-    /// quiet, with each of its jobs done by its deadline; unless a fault has stopped it, the present life keeps the plan,
-    /// and so will each later one. Each job of the log that is due by now is done, and was by its deadline. This computes
-    /// nothing; its contract is the promise.
+    /// It goes on by itself: from its first start on it stands somehow over all its lives, whether each ended by itself, by a
+    /// checkpoint, or by a loss of power. Each was in time, and but for a loss of power it ended quiet (`HavePassed`); unless a
+    /// fault has stopped it, the present life keeps the plan, and so will each later one. Each job of the log that is due by
+    /// now is done, and was by its deadline. This computes nothing; its contract is the promise.
     pub fn goes_on(&self)
         ensures stands { (first : Start) × (d : Ongoing) × StandsAs first d self.now }
         ensures long { AreLongEnough self.now.die.terms self.now.die.life }
@@ -118,7 +119,7 @@ impl<N: Nand> OngoingDie<N> {
     pub fn clock(&self) -> u64
         ensures slot { result ≡ self.now.die.first + now self.now.die.core.log }
         ensures clock { (first : Start) (d : Ongoing) → StandsAs first d self.now
-            → self.now.die.core.stopped ≡ false → result ≡ all_slots d.earlier + now d.log }
+            → self.now.die.core.stopped ≡ false → result ≡ all_slots (counted d.earlier) + now d.log }
     {
         self.die.first() + u64::from(self.die.now())
     }

@@ -1,6 +1,7 @@
 //! Why no die is made that goes on by itself, and why its calls are refused.
 
-use planned_die::{AskRefusal, PlanRefusal};
+use planned_die::{AskRefusal, PlanRefusal, PlanResumeRefusal};
+use slot_core::CheckpointRefusal;
 
 /// Why no die is made that keeps its plan and goes on by itself.
 #[derive(Clone, Copy, PartialEq, Eq, Debug, Drop)]
@@ -41,4 +42,30 @@ pub enum SlotStop {
     Ended(LifeStop),
     /// The device fails in this slot, which stops the die.
     DeviceFault,
+}
+
+/// Why no checkpoint is taken of a die that goes on by itself, in the order in which the causes are looked at.
+#[derive(Clone, Copy, PartialEq, Eq, Debug, Drop)]
+pub enum OngoingCheckpointRefusal {
+    /// As none is taken of a die: it can't be renewed, since a fault has stopped it, work waits or a block is worn out; or
+    /// there is no memory.
+    Die(CheckpointRefusal),
+    /// An ask of this task waits for the next life, of the first such task.
+    AskWaits { task: u32 },
+}
+
+/// Why no die that goes on by itself goes on from a checkpoint, in the order in which the causes are looked at.
+#[derive(Clone, Copy, PartialEq, Eq, Debug, Drop)]
+pub enum OngoingResumeRefusal {
+    /// As no die goes on that keeps its plan. It has `NoMemory`, also that for what waits.
+    Plan(PlanResumeRefusal),
+    /// The longest life that was allowed is shorter than the deadline of this task's jobs: the first such task.
+    ShortLife { task: u32 },
+}
+
+/// A device on which no die was resumed, and why.
+#[derive(Drop)]
+pub struct OngoingNotResumed<N> {
+    pub device: N,
+    pub refusal: OngoingResumeRefusal,
 }

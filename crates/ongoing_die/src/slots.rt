@@ -2,14 +2,14 @@
 
 ghost use Rattle.std.specs.Prelude.{};
 ghost use Rattle.die_log.specs.Model.Start.{Start};
-ghost use Rattle.planned_log.specs.Ongoing.{Ongoing};
+ghost use Rattle.ongoing_log.specs.Ongoing.{Ongoing};
 ghost use Rattle.ongoing_die.specs.Standing.{StandsAs};
 ghost use Rattle.ongoing_die.specs.OngoingCalls.{IsOngoingSlot, HaveOnePlan};
 
 use crate::ongoing_die::OngoingDie;
 use crate::refusals::SlotStop;
 use flash_die::Nand;
-use planned_log::a_die_goes_on_by_itself;
+use ongoing_log::a_die_goes_on_by_itself;
 use slot_types::SlotReply;
 use std::alloc::Global;
 

@@ -1,7 +1,8 @@
 //! Asks that wait for the next life, for a job or for a burst, one a task.
 
-ghost use Rattle.std.specs.Prelude.{◌≡◌, ◌≤◌, ◌<◌, ◌∷◌, List, [], ℕ, length, map, replicate, slice_index_or, slice_set, vec_capacity, None, Some, IfOk};
+ghost use Rattle.std.specs.Prelude.{◌≡◌, ◌≤◌, ◌<◌, ◌∷◌, List, [], ℕ, length, map, replicate, slice_index_or, slice_set, vec_capacity, None, Some, IfOk, IfSome, IfNone};
 ghost use Rattle.ongoing_die.specs.Standing.{ask_in, HaveRoom};
+ghost use Rattle.ongoing_die.specs.Resuming.{NoneWaits, IsFirstWaiting};
 ghost use Rattle.ongoing_die.specs.declared.waiting.Waiting.{Waiting};
 
 use crate::lengths::work_of;
@@ -69,4 +70,18 @@ pub(crate) fn keep_waiting(waiting: &mut Vec<Waiting>, task: usize, caller: u32,
         ≡ vec_capacity (slice_index_or waiting.old.items own d).ops }
 {
     waiting[task].keep(caller, ops)
+}
+
+/// The first task of which an ask waits, if there is one.
+pub(crate) fn first_waiting(waiting: &Vec<Waiting>) -> Option<u32>
+    requires few { length waiting.now.items ≤ 16 }
+    ensures some { IfSome result (IsFirstWaiting (map ask_in waiting.now.items)) }
+    ensures none { IfNone result (NoneWaits (map ask_in waiting.now.items)) }
+{
+    for task in 0..waiting.len() {
+        if waiting[task].waits {
+            return Some(task as u32);
+        }
+    }
+    None
 }

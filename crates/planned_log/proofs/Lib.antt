@@ -6,9 +6,7 @@ pub mod Kept
 pub mod Served
 pub mod Bursts
 pub mod AskJobs
-mod Moving
-mod Answered
+pub mod Moving
+pub mod Answered
 pub mod Waiting
 mod Numbers
-mod GoingOn
-mod OngoingAnswers

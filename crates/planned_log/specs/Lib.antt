@@ -5,4 +5,3 @@ pub mod Lives
 pub mod KeptLogs
 pub mod Moves
 pub mod Laws
-pub mod Ongoing

@@ -7,15 +7,13 @@
 //! - `Lives`: how long a life is, and what came in all lives, on one clock;
 //! - `KeptLogs`: the collections that the plan has in a slot; which logs keep the plan so far;
 //! - `Moves`: all that callers may do;
-//! - `Laws`: what a law speaks of; jobs that are done in time; what a task is answered;
-//! - `Ongoing`: a die that begins its next life itself, and asks that wait for it.
+//! - `Laws`: what a law speaks of; jobs that are done in time; what a task is answered.
 //!
 //! Each law is a function that does nothing, whose contract is the law.
 #![tactic(auto)]
 
 mod ask_kinds;
 mod laws;
-mod ongoing;
 mod refusals;
 
 pub use ask_kinds::AskKind;
@@ -25,8 +23,5 @@ pub use laws::{
     lives_have_no_more_arrivals_than_slots, own_collections_are_accepted, slots_are_accepted,
     tasks_are_answered_for_their_own_asks, too_soon_says_from_when,
     whatever_is_asked_the_plan_is_kept,
-};
-pub use ongoing::{
-    a_die_goes_on_by_itself, ongoing_tasks_are_answered_for_their_own_asks, waiting_asks_are_taken,
 };
 pub use refusals::AskRefusal;

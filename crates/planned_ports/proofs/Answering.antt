@@ -7,7 +7,7 @@ use Rattle.die_log.specs.Model.Start.{Start}
 use Rattle.planned_log.specs.declared.ask_kinds.AskKind.{AskKind}
 use Rattle.planned_log.specs.Laws.{Seen, Asks, Slots, seen_by}
 use Rattle.planned_log.specs.Moves.{Move, Ask, Slot}
-use Rattle.planned_log.specs.Ongoing.{Ongoing, Answer, answer_to, answers_to, ongoing_after, ongoing_after_move}
+use Rattle.ongoing_log.specs.Ongoing.{Ongoing, Answer, answer_to, answers_to, ongoing_after, ongoing_after_move}
 use Rattle.planned_ports.specs.declared.calls.Request.{Request}
 use Rattle.planned_ports.specs.declared.calls.Request.TheVariants as requests
 use Rattle.planned_ports.specs.declared.calls.Granted.{Granted}

@@ -7,7 +7,7 @@ use Rattle.flash_die.specs.declared.nand.NandCall.{NandCall}
 use Rattle.demand_rules.specs.declared.terms.Terms.{Terms}
 use Rattle.die_log.specs.Model.Start.{Start}
 use Rattle.planned_log.specs.declared.ask_kinds.AskKind.{AskKind}
-use Rattle.planned_log.specs.Ongoing.{Ongoing}
+use Rattle.ongoing_log.specs.Ongoing.{Ongoing}
 use Rattle.turn_lock.specs.Log.{entry}
 use Rattle.ongoing_die.specs.declared.answers.Taken.{Taken}
 use Rattle.ongoing_die.specs.declared.refusals.AskStop.{AskStop}

@@ -11,12 +11,12 @@ use Rattle.demand_rules.specs.declared.terms.TaskTerms.{TaskTerms}
 use Rattle.demand_rules.specs.declared.terms.Terms.{Terms}
 use Rattle.die_log.specs.Model.Log.{Log, now}
 use Rattle.die_log.specs.Model.Start.{Start}
-use Rattle.die_log.specs.Model.Lives.{Lives}
 use Rattle.die_log.specs.Model.Answers.{answer, run}
 use Rattle.planned_log.specs.declared.ask_kinds.AskKind.{AskKind}
 use Rattle.planned_log.specs.KeptLogs.{collections_at}
 use Rattle.planned_log.specs.Moves.{after_own}
-use Rattle.planned_log.specs.Ongoing.{Ongoing, start_of, going_on}
+use Rattle.ongoing_log.specs.PastLives.{PastLife}
+use Rattle.ongoing_log.specs.Ongoing.{Ongoing, start_of, going_on}
 use Rattle.planned_die.specs.Planned.{Planned}
 use Rattle.planned_die.specs.PlannedCalls.{own_calls, with_all_own}
 use Rattle.ongoing_die.specs.declared.answers.Taken.{Taken}
@@ -75,19 +75,19 @@ module _ {N : Type 0} (caller : ℕ) (first : Start) (d : Ongoing) (before after
       abbrev die : Planned N
       die = h.between.die
 
-      abbrev earlier : Lives
-      earlier = h.begun.stands.earlier
+      abbrev past : List PastLife
+      past = h.begun.stands.past
 
       abbrev log : Log
       log = die.core.log
 
-      here : d ≡ standing h.between earlier
+      here : d ≡ standing h.between past
       here = (h.begun.stands.runs h.begun.runs).stands ∙ stays
         where
           away : (now log == die.life) ≡ false
           away = let early = h.begun.early in grind (arith, nat_tests, early)
 
-          stays : going_on first die.terms die.life (standing h.between earlier) ≡ standing h.between earlier
+          stays : going_on first die.terms die.life (standing h.between past) ≡ standing h.between past
           stays = rw away refl
 
       one_each : length die.terms.tasks ≤ length die.core.start.plan.caps

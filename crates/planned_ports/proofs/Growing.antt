@@ -2,7 +2,7 @@
 use Rattle.std.proofs.Common.{◌≡◌, ℕ, List, [], ◌∷◌, ◌++◌, refl}
 use Rattle.demand_rules.specs.declared.terms.Terms.{Terms}
 use Rattle.die_log.specs.Model.Start.{Start}
-use Rattle.planned_log.specs.Ongoing.{Ongoing, ongoing_after_move}
+use Rattle.ongoing_log.specs.Ongoing.{Ongoing, ongoing_after_move}
 use Rattle.planned_ports.specs.Calls.{PortCall, move_of, after_calls}
 use Rattle.planned_ports.specs.Replies.{WasGranted, WereGranted}
 

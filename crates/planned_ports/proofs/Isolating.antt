@@ -9,7 +9,8 @@ use Rattle.planned_log.specs.declared.ask_kinds.AskKind.{AskKind}
 use Rattle.planned_log.specs.Asks.{asked_by}
 use Rattle.planned_log.specs.Laws.{Seen, Asks, seen_by, AreDoneInTime, ForKeptLogs}
 use Rattle.planned_log.specs.Moves.{Move, Ask}
-use Rattle.planned_log.specs.Ongoing.{Ongoing, Answer, answer_to, answers_to, ongoing_after, waiting_of, ops_of, start_of, AreLongEnough, IsOngoing}
+use Rattle.ongoing_log.specs.PastLives.{counted}
+use Rattle.ongoing_log.specs.Ongoing.{Ongoing, Answer, answer_to, answers_to, ongoing_after, waiting_of, ops_of, start_of, AreLongEnough, IsOngoing}
 use Rattle.ongoing_die.specs.Standing.{OngoingParts}
 use Rattle.planned_ports.specs.Calls.{PortCall, moves_of, after_calls}
 use Rattle.planned_ports.specs.Replies.{WereGranted}
@@ -32,14 +33,14 @@ module _ {N : Type 0} (law : GoesOn) (opened : OngoingParts N) (first : Start) (
   shared_in_time jobs =
       let k = shared_goes_on in
       let there : Ongoing = after_calls first opened.die.terms opened.die.life d calls in
-      (k.were, jobs (start_of first there) opened.die.terms there.earlier opened.die.life 0 there.log k.kept)
+      (k.passed, jobs (start_of first there) opened.die.terms (counted there.earlier) opened.die.life 0 there.log k.kept)
 
 -- Isolation
 
 abbrev pub Isolates : Type 0
 Isolates = (first other : Start) (terms : Terms) (life task : ℕ) → AreLongEnough terms life → first.plan ≡ other.plan → (one two : Ongoing)
-    → IsOngoing first terms life one → IsOngoing other terms life two → all_slots one.earlier ≡ all_slots two.earlier
-    → now one.log ≡ now two.log → asked_by task (one.log ∷ one.earlier) ≡ asked_by task (two.log ∷ two.earlier)
+    → IsOngoing first terms life one → IsOngoing other terms life two → all_slots (counted one.earlier) ≡ all_slots (counted two.earlier)
+    → now one.log ≡ now two.log → asked_by task (one.log ∷ counted one.earlier) ≡ asked_by task (two.log ∷ counted two.earlier)
     → ops_of (waiting_of one task) ≡ ops_of (waiting_of two task) → (moves others : List Move) → seen_by task moves ≡ seen_by task others
     → answers_to first terms life task one moves ≡ answers_to other terms life task two others
 

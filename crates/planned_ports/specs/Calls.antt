@@ -3,7 +3,7 @@ use Rattle.std.specs.Prelude.{ℕ, List, [], ◌∷◌, ◌++◌, map, Result, O
 use Rattle.demand_rules.specs.declared.terms.Terms.{Terms}
 use Rattle.die_log.specs.Model.Start.{Start}
 use Rattle.planned_log.specs.Moves.{Move, Ask, Slot}
-use Rattle.planned_log.specs.Ongoing.{Ongoing, ongoing_after}
+use Rattle.ongoing_log.specs.Ongoing.{Ongoing, ongoing_after}
 use Rattle.turn_lock.specs.declared.entry.Entry.{Entry}
 use Rattle.turn_lock.specs.Log.{entry}
 use Rattle.planned_ports.specs.declared.calls.Request.{Request}

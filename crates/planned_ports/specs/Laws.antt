@@ -5,7 +5,8 @@ use Rattle.die_log.specs.Model.Lives.{all_slots}
 use Rattle.die_log.specs.Model.Start.{Start}
 use Rattle.planned_log.specs.Asks.{asked_by}
 use Rattle.planned_log.specs.Laws.{AreDoneInTime, seen_by}
-use Rattle.planned_log.specs.Ongoing.{Ongoing, Answer, start_of, WereInTime, waiting_of, ops_of}
+use Rattle.ongoing_log.specs.PastLives.{counted, HavePassed}
+use Rattle.ongoing_log.specs.Ongoing.{Ongoing, Answer, start_of, waiting_of, ops_of}
 use Rattle.ongoing_die.specs.Standing.{OngoingParts, StandsAs}
 use Rattle.ongoing_die.specs.OngoingCalls.{told, HaveOnePlan}
 use Rattle.planned_ports.specs.declared.calls.Request.{Request}
@@ -20,7 +21,7 @@ use Rattle.planned_ports.specs.Replies.{IsSharedLog}
 
 -- each job of all lives that is due by now is done, and was by its deadline
 abbrev pub IsInTime : Start → ℕ → Ongoing → Type 0
-IsInTime first life d = WereInTime first life d.earlier × AreDoneInTime (start_of first d).plan d.log
+IsInTime first life d = HavePassed first life d.earlier × AreDoneInTime (start_of first d).plan d.log
 
 -- Isolation
 
@@ -38,9 +39,9 @@ answers_in task (call ∷ calls) = answer_in task call.event call.reply ++ answe
 -- and the same of it waiting
 pub record AreAlikeFor (task : ℕ) (first other : Start) (one two : Ongoing) : Type 0 where
   pub plan : first.plan ≡ other.plan
-  pub clock : all_slots one.earlier ≡ all_slots two.earlier
+  pub clock : all_slots (counted one.earlier) ≡ all_slots (counted two.earlier)
   pub slot : now one.log ≡ now two.log
-  pub asked : asked_by task (one.log ∷ one.earlier) ≡ asked_by task (two.log ∷ two.earlier)
+  pub asked : asked_by task (one.log ∷ counted one.earlier) ≡ asked_by task (two.log ∷ counted two.earlier)
   pub waits : ops_of (waiting_of one task) ≡ ops_of (waiting_of two task)
 
 -- the log of a die that ran when it was opened, of which this stood then

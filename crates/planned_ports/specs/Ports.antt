@@ -5,7 +5,7 @@ use Rattle.atomic_table.specs.Seated.{TableId}
 use Rattle.slot_types.specs.declared.events.Op.{Op}
 use Rattle.die_log.specs.Model.Start.{Start}
 use Rattle.planned_log.specs.declared.ask_kinds.AskKind.{AskKind}
-use Rattle.planned_log.specs.Ongoing.{Ongoing}
+use Rattle.ongoing_log.specs.Ongoing.{Ongoing}
 use Rattle.turn_lock.specs.declared.view.View.{View}
 use Rattle.turn_lock.specs.Log.{entry, calls_by}
 use Rattle.turn_lock.specs.Views.{PassView}

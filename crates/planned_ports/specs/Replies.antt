@@ -12,8 +12,9 @@ use Rattle.die_log.specs.Model.Log.{now}
 use Rattle.planned_log.specs.declared.ask_kinds.AskKind.{AskKind}
 use Rattle.planned_log.specs.AskKinds.{jobs_as}
 use Rattle.planned_log.specs.Moves.{after_own}
-use Rattle.planned_log.specs.Ongoing as rules
-use Rattle.planned_log.specs.Ongoing.{Ongoing, start_of, answer_to, ongoing_after_move}
+use Rattle.ongoing_log.specs.PastLives.{counted}
+use Rattle.ongoing_log.specs.Ongoing as rules
+use Rattle.ongoing_log.specs.Ongoing.{Ongoing, start_of, answer_to, ongoing_after_move}
 use Rattle.ongoing_die.specs.declared.answers.Taken.{Taken}
 use Rattle.ongoing_die.specs.declared.answers.Taken.TheVariants as taken
 use Rattle.ongoing_die.specs.declared.refusals.AskStop.{AskStop}
@@ -114,7 +115,7 @@ MayReply {N} opened calls caller request reply =
 
 -- the present slot of the clock of all lives; none where a fault has stopped the die
 abbrev pub clock_of : Ongoing → ℕ
-clock_of d = all_slots d.earlier + now d.log
+clock_of d = all_slots (counted d.earlier) + now d.log
 
 abbrev pub SaysClock : {N : Type 0} → OngoingParts N → List PortCall → Option ℕ → Type 0
 SaysClock opened calls (Some slot) = (first : Start) (d : Ongoing) → StandsAs first d opened

@@ -1,7 +1,7 @@
 -- A die behind its lock, as the lock sees it.
 use Rattle.std.specs.Prelude.{◌≤◌, List, length}
 use Rattle.die_log.specs.Model.Start.{Start}
-use Rattle.planned_log.specs.Ongoing.{Ongoing}
+use Rattle.ongoing_log.specs.Ongoing.{Ongoing}
 use Rattle.ongoing_die.specs.Standing.{OngoingParts, StandsAs}
 use Rattle.ongoing_die.specs.OngoingCalls.{HaveOnePlan}
 use Rattle.planned_ports.specs.Calls.{PortCall, after_calls}

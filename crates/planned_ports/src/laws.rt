@@ -5,16 +5,15 @@ ghost use Rattle.std.specs.Prelude.{◌≡◌, ℕ, List};
 ghost use Rattle.slot_types.specs.declared.events.Op.{Op};
 ghost use Rattle.die_log.specs.Model.Start.{Start};
 ghost use Rattle.planned_log.specs.declared.ask_kinds.AskKind.{AskKind};
-ghost use Rattle.planned_log.specs.Ongoing.{Ongoing, IsOngoing, answer_to};
+ghost use Rattle.ongoing_log.specs.Ongoing.{Ongoing, IsOngoing, answer_to};
 ghost use Rattle.ongoing_die.specs.Standing.{OngoingParts};
 ghost use Rattle.planned_ports.specs.Calls.{PortCall, after_calls};
 ghost use Rattle.planned_ports.specs.Laws.{IsInTime, answers_in, RanFrom, SeesTheSame};
 
 use crate::ports::{ClockPort, SharedPlannedDie, TaskPort};
 use flash_die::Nand;
-use planned_log::{
-    a_die_goes_on_by_itself, kept_logs_are_in_time, ongoing_tasks_are_answered_for_their_own_asks,
-};
+use ongoing_log::{a_die_goes_on_by_itself, ongoing_tasks_are_answered_for_their_own_asks};
+use planned_log::kept_logs_are_in_time;
 
 /// Whatever the ports ask, in whatever order and amount, the die goes on: each life keeps the plan and ends quiet, and each
 /// accepted job that is due is done, and was by its deadline.

@@ -4,11 +4,14 @@ use crate::ongoing_dies::{goes_on, goes_on_fused};
 use crate::ongoing_steps::Answer::{Enters, Waits};
 use crate::ongoing_steps::Turn;
 use crate::ongoing_steps::Turn::{
-    Asks, Babbles, Carries, Clock, Done, InTime, NoSlot, Slots, Waiting,
+    Asks, Babbles, Carries, Clock, Done, InTime, NoSlot, Slots, Untaken, Waiting,
 };
 use crate::plans::{PLAN, Plan};
 use ongoing_die::AskRefusal::{EmptyJob, TooManyOps, TooSoon, UnknownTask};
+use ongoing_die::OngoingCheckpointRefusal::Die;
 use ongoing_die::{AskStop, LifeStop, OngoingRefusal, SlotStop};
+use slot_core::CheckpointRefusal::NotRenewable;
+use slot_core::RenewalRefusal;
 use slot_types::{Op, PageData};
 
 const READ: Op = Op::Read(0);
@@ -100,6 +103,7 @@ const STOPPED: &[Turn] = &[
     NoSlot { want: SlotStop::Ended(LifeStop::DieStopped) },
     Asks { task: 2, ops: &[], want: Err(AskStop::Ended(LifeStop::DieStopped)) },
     Clock { slot: 81 },
+    Untaken { want: Die(NotRenewable { why: RenewalRefusal::DieStopped }) },
     Done { job: 0, completion: 1, lateness: -5 },
 ];
 

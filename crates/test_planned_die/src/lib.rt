@@ -39,4 +39,10 @@ mod played;
 #[cfg(test)]
 mod said;
 #[cfg(test)]
+mod shut_dies;
+#[cfg(test)]
+mod shut_plays;
+#[cfg(test)]
+mod shutting;
+#[cfg(test)]
 mod steps;

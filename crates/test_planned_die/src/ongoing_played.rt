@@ -3,8 +3,9 @@
 use crate::memory::Memory;
 use crate::ongoing_steps::{Answer, Turn};
 use crate::said::Reported;
+use crate::shut_dies::shut;
 use flash_die::Nand;
-use ongoing_die::{AskRefusal, AskStop, OngoingDie, SlotStop, Taken};
+use ongoing_die::{AskRefusal, AskStop, OngoingCheckpointRefusal, OngoingDie, SlotStop, Taken};
 use slot_core::Outcome;
 use slot_types::{JobNo, Op, PageData, Refusal, SlotReply, TaskNo};
 use std::alloc::Global;
@@ -114,6 +115,25 @@ fn is_done_at(outcome: &Result<Outcome, Refusal>, want: (u32, i64)) -> bool {
     }
 }
 
+fn gave(outcome: &Result<Outcome, Refusal>, want: &[PageData]) -> bool {
+    match outcome {
+        Ok(Outcome::Done { reads, .. }) => reads.as_slice() == want,
+        _ => false,
+    }
+}
+
+/// Why no checkpoint is taken; None where one is.
+fn untaken<N: Nand>(
+    memory: Memory,
+    die: &mut OngoingDie<N>,
+    alloc: Global,
+) -> Option<OngoingCheckpointRefusal> {
+    match shut(memory, die, alloc) {
+        Ok(_) => None,
+        Err(refusal) => Some(refusal),
+    }
+}
+
 /// Nothing was done late in the present life.
 fn is_in_time<N: Nand>(die: &OngoingDie<N>) -> bool {
     match die.die().worst() {
@@ -216,6 +236,11 @@ fn goes<N: Nand, R: Abort>(
             let want = (*completion, *lateness);
             said.fits(is_done_at(&got, want), &got, &want)
         }
+        Turn::Gave { job, reads } => {
+            let got = outcome_of(said.memory, die, alloc, *job);
+            said.fits(gave(&got, *reads), &got, reads)
+        }
+        Turn::Untaken { want } => { said.same(&untaken(said.memory, die, alloc), &Some(*want)) }
         Turn::InTime => {
             let worst = die.die().worst();
             said.fits(is_in_time(die), &worst, &"nothing late")

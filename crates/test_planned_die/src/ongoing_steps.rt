@@ -1,7 +1,7 @@
 //! The words of a test of a die that goes on by itself.
 
-use ongoing_die::{AskStop, SlotStop};
-use slot_types::Op;
+use ongoing_die::{AskStop, OngoingCheckpointRefusal, SlotStop};
+use slot_types::{Op, PageData};
 
 /// What an ask is answered that isn't refused, with the numbers of its jobs in their life.
 #[derive(Clone, Copy, PartialEq, Eq, Debug, Drop)]
@@ -72,6 +72,15 @@ pub(crate) enum Turn<'a> {
         job: u32,
         completion: u32,
         lateness: i64,
+    },
+    /// The job of the present life is done, and its reads gave this, in order.
+    Gave {
+        job: u32,
+        reads: &'a [PageData],
+    },
+    /// No checkpoint is taken, and nothing changes.
+    Untaken {
+        want: OngoingCheckpointRefusal,
     },
     /// Nothing was done late in the present life.
     InTime,

@@ -47,7 +47,7 @@ pub(crate) const BURSTS: Plan = Plan {
 };
 
 /// Four operations in 12 slots, of them two writes: 10 pages.
-const SECOND: TaskTerms = TaskTerms {
+pub(crate) const SECOND: TaskTerms = TaskTerms {
     period: 12,
     deadline: 12,
     held: 12,

@@ -1,4 +1,4 @@
-use Rattle.std.proofs.Common.{◌≡◌, ◌∙◌, ◌+◌, ◌/◌, ◌<◌, ℕ, List, Option, ap, sym, subst, arith}
+use Rattle.std.proofs.Common.{◌≡◌, ◌∙◌, ◌+◌, ◌/◌, ◌<◌, ℕ, List, Option, ap, sym, subst, refl, arith}
 use Rattle.slot_types.specs.declared.pages.Place.{Place}
 use Rattle.slot_types.specs.declared.plans.DiePlan.{DiePlan}
 use Rattle.slot_types.specs.declared.plans.Shape.{Shape}
@@ -9,6 +9,7 @@ use Rattle.die_log.specs.Model.Flash.{Cells}
 use Rattle.power_loss.specs.Aside.{most_rounds_beside, part_of}
 use Rattle.die_mount.specs.Beginning.{IsScanned}
 use Rattle.die_mount.specs.Mounting.{Mounting, BeginsWith}
+use Rattle.die_mount.specs.Nexts.{BeginsFirst}
 use Rattle.die_mount.specs.PartState.{PartState, closed_but}
 use Rattle.die_mount.specs.Scanned.{Scanned}
 use Rattle.die_mount.specs.SoundMount.{CountsPart, StandsWell}
@@ -81,3 +82,15 @@ returns-clause-ok c = λ seen found may above.
     subst (BeginsWith plan seen)
     (mount_is plan s.places c.args.block c.args.serial c.figures-fmax.result.fmax c.in-Ok.part fits.may.0 c.figures-fmax.ensures.fmax is)
     (begins plan s.places c.args.block lt c.args.serial seen c.requires.idle.none found may above)
+
+pub returns-clause-first : goal.returns-clause-first
+returns-clause-first c =
+    let plan = c.args.plan in
+    let s = c.args.scan in
+    let fits = c.requires.fits in
+    let lt : c.args.block < plan.shape.blocks + 1 = omega (arith, c.requires.idle.stands, ap (λ (x : Shape). x.blocks) fits.shape) in
+    let is = part_is plan s c.args.block c.in-Ok.part c.into_map-map.result.0 c.into_map-map.result.1 c.in-Ok.ensures.ok fits c.into_map-map.ensures.shape
+    c.into_map-map.ensures.map in
+    subst (BeginsFirst plan)
+    (mount_is plan s.places c.args.block c.args.serial c.figures-fmax.result.fmax c.in-Ok.part fits.may.0 c.figures-fmax.ensures.fmax is)
+    (record { block = c.args.block; stands = lt; plan_is = refl; stage_is = refl; rounds_is = refl; blocks = refl })

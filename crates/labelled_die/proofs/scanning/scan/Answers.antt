@@ -58,3 +58,7 @@ returns-clause-whole g c =
       c.loop-block-test.false,
       c.loop-block.auto.block-end,
     )
+
+pub returns-clause-fit : goal.returns-clause-fit
+returns-clause-fit g c = λ block lt.
+    c.loop-block.invariant.fit block (omega (arith, lt, c.loop-block-test.false, ap (λ (s : Shape). s.blocks) c.shape-shape.ensures))

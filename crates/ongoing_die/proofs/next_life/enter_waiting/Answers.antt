@@ -1,7 +1,7 @@
 use Rattle.std.proofs.Common.{◌≡◌, ◌<◌, List, Option, None, length, map, get_or, refl, ap, sym, ◌∙◌, arith}
 use Rattle.std.proofs.lemmas.List.{drop_all, length-map}
 use Rattle.planned_log.specs.Moves.{after_moves}
-use Rattle.planned_log.specs.Ongoing.{WaitingAsk, asks_of}
+use Rattle.ongoing_log.specs.Ongoing.{WaitingAsk, asks_of}
 use Rattle.ongoing_die.specs.Standing.{ask_in}
 use Rattle.ongoing_die.specs.Entering.{after_one}
 use Rattle.ongoing_die.proofs.Entering.{entered_more, here_waits, then_left, all_left, as_many, rooms_stay, same_die, itself}

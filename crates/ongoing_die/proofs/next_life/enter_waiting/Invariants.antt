@@ -1,7 +1,7 @@
 use Rattle.std.proofs.Common.{◌≡◌, ℕ, map, drop, get_or, vec_capacity}
 use Rattle.die_log.specs.Model.Lives.{Lives}
 use Rattle.planned_log.specs.Moves.{after_moves}
-use Rattle.planned_log.specs.Ongoing.{asks_of}
+use Rattle.ongoing_log.specs.Ongoing.{asks_of}
 use Rattle.planned_die.specs.Planned.{HasLived}
 use Rattle.ongoing_die.specs.declared.waiting.Waiting.{Waiting}
 use Rattle.ongoing_die.specs.Standing.{ask_in}

@@ -11,6 +11,8 @@ use Rattle.die_mount.specs.SoundMount.{mounting_of}
 use Rattle.die_mount.proofs.Rounds.{rounds_left, slot_mount}
 use Rattle.die_mount.proofs.Stepping.{Steps, chosen_of, closed_there, free_fits, lie_within, remade, slot_between, slot_chosen, slot_counts_free}
 use Rattle.die_mount.proofs.Stepping.{slot_sounds, slot_steps, slots_few}
+use Rattle.die_mount.specs.declared.stage.Stage.{Stage}
+use Rattle.die_mount.specs.Nexts.{IsNextStage}
 use Rattle.die_mount.proofs.mount.Mount.erase_slot.Goals as goal
 
 pub erase_slot-requires-clause-free : goal.erase_slot-requires-clause-free
@@ -27,8 +29,8 @@ invariant_of-self c =
     (ap (λ (s : PartState). s.shape) e) (ap (λ (s : PartState). s.last) e) (ap (λ (s : PartState). s.free) e)) in
     record { stands = t.stands; counts = t.counts; goal = c.self.invariant.goal }
 
-pub returns-then-slots-self : goal.returns-then-slots-self
-returns-then-slots-self c =
+pub returns-then-slots-self-clause-step : goal.returns-then-slots-self-clause-step
+returns-then-slots-self-clause-step c =
     let m = mounting_of c.self.inside in
     let r = c.erase_slot.new.self in
     let at = ap (λ (x : Mounting). x.stage) c.self.view_is ∙ c.requires in
@@ -84,14 +86,14 @@ invariant_of-self-else-slots-self c =
     let e = c.erase_slot.ensures (part_of m.plan) (sym k.shape) in
     let x = chosen_of (slot_mount m c.args.block m.stage) r c.self.inside.goal c.self.inside.rounds c.chosen-stage.result.0 c.chosen-stage.result.1
     (ap (λ (s : PartState). s.shape) e ∙ k.shape) (ap (λ (s : PartState). s.cells) e)
-    (slot_counts_free m c.self.inside.part r c.args.block c.args.slots w k at (ap (λ (s : PartState). s.free) e)) c.self.invariant.goal c.chosen-stage.ensures in
+    (slot_counts_free m c.self.inside.part r c.args.block c.args.slots w k at (ap (λ (s : PartState). s.free) e)) c.self.invariant.goal c.chosen-stage.ensures.chosen in
     let t = subst (λ (y : Cells). Steps m (remade m y m.next c.chosen-stage.result.1 c.chosen-stage.result.0) r) (sym (ap (λ (s : PartState). s.cells) e))
     (slot_chosen m c.self.inside.part r c.args.block c.args.slots c.chosen-stage.result.1 c.chosen-stage.result.0 w k at full
     (ap (λ (s : PartState). s.shape) e) (ap (λ (s : PartState). s.last) e) (ap (λ (s : PartState). s.free) e) x) in
     record { stands = t.stands; counts = t.counts; goal = c.self.invariant.goal }
 
-pub returns-else-slots-self : goal.returns-else-slots-self
-returns-else-slots-self c =
+pub returns-else-slots-self-clause-step : goal.returns-else-slots-self-clause-step
+returns-else-slots-self-clause-step c =
     let m = mounting_of c.self.inside in
     let r = c.erase_slot.new.self in
     let w = c.self.invariant.stands in
@@ -101,8 +103,23 @@ returns-else-slots-self c =
     let e = c.erase_slot.ensures (part_of m.plan) (sym k.shape) in
     let x = chosen_of (slot_mount m c.args.block m.stage) r c.self.inside.goal c.self.inside.rounds c.chosen-stage.result.0 c.chosen-stage.result.1
     (ap (λ (s : PartState). s.shape) e ∙ k.shape) (ap (λ (s : PartState). s.cells) e)
-    (slot_counts_free m c.self.inside.part r c.args.block c.args.slots w k at (ap (λ (s : PartState). s.free) e)) c.self.invariant.goal c.chosen-stage.ensures in
+    (slot_counts_free m c.self.inside.part r c.args.block c.args.slots w k at (ap (λ (s : PartState). s.free) e)) c.self.invariant.goal c.chosen-stage.ensures.chosen in
     let t = subst (λ (y : Cells). Steps m (remade m y m.next c.chosen-stage.result.1 c.chosen-stage.result.0) r) (sym (ap (λ (s : PartState). s.cells) e))
     (slot_chosen m c.self.inside.part r c.args.block c.args.slots c.chosen-stage.result.1 c.chosen-stage.result.0 w k at full
     (ap (λ (s : PartState). s.shape) e) (ap (λ (s : PartState). s.last) e) (ap (λ (s : PartState). s.free) e) x) in
     subst (λ (y : Mounting). IsStep y (remade m r.cells m.next c.chosen-stage.result.1 c.chosen-stage.result.0)) c.self.view_is t.step
+
+pub returns-then-slots-self-clause-stage : goal.returns-then-slots-self-clause-stage
+returns-then-slots-self-clause-stage c =
+    let m = mounting_of c.self.inside in
+    let at = ap (λ (x : Mounting). x.stage) c.self.view_is ∙ c.requires in
+    let next = stage.Erase c.args.block (c.args.slots + 1) in
+    subst (λ (y : Mounting). IsNextStage y.plan.shape.erase_slots y.stage next) c.self.view_is
+    (subst (λ (st : Stage). IsNextStage m.plan.shape.erase_slots st next) (sym at) tt)
+
+pub returns-else-slots-self-clause-stage : goal.returns-else-slots-self-clause-stage
+returns-else-slots-self-clause-stage c =
+    let m = mounting_of c.self.inside in
+    let at = ap (λ (x : Mounting). x.stage) c.self.view_is ∙ c.requires in
+    subst (λ (y : Mounting). IsNextStage y.plan.shape.erase_slots y.stage c.chosen-stage.result.0) c.self.view_is
+    (subst (λ (st : Stage). IsNextStage m.plan.shape.erase_slots st c.chosen-stage.result.0) (sym at) c.chosen-stage.ensures.past)

@@ -8,6 +8,8 @@ use Rattle.die_mount.specs.PartState.{PartState}
 use Rattle.die_mount.specs.SoundMount.{mounting_of}
 use Rattle.die_mount.proofs.Rounds.{copied_cells, copied_sound, lie_on}
 use Rattle.die_mount.proofs.Stepping.{Steps, cell_fits, cell_free, copy_steps, lie_within, remade, serial_fits}
+use Rattle.die_mount.specs.declared.stage.Stage.{Stage}
+use Rattle.die_mount.specs.Nexts.{IsNextStage}
 use Rattle.die_mount.proofs.mount.Mount.was_programmed.Goals as goal
 
 pub program-requires-clause-cell : goal.program-requires-clause-cell
@@ -50,20 +52,27 @@ invariant_of-self c =
     let r = c.program.new.self in
     let at = ap (λ (x : Mounting). x.stage) c.self.view_is ∙ c.requires in
     let cells = ap (λ (s : PartState). s.cells) c.program.ensures in
-    let n = subst (λ (x : Cells). IsNextIn x c.args.from.block (c.args.from.page + 1) c.next_in-self-inside.result) cells c.next_in-self-inside.ensures in
+    let n = subst (λ (x : Cells). IsNextIn x c.args.from.block (c.args.from.page + 1) c.next_in-self-inside.result) cells c.next_in-self-inside.ensures.next in
     let t = subst (λ (x : Cells). Steps m (remade m x (m.next + 1) m.rounds c.next_in-self-inside.result) r) (sym cells)
     (copy_steps m c.self.inside.part c.args.page c.args.from c.args.to c.next_in-self-inside.result c.self.invariant.stands c.self.invariant.counts at n r
     (ap (λ (s : PartState). s.shape) c.program.ensures) (ap (λ (s : PartState). s.free) c.program.ensures) (ap (λ (s : PartState). s.last) c.program.ensures)) in
     record { stands = t.stands; counts = t.counts; goal = c.self.invariant.goal }
 
-pub returns : goal.returns
-returns c =
+pub returns-clause-step : goal.returns-clause-step
+returns-clause-step c =
     let m = mounting_of c.self.inside in
     let r = c.program.new.self in
     let at = ap (λ (x : Mounting). x.stage) c.self.view_is ∙ c.requires in
     let cells = ap (λ (s : PartState). s.cells) c.program.ensures in
-    let n = subst (λ (x : Cells). IsNextIn x c.args.from.block (c.args.from.page + 1) c.next_in-self-inside.result) cells c.next_in-self-inside.ensures in
+    let n = subst (λ (x : Cells). IsNextIn x c.args.from.block (c.args.from.page + 1) c.next_in-self-inside.result) cells c.next_in-self-inside.ensures.next in
     let t = subst (λ (x : Cells). Steps m (remade m x (m.next + 1) m.rounds c.next_in-self-inside.result) r) (sym cells)
     (copy_steps m c.self.inside.part c.args.page c.args.from c.args.to c.next_in-self-inside.result c.self.invariant.stands c.self.invariant.counts at n r
     (ap (λ (s : PartState). s.shape) c.program.ensures) (ap (λ (s : PartState). s.free) c.program.ensures) (ap (λ (s : PartState). s.last) c.program.ensures)) in
     subst (λ (x : Mounting). IsStep x (remade m r.cells (m.next + 1) m.rounds c.next_in-self-inside.result)) c.self.view_is t.step
+
+pub returns-clause-stage : goal.returns-clause-stage
+returns-clause-stage c =
+    let m = mounting_of c.self.inside in
+    let at = ap (λ (x : Mounting). x.stage) c.self.view_is ∙ c.requires in
+    subst (λ (y : Mounting). IsNextStage y.plan.shape.erase_slots y.stage c.next_in-self-inside.result) c.self.view_is
+    (subst (λ (st : Stage). IsNextStage m.plan.shape.erase_slots st c.next_in-self-inside.result) (sym at) c.next_in-self-inside.ensures.past)

@@ -1,6 +1,5 @@
-use Rattle.std.proofs.Common.{◌≡◌, ◌∙◌, ◌+◌, ◌++◌, ◌∷◌, [], ap, sym, length, List, arith}
+use Rattle.std.proofs.Common.{◌≡◌, ◌∙◌, ◌+◌, ◌++◌, ◌∷◌, [], ap, sym, length, arith}
 use Rattle.die_checkpoint.specs.declared.checkpoint.BlockCounts.{BlockCounts}
-use Rattle.power_loss.specs.Aside.{on_part}
 use Rattle.power_loss.proofs.Aside.Lists.{part_aside, part_other}
 use Rattle.die_mount.specs.PartState.{PartState}
 use Rattle.die_mount.proofs.Ending.{block_more}

@@ -6,8 +6,9 @@ use Rattle.die_log.specs.Model.Log.{now}
 use Rattle.die_log.specs.Model.Lives.{Lives}
 use Rattle.planned_log.specs.declared.refusals.AskRefusal.{AskRefusal}
 use Rattle.planned_log.specs.declared.refusals.AskRefusal.TheVariants as because
-use Rattle.planned_log.specs.Ongoing.{Refused, WaitsAlready}
+use Rattle.ongoing_log.specs.Ongoing.{Refused, WaitsAlready}
 use Rattle.planned_die.specs.Planned.{Planned, HasLived}
+use Rattle.ongoing_log.specs.PastLives.{counted}
 use Rattle.ongoing_die.specs.Standing.{OngoingParts, ask_in, HaveRoom, IsOngoingDie}
 use Rattle.ongoing_die.specs.OngoingCalls.{HasBegun, HaveOnePlan}
 use Rattle.ongoing_die.specs.DieAsks.{IsDieAsk}
@@ -36,7 +37,7 @@ invariant_of-self g c =
     subst (λ (p : OngoingParts g.row.N.Denot). now p.die.core.log < p.die.life) (sym c.self.view_is) c.in-Ok.ensures.early in
     let b : HasBegun {N = g.row.N.Denot} i.first i.ongoing between between = goes_on_yet i.first i.ongoing between i.stands runs early in
     let after : OngoingParts g.row.N.Denot = record { die = c.ask_die.new.die; waiting = map ask_in ws } in
-    let kept = asked_same c.args.kind c.args.caller c.args.task c.args.ops.now i.stands.earlier die after.die (Ok c.in-Ok-ask_die.burst) (c.in-Ok-ask_die.ensures.ask i.stands.earlier i.stands.lived) in
+    let kept = asked_same c.args.kind c.args.caller c.args.task c.args.ops.now (counted i.stands.past) die after.die (Ok c.in-Ok-ask_die.burst) (c.in-Ok-ask_die.ensures.ask (counted i.stands.past) i.stands.lived) in
     let done = entered c.a_die_goes_on_by_itself.ensures.goes_on c.args.kind c.args.caller c.args.task c.args.ops.now die c.ask_die.new.die i.long c.ask_die.ensures.lived (map ask_in ws) c.in-Ok-ask_die.burst (after.die.first + now after.die.core.log)
     (after.die.first + now after.die.core.log + (terms_of die.terms c.args.task).deadline) c.in-Ok-ask_die.ensures.ask refl refl i.first i.ongoing between b in (
       goes_on_so i.first _ between after (record { terms = kept.terms; life = kept.life }) i.long done.stands,
@@ -49,7 +50,7 @@ returns-in-Ok-ask_die-clause-plan g c =
     let ws = c.self.inside.waiting.items in
     let between : OngoingParts g.row.N.Denot = record { die = die; waiting = map ask_in ws } in
     let i = c.self.invariant.0 in
-    let kept = asked_same c.args.kind c.args.caller c.args.task c.args.ops.now i.stands.earlier die c.ask_die.new.die (Ok c.in-Ok-ask_die.burst) (c.in-Ok-ask_die.ensures.ask i.stands.earlier i.stands.lived) in
+    let kept = asked_same c.args.kind c.args.caller c.args.task c.args.ops.now (counted i.stands.past) die c.ask_die.new.die (Ok c.in-Ok-ask_die.burst) (c.in-Ok-ask_die.ensures.ask (counted i.stands.past) i.stands.lived) in
     let begun : HaveOnePlan c.args.self.now between =
     subst (λ (p : OngoingParts g.row.N.Denot). HaveOnePlan c.args.self.now p) (sym c.self.view_is) c.in-Ok.ensures.plan in
     plan_then c.args.self.now between (record { die = c.ask_die.new.die; waiting = map ask_in ws }) begun (record { terms = kept.terms; life = kept.life })
@@ -115,7 +116,7 @@ pub invariant_of-self-then-index : goal.invariant_of-self-then-index
 invariant_of-self-then-index g c =
     let i = c.self.invariant.0 in
     subst (λ (p : Planned g.row.N.Denot). IsOngoingDie {N = g.row.N.Denot} (record { die = p; waiting = map ask_in c.self.inside.waiting.items })
-    × HaveRoom p.terms c.self.inside.waiting.items) (sym (c.in-Err-ask_die.ensures.ask i.stands.earlier i.stands.lived).0) c.self.invariant
+    × HaveRoom p.terms c.self.inside.waiting.items) (sym (c.in-Err-ask_die.ensures.ask (counted i.stands.past) i.stands.lived).0) c.self.invariant
 
 pub returns-then-index-clause-plan : goal.returns-then-index-clause-plan
 returns-then-index-clause-plan g c =
@@ -123,7 +124,7 @@ returns-then-index-clause-plan g c =
     let ws = c.self.inside.waiting.items in
     let between : OngoingParts g.row.N.Denot = record { die = die; waiting = map ask_in ws } in
     let i = c.self.invariant.0 in
-    let still = (c.in-Err-ask_die.ensures.ask i.stands.earlier i.stands.lived).0 in
+    let still = (c.in-Err-ask_die.ensures.ask (counted i.stands.past) i.stands.lived).0 in
     let begun : HaveOnePlan c.args.self.now between =
     subst (λ (p : OngoingParts g.row.N.Denot). HaveOnePlan c.args.self.now p) (sym c.self.view_is) c.in-Ok.ensures.plan in
     plan_then c.args.self.now between (record { die = c.ask_die.new.die; waiting = map ask_in ws }) begun
@@ -140,13 +141,13 @@ returns-then-index-clause-ask g c first d s =
     let between : OngoingParts g.row.N.Denot = record { die = die; waiting = map ask_in ws } in
     let b : HasBegun {N = g.row.N.Denot} first d c.args.self.now between =
     subst (λ (p : OngoingParts g.row.N.Denot). HasBegun first d c.args.self.now p) (sym c.self.view_is) (c.in-Ok.ensures.ok first d s) in
-    let h = late b.stands.earlier b.stands.lived in
+    let h = late (counted b.stands.past) b.stands.lived in
     let known = late_known first d die c.ask_die.new.die ws b.stands b.runs c.args.kind c.args.caller c.args.task c.args.ops.now late in
     let there = one_waits ws c.args.task c.index.result.now known
     (subst (λ n. c.index.result.now ≡ get_or ws n c.index.result.now) c.task.view_is c.index.ensures) (c.if-index.true) in (
       answer_before first d c.args.self.now between b c.args.kind c.args.task c.args.ops.now WaitsAlready
           (waits_already first d between b.stands b.early b.runs c.args.kind c.args.caller c.args.task c.args.ops.now _
-          (refused_by c.args.kind c.args.caller c.args.task c.args.ops.now b.stands.earlier because.LifeEnd die c.ask_die.new.die b.runs h) there),
+          (refused_by c.args.kind c.args.caller c.args.task c.args.ops.now (counted b.stands.past) because.LifeEnd die c.ask_die.new.die b.runs h) there),
       begun_still first d c.args.self.now between (record { die = c.ask_die.new.die; waiting = map ask_in ws })
           (ap (λ (p : Planned g.row.N.Denot). record { die = p; waiting = map ask_in ws }) h.0) b,
     )
@@ -155,7 +156,7 @@ pub invariant_of-self-in_default : goal.invariant_of-self-in_default
 invariant_of-self-in_default g c =
     let i = c.self.invariant.0 in
     subst (λ (p : Planned g.row.N.Denot). IsOngoingDie {N = g.row.N.Denot} (record { die = p; waiting = map ask_in c.self.inside.waiting.items })
-    × HaveRoom p.terms c.self.inside.waiting.items) (sym (c.in-Err-ask_die.ensures.ask i.stands.earlier i.stands.lived).0) c.self.invariant
+    × HaveRoom p.terms c.self.inside.waiting.items) (sym (c.in-Err-ask_die.ensures.ask (counted i.stands.past) i.stands.lived).0) c.self.invariant
 
 pub returns-in_default : goal.returns-in_default
 returns-in_default g c = record {
@@ -165,10 +166,10 @@ returns-in_default g c = record {
       let between : OngoingParts g.row.N.Denot = record { die = die; waiting = map ask_in ws } in
       let b : HasBegun {N = g.row.N.Denot} first d c.args.self.now between =
       subst (λ (p : OngoingParts g.row.N.Denot). HasBegun first d c.args.self.now p) (sym c.self.view_is) (c.in-Ok.ensures.ok first d s) in
-      let h = c.in-Err-ask_die.ensures.ask b.stands.earlier b.stands.lived in (
+      let h = c.in-Err-ask_die.ensures.ask (counted b.stands.past) b.stands.lived in (
         answer_before first d c.args.self.now between b c.args.kind c.args.task c.args.ops.now (Refused c.in-Err-ask_die.refusal)
             (refused_so first d between b.stands b.early b.runs c.args.kind c.args.caller c.args.task c.args.ops.now c.in-Err-ask_die.refusal
-            (refused_by c.args.kind c.args.caller c.args.task c.args.ops.now b.stands.earlier c.in-Err-ask_die.refusal die c.ask_die.new.die b.runs h) c.in_default.not-LifeEnd),
+            (refused_by c.args.kind c.args.caller c.args.task c.args.ops.now (counted b.stands.past) c.in-Err-ask_die.refusal die c.ask_die.new.die b.runs h) c.in_default.not-LifeEnd),
         begun_still first d c.args.self.now between (record { die = c.ask_die.new.die; waiting = map ask_in ws })
             (ap (λ (p : Planned g.row.N.Denot). record { die = p; waiting = map ask_in ws }) h.0) b,
       );
@@ -177,7 +178,7 @@ returns-in_default g c = record {
       let ws = c.self.inside.waiting.items in
       let between : OngoingParts g.row.N.Denot = record { die = die; waiting = map ask_in ws } in
       let i = c.self.invariant.0 in
-      let still = (c.in-Err-ask_die.ensures.ask i.stands.earlier i.stands.lived).0 in
+      let still = (c.in-Err-ask_die.ensures.ask (counted i.stands.past) i.stands.lived).0 in
       let begun : HaveOnePlan c.args.self.now between =
       subst (λ (p : OngoingParts g.row.N.Denot). HaveOnePlan c.args.self.now p) (sym c.self.view_is) c.in-Ok.ensures.plan in
       plan_then c.args.self.now between (record { die = c.ask_die.new.die; waiting = map ask_in ws }) begun
@@ -200,8 +201,8 @@ invariant_of-self-in-Err-ask_die g c =
     let runs : die.core.stopped ≡ false = ap (λ (p : OngoingParts g.row.N.Denot). p.die.core.stopped) c.self.view_is ∙ c.in-Ok.ensures.runs in
     let early : now die.core.log < die.life =
     subst (λ (p : OngoingParts g.row.N.Denot). now p.die.core.log < p.die.life) (sym c.self.view_is) c.in-Ok.ensures.early in
-    let same = asked_same c.args.kind c.args.caller c.args.task c.args.ops.now i.stands.earlier die c.ask_die.new.die (Err because.LifeEnd)
-    (late i.stands.earlier i.stands.lived) in
+    let same = asked_same c.args.kind c.args.caller c.args.task c.args.ops.now (counted i.stands.past) die c.ask_die.new.die (Err because.LifeEnd)
+    (late (counted i.stands.past) i.stands.lived) in
     let known = late_known i.first i.ongoing die c.ask_die.new.die ws i.stands runs c.args.kind c.args.caller c.args.task c.args.ops.now late in
     let none = none_waits ws c.args.task c.index.result.now known
     (subst (λ n. c.index.result.now ≡ get_or ws n c.index.result.now) c.task.view_is c.index.ensures) c.if-index.false in
@@ -237,8 +238,8 @@ returns-else-index-clause-plan g c =
     let runs : die.core.stopped ≡ false = ap (λ (p : OngoingParts g.row.N.Denot). p.die.core.stopped) c.self.view_is ∙ c.in-Ok.ensures.runs in
     let early : now die.core.log < die.life =
     subst (λ (p : OngoingParts g.row.N.Denot). now p.die.core.log < p.die.life) (sym c.self.view_is) c.in-Ok.ensures.early in
-    let same = asked_same c.args.kind c.args.caller c.args.task c.args.ops.now i.stands.earlier die c.ask_die.new.die (Err because.LifeEnd)
-    (late i.stands.earlier i.stands.lived) in
+    let same = asked_same c.args.kind c.args.caller c.args.task c.args.ops.now (counted i.stands.past) die c.ask_die.new.die (Err because.LifeEnd)
+    (late (counted i.stands.past) i.stands.lived) in
     let known = late_known i.first i.ongoing die c.ask_die.new.die ws i.stands runs c.args.kind c.args.caller c.args.task c.args.ops.now late in
     let none = none_waits ws c.args.task c.index.result.now known
     (subst (λ n. c.index.result.now ≡ get_or ws n c.index.result.now) c.task.view_is c.index.ensures) c.if-index.false in
@@ -264,8 +265,8 @@ returns-else-index-clause-ask g c first d s =
     let runs : die.core.stopped ≡ false = ap (λ (p : OngoingParts g.row.N.Denot). p.die.core.stopped) c.self.view_is ∙ c.in-Ok.ensures.runs in
     let early : now die.core.log < die.life =
     subst (λ (p : OngoingParts g.row.N.Denot). now p.die.core.log < p.die.life) (sym c.self.view_is) c.in-Ok.ensures.early in
-    let same = asked_same c.args.kind c.args.caller c.args.task c.args.ops.now i.stands.earlier die c.ask_die.new.die (Err because.LifeEnd)
-    (late i.stands.earlier i.stands.lived) in
+    let same = asked_same c.args.kind c.args.caller c.args.task c.args.ops.now (counted i.stands.past) die c.ask_die.new.die (Err because.LifeEnd)
+    (late (counted i.stands.past) i.stands.lived) in
     let known = late_known i.first i.ongoing die c.ask_die.new.die ws i.stands runs c.args.kind c.args.caller c.args.task c.args.ops.now late in
     let none = none_waits ws c.args.task c.index.result.now known
     (subst (λ n. c.index.result.now ≡ get_or ws n c.index.result.now) c.task.view_is c.index.ensures) c.if-index.false in

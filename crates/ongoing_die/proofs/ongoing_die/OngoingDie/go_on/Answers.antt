@@ -1,6 +1,7 @@
 use Rattle.std.proofs.Common.{◌≡◌, ◌∷◌, Option, None, length, map, ap, arith}
 use Rattle.std.proofs.lemmas.List.{length-map}
-use Rattle.planned_log.specs.Ongoing.{WaitingAsk}
+use Rattle.ongoing_log.specs.Ongoing.{WaitingAsk}
+use Rattle.ongoing_log.specs.PastLives.{counted}
 use Rattle.ongoing_die.specs.Standing.{OngoingParts, ask_in}
 use Rattle.ongoing_die.specs.OngoingCalls.{HasBegun}
 use Rattle.ongoing_die.proofs.NextLives.{begun, goes_on_so}
@@ -13,10 +14,10 @@ invariant_of-self g c =
     let after : OngoingParts g.row.N.Denot = record { die = c.enter_waiting.new.die; waiting = map ask_in c.enter_waiting.new.waiting.items } in
     let i = c.self.invariant.0 in
     let s = i.stands in
-    let lived = c.in-Ok.ensures.lived s.earlier s.lived in
+    let lived = c.in-Ok.ensures.lived (counted s.past) s.lived in
     let b : HasBegun {N = g.row.N.Denot} i.first i.ongoing before after =
     begun i.first i.ongoing before after s c.in-Ok.ensures.may.runs c.in-Ok.ensures.ended c.renew.new.self c.in-Ok.ensures.ok c.enter_waiting.ensures.same
-    (c.enter_waiting.ensures.lived (before.die.core.log ∷ s.earlier) lived) (c.enter_waiting.ensures.log (before.die.core.log ∷ s.earlier) lived)
+    (c.enter_waiting.ensures.lived (before.die.core.log ∷ counted s.past) lived) (c.enter_waiting.ensures.log (before.die.core.log ∷ counted s.past) lived)
     c.enter_waiting.ensures.none in
     let count : length c.enter_waiting.new.waiting.items ≡ length c.self.inside.waiting.items = omega (
       arith,
@@ -35,9 +36,9 @@ returns-in-Ok-clause-ok g c =
     let before : OngoingParts g.row.N.Denot = record { die = c.self.inside.die; waiting = map ask_in c.self.inside.waiting.items } in
     let after : OngoingParts g.row.N.Denot = record { die = c.enter_waiting.new.die; waiting = map ask_in c.enter_waiting.new.waiting.items } in
     rw (← c.self.view_is) (λ first d s.
-    let lived = c.in-Ok.ensures.lived s.earlier s.lived in
+    let lived = c.in-Ok.ensures.lived (counted s.past) s.lived in
     begun first d before after s c.in-Ok.ensures.may.runs c.in-Ok.ensures.ended c.renew.new.self c.in-Ok.ensures.ok c.enter_waiting.ensures.same
-    (c.enter_waiting.ensures.lived (before.die.core.log ∷ s.earlier) lived) (c.enter_waiting.ensures.log (before.die.core.log ∷ s.earlier) lived)
+    (c.enter_waiting.ensures.lived (before.die.core.log ∷ counted s.past) lived) (c.enter_waiting.ensures.log (before.die.core.log ∷ counted s.past) lived)
     c.enter_waiting.ensures.none)
 
 pub returns-in-Ok-clause-plan : goal.returns-in-Ok-clause-plan
@@ -45,11 +46,11 @@ returns-in-Ok-clause-plan g c =
     let before : OngoingParts g.row.N.Denot = record { die = c.self.inside.die; waiting = map ask_in c.self.inside.waiting.items } in
     let after : OngoingParts g.row.N.Denot = record { die = c.enter_waiting.new.die; waiting = map ask_in c.enter_waiting.new.waiting.items } in
     let i = c.self.invariant.0 in
-    let lived = c.in-Ok.ensures.lived i.stands.earlier i.stands.lived in
+    let lived = c.in-Ok.ensures.lived (counted i.stands.past) i.stands.lived in
     let b : HasBegun {N = g.row.N.Denot} i.first i.ongoing before after =
     begun i.first i.ongoing before after i.stands c.in-Ok.ensures.may.runs c.in-Ok.ensures.ended c.renew.new.self c.in-Ok.ensures.ok
-    c.enter_waiting.ensures.same (c.enter_waiting.ensures.lived (before.die.core.log ∷ i.stands.earlier) lived)
-    (c.enter_waiting.ensures.log (before.die.core.log ∷ i.stands.earlier) lived) c.enter_waiting.ensures.none in
+    c.enter_waiting.ensures.same (c.enter_waiting.ensures.lived (before.die.core.log ∷ counted i.stands.past) lived)
+    (c.enter_waiting.ensures.log (before.die.core.log ∷ counted i.stands.past) lived) c.enter_waiting.ensures.none in
     rw (← c.self.view_is) b.plan
 
 pub returns-in-Ok-clause-runs : goal.returns-in-Ok-clause-runs
@@ -57,11 +58,11 @@ returns-in-Ok-clause-runs g c =
     let before : OngoingParts g.row.N.Denot = record { die = c.self.inside.die; waiting = map ask_in c.self.inside.waiting.items } in
     let after : OngoingParts g.row.N.Denot = record { die = c.enter_waiting.new.die; waiting = map ask_in c.enter_waiting.new.waiting.items } in
     let i = c.self.invariant.0 in
-    let lived = c.in-Ok.ensures.lived i.stands.earlier i.stands.lived in
+    let lived = c.in-Ok.ensures.lived (counted i.stands.past) i.stands.lived in
     let b : HasBegun {N = g.row.N.Denot} i.first i.ongoing before after =
     begun i.first i.ongoing before after i.stands c.in-Ok.ensures.may.runs c.in-Ok.ensures.ended c.renew.new.self c.in-Ok.ensures.ok
-    c.enter_waiting.ensures.same (c.enter_waiting.ensures.lived (before.die.core.log ∷ i.stands.earlier) lived)
-    (c.enter_waiting.ensures.log (before.die.core.log ∷ i.stands.earlier) lived) c.enter_waiting.ensures.none in
+    c.enter_waiting.ensures.same (c.enter_waiting.ensures.lived (before.die.core.log ∷ counted i.stands.past) lived)
+    (c.enter_waiting.ensures.log (before.die.core.log ∷ counted i.stands.past) lived) c.enter_waiting.ensures.none in
     b.runs
 
 pub returns-in-Ok-clause-early : goal.returns-in-Ok-clause-early
@@ -69,9 +70,9 @@ returns-in-Ok-clause-early g c =
     let before : OngoingParts g.row.N.Denot = record { die = c.self.inside.die; waiting = map ask_in c.self.inside.waiting.items } in
     let after : OngoingParts g.row.N.Denot = record { die = c.enter_waiting.new.die; waiting = map ask_in c.enter_waiting.new.waiting.items } in
     let i = c.self.invariant.0 in
-    let lived = c.in-Ok.ensures.lived i.stands.earlier i.stands.lived in
+    let lived = c.in-Ok.ensures.lived (counted i.stands.past) i.stands.lived in
     let b : HasBegun {N = g.row.N.Denot} i.first i.ongoing before after =
     begun i.first i.ongoing before after i.stands c.in-Ok.ensures.may.runs c.in-Ok.ensures.ended c.renew.new.self c.in-Ok.ensures.ok
-    c.enter_waiting.ensures.same (c.enter_waiting.ensures.lived (before.die.core.log ∷ i.stands.earlier) lived)
-    (c.enter_waiting.ensures.log (before.die.core.log ∷ i.stands.earlier) lived) c.enter_waiting.ensures.none in
+    c.enter_waiting.ensures.same (c.enter_waiting.ensures.lived (before.die.core.log ∷ counted i.stands.past) lived)
+    (c.enter_waiting.ensures.log (before.die.core.log ∷ counted i.stands.past) lived) c.enter_waiting.ensures.none in
     b.early

@@ -1,5 +1,6 @@
 use Rattle.std.proofs.Common.{◌≡◌, ◌<◌, false, map, refl, ap, sym, subst, ◌∙◌}
 use Rattle.die_log.specs.Model.Log.{now}
+use Rattle.ongoing_log.specs.PastLives.{counted}
 use Rattle.ongoing_die.specs.Standing.{OngoingParts, ask_in}
 use Rattle.ongoing_die.specs.OngoingCalls.{HasBegun, HaveOnePlan}
 use Rattle.ongoing_die.proofs.CarriedSlots.{carried, failed, carried_plan, failed_plan}
@@ -23,10 +24,10 @@ invariant_of-self-2 g c =
     subst (λ (p : OngoingParts g.row.N.Denot). now p.die.core.log < p.die.life) (sym c.self.view_is) c.in-Ok.ensures.early in
     let b : HasBegun {N = g.row.N.Denot} i.first i.ongoing between between = goes_on_yet i.first i.ongoing between i.stands runs early in
     let plan : HaveOnePlan between after = carried_plan g.N.Nand.ends g.N.Nand.failures g.N.Nand.never_fails c.args.caller i.first i.ongoing between between b after refl
-    (c.slot.ensures.lived b.stands.earlier b.stands.lived) c.in-Ok-slot.reply c.in-Ok-slot.ensures.slot
+    (c.slot.ensures.lived (counted b.stands.past) b.stands.lived) c.in-Ok-slot.reply c.in-Ok-slot.ensures.slot
     (c.a_die_goes_on_by_itself.ensures.goes_on i.first between.die.terms between.die.life i.long i.ongoing (b.stands.runs b.runs).goes_on) in
     let done = carried g.N.Nand.ends g.N.Nand.failures g.N.Nand.never_fails c.args.caller i.first i.ongoing between between b after refl
-    (c.slot.ensures.lived b.stands.earlier b.stands.lived) c.in-Ok-slot.reply c.in-Ok-slot.ensures.slot
+    (c.slot.ensures.lived (counted b.stands.past) b.stands.lived) c.in-Ok-slot.reply c.in-Ok-slot.ensures.slot
     (c.a_die_goes_on_by_itself.ensures.goes_on i.first between.die.terms between.die.life i.long i.ongoing (b.stands.runs b.runs).goes_on) in (
       goes_on_so i.first _ between after plan i.long done.stands,
       have_room between.die.terms after.die.terms c.self.inside.waiting.items c.self.inside.waiting.items plan.terms refl (λ task d. refl)
@@ -45,7 +46,7 @@ returns-clause-plan g c =
     let begun : HaveOnePlan c.args.self.now between =
     subst (λ (p : OngoingParts g.row.N.Denot). HaveOnePlan c.args.self.now p) (sym c.self.view_is) c.in-Ok.ensures.plan in
     plan_then c.args.self.now between after begun (carried_plan g.N.Nand.ends g.N.Nand.failures g.N.Nand.never_fails c.args.caller i.first i.ongoing between between b after refl
-    (c.slot.ensures.lived b.stands.earlier b.stands.lived) c.in-Ok-slot.reply c.in-Ok-slot.ensures.slot
+    (c.slot.ensures.lived (counted b.stands.past) b.stands.lived) c.in-Ok-slot.reply c.in-Ok-slot.ensures.slot
     (c.a_die_goes_on_by_itself.ensures.goes_on i.first between.die.terms between.die.life i.long i.ongoing (b.stands.runs b.runs).goes_on))
 
 pub returns-clause-slot : goal.returns-clause-slot
@@ -55,7 +56,7 @@ returns-clause-slot g c first d s =
     let b : HasBegun {N = g.row.N.Denot} first d c.args.self.now between =
     subst (λ (p : OngoingParts g.row.N.Denot). HasBegun first d c.args.self.now p) (sym c.self.view_is) (c.in-Ok.ensures.ok first d s) in
     carried g.N.Nand.ends g.N.Nand.failures g.N.Nand.never_fails c.args.caller first d c.args.self.now between b after refl
-    (c.slot.ensures.lived b.stands.earlier b.stands.lived) c.in-Ok-slot.reply c.in-Ok-slot.ensures.slot
+    (c.slot.ensures.lived (counted b.stands.past) b.stands.lived) c.in-Ok-slot.reply c.in-Ok-slot.ensures.slot
     (c.a_die_goes_on_by_itself.ensures.goes_on first between.die.terms between.die.life c.self.invariant.0.long d (b.stands.runs b.runs).goes_on)
 
 pub invariant_of-self : goal.invariant_of-self
@@ -68,9 +69,9 @@ invariant_of-self g c =
     subst (λ (p : OngoingParts g.row.N.Denot). now p.die.core.log < p.die.life) (sym c.self.view_is) c.in-Ok.ensures.early in
     let b : HasBegun {N = g.row.N.Denot} i.first i.ongoing between between = goes_on_yet i.first i.ongoing between i.stands runs early in
     let plan : HaveOnePlan between after = failed_plan g.N.Nand.ends g.N.Nand.failures g.N.Nand.never_fails c.args.caller i.first i.ongoing between between b after refl
-    (c.slot.ensures.lived b.stands.earlier b.stands.lived) c.in-Err-slot.field-0 c.in-Err-slot.ensures.slot in
+    (c.slot.ensures.lived (counted b.stands.past) b.stands.lived) c.in-Err-slot.field-0 c.in-Err-slot.ensures.slot in
     let done = failed g.N.Nand.ends g.N.Nand.failures g.N.Nand.never_fails c.args.caller i.first i.ongoing between between b after refl
-    (c.slot.ensures.lived b.stands.earlier b.stands.lived) c.in-Err-slot.field-0 c.in-Err-slot.ensures.slot in (
+    (c.slot.ensures.lived (counted b.stands.past) b.stands.lived) c.in-Err-slot.field-0 c.in-Err-slot.ensures.slot in (
       goes_on_so i.first _ between after plan i.long done.stands,
       have_room between.die.terms after.die.terms c.self.inside.waiting.items c.self.inside.waiting.items plan.terms refl (λ task d. refl)
           c.self.invariant.1,
@@ -88,7 +89,7 @@ returns-in-Err-slot-clause-plan g c =
     let begun : HaveOnePlan c.args.self.now between =
     subst (λ (p : OngoingParts g.row.N.Denot). HaveOnePlan c.args.self.now p) (sym c.self.view_is) c.in-Ok.ensures.plan in
     plan_then c.args.self.now between after begun (failed_plan g.N.Nand.ends g.N.Nand.failures g.N.Nand.never_fails c.args.caller i.first i.ongoing between between b after refl
-    (c.slot.ensures.lived b.stands.earlier b.stands.lived) c.in-Err-slot.field-0 c.in-Err-slot.ensures.slot)
+    (c.slot.ensures.lived (counted b.stands.past) b.stands.lived) c.in-Err-slot.field-0 c.in-Err-slot.ensures.slot)
 
 pub returns-in-Err-slot-clause-slot : goal.returns-in-Err-slot-clause-slot
 returns-in-Err-slot-clause-slot g c first d s =
@@ -97,4 +98,4 @@ returns-in-Err-slot-clause-slot g c first d s =
     let b : HasBegun {N = g.row.N.Denot} first d c.args.self.now between =
     subst (λ (p : OngoingParts g.row.N.Denot). HasBegun first d c.args.self.now p) (sym c.self.view_is) (c.in-Ok.ensures.ok first d s) in
     failed g.N.Nand.ends g.N.Nand.failures g.N.Nand.never_fails c.args.caller first d c.args.self.now between b after refl
-    (c.slot.ensures.lived b.stands.earlier b.stands.lived) c.in-Err-slot.field-0 c.in-Err-slot.ensures.slot
+    (c.slot.ensures.lived (counted b.stands.past) b.stands.lived) c.in-Err-slot.field-0 c.in-Err-slot.ensures.slot

@@ -1,0 +1,105 @@
+//! How a mount of a part begins: with what its cells show.
+
+ghost use Rattle.std.specs.Prelude.{◌≡◌, false, List, IfErr, IfOk, OnOk};
+ghost use Rattle.slot_types.specs.declared.pages.PageData.{PageData as Bytes};
+ghost use Rattle.die_mount.specs.Beginning.{HasIdle, IsScanned};
+ghost use Rattle.die_mount.specs.Nexts.{BeginsFirst};
+ghost use Rattle.die_mount.specs.Mounting.{BeginsWith, calls_left, most_calls};
+ghost use Rattle.die_mount.specs.Scanned.{IsScanOf};
+ghost use Rattle.labelled_die.specs.Scanning.{IsSamePart};
+ghost use Rattle.labelled_nand.specs.PoweredUp.{IsPoweredUp};
+ghost use Rattle.power_loss.specs.Aside.{StandsOnPart, part_of};
+ghost use Rattle.power_loss.specs.Labels.{FitPlan, Shown};
+ghost use Rattle.power_loss.specs.Mounted.{all_count};
+ghost use Rattle.part_mount.specs.Going.{GoesBySeen};
+ghost use Rattle.device_mount.specs.Parts.{BeginsSafely, IsPlanOf};
+ghost use Rattle.device_mount.specs.Refusals.{RefusesBegin, RefusesMount};
+
+use crate::refusals::{MountRefusal, NotMounted, refusal_of};
+use crate::undoing::undo;
+use die_mount::{BeginFault, FirstErase, Mount, Scan};
+use labelled_die::scan;
+use labelled_nand::LabelledNand;
+use part_mount::PartMount;
+use slot_types::DiePlan;
+use std::alloc::Global;
+
+/// A mount that erases an idle block.
+fn begin_idle(alloc: Global, plan: DiePlan, scan: Scan) -> Result<Mount, MountRefusal>
+    requires whole { scan.told ≡ scan.shape.blocks }
+    requires scanned { IsScanned plan scan }
+    ensures begins { IfOk result (λ mount. (seen : Shown) → IsScanOf (part_of plan) scan seen
+        → FitPlan (part_of plan) seen → BeginsWith plan seen mount) }
+    ensures first { IfOk result (BeginsFirst plan) }
+    ensures refused { IfErr result (RefusesBegin (HasIdle scan)) }
+{
+    match Mount::new(alloc, plan, scan) {
+        Ok(mount) => Ok(mount),
+        Err(BeginFault::NoMemory) => Err(MountRefusal::NoMemory),
+        Err(BeginFault::NoIdleBlock) => Err(MountRefusal::NoIdleBlock),
+        // The part was scanned with this plan.
+        Err(BeginFault::BadPlan) => unreachable!(),
+    }
+}
+
+/// The mount by what the part shows. It changes nothing on the part.
+fn mount_of<N: LabelledNand>(
+    alloc: Global,
+    plan: DiePlan,
+    part: &mut N,
+) -> Result<Mount, MountRefusal>
+    requires powered { IsPoweredUp (N.shape_of part.old) (N.blocks part.old) (N.labels part.old)
+        (N.failures part.old) }
+    ensures begins { IfOk result (λ mount. FitPlan (part_of plan) (N.labels part.old).blocks
+        → BeginsWith plan (N.labels part.old).blocks mount) }
+    ensures first { IfOk result (BeginsFirst plan) }
+    ensures safe { IfOk result (BeginsSafely plan (N.labels part.old).blocks) }
+    ensures of_plan { OnOk result (IsPlanOf plan (N.shape_of part.old)) }
+    ensures same { OnOk result (IsSamePart N.shape_of N.failures N.blocks N.labels part.old
+        part.new) }
+    ensures refused { IfErr result (RefusesMount plan (N.shape_of part.old)
+        (N.labels part.old).blocks (N.failures part.new)) }
+{
+    let before = match scan(alloc, &plan, part) {
+        Ok(before) => before,
+        Err(fault) => return Err(refusal_of(fault)),
+    };
+    match before.first_erase() {
+        FirstErase::Idle { block: _ } => begin_idle(alloc, plan, before),
+        FirstErase::Undo { block } => undo(alloc, plan, part, &before, block),
+    }
+}
+
+/// A mount of a part that was powered up and has one block more than the plan. It looks at each cell once, or twice
+/// where a mount before it was cut as it copied, and takes all memory for its calls. Nothing on the part has changed
+/// yet.
+///
+/// That the part is as a device that was powered up is the caller's to know: each block counts as closed, and a cell
+/// with a label holds the label's bytes.
+///
+/// Refused with the first cause that stands, as [`MountRefusal`] lists them; the part is handed back then, and the plan
+/// is given up.
+pub fn begin<N: LabelledNand>(
+    alloc: Global,
+    plan: DiePlan,
+    part: N,
+) -> Result<PartMount<N>, NotMounted<N>>
+    requires powered { IsPoweredUp (N.shape_of part) (N.blocks part) (N.labels part)
+        (N.failures part) }
+    ensures goes { IfOk result (λ mount. (pages : List Bytes)
+        → StandsOnPart plan pages all_count (N.labels part).blocks
+        → GoesBySeen N.labels pages (N.labels part).blocks mount) }
+    ensures safe { IfOk result (λ mount. BeginsSafely plan (N.labels part).blocks mount.mount) }
+    ensures plan { IfOk result (λ mount. mount.mount.plan ≡ plan) }
+    ensures of_plan { OnOk result (IsPlanOf plan (N.shape_of part)) }
+    ensures well { IfOk result (λ mount. mount.failed ≡ false) }
+    ensures calls { IfOk result (λ mount. calls_left mount.mount ≡ most_calls plan) }
+    ensures refused { IfErr result (λ no. RefusesMount plan (N.shape_of part)
+        (N.labels part).blocks (N.failures no.part) no.refusal) }
+{
+    let mut part = part;
+    match mount_of(alloc, plan, &mut part) {
+        Ok(mount) => Ok(PartMount::new(part, mount)),
+        Err(refusal) => Err(NotMounted { part, refusal }),
+    }
+}

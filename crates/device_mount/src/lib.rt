@@ -1,0 +1,16 @@
+//! The mount of a die from its own device.
+#![tactic(auto)]
+
+mod beginning;
+mod copies;
+mod ending;
+mod laws;
+mod mounts;
+mod refusals;
+mod undoing;
+
+pub use beginning::begin;
+pub use ending::finish;
+pub use laws::a_part_that_stands_has_a_block_to_erase;
+pub use mounts::mount;
+pub use refusals::{MountRefusal, NotMounted};

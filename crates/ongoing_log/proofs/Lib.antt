@@ -1,0 +1,3 @@
+mod Passing
+mod GoingOn
+mod OngoingAnswers

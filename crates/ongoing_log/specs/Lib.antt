@@ -1,0 +1,2 @@
+pub mod PastLives
+pub mod Ongoing

@@ -1,0 +1,4 @@
+pub mod OnPart
+pub mod Calls
+pub mod Going
+pub mod Cuts
