@@ -11,9 +11,9 @@ use Rattle.slot_types.specs.declared.replies.Reply.TheVariants as replies
 use Rattle.die_log.specs.Model.Log.{Log, Carried, carried_slots, now, with_slot}
 use Rattle.slot_types.specs.declared.acts.Act.{Act}
 use Rattle.slot_types.specs.declared.replies.SlotReply.{SlotReply}
-use Rattle.tool_watched_runs.specs.Briefs.{brief_of}
-use Rattle.tool_watched_runs.specs.declared.briefs.ActBrief.{ActBrief}
-use Rattle.tool_watched_runs.specs.declared.briefs.Kind.TheVariants as kind
+use Rattle.tool_run_pictures.specs.Briefs.{brief_of}
+use Rattle.tool_run_pictures.specs.declared.briefs.ActBrief.{ActBrief}
+use Rattle.tool_run_pictures.specs.declared.briefs.Kind.TheVariants as kind
 use Rattle.tool_watched_runs.specs.Wear.{IsWearOf, slot_entry, does_copy, does_write, ends_erase, ends_erase_of, slots_of}
 use Rattle.tool_watched_runs.specs.declared.tallies.Tally.{Tally}
 

@@ -1,4 +1,3 @@
-pub mod Briefs
 pub mod Ends
 pub mod Failing
 pub mod Figures

@@ -8,10 +8,10 @@ use Rattle.slot_types.specs.declared.replies.SlotReply.{SlotReply}
 use Rattle.die_log.specs.Model.Answers.{IsExact}
 use Rattle.die_log.specs.Model.Log.{Log, Carried}
 use Rattle.tool_script_runs.specs.RunningDies.{RunningDie}
-use Rattle.tool_watched_runs.specs.Briefs.{brief_of}
-use Rattle.tool_watched_runs.specs.declared.briefs.ActBrief.{ActBrief}
-use Rattle.tool_watched_runs.specs.declared.briefs.Kind.{Kind}
-use Rattle.tool_watched_runs.specs.declared.briefs.Kind.TheVariants as kind
+use Rattle.tool_run_pictures.specs.Briefs.{brief_of}
+use Rattle.tool_run_pictures.specs.declared.briefs.ActBrief.{ActBrief}
+use Rattle.tool_run_pictures.specs.declared.briefs.Kind.{Kind}
+use Rattle.tool_run_pictures.specs.declared.briefs.Kind.TheVariants as kind
 use Rattle.tool_watched_runs.specs.declared.tallies.Tally.{Tally}
 
 -- a page that a job wrote

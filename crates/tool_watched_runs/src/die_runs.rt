@@ -10,11 +10,12 @@ ghost use Rattle.tool_watched_runs.specs.Wear.{IsWearOf, slot_entry};
 
 use crate::failing::RunNand;
 use crate::started_dies::StartedDie;
-use crate::{Level, Tally, Waiver, Whose, Window};
+use crate::tallies::Tally;
 use slot_core::{DieCore, Overdue, Stage};
 use slot_types::{Event, JobNo, MAX_SLOT, Op, Refusal, SlotReply};
 use std::alloc::Global;
 use tool_run_figures::{DieCounts, Levels};
+use tool_run_pictures::{Level, Waiver, Whose, Window};
 use tool_script_runs::{ScriptDie, arrive};
 
 /// A die, what its slots wore, and what was done in a window of them.

@@ -15,12 +15,14 @@ use crate::die_runs::{DieRun, whose};
 use crate::failing::{FailAt, Failure, RunNand, check_failing, failure_in};
 use crate::script_runs::{Reported, Sights};
 use crate::started_dies::{StartedDie, fresh_dies};
-use crate::{End, Kind, Level, Row, Scene, Whose, Window, Worst, lines, picture};
 use script_texts::ScriptReader;
 use slot_core::{DieCore, Job, Stage};
 use slot_types::{JobNo, MAX_JOBS, MAX_SLOT, Refusal, StorePlan};
 use std::alloc::Global;
 use std::io::Read;
+use tool_run_pictures::{
+    Counts, End, Kind, Level, Row, Scene, Whose, Window, Worst, lines, picture,
+};
 use tool_script_runs::{RefusedRow, RefusedRows, run_die};
 use tool_slot_times::Units;
 
@@ -154,7 +156,11 @@ fn picture_of(
         die: run.die,
         dies: frame.dies,
         slots: run.core.now(),
-        tally: &run.tally,
+        counts: Counts {
+            erased: run.tally.erased,
+            written: run.tally.written,
+            copied: run.tally.copied,
+        },
         window: &run.window,
         rows: &rows,
         worst,

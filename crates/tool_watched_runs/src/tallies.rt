@@ -6,9 +6,9 @@ ghost use Rattle.slot_types.specs.declared.replies.Entry.{Entry};
 ghost use Rattle.die_log.specs.Model.Log.{Log, now};
 ghost use Rattle.tool_watched_runs.specs.Wear.{IsWearOf, slot_entry};
 
-use crate::briefs::{ActBrief, Kind, brief_of};
 use slot_types::{Refusal, SlotReply};
 use std::alloc::Global;
+use tool_run_pictures::{ActBrief, Kind, brief_of};
 
 /// What the slots of a die wore.
 #[derive(Drop)]

@@ -1,7 +1,7 @@
 //! What an act is, without the bytes: its kind, and the page or the block that it was of.
 
 ghost use Rattle.std.specs.Prelude.{◌≡◌};
-ghost use Rattle.tool_watched_runs.specs.Briefs.{brief_of};
+ghost use Rattle.tool_run_pictures.specs.Briefs.{brief_of};
 
 use slot_types::Act;
 

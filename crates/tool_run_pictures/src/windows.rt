@@ -2,7 +2,7 @@
 
 ghost use Rattle.slot_types.specs.Refusal.{FailsForMemory};
 
-use crate::{ActBrief, brief_of};
+use crate::briefs::{ActBrief, brief_of};
 use slot_types::{Refusal, SlotReply};
 use std::alloc::Global;
 

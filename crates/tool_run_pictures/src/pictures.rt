@@ -9,7 +9,6 @@ use crate::legends::{put_curves, put_head, put_legend, put_styles};
 use crate::levels::{put_levels, series_in};
 use crate::rows::Row;
 use crate::rulers::{put_busy_interval, put_failure, put_rulers};
-use crate::tallies::Tally;
 use crate::windows::{Whose, Window};
 use slot_types::Refusal;
 use std::alloc::Global;
@@ -28,6 +27,17 @@ pub struct Worst {
     pub lateness: i64,
 }
 
+/// What all slots of a run came to.
+#[derive(Clone, Copy, Drop)]
+pub struct Counts {
+    /// How many blocks were erased.
+    pub erased: u32,
+    /// How many pages jobs wrote.
+    pub written: u32,
+    /// How many pages collections programmed.
+    pub copied: u32,
+}
+
 /// What a picture shows.
 #[derive(Clone, Copy)]
 pub struct Scene<'a> {
@@ -36,7 +46,7 @@ pub struct Scene<'a> {
     pub dies: u32,
     /// How many slots the die carried out.
     pub slots: u32,
-    pub tally: &'a Tally,
+    pub counts: Counts,
     pub window: &'a Window,
     /// Those that have something in the window, by number.
     pub rows: &'a [Row],

@@ -52,11 +52,11 @@ pub fn put_title(text: &mut Vec<u8>, scene: &Scene<'_>) -> io::Result<()> {
 /// Tells the counts of the whole run.
 pub fn put_counts(text: &mut Vec<u8>, scene: &Scene<'_>) -> io::Result<()> {
     let (count, units) = (scene.slots, scene.units);
-    let (slots, erased) = (units.slots(u64::from(count)), scene.tally.erased);
-    let written = Quantity::pages(scene.tally.written, count, units);
-    let copied = Quantity::pages(scene.tally.copied, count, units);
+    let (slots, erased) = (units.slots(u64::from(count)), scene.counts.erased);
+    let written = Quantity::pages(scene.counts.written, count, units);
+    let copied = Quantity::pages(scene.counts.copied, count, units);
     let in_slots = noun(count, "slot", "slots");
-    let pages = noun(scene.tally.written, "page", "pages");
+    let pages = noun(scene.counts.written, "page", "pages");
     let blocks = noun(erased, "block", "blocks");
     write!(
         text,

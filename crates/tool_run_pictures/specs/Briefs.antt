@@ -1,8 +1,8 @@
 -- What an act is, without the bytes.
 use Rattle.slot_types.specs.declared.acts.Act.{Act}
 use Rattle.slot_types.specs.declared.acts.Act.TheVariants as does
-use Rattle.tool_watched_runs.specs.declared.briefs.ActBrief.{ActBrief}
-use Rattle.tool_watched_runs.specs.declared.briefs.Kind.TheVariants as kind
+use Rattle.tool_run_pictures.specs.declared.briefs.ActBrief.{ActBrief}
+use Rattle.tool_run_pictures.specs.declared.briefs.Kind.TheVariants as kind
 
 -- its kind, and the logical page or the block that it was of
 abbrev pub brief_of : Act → ActBrief
