@@ -421,6 +421,13 @@ class Die:
         self.carried.append(head)
         self.reserved = max(self.reserved - 1, 0)
 
+    def overdue(self):
+        """Of what waits, is released and due by the present slot, the one with the least key; of a stopped die none."""
+        if self.stopped:
+            return None
+        waiting = [item for item in self.pending if item.release <= self.now and item.due <= self.now]
+        return min(waiting, key=lambda item: item.key, default=None)
+
     def worst(self):
         """Of the greatest lateness the one that was done first."""
         return max(self.finished, key=lambda item: item.lateness(), default=None)
@@ -668,6 +675,9 @@ class Player:
         if name == "built":
             carried = [die.items[number] for number in numbers_in(fields[2])]
             return die.certificate(die.items[int(fields[1])], carried, len(carried))
+        if name == "overdue":
+            item = die.overdue()
+            return f"job {item.number} due {item.due} late {die.now + 1 - item.due}" if item else "none"
         worst = die.worst()
         if name == "worst":
             return f"job {worst.number} late {worst.lateness()}" if worst else "none"

@@ -2,7 +2,7 @@
 
 use crate::said::Reported;
 use late_cert::{Certificate, JobRow};
-use slot_core::{Outcome, RenewalRefusal, Worst};
+use slot_core::{Outcome, Overdue, RenewalRefusal, Worst};
 use slot_types::{Act, JobNo, Refusal, Reply, SlotReply};
 
 /// Tells an act as scripts write operations: what a read gave and a write wrote stands after its page.
@@ -87,6 +87,18 @@ pub(crate) fn put_worst(said: &mut Reported, worst: &Option<Worst>) -> Result<()
         Some(worst) => {
             said.counted("job", i64::from(worst.job.0))?;
             said.counted("late", worst.lateness)
+        }
+        None => said.words("none"),
+    }
+}
+
+pub(crate) fn put_overdue(said: &mut Reported, overdue: &Option<Overdue>) -> Result<(), Refusal> {
+    match overdue {
+        Some(overdue) => {
+            said.counted("job", i64::from(overdue.job.0))?;
+            said.counted("due", i64::from(overdue.due))?;
+            said.words("late")?;
+            said.count(overdue.late_by)
         }
         None => said.words("none"),
     }

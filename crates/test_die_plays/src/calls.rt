@@ -1,7 +1,8 @@
 //! The calls of a history.
 
 use crate::answers::{
-    put_carried, put_certificate, put_outcome, put_renewal, put_row, put_slot, put_worst,
+    put_carried, put_certificate, put_outcome, put_overdue, put_renewal, put_row, put_slot,
+    put_worst,
 };
 use crate::checkpoints::checkpoint;
 use crate::events::event_in;
@@ -239,6 +240,7 @@ pub(crate) fn call<N: Nand>(
         "renew" => put_renewal(said, die.renew()),
         "next" => next(die, alloc, said),
         "checkpoint" => checkpoint(die, alloc, said),
+        "overdue" => put_overdue(said, &die.overdue()),
         _ => ask(die, alloc, fields, said),
     }
 }
