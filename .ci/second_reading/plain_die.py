@@ -176,8 +176,12 @@ class Plan:
         """The most slots that a collection takes."""
         return 2 * (self.pages - self.alpha) + self.erase_slots
 
+    def has_times(self):
+        """Whether each task has its times."""
+        return self.tasks is not None and len(self.tasks) == len(self.caps)
+
     def load(self):
-        if self.tasks is None:
+        if not self.has_times():
             raise Refused("BadPlan")
         demand = 0
         for cap, (period, collects, work, writes) in zip(self.caps, self.tasks):
@@ -191,7 +195,8 @@ class Plan:
 
     def is_kept(self, events):
         """Whether events keep the plan's times."""
-        if self.tasks is None:
+        slots = events.count(("slot",))
+        if not self.has_times() or slots > LAST_SLOT or len(events) - slots > MOST_JOBS:
             return False
         now, last, asked = 0, {}, []
         for event in events:
@@ -202,11 +207,11 @@ class Plan:
                 now, asked = now + 1, []
                 continue
             kind, task, release, due = event[:4]
-            if task >= len(self.tasks) or release != now:
+            if task >= len(self.tasks) or release != now or due > LAST_SLOT:
                 return False
             period, collects, work, writes = self.tasks[task]
             if kind == "collect":
-                if now % collects or due != release + collects or (task, now) in asked:
+                if now % collects or now >= slots or due != release + collects or (task, now) in asked:
                     return False
                 asked.append((task, now))
                 continue
@@ -236,6 +241,10 @@ class Item:
 
 
 WAIVED = "waived"
+
+
+def told_certificate(job, start, completion, numbers):
+    return f"job {job.number} start {start} due {job.due} completion {completion} of {' '.join(map(str, numbers))}"
 
 
 # Checkpoints
@@ -439,9 +448,25 @@ class Die:
         stretch = carried[start:completion]
         # What a certificate is for: no slot idle, nothing released before it or due after the job.
         assert all(item.release >= start and item.due <= job.due for item in stretch)
-        numbers = sorted({item.number for item in stretch})
-        of = " ".join(map(str, numbers))
-        return f"job {job.number} start {start} due {job.due} completion {completion} of {of}"
+        return told_certificate(job, start, completion, sorted({item.number for item in stretch}))
+
+    def built(self, number, carried):
+        """The certificate of a job where the slots carried these numbers, which may be others than they did. There is none
+        where it isn't done within these slots, or where what it lists doesn't fill its slots. A number without a row ends
+        it."""
+        rows = {item.number: item for item in self.items if item.end is not WAIVED}
+        job = rows.get(number)
+        if job is None or job.end is None or job.end > len(carried):
+            return "none"
+        start = job.end
+        while start and carried[start - 1] in rows and rows[carried[start - 1]].key <= job.key:
+            start -= 1
+        numbers = sorted(set(carried[start:job.end]))
+        listed = [rows[number] for number in numbers]
+        work = sum(other in listed for other in self.carried)
+        if not listed or work != job.end - start or any(item.end is None or item.release < start for item in listed):
+            return "none"
+        return told_certificate(job, start, job.end, numbers)
 
     def outcome(self, number):
         if number >= len(self.items):
@@ -673,8 +698,7 @@ class Player:
         if name == "outcome":
             return die.outcome(int(fields[1]))
         if name == "built":
-            carried = [die.items[number] for number in numbers_in(fields[2])]
-            return die.certificate(die.items[int(fields[1])], carried, len(carried))
+            return die.built(int(fields[1]), numbers_in(fields[2]))
         if name == "overdue":
             item = die.overdue()
             return f"job {item.number} due {item.due} late {die.now + 1 - item.due}" if item else "none"
@@ -1068,6 +1092,86 @@ def lives():
     return out.whole()
 
 
+def many_blocks():
+    """Collections on 64 blocks, mostly with several closed ones of the fewest valid pages."""
+    plan = Plan((64, 8, 3, 300, 4), [8])
+    out = Writer(MADE, "Collections on 64 blocks of 8 pages: of many closed ones the victim has the fewest valid pages, of",
+                 "equal ones the fewest erases, and of these the smallest number.")
+    out.paragraph("Seed 1974.")
+    first, dice = len(out.text), Dice(1974)
+    out.ask(plan.line())
+    die = out.player.die
+    for round_ in range(900):
+        ops = []
+        for _ in range(4):
+            page, side = dice.roll(plan.logical), dice.roll(8)
+            # At first all pages are written in order, and half of what is written later is one of forty pages.
+            page = (4 * round_ + len(ops)) % 300 if round_ < 75 else page % 40 if side < 4 else page
+            ops.append(("T", page, None) if round_ >= 75 and side == 7 else ("W", page, CONTENTS[dice.roll(4)]))
+        out.ask(f"job,0,{die.now},{die.now + 60},{op_words(ops)}")
+        out.ask(f"collect,0,{die.now},{die.now + 30}")
+        for _ in range(6 if round_ < 75 else 10):
+            out.ask("slot")
+    end_of_history(out, first, {"writes": 2000, "trims": 200, "erases": 1000, "copies": 300})
+    return out.whole()
+
+
+def many_jobs():
+    """A thousand jobs wait for their releases, and then for those that are due sooner; many are due at once."""
+    out = Writer(MADE, "A thousand jobs of a read each: deadlines repeat every fifty jobs, and so do releases every seventy.")
+    out.paragraph("Each is accepted in slot 0, and released in one of the first seventy slots.")
+    out.ask(Plan((8, 4, 3, 12, 2), [4]).line())
+    for number in range(1000):
+        out.ask(f"job,0,{number * 11 % 70},{1000 + number * 7 % 50},R0")
+    for _ in range(1001):
+        out.ask("slot")
+    out.ask("worst")
+    out.ask("certificate")
+    out.ask("verdict")
+    return out.whole()
+
+
+def carried_by_chance(dice, carried):
+    """What slots carried, with some slots exchanged, some given to another job or to a number that has no row, and some of
+    the last left out."""
+    carried = list(carried)
+    for _ in range(dice.roll(4)):
+        one, other = dice.roll(len(carried)), dice.roll(len(carried))
+        carried[one], carried[other] = carried[other], carried[one]
+    for _ in range(dice.roll(2)):
+        carried[dice.roll(len(carried))] = dice.roll(9)
+    return carried[:len(carried) - dice.roll(3)]
+
+
+def built_by_chance():
+    """Certificates of slots that no run had, over rows of runs."""
+    out = Writer(MADE, "Certificates built of what the slots carried, and of slots that no run had: number 0 is waived and has no",
+                 "row, 8 is no number of the die, and an idle slot is written as 99.")
+    dice, built = Dice(1974), 0
+    for _ in range(40):
+        out.paragraph("Six jobs after a collection that is waived.")
+        out.ask(Plan((8, 4, 3, 12, 2), [4]).line())
+        out.ask("collect,0,0,1")
+        die = out.player.die
+        for _ in range(6):
+            release = dice.roll(12)
+            out.ask(f"job,0,{release},{release + 1 + dice.roll(20)},R0*{dice.roll(5) + 1}")
+        while die.pending:
+            die.slot()
+        slots = die.now
+        carried = [99 if item is None else item.number for item in die.carried]
+        # The die is played again by the lines that stand.
+        out.text.append(f"pass,{slots},ok")
+        out.ask("rows")
+        for turn in range(4):
+            numbers = carried_by_chance(dice, carried) if turn else carried
+            for job in range(8):
+                answer = out.ask(f"built,{job},{' '.join(map(str, numbers))}")
+                built += turn > 0 and answer != "none"
+    assert built > 100, built
+    return out.whole()
+
+
 def made():
     """The files that are made, by their names."""
     return {
@@ -1080,6 +1184,9 @@ def made():
         "eight_blocks.txt": lambda: by_chance(Plan((8, 4, 3, 17, 2), [4]), 50, "Eight blocks."),
         "two_tasks.txt": lambda: by_chance(
             Plan((8, 4, 2, 15, 1), [2, 2]), 5, "Two collectors run at once, each with a victim of its own."),
+        "many_blocks.txt": many_blocks,
+        "many_jobs.txt": many_jobs,
+        "built_by_chance.txt": built_by_chance,
         "small_gifts.txt": lambda: by_chance(
             Plan((7, 5, 1, 24, 1), [3]), 50, "A collection gives one page, and copies up to four."),
     }

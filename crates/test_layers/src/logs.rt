@@ -46,17 +46,6 @@ fn idle_slots_of_one_caller_are_one_record(rt: HostRuntime) -> Result<(), Fail> 
     Ok(())
 }
 
-#[test]
-fn an_erase_is_one_record_but_for_its_last_slot(rt: HostRuntime) -> Result<(), Fail> {
-    let last = Deed::LastEraseSlot {
-        number: JobNo(1),
-        block: 5,
-    };
-    let deeds = [(0, SLOT), (0, SLOT), (0, last)];
-    assert_eq!(rt; counts_of(rt.alloc(), &deeds)?, (3, 2, 2));
-    Ok(())
-}
-
 /// No log of a die has such an erase: each is of one block.
 #[test]
 fn an_erase_of_two_blocks_takes_two_records(rt: HostRuntime) -> Result<(), Fail> {
@@ -66,25 +55,5 @@ fn an_erase_of_two_blocks_takes_two_records(rt: HostRuntime) -> Result<(), Fail>
     };
     let deeds = [(0, SLOT), (0, other)];
     assert_eq!(rt; counts_of(rt.alloc(), &deeds)?, (2, 2, 2));
-    Ok(())
-}
-
-const WAIVED: Waived = Waived {
-    number: JobNo(0),
-    given: 2,
-};
-
-/// An idle slot, one in which a collection was waived, and one more.
-fn push_a_waiver(log: &mut EventLog) -> Result<(), Refusal> {
-    push(log, 0, Deed::Idle, &[])?;
-    push(log, 0, Deed::Idle, &[WAIVED])?;
-    push(log, 0, Deed::Idle, &[])
-}
-
-#[test]
-fn a_waiver_stands_by_itself(rt: HostRuntime) -> Result<(), Fail> {
-    let mut log = EventLog::new(rt.alloc());
-    push_a_waiver(&mut log)?;
-    assert_eq!(rt; (log.len(), log.records(), log.kept()), (3, 3, 3));
     Ok(())
 }
