@@ -1,6 +1,7 @@
 #!/usr/bin/env -S python3 -B
 """Tests of the page that `flashplan design` writes: it is HTML that is XML, too, loads nothing and has no scripts; its plan is that
-of `fit`, and its numbers are those of `explain`, `arrivals`, `report` and `draw` of that plan.
+of `fit`, and its numbers are those of `explain`, `arrivals`, `report` and `draw` of that plan; its memory is that of a second
+reading of the formulas, and what a mount and a day come to of one plan is that by hand.
 
     .ci/tests/design_page.py PROGRAM    flashplan, as `.ci/build/program` finds it; ends with 1 where one fails
 
@@ -17,6 +18,9 @@ import xml.etree.ElementTree as ElementTree
 from html.parser import HTMLParser
 from pathlib import Path
 
+sys.path.insert(0, str(Path(__file__).resolve().parents[1]))
+from second_reading import plain_terms
+
 TOP = Path(__file__).resolve().parents[2]
 SHEETS = TOP / "crates/tool_plan_fit/datasheets"
 PROGRAM = None
@@ -32,6 +36,71 @@ def words_of(element):
 
 def count(text):
     return int(text.replace(",", ""))
+
+
+def grown(room, wanted, first):
+    """How many items a list has room for that had room for `room` and is to have `wanted`."""
+    return room if wanted <= room else max(wanted, first, 2 * room)
+
+
+def doubled(items, first):
+    """How many items a list has room for that has grown one by one."""
+    room = first if items else 0
+    while room < items:
+        room *= 2
+    return room
+
+
+def bytes_at_birth(die):
+    """Of a die that is (blocks, pages, logical, tasks, whether its plan has times)."""
+    blocks, pages, logical, tasks, has_times = die
+    return (1120 + 20 * blocks * pages + 4 * logical + 60 * blocks + 8 * (pages + 1) + 8 * -(-blocks // 64) + 53 * tasks
+            + (20 if has_times else 4) * doubled(tasks, 4))
+
+
+def bytes_reserved(tasks, slots, jobs, operations):
+    """Beside that: all reserved at once, jobs first. Where a list is moved the old one is there, too."""
+    first, events = grown(0, jobs, 4), slots + jobs
+    first_callers = grown(0, max(jobs, 64), 4) if jobs else 0
+    entries, callers = first, first_callers
+    if events > first:
+        entries, callers = grown(first, events, 4), grown(first_callers, max(events, 64), 4)
+    log = 16 * entries + 8 * callers
+    moved = 16 * (entries + first) + 8 * first_callers if entries > first else 0
+    moved = max(moved, log + 8 * first_callers if callers > first_callers else 0)
+    waivers = 12 * grown(0, tasks + jobs, 4) if jobs else 0
+    return max(log, moved) + waivers + 64 * grown(0, jobs, 4) + grown(0, operations, 8) + 36 * grown(0, operations, 4)
+
+
+def bytes_grown(tasks, slots, jobs, operations):
+    """Beside that of the birth, where nothing is reserved: a list is there twice while it is moved."""
+    rows, slots = min(jobs + 1, 65_536), min(slots + 1, 1_048_576)
+    entries, table, names = 16 * doubled(slots + rows, 4), 48 * doubled(rows, 4), 16 * (8 + 2 * operations)
+    return (entries + 8 * doubled(slots + rows + 64, 64) + table + 16 * doubled(rows, 4) + 24 * (tasks + rows)
+            + 8 + 2 * operations + 4 * (4 + 2 * operations) + names + max(entries, table, names) // 2)
+
+
+def memory_of(die, work):
+    """At its birth, with all of the work reserved, with nothing reserved, and until it is resumed."""
+    blocks, _, logical, tasks, _ = die
+    birth = bytes_at_birth(die)
+    return (birth, birth + bytes_reserved(tasks, *work), birth + bytes_grown(tasks, *work),
+            birth + 28 * doubled(logical, 4) + 8 * doubled(blocks, 4) + 4 * tasks)
+
+
+def with_terms(plan):
+    """A plan's one die, whose tasks have terms: those with times are due by the next ones."""
+    return dict(plan, tasks=[{"deadline": task["period"], "collect_deadline": task["collect_period"], **task} for task in plan["task"]])
+
+
+def life_of(die):
+    """How many slots a life has, and what comes in it: jobs and collections, and operations."""
+    few, many = 0, 1_048_577
+    while many - few > 1:
+        middle = (few + many) // 2
+        few, many = (middle, many) if plain_terms.numbers_taken(die, middle) <= 65_536 else (few, middle)
+    operations = sum(plain_terms.comings(task["period"], task["deadline"], few) * task["work"] for task in die["tasks"])
+    return few, plain_terms.numbers_taken(die, few), operations
 
 
 class Marks(HTMLParser):
@@ -205,6 +274,12 @@ class Page(unittest.TestCase):
             time, unit = table[name][1].split()
             self.assertAlmostEqual(float(time.replace(",", "")) * {"ms": 1000, "s": 1e6}[unit], number * each, delta=1000)
 
+    def test_its_memory_is_that_of_a_life(self):
+        plan = self.plan()
+        die = plan["blocks"], plan["pages"], plan["logical"], len(plan["task"]), "common" in plan
+        rows = self.table_with("bytes")
+        self.assertEqual([count(row[1]) for row in rows], list(memory_of(die, life_of(with_terms(plan)))))
+
     def test_years_come_of_the_endurance(self):
         sheet, plan = tomllib.loads(self.sheet_text()), self.plan()
         rows = self.table_with("erases a day")
@@ -218,9 +293,49 @@ class Page(unittest.TestCase):
                 self.assertAlmostEqual(float(row[4].replace(",", "")), years, delta=0.02 + years / 500)
 
 
+class Memory(unittest.TestCase):
+    """The second reading of the formulas, by numbers that were measured. `bindings/c/memory.c` counts 16 bytes more of each die
+    than the page does, since a die of the library for C can be mounted."""
+
+    def test_a_die_takes_as_many_bytes_as_was_measured(self):
+        small, large = (64, 32, 1_024, 1, False), (1_024, 64, 32_768, 1, False)
+        for die, work, birth, reserved in [
+            (small, (1_000, 100, 400), 50_357, 99_969),
+            (small, (30_000, 2_000, 8_000), 50_357, 1_282_369),
+            (small, (1_048_576, 65_536, 1_048_576), 50_357, 71_091_393),
+            (large, (1_000, 100, 400), 1_505_069, 1_554_681),
+            (large, (30_000, 2_000, 8_000), 1_505_069, 2_737_081),
+            (large, (1_048_576, 65_536, 1_048_576), 1_505_069, 72_546_105),
+        ]:
+            self.assertEqual(memory_of(die, work)[:2], (birth, reserved))
+        for die, life, resume in [(small, 116_966_821, 79_545), (large, 118_421_533, 2_430_769)]:
+            self.assertEqual(memory_of(die, (1_048_576, 65_536, 1_048_576))[2:], (life, resume))
+
+    def test_times_take_sixteen_bytes_a_task(self):
+        # 1,120 + 20 * 128 + 4 * 24 + 60 * 16 + 8 * 9 + 8 + 53 * 3 + 4 * 4, and 16 * 4 more with times.
+        self.assertEqual(bytes_at_birth((16, 8, 24, 3, False)), 4_991)
+        self.assertEqual(bytes_at_birth((16, 8, 24, 3, True)), 5_055)
+
+
 class Vehicle(Page):
-    """With terms."""
+    """With terms: 25 pages a second, read-out, and 1,024 pages once a minute."""
     SHEET = "vehicle.toml"
+
+    def test_a_mount_empties_as_many_blocks_as_full_accounts_want(self):
+        # Full accounts share out 12 + 10 + 1,052 + 3 * 59 = 1,251 pages, which are 251 times alpha, rounded up.
+        table = {row[0]: row[1] for row in self.table_with("by the datasheet")}
+        self.assertEqual((count(table["erases"]), count(table["copies"])), (252, 251 * 59))
+        self.assertIn(f"Beside the labels these are {11 + 251 * (2 * 59 + 11):,} calls of the device", words_of(self.tree))
+
+    def test_a_day_wears_as_much_as_it_has_writes_or_collections(self):
+        # A day has 345,600,000 slots of 250 us: a write each 160 and 1,024 each 240,000, 64 pages a block; and collections each
+        # 800, 1,171 and 1,048,576 slots, which are 432,000, 295,132.365 and 329.589.
+        least, _, most = self.table_with("erases a day")
+        self.assertEqual((least[1:3], most[1:3]), (["1", "56,790"], ["12.8", "727,461"]))
+
+    def test_what_is_early_has_a_sign(self):
+        worst, mean, _ = self.table_with("lateness: worst")[0][5:]
+        self.assertEqual((worst, mean), ("-159 slots, -39.75 ms", "-242.54 slots, -60.635 ms"))
 
 
 class Recorder(Page):

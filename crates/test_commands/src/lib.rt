@@ -9,8 +9,6 @@ mod failing;
 #[cfg(test)]
 mod files;
 #[cfg(test)]
-mod plan_words;
-#[cfg(test)]
 mod printed;
 #[cfg(test)]
 mod terminal;

@@ -1,4 +1,5 @@
 use crate::answers::{report_refusal, script_refusal, work_refusal};
+use checkpoint_texts::{CheckpointReader, TextFault};
 use example_texts::{TWO_DIES, TWO_REPORT, TWO_SCRIPT};
 use plan_texts::plan_text;
 use slot_types::{Cause, Refusal};
@@ -134,6 +135,38 @@ fn a_plan_of_a_failing_reader_is_a_read_fault(rt: HostRuntime) {
             "{call}"
         );
         assert!(rt; reader.has_failed() != whole, "{call}");
+    }
+}
+
+/// A checkpoint of two dies, which takes more than 20 calls.
+const CHECKPOINT: &str = "checkpoint,1
+page,4,2,000102030405060708090a0b0c0d0e0f
+page,,,
+page,4,1,ffffffffffffffffffffffffffffffff
+page,,,
+page,1,3,
+block,0,7
+block,4,2
+block,0,0
+block,0,4294967295
+block,3,12
+block,0,1
+task,4
+task,0
+die,0,9
+page,,,
+block,0,0
+block,0,0
+task,10
+die,1,4294967295
+";
+
+#[test]
+fn a_checkpoint_of_a_failing_reader_is_a_read_fault(rt: HostRuntime) {
+    let alloc = rt.alloc();
+    for calls in [1u32, 2, 20] {
+        let reader = failing_at(CHECKPOINT.as_bytes(), calls);
+        assert!(rt; CheckpointReader::new(alloc, reader).checkpoint() == Err(TextFault::ReadFault));
     }
 }
 
