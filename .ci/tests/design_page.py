@@ -54,7 +54,7 @@ def doubled(items, first):
 def bytes_at_birth(die):
     """Of a die that is (blocks, pages, logical, tasks, whether its plan has times)."""
     blocks, pages, logical, tasks, has_times = die
-    return (1120 + 20 * blocks * pages + 4 * logical + 60 * blocks + 8 * (pages + 1) + 8 * -(-blocks // 64) + 53 * tasks
+    return (1136 + 20 * blocks * pages + 4 * logical + 60 * blocks + 8 * (pages + 1) + 8 * -(-blocks // 64) + 53 * tasks
             + (20 if has_times else 4) * doubled(tasks, 4))
 
 

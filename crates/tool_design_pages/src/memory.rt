@@ -82,7 +82,7 @@ fn at_birth(shape: &MemoryShape) -> u64 {
         0
     };
     sum(&[
-        1120,
+        1136,
         bytes(cells, 20),
         bytes(u64::from(shape.logical), 4),
         bytes(blocks, 60),
