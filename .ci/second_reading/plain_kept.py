@@ -3,6 +3,7 @@ Python. It reads nothing of the program, and looks at each slot of a life. `.ci/
 `.ci/second_reading/kept-runs` use it."""
 
 from bisect import bisect_right
+from functools import lru_cache
 
 from second_reading import plain_texts
 from second_reading.plain_terms import Fault, is_terms_text
@@ -15,6 +16,7 @@ OTHER = "its release isn't its slot, or its deadline isn't as many slots later a
 ORDER = ["OtherTimes", "DieStopped", "UnknownTask", "EmptyJob", "TooManyOps", "BadPage", "TooManyWrites", "TooSoon", "LifeEnd"]
 
 
+@lru_cache(maxsize=16)
 def terms_in(text):
     """The dies of a plan, each task with its terms: a task with times has its periods for its deadlines."""
     if is_terms_text(text):

@@ -17,29 +17,6 @@ const READ: Op = Op::Read(0);
 
 const WRITE: Op = Op::Write(1, PageData([1; 16]));
 
-/// Nothing was written, so no collection does anything, and the jobs run from slot 0 on, the first one first. Each counts
-/// for 400 slots.
-#[rattlefmt::skip]
-const CRASH: &[Step] = &[
-    AsksAll { task: 0, ops: &[READ; 150], want: Ok(Jobs { first: 0, jobs: 3 }) },
-    AsksAll { task: 0, ops: &[READ], want: Err(TooSoon { next: 400 }) },
-    Slots { count: 399 },
-    Is(Done { job: 0, completion: 64, lateness: -236 }),
-    Is(Done { job: 1, completion: 128, lateness: -172 }),
-    Is(Done { job: 2, completion: 150, lateness: -150 }),
-    AsksAll { task: 0, ops: &[READ; 150], want: Err(TooSoon { next: 400 }) },
-    Slots { count: 1 },
-    AsksAll { task: 0, ops: &[READ; 150], want: Ok(Jobs { first: 27, jobs: 3 }) },
-    Slots { count: 150 },
-    Is(Done { job: 29, completion: 550, lateness: -150 }),
-    Is(NothingLate),
-];
-
-#[test]
-fn a_burst_is_done_whole_by_its_deadline(rt: HostRuntime) {
-    assert_eq!(rt; plays(&rt, rt.alloc(), BURSTS, CRASH), Ok(()));
-}
-
 /// A hundred operations in slot 0 and fifty in slot 10 are all that a period has. Numbers show that a refused burst has
 /// left nothing: the jobs have 0, 1 and 4, and the collections of slot 0 have 2 and 3.
 #[rattlefmt::skip]
@@ -98,25 +75,9 @@ fn each_cause_of_a_refused_burst_comes_in_its_place(rt: HostRuntime) {
     assert_eq!(rt; plays(&rt, rt.alloc(), BURSTS, CAUSES), Ok(()));
 }
 
-/// The second task's jobs are due 400 slots later, so the first one's run before them.
-#[rattlefmt::skip]
-const TWO_TASKS: &[Step] = &[
-    AsksAll { task: 1, ops: &[READ; 70], want: Ok(Jobs { first: 0, jobs: 2 }) },
-    AsksAll { task: 0, ops: &[READ; 150], want: Ok(Jobs { first: 2, jobs: 3 }) },
-    AsksAll { task: 1, ops: &[READ], want: Err(TooSoon { next: 400 }) },
-    Slots { count: 220 },
-    Is(Done { job: 2, completion: 64, lateness: -236 }),
-    Is(Done { job: 4, completion: 150, lateness: -150 }),
-    Is(Done { job: 0, completion: 214, lateness: -186 }),
-    Is(Done { job: 1, completion: 220, lateness: -180 }),
-];
-
-#[test]
-fn bursts_of_two_tasks(rt: HostRuntime) {
-    assert_eq!(rt; plays(&rt, rt.alloc(), BURSTS, TWO_TASKS), Ok(()));
-}
-
-/// As `CRASH`, beside a task that asks for bursts in each slot: two jobs of it are accepted in slot 0, and two in slot 400.
+/// Nothing was written, so no collection does anything, and the jobs run from slot 0 on, the first one first. Each counts
+/// for 400 slots, beside a task that asks for bursts in each slot: two jobs of it are accepted in slot 0, and two in slot
+/// 400.
 #[rattlefmt::skip]
 const BESIDE_BURSTS: &[Step] = &[
     AsksAll { task: 0, ops: &[READ; 150], want: Ok(Jobs { first: 0, jobs: 3 }) },

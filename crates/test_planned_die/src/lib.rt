@@ -1,17 +1,16 @@
 //! Plays of a die that keeps its plan itself: two tasks, of which each is answered by its own asks alone.
 //!
+//! What rows of a script show of it in one life is in plays of `flashplan run --keep` (`planned_dies.txt` of
+//! demo_examples). Here are bursts, renewals, faults, and dies that go on by themselves.
+//!
 //! `plans` has the plans and `steps` the words of a test; `played` carries a step out. What is wanted is worked out from
-//! the rules (planned_log's README.md), and the numbers of collections that run from a second reading of them.
+//! the rules (planned_log's README.md).
 #![tactic(auto)]
 
 #[cfg(test)]
 mod again;
 #[cfg(test)]
-mod asks;
-#[cfg(test)]
 mod bursts;
-#[cfg(test)]
-mod collections;
 #[cfg(test)]
 mod dies;
 #[cfg(test)]
@@ -22,8 +21,6 @@ mod going_on;
 mod going_on_bursts;
 #[cfg(test)]
 mod lives;
-#[cfg(test)]
-mod loud_tasks;
 #[cfg(test)]
 mod memory;
 #[cfg(test)]

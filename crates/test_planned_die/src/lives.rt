@@ -1,8 +1,8 @@
-//! Lives: how long one is, what goes on from one to the next, and why the next one doesn't begin.
+//! Lives: what goes on from one to the next, and why the next one doesn't begin.
 
 use crate::dies::plays;
 use crate::plans::{PLAN, Plan};
-use crate::steps::Fact::{Done, Life, NothingLate, Now};
+use crate::steps::Fact::{Done, NothingLate, Now};
 use crate::steps::Step;
 use crate::steps::Step::{Asks, Carries, Is, NoSlot, Renews, Slots};
 use demand_rules::{Lack, SupplyFault, TermsFault};
@@ -11,32 +11,6 @@ use planned_die::{LifeRefusal, PlanRefusal};
 use slot_types::{Op, Refusal};
 
 const READ: Op = Op::Read(0);
-
-/// The second task's collections are due when the next one comes, so a life is a multiple of 16 slots. The first task's
-/// come each 20 slots, and are due 15 slots later: of 48 and 64 slots the last one isn't due by the end, and of 32
-/// neither.
-const LIVES: &[(u32, u32)] = &[(16, 16), (79, 16), (80, 80), (95, 80), (96, 96), (111, 96)];
-
-#[test]
-fn a_life_is_as_long_as_the_plan_allows(rt: HostRuntime) {
-    for (longest, slots) in LIVES {
-        let plan = Plan {
-            longest: *longest,
-            ..PLAN
-        };
-        let steps = [Is(Life { slots: *slots })];
-        assert_eq!(rt; plays(&rt, rt.alloc(), plan, steps.as_slice()), Ok(()));
-    }
-}
-
-#[test]
-fn a_plan_without_a_life_is_refused(rt: HostRuntime) {
-    let plan = Plan {
-        longest: 15,
-        ..PLAN
-    };
-    assert_eq!(rt; plays(&rt, rt.alloc(), plan, &[]), Err(PlanRefusal::NoLife));
-}
 
 /// 76 tenths of a page are needed.
 #[test]

@@ -7,7 +7,7 @@ use crate::steps::{Fact, Jobs, Step};
 use flash_die::Nand;
 use planned_die::{AskRefusal, Burst, PlannedDie};
 use slot_core::{Outcome, Worst};
-use slot_types::{JobNo, Op, PageData, Refusal, SlotReply};
+use slot_types::{JobNo, Op, Refusal, SlotReply};
 use std::alloc::Global;
 use std::process::Abort;
 
@@ -64,32 +64,6 @@ fn slots<N: Nand, R: Abort>(
     for _ in 0..count {
         let got = carry(die, alloc);
         said.fits(got.is_ok(), &got, &"a slot");
-    }
-}
-
-/// More than a job may have, whatever its task.
-const TOO_MUCH: &[Op] = &[Op::Read(0); 65];
-
-/// As much as the second task may ask for in a period.
-const ALL: &[Op] = &[
-    Op::Write(0, PageData([1; 16])),
-    Op::Write(1, PageData([1; 16])),
-    Op::Read(2),
-    Op::Read(3),
-];
-
-/// In each of so many slots the second task asks for too much, and for as much as it may in a period.
-fn babbles<N: Nand, R: Abort>(
-    said: &Reported<R>,
-    die: &mut PlannedDie<N>,
-    alloc: Global,
-    count: u32,
-) {
-    for _ in 0..count {
-        let got = ask(die, alloc, 1, TOO_MUCH);
-        said.same(&numbered(got), &Err(AskRefusal::TooManyOps { most: 4 }));
-        let _ = ask(die, alloc, 1, ALL);
-        slots(said, die, alloc, 1);
     }
 }
 
@@ -175,27 +149,7 @@ fn stands<N: Nand, R: Abort>(said: &Reported<R>, die: &PlannedDie<N>, alloc: Glo
             };
             ended(said, die, alloc, *job, want)
         }
-        Fact::Collected {
-            collection,
-            completion,
-            lateness,
-            given,
-        } => {
-            let want = End {
-                completion: *completion,
-                lateness: *lateness,
-                given: *given,
-            };
-            ended(said, die, alloc, *collection, want)
-        }
-        Fact::Waived { collection, given } => {
-            said.same(
-                &outcome_of(said.memory, die, alloc, *collection),
-                &Ok(Outcome::Waived { given: *given }),
-            )
-        }
         Fact::Now { slot, first } => said.same(&(die.now(), die.first()), &(*slot, *first)),
-        Fact::Life { slots } => said.same(&die.life(), slots),
         Fact::NothingLate => {
             let worst = die.worst();
             said.fits(!is_late(worst), &worst, &"nothing late")
@@ -220,7 +174,6 @@ fn goes<N: Nand, R: Abort>(
         ),
         Step::Carries { jobs } => carries(said, die, alloc, *jobs),
         Step::Slots { count } => slots(said, die, alloc, *count),
-        Step::Babbles { slots } => babbles(said, die, alloc, *slots),
         Step::Bursts { slots } => bursts(said, die, alloc, *slots),
         Step::NoSlot { want } => {
             let got = carry(die, alloc);

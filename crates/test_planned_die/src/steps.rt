@@ -44,11 +44,6 @@ pub(crate) enum Step<'a> {
     Slots {
         count: u32,
     },
-    /// In each of so many slots the second task asks for more than it ever may, and for as much as it may at once,
-    /// whatever it is answered; then the slot is carried out.
-    Babbles {
-        slots: u32,
-    },
     /// In each of so many slots the second task asks for a burst of one operation more than it ever may, and for one of as
     /// many as it may in a period, whatever it is answered; then the slot is carried out.
     Bursts {
@@ -75,26 +70,10 @@ pub(crate) enum Fact {
         completion: u32,
         lateness: i64,
     },
-    /// The collection is done, and gave its task so many pages.
-    Collected {
-        collection: u32,
-        completion: u32,
-        lateness: i64,
-        given: u32,
-    },
-    /// The collection was waived, and gave its task so many pages.
-    Waived {
-        collection: u32,
-        given: u32,
-    },
     /// The present slot of the life is this one, and the life began in this slot of the clock.
     Now {
         slot: u32,
         first: u64,
-    },
-    /// A life has so many slots.
-    Life {
-        slots: u32,
     },
     /// Nothing was done late.
     NothingLate,
