@@ -276,12 +276,6 @@ impl FlatJobs {
         Ok(number)
     }
 
-    /// How many places for what reads give have been filled.
-    #[cfg(test)]
-    pub(crate) fn place_count(&self) -> usize {
-        self.reads.len()
-    }
-
     /// It took one more slot, which wasn't a read of a job.
     pub(crate) fn carry(&mut self, number: JobNo)
         requires there { number < length self.old.jobs }

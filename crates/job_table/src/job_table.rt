@@ -139,12 +139,6 @@ impl JobTable {
         self.ended
     }
 
-    /// How many places for what reads give have been filled.
-    #[cfg(test)]
-    pub(crate) fn place_count(&self) -> usize {
-        self.jobs.place_count()
-    }
-
     /// The job or collection of a number, if there is one.
     pub fn job(&self, number: JobNo) -> Option<Job<'_>>
         ensures { slice_get self.now.jobs number ≡ result }

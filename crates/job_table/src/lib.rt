@@ -6,15 +6,9 @@ mod counted_ops;
 mod flat_jobs;
 mod job_table;
 mod jobs;
-#[cfg(test)]
-mod memory;
 mod queues;
 mod rows;
 mod stages;
-#[cfg(test)]
-mod tests;
-#[cfg(test)]
-mod twin;
 mod worst;
 
 pub use counted_ops::CountedOps;

@@ -1,7 +1,6 @@
 //! A table beside lists that each job has of its own: both say the same of each job, step by step.
 
-use crate::counted_ops::CountedOps;
-use crate::job_table::JobTable;
+use job_table::{CountedOps, JobTable};
 use slot_types::{
     JobHead, JobNo, LentOps, MAX_JOBS, MAX_OPS, Op, OpList, PageData, Refusal, TaskNo,
 };
