@@ -1,10 +1,10 @@
-use Rattle.std.proofs.Common.{◌≡◌, ◌+◌, List, map, length, nat_le, Some, refl, ap, sym, subst, ◌∙◌, arith, find}
+use Rattle.std.proofs.Common.{◌≡◌, ◌+◌, List, map, length, nat_le, Some, refl, ap, sym, subst, ◌∙◌, arith, find, ◌≤◌, get_or}
 use Rattle.std.specs.Prelude.{option_map}
 use Rattle.slot_types.specs.Operations.{page_of, writes}
 use Rattle.demand_rules.specs.declared.terms.TaskTerms.{TaskTerms}
 use Rattle.demand_rules.specs.Demand.{terms_of}
 use Rattle.planned_log.specs.AskKinds.{most_of}
-use Rattle.planned_die.specs.Remembered.{next_room, own_asks, jobs_of, AreKept}
+use Rattle.planned_die.specs.Remembered.{next_room, own_asks, jobs_of, AreKept, HasRoomFor}
 use Rattle.planned_die.specs.declared.memory.AskedJob.{AskedJob}
 use Rattle.planned_die.proofs.Waits.{bad_page_first, too_soon_first}
 use Rattle.planned_die.proofs.rooms.why_refused.Goals as goal
@@ -64,3 +64,33 @@ returns-clause-kept c =
     let same : c.args.first + c.from.result ≡ c.args.first + c.args.now = omega (arith, c.from.ensures) in
     subst (λ n. AreKept c.args.terms.now n c.too_soon.new.asked.items) same (c.too_soon.ensures.kept c.args.terms.now c.terms_at-own.ensures
     (subst (λ n. AreKept c.args.terms.now n c.args.asked.now.items) (sym same) c.requires.kept))
+
+pub too_soon-requires-clause-kept : goal.too_soon-requires-clause-kept
+too_soon-requires-clause-kept c =
+    let same : c.args.first + c.from.result ≡ c.args.first + c.args.now = omega (arith, c.from.ensures) in (
+      c.args.terms.now,
+      c.terms_at-own.ensures,
+      subst (λ n. AreKept c.args.terms.now n c.args.asked.now.items) (sym same) c.requires.kept,
+    )
+
+pub returns-in-Some-clause-memory : goal.returns-in-Some-clause-memory
+returns-in-Some-clause-memory c = c.too_soon.ensures.memory c.args.terms.now
+
+pub returns-then-from-clause-memory : goal.returns-then-from-clause-memory
+returns-then-from-clause-memory c = c.too_soon.ensures.memory c.args.terms.now
+
+pub returns-clause-memory : goal.returns-clause-memory
+returns-clause-memory c = c.too_soon.ensures.memory c.args.terms.now
+
+pub returns-clause-few : goal.returns-clause-few
+returns-clause-few c d =
+    subst (λ n. (get_or c.too_soon.new.asked.items n d).operations + length c.args.ops.now ≤ (terms_of c.args.terms.now n).work) c.task.view_is
+    (subst (λ (t : TaskTerms). (get_or c.too_soon.new.asked.items c.task.inside.0 d).operations + length c.args.ops.now ≤ t.work) c.terms_at-own.ensures
+    (c.in-None.ensures.few d))
+
+pub returns-clause-room : goal.returns-clause-room
+returns-clause-room c d =
+    subst (λ n. HasRoomFor (get_or c.too_soon.new.asked.items c.args.task d) (length c.args.ops.now) n) (c.writes-writes.ensures
+    ∙ ap writes (c.in-Ok.ensures.ok ∙ c.list.ensures))
+    (subst (λ n. HasRoomFor (get_or c.too_soon.new.asked.items n d) (length c.args.ops.now) c.writes-writes.result) c.task.view_is
+    (c.in-None.ensures.room d))

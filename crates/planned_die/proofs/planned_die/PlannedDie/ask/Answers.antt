@@ -1,9 +1,9 @@
-use Rattle.std.proofs.Common.{◌≡◌, ℕ, ◌+◌, ◌<◌, ◌≤◌, false, List, ◌∷◌, ◌++◌, [], length, get_or, set, map, drop, refl, ap, sym, subst, ◌∙◌, inr, arith}
+use Rattle.std.proofs.Common.{◌≡◌, ℕ, ◌+◌, ◌<◌, ◌≤◌, false, List, ◌∷◌, ◌++◌, [], length, get_or, set, map, drop, refl, ap, sym, subst, ◌∙◌, inr, arith, inl}
 use Rattle.std.proofs.lemmas.List.{length-map}
 use Rattle.slot_types.specs.declared.plans.DiePlan.{DiePlan}
 use Rattle.slot_types.specs.Operations.{writes}
 use Rattle.demand_rules.specs.declared.terms.TaskTerms.{TaskTerms}
-use Rattle.demand_rules.specs.Demand.{terms_of}
+use Rattle.demand_rules.specs.Demand.{terms_of, no_terms, IsTaskTerms}
 use Rattle.die_log.specs.Model.Log.{now}
 use Rattle.die_log.specs.Model.Lives.{Lives}
 use Rattle.planned_die.specs.declared.memory.AskedJob.{AskedJob}
@@ -209,3 +209,63 @@ returns-clause-lived g c =
     rw (← c.self.view_is) (asked_lived g.N.Nand.ends g.N.Nand.failures g.N.Nand.never_fails die c.args.caller c.args.task c.now-now.result c.terms_at-deadline.result.deadline
     c.args.ops.now unrefused c.submit_lent.new.self (map jobs_of c.note_job.new.asked.items) c.in-Ok.number c.in-Ok.ensures kept same
     (c.self.inside.first + c.from.result) at sums_at known some c.job_of.result c.job_of.ensures noted)
+
+pub why_refused-requires-clause-one_each : goal.why_refused-requires-clause-one_each
+why_refused-requires-clause-one_each g c =
+    sym (length-map c.self.inside.asked.items jobs_of) ∙ (c.self.invariant.0.one_each ∙ sym (ap (λ (p : DiePlan). length p.caps) c.plan.ensures))
+
+pub why_refused-requires-clause-kept : goal.why_refused-requires-clause-kept
+why_refused-requires-clause-kept g c =
+    subst (λ n. AreKept c.self.inside.terms (c.self.inside.first + n) c.self.inside.asked.items) (sym c.now-now.ensures) c.self.invariant.1
+
+pub invariant_of-self : goal.invariant_of-self
+invariant_of-self g c = (
+  rw c.why_refused.ensures.jobs c.self.invariant.0,
+  subst (λ n. AreKept c.self.inside.terms (c.self.inside.first + n) c.why_refused.new.asked.items) c.now-now.ensures c.why_refused.ensures.kept,
+  c.why_refused.ensures.memory c.self.invariant.2,
+)
+
+pub returns-then-is_stopped-clause-ask : goal.returns-then-is_stopped-clause-ask
+returns-then-is_stopped-clause-ask g c =
+    rw (← c.self.view_is) (λ earlier h. (refl, inl (sym c.is_stopped.ensures ∙ c.if-is_stopped.true, refl)))
+
+pub returns-then-is_stopped-clause-lived : goal.returns-then-is_stopped-clause-lived
+returns-then-is_stopped-clause-lived g c = rw (← c.self.view_is) (λ earlier h. h)
+
+pub returns-in-Some-clause-lived : goal.returns-in-Some-clause-lived
+returns-in-Some-clause-lived g c =
+    rw (← c.self.view_is) (λ earlier h. rw c.why_refused.ensures.jobs h)
+
+pub overflow_add-clock : goal.overflow_add-clock
+overflow_add-clock g c = omega (arith, c.from.ensures, c.self.invariant.0.early)
+
+pub overflow_add-now : goal.overflow_add-now
+overflow_add-now g c =
+    let known : c.args.task < length c.self.inside.terms.tasks = omega (
+      arith,
+      c.in-None.ensures.known,
+      ap (λ (p : DiePlan). length p.caps) c.plan.ensures,
+      c.self.invariant.0.lived.kept.demand.has.one_each,
+    ) in
+    let own : IsTaskTerms (terms_of c.self.inside.terms c.args.task) = c.self.invariant.0.lived.kept.demand.has.each c.args.task no_terms known in
+    omega (
+      arith,
+      c.now-now.ensures,
+      c.self.invariant.0.lived.kept.kept.within,
+      c.self.invariant.0.lived.kept.is_life.within,
+      own.few_deadline,
+      own.few_held,
+      ap (λ (t : TaskTerms). t.deadline) (c.terms_at-deadline.ensures ∙ ap (terms_of c.self.inside.terms) c.task.view_is),
+    )
+
+pub note_job-requires-clause-task : goal.note_job-requires-clause-task
+note_job-requires-clause-task g c =
+    omega (
+      arith,
+      c.in-None.ensures.known,
+      ap (λ (p : DiePlan). length p.caps) c.plan.ensures,
+      length-map c.why_refused.new.asked.items jobs_of,
+      ap length c.why_refused.ensures.jobs,
+      c.self.invariant.0.one_each,
+      c.task.view_is,
+    )

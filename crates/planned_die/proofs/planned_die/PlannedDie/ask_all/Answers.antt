@@ -1,8 +1,8 @@
-use Rattle.std.proofs.Common.{◌≡◌, ℕ, ◌+◌, ◌≤◌, None, List, length, length-drop, take, drop, ap, sym, subst, ◌∙◌, arith}
+use Rattle.std.proofs.Common.{◌≡◌, ◌+◌, ◌≤◌, None, List, length, length-drop, take, drop, ap, sym, subst, ◌∙◌, arith}
+use Rattle.slot_core.specs.Core.{Core}
 use Rattle.slot_types.specs.declared.limits.TheConstants.{MAX_OPS}
 use Rattle.slot_types.specs.declared.events.Op.{Op}
 use Rattle.die_log.specs.Model.Log.{jobs}
-use Rattle.die_log.specs.Model.Lives.{Lives}
 use Rattle.planned_log.specs.Bursts.{jobs_of}
 use Rattle.planned_log.proofs.Bursts.{jobs_more}
 use Rattle.planned_die.specs.Planned.{Planned, HasLived}
@@ -97,3 +97,16 @@ pub returns-clause-lived : goal.returns-clause-lived
 returns-clause-lived g c earlier h =
     c.enter_rest-more.ensures.lived earlier (c.enter-first.ensures.lived earlier
     (subst (λ (d : Planned g.row.N.Denot). HasLived d earlier) (sym c.refuses_burst.ensures.unchanged) h))
+
+pub enter_rest-more-requires-clause-runs : goal.enter_rest-more-requires-clause-runs
+enter_rest-more-requires-clause-runs g c =
+    let q = c.keeps_plan.ensures.lived in
+    ap (λ (core : Core g.row.N.Denot). core.stopped) (c.enter-first.ensures.asked q.0 q.1).entered.logged
+    ∙ (c.enter-first.ensures.asked q.0 q.1).ran
+
+pub returns-in-Some-clause-ask : goal.returns-in-Some-clause-ask
+returns-in-Some-clause-ask g c earlier h = (c.refuses_burst.ensures.unchanged, c.in-Some.ensures.some earlier h)
+
+pub returns-in-Some-clause-lived : goal.returns-in-Some-clause-lived
+returns-in-Some-clause-lived g c earlier h =
+    subst (λ (d : Planned g.row.N.Denot). HasLived d earlier) (sym c.refuses_burst.ensures.unchanged) h

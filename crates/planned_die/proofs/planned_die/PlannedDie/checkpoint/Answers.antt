@@ -23,3 +23,24 @@ returns-clause-stocked g c =
     subst (λ (t : Checkpoint). HaveEnough c.args.self.now.core.start.plan c.args.self.now.terms t.balances) (sym is)
     (ends_stocked c.args.self.now.core.start c.args.self.now.terms lived.0 c.args.self.now.life c.args.self.now.entered c.args.self.now.core.log
     lived.1.kept over held))
+
+pub returns-clause-ok : goal.returns-clause-ok
+returns-clause-ok g c = rw (← c.self.view_is) c.checkpoint.ensures.ok
+
+pub returns-clause-fits : goal.returns-clause-fits
+returns-clause-fits g c = rw (← c.self.view_is) c.checkpoint.ensures.fits
+
+pub returns-clause-left : goal.returns-clause-left
+returns-clause-left g c = rw (← c.self.view_is) c.checkpoint.ensures.left
+
+pub returns-clause-may : goal.returns-clause-may
+returns-clause-may g c = rw (← c.self.view_is) c.checkpoint.ensures.may
+
+pub returns-clause-refused : goal.returns-clause-refused
+returns-clause-refused g c = rw (← c.self.view_is) c.checkpoint.ensures.refused
+
+pub invariant_of-self : goal.invariant_of-self
+invariant_of-self g c = rw c.checkpoint.ensures.unchanged c.self.invariant
+
+pub returns-clause-unchanged : goal.returns-clause-unchanged
+returns-clause-unchanged g c = rw c.checkpoint.ensures.unchanged c.self.view_is

@@ -1,4 +1,5 @@
 use Rattle.std.proofs.Common.{map, ◌≤◌, ◌+◌, ◌∷◌, length, ap, sym, ◌∙◌, arith}
+use Rattle.std.proofs.lemmas.Grind.{common_steps}
 use Rattle.die_log.specs.Model.Log.{now}
 use Rattle.planned_die.specs.Remembered.{jobs_of}
 use Rattle.planned_die.specs.Planned.{Planned}
@@ -56,3 +57,36 @@ returns-in-Ok-clause-lived g c =
     rw (← c.self.view_is) (λ earlier h. next_lived die earlier h
     (ended die.core die.terms c.self.invariant.0.earlier die.life die.entered c.self.invariant.0.lived.kept over) c.renew.new.self
     (c.self.inside.first + c.from.result) c.in-Ok.ensures.ok (omega (arith, c.from.ensures, c.now-now.ensures)))
+
+pub invariant_of-self-in-Err-WornOut : goal.invariant_of-self-in-Err-WornOut
+invariant_of-self-in-Err-WornOut g c = grind (arith, common_steps)
+
+pub overflow_add-next : goal.overflow_add-next
+overflow_add-next g c = grind (arith, common_steps)
+
+pub returns-in-Err-WornOut-clause-refused : goal.returns-in-Err-WornOut-clause-refused
+returns-in-Err-WornOut-clause-refused g c = grind (arith, common_steps)
+
+pub returns-in-Err-WornOut-clause-unchanged : goal.returns-in-Err-WornOut-clause-unchanged
+returns-in-Err-WornOut-clause-unchanged g c = grind (arith, common_steps)
+
+pub returns-in-Ok-clause-ended : goal.returns-in-Ok-clause-ended
+returns-in-Ok-clause-ended g c = grind (arith, common_steps)
+
+pub returns-in-Ok-clause-may : goal.returns-in-Ok-clause-may
+returns-in-Ok-clause-may g c = grind (arith, common_steps)
+
+pub returns-in-Ok-clause-ok : goal.returns-in-Ok-clause-ok
+returns-in-Ok-clause-ok g c = grind (arith, common_steps)
+
+pub returns-then-is_stopped-clause-refused : goal.returns-then-is_stopped-clause-refused
+returns-then-is_stopped-clause-refused g c = grind (arith, common_steps)
+
+pub returns-then-next-gt-LAST_BEGINNING-clause-refused : goal.returns-then-next-gt-LAST_BEGINNING-clause-refused
+returns-then-next-gt-LAST_BEGINNING-clause-refused g c = grind (arith, common_steps)
+
+pub returns-then-now-self-clause-refused : goal.returns-then-now-self-clause-refused
+returns-then-now-self-clause-refused g c = grind (arith, common_steps)
+
+pub unreachable-requires-in-Err-DieStopped : goal.unreachable-requires-in-Err-DieStopped
+unreachable-requires-in-Err-DieStopped g c = grind (arith, common_steps)

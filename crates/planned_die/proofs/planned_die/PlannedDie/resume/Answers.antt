@@ -1,4 +1,11 @@
 use Rattle.std.proofs.Common.{◌≡◌, ℕ, ◌≤◌, List, [], length, map, refl, ap, sym, subst, ◌∙◌, arith}
+use Rattle.slot_types.specs.declared.plans.Shape.{Shape}
+use Rattle.demand_rules.specs.declared.terms.Terms.{Terms}
+use Rattle.die_checkpoint.specs.Fits.{Fits}
+use Rattle.die_checkpoint.specs.declared.checkpoint.Checkpoint.{Checkpoint}
+use Rattle.planned_die.specs.declared.resumptions.PlanResumeRefusal.{PlanResumeRefusal}
+use Rattle.planned_die.specs.declared.resumptions.PlanResumeRefusal.TheVariants as refuses
+use Rattle.planned_die.specs.NewPlans.{IsSomeLife}
 use Rattle.std.specs.Prelude.{All}
 use Rattle.slot_types.specs.declared.plans.DiePlan.{DiePlan}
 use Rattle.demand_rules.specs.Demand.{PassesDemand}
@@ -7,15 +14,23 @@ use Rattle.die_log.specs.Model.Start.{Start}
 use Rattle.die_log.specs.Model.Opening.{IsOpening}
 use Rattle.die_log.specs.Results.DemandedLives.{AreFull}
 use Rattle.slot_core.specs.Core.{Core}
-use Rattle.slot_core.specs.Resumptions.{resumed_start}
+use Rattle.slot_core.specs.Resumptions.{resumed_start, RefusesResume}
 use Rattle.planned_log.specs.Lives.{IsLife}
 use Rattle.planned_die.specs.declared.memory.AskedJob.{AskedJob}
 use Rattle.planned_die.specs.Remembered.{jobs_of}
 use Rattle.planned_die.specs.Planned.{HasLived, with_life}
-use Rattle.planned_die.specs.Resuming.{HaveEnough, lacked, lacks_of}
+use Rattle.planned_die.specs.Resuming.{HaveEnough, lacked, lacks_of, RefusesPlanned, RefusesPlanResume}
 use Rattle.planned_die.proofs.Resuming.{resumed_lived, full_lived, early_lacks, one_each}
 use Rattle.planned_die.proofs.Reserved.{life_reserved}
 use Rattle.planned_die.proofs.planned_die.PlannedDie.resume.Goals as goal
+
+-- what preparing refuses, resuming refuses
+not_prepared : (plan : DiePlan) (terms : Terms) (longest : ℕ) (taken : Checkpoint) (shape : Shape) (r : PlanResumeRefusal) → shape ≡ plan.shape
+    → Fits plan taken → RefusesPlanned plan terms longest taken.balances r → RefusesPlanResume plan terms longest taken shape r
+not_prepared plan terms longest taken shape (refuses.Die why) same fits h = subst (λ w. RefusesResume plan taken shape w) (sym h) (same, fits.all_else)
+not_prepared plan terms longest taken shape (refuses.Terms fault) same fits h = (fits, h)
+not_prepared plan terms longest taken shape refuses.NoLife same fits h = (fits, h)
+not_prepared plan terms longest taken shape (refuses.NotStocked shortage) same fits h = (fits, h)
 
 -- the die below with memory for its life
 pub returns-clause-ok : goal.returns-clause-ok
@@ -147,3 +162,38 @@ pub prepare-requires-clause-tasks : goal.prepare-requires-clause-tasks
 prepare-requires-clause-tasks g c =
     let plan_is : c.in-Ok.core.start.plan ≡ c.args.plan = ap (λ (core : Core g.row.N.Denot). core.start.plan) c.in-Ok.ensures.ok in
     ap length c.as_slice.ensures ∙ (c.in-Ok.ensures.fits.all_else.blocks.plan_is.shape.tasks ∙ sym (ap (λ (p : DiePlan). length p.caps) plan_is))
+
+pub prepare-requires-clause-bound : goal.prepare-requires-clause-bound
+prepare-requires-clause-bound g c = c.promises.ensures.opens.bound
+
+pub returns-clause-life : goal.returns-clause-life
+returns-clause-life g c =
+    let plan_is : c.in-Ok.core.start.plan ≡ c.args.plan = ap (λ (core : Core g.row.N.Denot). core.start.plan) c.in-Ok.ensures.ok in
+    subst (λ (p : DiePlan). IsSomeLife p c.args.terms c.args.longest c.in-Ok-prepare.made.life) plan_is c.in-Ok-prepare.ensures.life
+
+pub returns-clause-longer : goal.returns-clause-longer
+returns-clause-longer g c other h =
+    let plan_is : c.in-Ok.core.start.plan ≡ c.args.plan = ap (λ (core : Core g.row.N.Denot). core.start.plan) c.in-Ok.ensures.ok in
+    c.in-Ok-prepare.ensures.longer other (subst (λ (p : DiePlan). IsSomeLife p c.args.terms c.args.longest other) (sym plan_is) h)
+
+pub returns-clause-passes : goal.returns-clause-passes
+returns-clause-passes g c =
+    let plan_is : c.in-Ok.core.start.plan ≡ c.args.plan = ap (λ (core : Core g.row.N.Denot). core.start.plan) c.in-Ok.ensures.ok in
+    subst (λ (p : DiePlan). PassesDemand p c.args.terms × PassesSupply p c.args.terms) plan_is c.in-Ok-prepare.ensures.passes
+
+pub returns-clause-stocked : goal.returns-clause-stocked
+returns-clause-stocked g c =
+    let plan_is : c.in-Ok.core.start.plan ≡ c.args.plan = ap (λ (core : Core g.row.N.Denot). core.start.plan) c.in-Ok.ensures.ok in
+    subst (λ (b : List ℕ). HaveEnough c.args.plan c.args.terms b) c.as_slice.ensures
+    (subst (λ (p : DiePlan). HaveEnough p c.args.terms c.as_slice.result.now) plan_is c.in-Ok-prepare.ensures.stocked)
+
+pub returns-in-Err-prepare-clause-refused : goal.returns-in-Err-prepare-clause-refused
+returns-in-Err-prepare-clause-refused g c =
+    let plan_is : c.in-Ok.core.start.plan ≡ c.args.plan = ap (λ (core : Core g.row.N.Denot). core.start.plan) c.in-Ok.ensures.ok in
+    not_prepared c.args.plan c.args.terms c.args.longest c.args.checkpoint.now _ c.in-Err-prepare.refusal c.in-Ok.ensures.shape c.in-Ok.ensures.fits
+    (subst (λ (b : List ℕ). RefusesPlanned c.args.plan c.args.terms c.args.longest b c.in-Err-prepare.refusal) c.as_slice.ensures
+    (subst (λ (p : DiePlan). RefusesPlanned p c.args.terms c.args.longest c.as_slice.result.now c.in-Err-prepare.refusal) plan_is c.in-Err-prepare.ensures.refused))
+
+pub returns-in-Err-prepare-clause-device : goal.returns-in-Err-prepare-clause-device
+returns-in-Err-prepare-clause-device g c =
+    c.into_device.ensures ∙ (c.in-Err-prepare.ensures.device ∙ ap (λ (core : Core g.row.N.Denot). core.device) c.in-Ok.ensures.ok)
