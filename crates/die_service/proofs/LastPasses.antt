@@ -1,7 +1,7 @@
 -- Closing the dies of a store.
 use Rattle.std.proofs.Common.{◌≡◌, ◌≤◌, ◌+◌, ℕ, suc, inl, inr, Bool, true, false, List, [], ◌∷◌, ◌++◌, length, map, take, drop, Some, refl}
 use Rattle.std.proofs.Common.{ap, sym, subst, ◌∙◌, arith}
-use Rattle.std.proofs.lemmas.List.{append-nil}
+use Rattle.std.proofs.lemmas.List.{append-nil, append_assoc}
 use Rattle.std.specs.List.{AllByRecursion, AllZip}
 use Rattle.slot_core.specs.Core.{Core}
 use Rattle.turn_lock.specs.Log.{AllBy}
@@ -112,3 +112,12 @@ next_own f all rest dies later p die own at is = tail (f p) die (map f rest) lat
 pub as_they_are : {A : Type 0} (xs : List A) → map (λ x. x) xs ≡ xs
 as_they_are [] = refl
 as_they_are (x ∷ xs) = ap (λ rest. x ∷ rest) (as_they_are xs)
+
+-- one item more of a list was taken
+pub more_yielded : {A : Type 0} (all yielded left : List A) (x : A) (rest : List A) → all ≡ yielded ++ left → left ≡ x ∷ rest
+    → all ≡ (yielded ++ x ∷ []) ++ rest
+more_yielded all yielded left x rest is step = is ∙ (ap (λ xs. yielded ++ xs) step ∙ sym (append_assoc yielded (x ∷ []) rest))
+
+-- a list that is as long as another, as a count was made of it
+pub room_for : (new old items len count room : ℕ) → new ≡ old → old ≡ items → len ≡ items → count ≡ len → room ≡ count → new ≤ room
+room_for new old items len count room a b c d e = omega arith

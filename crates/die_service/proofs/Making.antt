@@ -88,6 +88,10 @@ pub last_all : {X : Type 0} (P : X → Type 0) (xs : List X) (x : X) → AllByRe
 last_all P [] x all = all.0
 last_all P (y ∷ xs) x all = last_all P xs x all.1
 
+pub front_all : {X : Type 0} (P : X → Type 0) (xs : List X) (ys : List X) → AllByRecursion P (xs ++ ys) → AllByRecursion P xs
+front_all P [] ys all = tt
+front_all P (x ∷ xs) ys all = (all.0, front_all P xs ys all.1)
+
 -- Renewed dies
 
 module _ {N : Type 0} where
@@ -106,3 +110,18 @@ module _ {N : Type 0} where
   -- a renewed die is at its start
   pub renewed_at_start : (dies afters : List (Core N)) → AreRenewed dies afters → All IsAtStart afters
   renewed_at_start dies afters are = All-from_recursion IsAtStart afters (renewed_by dies afters are)
+
+  pub renewed_length : (dies afters : List (Core N)) → AreRenewed dies afters → length afters ≡ length dies
+  renewed_length [] [] are = refl
+  renewed_length [] (after ∷ afters) are = absurd are
+  renewed_length (die ∷ dies) [] are = absurd are
+  renewed_length (die ∷ dies) (after ∷ afters) are = ap suc (renewed_length dies afters are.2)
+
+  -- no die was renewed where there is none
+  pub none_renewed : (dies : List (Core N)) → length dies ≡ 0 → AreRenewed dies dies
+  none_renewed [] none = tt
+  none_renewed (die ∷ dies) none = absurd (omega (arith, none))
+
+pub none_of : {X : Type 0} (P : X → Type 0) (xs : List X) → length xs ≡ 0 → AllByRecursion P xs
+none_of P [] none = tt
+none_of P (x ∷ xs) none = absurd (omega (arith, none))

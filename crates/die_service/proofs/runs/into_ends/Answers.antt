@@ -7,3 +7,15 @@ returns-clause-ends g c = grind (arith, common_steps)
 
 pub returns-clause-passes : goal.returns-clause-passes
 returns-clause-passes g c = grind (arith, common_steps)
+
+pub loop-worked-init : goal.loop-worked-init
+loop-worked-init g c = grind (arith, common_steps)
+
+pub push_reserved-requires : goal.push_reserved-requires
+push_reserved-requires g c = grind (arith, common_steps)
+
+pub push_reserved-requires-in-loop-worked : goal.push_reserved-requires-in-loop-worked
+push_reserved-requires-in-loop-worked g c = grind (arith, common_steps)
+
+pub loop-worked-preserved : goal.loop-worked-preserved
+loop-worked-preserved g c = grind (arith, common_steps)

@@ -33,3 +33,12 @@ returns-clause-stays g c = grind (arith, common_steps)
 
 pub returns-clause-own : goal.returns-clause-own
 returns-clause-own g c = grind (arith, common_steps)
+
+pub run_batches-requires-clause-own : goal.run_batches-requires-clause-own
+run_batches-requires-clause-own g c = grind (arith, common_steps)
+
+pub run_batches-requires-clause-batches : goal.run_batches-requires-clause-batches
+run_batches-requires-clause-batches g c = grind (arith, common_steps)
+
+pub run_batches-requires-clause-workers : goal.run_batches-requires-clause-workers
+run_batches-requires-clause-workers g c = grind (arith, common_steps)

@@ -1,19 +1,22 @@
-use Rattle.std.proofs.Common.{◌+◌, ◌∷◌, [], ◌++◌, All, arith, length, map, refl, sym, ap, ◌∙◌, subst, rules}
-use Rattle.std.proofs.lemmas.List.{append_assoc, length-append, map-append}
+use Rattle.std.proofs.Common.{◌+◌, ◌∷◌, [], ◌++◌, All, arith, length, map, refl, sym, ap, ◌∙◌, subst, ℕ}
+use Rattle.std.proofs.lemmas.List.{length-append, map-append}
 use Rattle.std.proofs.lemmas.List.Elements.{All-push}
 use Rattle.std.specs.List.{AllZip}
 use Rattle.std.specs.Vec.Iter.{into_iter_items}
 use Rattle.die_log.specs.Model.Start.{fresh}
 use Rattle.die_service.specs.Stores.{HasUsablePlans, IsAtStart}
+use Rattle.slot_types.specs.declared.plans.DiePlan.{DiePlan}
+use Rattle.die_service.proofs.LastPasses.{more_yielded}
 use Rattle.die_service.proofs.Making.{IsReady, all_ready, start_of}
 use Rattle.die_service.proofs.store.new_cores.Goals as goal
 
 pub loop-plan-init : goal.loop-plan-init
 loop-plan-init g c =
-    let served : HasUsablePlans c.args.plans.items (length c.args.nands.items) = search rules in record {
+    let served : HasUsablePlans c.args.plans.items (length c.args.nands.items) =
+    subst (λ (n : ℕ). HasUsablePlans c.args.plans.items n) c.args.nands.ok.0 c.requires.served in record {
       can_next = tt;
       is_finite = tt;
-      room = search rules;
+      room = omega (arith, c.in_ok-cores.ensures.exact, c.len.ensures);
       plans = sym c.into_iter-plan-iterator.ensures.into_iter_gives.0;
       cores = c.in_ok-cores.ensures.len;
       starts = rw c.in_ok-cores.ensures.items refl;
@@ -35,8 +38,7 @@ loop-plan-preserved g c =
       can_next = tt;
       is_finite = tt;
       room = pushed.capacity ∙ i.room;
-      plans = i.plans ∙ (ap (λ xs. c.loop-plan.yielded ++ xs) step
-          ∙ sym (append_assoc c.loop-plan.yielded (c.in-Some.plan ∷ []) (into_iter_items c.next.new.self)));
+      plans = more_yielded {A = DiePlan} _ c.loop-plan.yielded _ c.in-Some.plan _ i.plans step;
       cores = pushed.len ∙ (ap (λ n. n + 1) i.cores ∙ sym (length-append c.loop-plan.yielded (c.in-Some.plan ∷ [])));
       starts = ap (map start_of) pushed.items ∙ map-append start_of c.loop-plan.cores.items (core ∷ [])
           ∙ ap (λ l. l ++ core.start ∷ []) i.starts
