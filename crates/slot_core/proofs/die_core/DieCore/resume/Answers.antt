@@ -1,4 +1,5 @@
-use Rattle.std.proofs.Common.{◌≡◌, refl, sym, ◌∙◌, ap}
+use Rattle.std.proofs.lemmas.Grind.{common_steps}
+use Rattle.std.proofs.Common.{◌≡◌, refl, sym, ◌∙◌, ap, arith}
 use Rattle.job_table.specs.Table.{Table, empty_table}
 use Rattle.slot_core.specs.TableLog.{log_of}
 use Rattle.slot_core.proofs.Keeping.{same_shape}
@@ -24,3 +25,78 @@ invariant_of-result g c =
       rw (c.in-Ok-new.ensures.ok, c.new-in-Ok-resume.ensures) marks_none,
       room.1,
     )
+
+pub returns-then-ne-clause-ok : goal.returns-then-ne-clause-ok
+returns-then-ne-clause-ok g c = tt
+
+pub returns-then-ne-clause-fits : goal.returns-then-ne-clause-fits
+returns-then-ne-clause-fits g c = tt
+
+pub returns-then-ne-clause-shape : goal.returns-then-ne-clause-shape
+returns-then-ne-clause-shape g c = tt
+
+pub returns-then-ne-clause-refused : goal.returns-then-ne-clause-refused
+returns-then-ne-clause-refused g c = grind (arith, common_steps)
+
+pub returns-then-ne-clause-device : goal.returns-then-ne-clause-device
+returns-then-ne-clause-device g c = refl
+
+pub returns-in-Err-clause-ok : goal.returns-in-Err-clause-ok
+returns-in-Err-clause-ok g c = tt
+
+pub returns-in-Err-clause-fits : goal.returns-in-Err-clause-fits
+returns-in-Err-clause-fits g c = tt
+
+pub returns-in-Err-clause-shape : goal.returns-in-Err-clause-shape
+returns-in-Err-clause-shape g c = tt
+
+pub returns-in-Err-clause-refused : goal.returns-in-Err-clause-refused
+returns-in-Err-clause-refused g c = grind (arith, common_steps)
+
+pub returns-in-Err-clause-device : goal.returns-in-Err-clause-device
+returns-in-Err-clause-device g c = refl
+
+pub returns-in-Err-new-clause-ok : goal.returns-in-Err-new-clause-ok
+returns-in-Err-new-clause-ok g c = tt
+
+pub returns-in-Err-new-clause-fits : goal.returns-in-Err-new-clause-fits
+returns-in-Err-new-clause-fits g c = tt
+
+pub returns-in-Err-new-clause-shape : goal.returns-in-Err-new-clause-shape
+returns-in-Err-new-clause-shape g c = tt
+
+pub returns-in-Err-new-clause-refused : goal.returns-in-Err-new-clause-refused
+returns-in-Err-new-clause-refused g c = grind (arith, common_steps)
+
+pub returns-in-Err-new-clause-device : goal.returns-in-Err-new-clause-device
+returns-in-Err-new-clause-device g c = refl
+
+pub returns-in-Err-resume-clause-ok : goal.returns-in-Err-resume-clause-ok
+returns-in-Err-resume-clause-ok g c = tt
+
+pub returns-in-Err-resume-clause-fits : goal.returns-in-Err-resume-clause-fits
+returns-in-Err-resume-clause-fits g c = tt
+
+pub returns-in-Err-resume-clause-shape : goal.returns-in-Err-resume-clause-shape
+returns-in-Err-resume-clause-shape g c = tt
+
+pub returns-in-Err-resume-clause-refused : goal.returns-in-Err-resume-clause-refused
+returns-in-Err-resume-clause-refused g c = grind (arith, common_steps)
+
+pub returns-in-Err-resume-clause-device : goal.returns-in-Err-resume-clause-device
+returns-in-Err-resume-clause-device g c = grind (arith, common_steps)
+
+pub returns-in-Ok-resume-clause-ok : goal.returns-in-Ok-resume-clause-ok
+returns-in-Ok-resume-clause-ok g c = grind (arith, common_steps)
+
+pub returns-in-Ok-resume-clause-fits : goal.returns-in-Ok-resume-clause-fits
+returns-in-Ok-resume-clause-fits g c = grind (arith, common_steps)
+
+pub returns-in-Ok-resume-clause-shape : goal.returns-in-Ok-resume-clause-shape
+returns-in-Ok-resume-clause-shape g c = grind (arith, common_steps)
+
+pub returns-in-Ok-resume-clause-refused : goal.returns-in-Ok-resume-clause-refused
+returns-in-Ok-resume-clause-refused g c = tt
+
+pub returns-in-Ok-resume-clause-device : goal.returns-in-Ok-resume-clause-device
+returns-in-Ok-resume-clause-device g c = tt
