@@ -1,6 +1,8 @@
-use Rattle.std.proofs.Common.{rules, ◌≡◌, ◌<◌, ◌∙◌, Some, arith, ap, length, map}
-use Rattle.std.proofs.lemmas.List.{drop-set-lt}
-use Rattle.std.proofs.lemmas.Grind.{drop_more_same}
+use Rattle.std.proofs.Common.{rules, ◌≡◌, ◌<◌, ◌∙◌, List, [], ◌∷◌, Some, arith, ap, length, map}
+use Rattle.std.proofs.lemmas.List.{drop-set-lt, take_all}
+use Rattle.std.proofs.lemmas.Grind.{drop_more_same, common_steps}
+use Rattle.report_texts.specs.TextSoFar.{text_so_far}
+use Rattle.task_script.specs.declared.die_texts.DieText.{DieText}
 use Rattle.task_script.proofs.Parting.{taken_more}
 use Rattle.task_script.proofs.die_texts.parts_in.Goals as goal
 
@@ -15,3 +17,11 @@ loop-made-preserved c =
       left = drop-set-lt _ c.loop-made.texts c.loop-made.made-index _ (omega arith)
           ∙ drop_more_same c.loop-made.texts c.args.texts.now c.loop-made.made-index c.loop-made.invariant.left;
     }
+
+pub loop-made-init : goal.loop-made-init
+loop-made-init c = grind (arith, common_steps)
+
+pub returns-clause-ok : goal.returns-clause-ok
+returns-clause-ok c =
+    c.loop-made.invariant.parts ∙ ap (λ (texts : List DieText). Some (text_so_far []) ∷ map (λ (text : DieText). text.text) texts)
+    (take_all c.loop-made.made-index c.args.texts.now c.loop-made-test.false)

@@ -1,4 +1,5 @@
-use Rattle.std.proofs.Common.{◌∙◌, rules, subst}
+use Rattle.std.proofs.Common.{◌∙◌, rules, subst, arith}
+use Rattle.std.proofs.lemmas.Grind.{common_steps}
 use Rattle.die_service.proofs.LastPasses.{written}
 use Rattle.task_script.proofs.Parting.{made_length, parts_are}
 use Rattle.task_script.specs.DieTexts.{AreMade}
@@ -12,3 +13,9 @@ returns-clause-ok g c =
     let whole = c.as_mut_slice-2.ensures.value ∙ written c.in_ok-texts.texts.len c.in_ok-texts.texts.items c.make_all.new.texts same (search rules) in
     ok_weaker _ _ c.parts_in.result (λ parts gathered. parts_are _ _ c.make_all.new.texts _ c.in_ok-texts.ensures.ok made (rw whole at gathered))
     c.parts_in.ensures.ok
+
+pub make_all-requires-clause-few : goal.make_all-requires-clause-few
+make_all-requires-clause-few g c κs within = grind (arith, common_steps)
+
+pub make_all-requires-clause-threads : goal.make_all-requires-clause-threads
+make_all-requires-clause-threads g c κs within = c.requires.threads

@@ -1,4 +1,5 @@
-use Rattle.std.proofs.Common.{◌≡◌, ◌∙◌, [], sym}
+use Rattle.std.proofs.Common.{◌≡◌, ◌∙◌, [], sym, arith}
+use Rattle.std.proofs.lemmas.Grind.{common_steps}
 use Rattle.std.proofs.lemmas.List.{nil_from_length}
 use Rattle.std.specs.Vec.Iter.{into_iter_items}
 use Rattle.task_script.proofs.RanDies.{linked_later, rest_end, rest_more}
@@ -27,3 +28,9 @@ returns-clause-ok g c =
     (sym c.loop-die.die-iterator.rest.ok.0 ∙ c.in-None.ensures.steps.0) in
     rest_end c.args.senders.items (into_iter_items c.loop-die.senders) c.args.dies.items (into_iter_items c.loop-die.die-iterator)
     c.loop-die.ran.items none c.loop-die.invariant.linked c.loop-die.invariant.run
+
+pub unreachable-requires : goal.unreachable-requires
+unreachable-requires g c = grind (arith, common_steps)
+
+pub run_rest-requires-clause-linked : goal.run_rest-requires-clause-linked
+run_rest-requires-clause-linked g c κs within = grind (arith, common_steps)

@@ -1,4 +1,5 @@
 use Rattle.std.proofs.Common.{[], ◌∷◌, ◌++◌, ◌∙◌, ap, arith, length, length-append, subst, sym}
+use Rattle.std.proofs.lemmas.Grind.{common_steps}
 use Rattle.std.specs.List.{AllZip}
 use Rattle.die_service.specs.Stores.{IsClosedWith}
 use Rattle.task_script.specs.DieStores.{passes_of}
@@ -30,3 +31,9 @@ parts_of-requires-clause-few g c =
       ap length c.loop-die.invariant.dies,
       length-append c.loop-die.yielded (into_iter_items c.loop-die.die-iterator),
     )
+
+pub returns-clause-closed : goal.returns-clause-closed
+returns-clause-closed g c = grind (arith, common_steps)
+
+pub joined-count-requires : goal.joined-count-requires
+joined-count-requires g c = record { counted = grind (arith, common_steps) }

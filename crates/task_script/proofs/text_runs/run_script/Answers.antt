@@ -1,7 +1,9 @@
-use Rattle.std.proofs.Common.{◌≡◌, ◌≤◌, ◌∙◌, List, ap, arith, length, subst, sym}
+use Rattle.std.proofs.Common.{◌≡◌, ◌≤◌, ◌∙◌, List, ap, arith, length, subst, sym, All}
+use Rattle.std.proofs.lemmas.Grind.{common_steps}
 use Rattle.std.proofs.lemmas.List.Elements.{All-from_recursion, recursion_from_All}
 use Rattle.rtrb.specs.Ring.{received}
 use Rattle.slot_types.specs.declared.plans.DiePlan.{DiePlan}
+use Rattle.plan_rules.specs.Bound.{MeetsBound}
 use Rattle.script_texts.specs.ScriptLeft.{line_of, script_rows_left}
 use Rattle.task_script.specs.DieStores.{CanClose}
 use Rattle.task_script.specs.Feeds.{RefusesScript}
@@ -88,3 +90,37 @@ returns-in-Refused-clause-refused g c =
     (texts_as first new _ _ _ _ _ _ _ _ c.in_ok-reader.ensures.dies c.in_ok-reader.ensures.slots c.in_ok-sent.ensures.rows))
     (runs_read c.as_slice.result.now dies c.in_ok-sent.ensures.ran
     (sym (rw c.as_slice-2.ensures.value at c.first_refusal.ensures) ∙ c.in-None.is))
+
+pub send_script-requires-clause-dies : goal.send_script-requires-clause-dies
+send_script-requires-clause-dies g c κs within = grind (arith, common_steps)
+
+pub send_script-requires-clause-first : goal.send_script-requires-clause-first
+send_script-requires-clause-first g c κs within = grind (arith, common_steps)
+
+pub send_script-requires-clause-slots : goal.send_script-requires-clause-slots
+send_script-requires-clause-slots g c κs within = c.in_ok-reader.ensures.slots
+
+pub send_script-requires-clause-few : goal.send_script-requires-clause-few
+send_script-requires-clause-few g c κs within = c.requires.few
+
+pub send_script-requires-clause-bound : goal.send_script-requires-clause-bound
+send_script-requires-clause-bound g c κs within =
+    subst (λ (plans : List DiePlan). All MeetsBound plans) (sym c.as_slice.ensures) c.requires.bound
+
+pub ran_dies-requires : goal.ran_dies-requires
+ran_dies-requires g c = sym (rw c.as_slice-2.ensures.value at c.first_refusal.ensures) ∙ c.in-None.is
+
+pub finish-requires-clause-few : goal.finish-requires-clause-few
+finish-requires-clause-few g c κs within =
+    let dies = c.in_ok-sent.sent.dies.items in
+    let all = all_come c.args.slots c.as_slice.result.now dies c.in_ok-dies-in-Ended.dies.items c.in_ok-sent.ensures.ran
+    c.in_ok-dies-in-Ended.ensures.ok
+    (recursion_from_All (λ (r : RunningDie). until_of (received r.batches) ≡ c.args.slots) dies (c.in_ok-sent.ensures.last c.in-Ended.is))
+    (recursion_from_All (λ (r : RunningDie). length (received r.batches) ≤ 1000003) dies c.in_ok-sent.ensures.few) in
+    omega (arith, all.long, ap length c.as_slice.ensures, c.requires.dies)
+
+pub finish-requires-clause-workers : goal.finish-requires-clause-workers
+finish-requires-clause-workers g c κs within = c.requires.workers
+
+pub unreachable-requires : goal.unreachable-requires
+unreachable-requires g c = c.in_ok-sent.ensures.over c.in-More.is
