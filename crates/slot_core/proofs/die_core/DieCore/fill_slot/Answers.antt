@@ -1,3 +1,4 @@
+use Rattle.std.proofs.lemmas.Grind.{common_steps}
 use Rattle.job_table.specs.Reserves.{Reserve}
 use Rattle.std.proofs.Common.{ap, sym, ◌∙◌, inl, inr, refl, rules, arith}
 use Rattle.slot_types.specs.declared.events.Event.TheVariants.{Slot}
@@ -44,3 +45,18 @@ returns-in-Err-carry_out g c =
       device = rw (← c.reserve.ensures.events) (used g.N.Nand.ends g.N.Nand.failures g.N.Nand.never_fails _
           (λ _. Answered c.carry_out.new.reply) _ _ _ c.in-Err-carry_out.ensures.calls c.in-Err-carry_out.ensures.fails.by_fault);
     })
+
+pub returns-in-Ok-carry_out : goal.returns-in-Ok-carry_out
+returns-in-Ok-carry_out g c = grind (arith, common_steps)
+
+pub invariant_of-self : goal.invariant_of-self
+invariant_of-self g c = grind (arith, common_steps)
+
+pub invariant_of-self-in-Err-carry_out : goal.invariant_of-self-in-Err-carry_out
+invariant_of-self-in-Err-carry_out g c = grind (arith, common_steps)
+
+pub invariant_of-self-in-Ok-carry_out : goal.invariant_of-self-in-Ok-carry_out
+invariant_of-self-in-Ok-carry_out g c = grind (arith, common_steps)
+
+pub overflow_add-self : goal.overflow_add-self
+overflow_add-self g c = grind (arith, common_steps)

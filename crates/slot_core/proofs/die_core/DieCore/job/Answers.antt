@@ -34,9 +34,12 @@ returns-in-None-clause-ok g c = tt
 
 pub returns-in-None-clause-unknown : goal.returns-in-None-clause-unknown
 returns-in-None-clause-unknown g c =
-    rw (← c.self.view_is) ((λ e. job_missing (over c.self.inside.volume.accounts.plan c.self.inside.start)
-    (log_of c.self.inside.table c.self.inside.events.notes) c.self.inside.table.jobs c.args.number c.self.invariant.0.kept.jobs_are
-    (c.job.ensures ∙ c.in-None.is)), (λ e. refl))
+    rw (← c.self.view_is) (
+      (λ e. job_missing (over c.self.inside.volume.accounts.plan c.self.inside.start)
+          (log_of c.self.inside.table c.self.inside.events.notes) c.self.inside.table.jobs c.args.number c.self.invariant.0.kept.jobs_are
+          (c.job.ensures ∙ c.in-None.is)),
+      (λ e. refl),
+    )
 
 pub returns-in-None-clause-refused : goal.returns-in-None-clause-refused
 returns-in-None-clause-refused g c = refl

@@ -120,3 +120,13 @@ returns-clause-bad_shape g c =
 
 pub returns-clause-refused : goal.returns-clause-refused
 returns-clause-refused g c = tt
+
+pub new-requires-2-clause-bound : goal.new-requires-2-clause-bound
+new-requires-2-clause-bound g c = c.in_ok-bound.ensures.ok.0 refl
+
+pub new-requires-2-clause-shape : goal.new-requires-2-clause-shape
+new-requires-2-clause-shape g c =
+    sym c.shape.ensures ∙ same_shape c.shape.result c.args.plan.shape c.if-ne.ensures
+
+pub new-requires-2-clause-fresh : goal.new-requires-2-clause-fresh
+new-requires-2-clause-fresh g c = c.requires.fresh

@@ -1,4 +1,4 @@
-use Rattle.std.proofs.Common.{◌≡◌, ℕ, Bool, true, false, List, [], Option, Some, None, slice_get, option_map, refl, ap, sym, ◌∙◌, ◌⊎◌, inl, inr}
+use Rattle.std.proofs.Common.{◌≡◌, ℕ, Bool, true, false, List, Option, Some, None, slice_get, option_map, refl, ap, sym, ◌∙◌, ◌⊎◌, inl, inr}
 use Rattle.std.proofs.lemmas.Option.{slice_get-map}
 use Rattle.std.specs.Prelude.{Result, Ok, Err, IfOk, IfErr}
 use Rattle.slot_types.specs.Refusal.{FailsForMemory}
@@ -65,9 +65,12 @@ returns-in-None-clause-ok g c = tt
 
 pub returns-in-None-clause-unknown : goal.returns-in-None-clause-unknown
 returns-in-None-clause-unknown g c =
-    rw (← c.self.view_is) ((λ e. job_missing (over c.self.inside.volume.accounts.plan c.self.inside.start)
-    (log_of c.self.inside.table c.self.inside.events.notes) c.self.inside.table.jobs c.args.job c.self.invariant.0.kept.jobs_are
-    (c.job.ensures ∙ c.in-None.is)), (λ e. refl))
+    rw (← c.self.view_is) (
+      (λ e. job_missing (over c.self.inside.volume.accounts.plan c.self.inside.start)
+          (log_of c.self.inside.table c.self.inside.events.notes) c.self.inside.table.jobs c.args.job c.self.invariant.0.kept.jobs_are
+          (c.job.ensures ∙ c.in-None.is)),
+      (λ e. refl),
+    )
 
 pub returns-in-None-clause-nothing : goal.returns-in-None-clause-nothing
 returns-in-None-clause-nothing g c = λ x at empty.

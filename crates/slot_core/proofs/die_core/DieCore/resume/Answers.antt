@@ -100,3 +100,14 @@ returns-in-Ok-resume-clause-refused g c = tt
 
 pub returns-in-Ok-resume-clause-device : goal.returns-in-Ok-resume-clause-device
 returns-in-Ok-resume-clause-device g c = tt
+
+pub resume-requires-clause-fits : goal.resume-requires-clause-fits
+resume-requires-clause-fits g c = c.in-Ok.ensures.fits
+
+pub resume-requires-clause-shape : goal.resume-requires-clause-shape
+resume-requires-clause-shape g c =
+    sym c.shape.ensures ∙ same_shape c.shape.result c.args.plan.shape c.if-ne.ensures
+
+pub resume-requires-clause-left : goal.resume-requires-clause-left
+resume-requires-clause-left g c =
+    c.requires.left (sym c.shape.ensures ∙ same_shape c.shape.result c.args.plan.shape c.if-ne.ensures) c.in-Ok.ensures.fits

@@ -127,3 +127,18 @@ returns-in-Ok-enter g c =
 
 pub invariant_of-self : goal.invariant_of-self
 invariant_of-self g c = grind (arith, common_steps)
+
+pub enter-requires-clause-running : goal.enter-requires-clause-running
+enter-requires-clause-running g c = grind (arith, common_steps)
+
+pub enter-requires-clause-few : goal.enter-requires-clause-few
+enter-requires-clause-few g c = grind (arith, common_steps)
+
+pub enter-requires-clause-reserved : goal.enter-requires-clause-reserved
+enter-requires-clause-reserved g c = grind (arith, common_steps)
+
+pub checked_ops-requires : goal.checked_ops-requires
+checked_ops-requires g c = grind (arith, common_steps)
+
+pub overflow_cast-writes : goal.overflow_cast-writes
+overflow_cast-writes g c = grind (arith, common_steps)
