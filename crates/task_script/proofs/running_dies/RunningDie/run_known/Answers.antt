@@ -33,8 +33,12 @@ run_on-requires-clause-within g c κs within = c.pop_known-batch.ensures.allowed
 
 pub run_on-requires-clause-few : goal.run_on-requires-clause-few
 run_on-requires-clause-few g c κs within = λ d same.
-    omega (arith, c.args.self.now.counted d (sym c.replace-die.ensures.value ∙ same), c.pop_known-batch.ensures.allowed.few,
-    c.pop_known-batch.ensures.allowed.short)
+    omega (
+      arith,
+      c.args.self.now.counted d (sym c.replace-die.ensures.value ∙ same),
+      c.pop_known-batch.ensures.allowed.few,
+      c.pop_known-batch.ensures.allowed.short,
+    )
 
 pub returns-clause-taken : goal.returns-clause-taken
 returns-clause-taken g c = grind (arith, common_steps)
