@@ -5,7 +5,8 @@ ghost use Rattle.slot_types.specs.Refusal.{FailsForMemory};
 ghost use Rattle.plan_rules.specs.Bound.{MeetsBound};
 ghost use Rattle.tool_terms_changes.specs.Alphas.{FindsRow, cap_with, least_cap, longest, slowed, with_alpha};
 
-use demand_rules::{TaskTerms, Terms, TermsList, terms_test};
+use demand_rules::{TaskTerms, Terms, TermsList};
+use demand_trials::passing_load;
 use plan_rules::bound;
 use slot_types::{Caps, DiePlan, MAX_SLOT, Refusal};
 use std::alloc::Global;
@@ -121,14 +122,12 @@ pub fn row_of(made: DieTerms) -> Option<AlphaRow>
     let logical = greatest_logical(&mut made.plan)?;
     let own = made.plan.logical;
     made.plan.logical = logical;
-    let Ok(found) = terms_test(&made.plan, &made.terms) else {
-        return None;
-    };
+    let load = passing_load(&made.plan, &made.terms)?;
     made.plan.logical = own;
     let does = bound(&made.plan).is_ok();
     Some(AlphaRow {
         made,
-        load: found.load,
+        load,
         logical,
         does,
     })

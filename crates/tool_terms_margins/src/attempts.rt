@@ -4,7 +4,8 @@ ghost use Rattle.std.specs.Prelude.{◌≡◌, ◌↔◌, IsTrue, slice_set};
 ghost use Rattle.terms_texts.specs.Stores.{IsUsable};
 ghost use Rattle.tool_terms_margins.specs.Changes.{IsAlike, with_own};
 
-use demand_rules::{TaskTerms, Terms, TermsList, terms_test};
+use demand_rules::{TaskTerms, Terms, TermsList};
+use demand_trials::passing_load;
 use plan_rules::bound;
 use terms_texts::DieTerms;
 
@@ -31,7 +32,7 @@ fn with_terms(tasks: TermsList, task: usize, own: TaskTerms) -> TermsList
 pub fn would_do(made: &DieTerms) -> bool
     ensures { IsTrue result ↔ IsUsable made.now }
 {
-    bound(&made.plan).is_ok() && terms_test(&made.plan, &made.terms).is_ok()
+    bound(&made.plan).is_ok() && passing_load(&made.plan, &made.terms).is_some()
 }
 
 /// A die with these terms of a task, if there is one.
