@@ -50,8 +50,8 @@ fn put_times_of(
             let (x, y) = (spot.x, spot.y);
             writeln!(
                 text,
-                "<use href=\"#release\" x=\"{x}\" y=\"{y}\"><title>{kind} {job} of task {task} is released in slot \
-                 {release}</title></use>"
+                "<use class=\"release\" href=\"#release\" x=\"{x}\" y=\"{y}\"><title>{kind} {job} of task {task} is \
+                 released in slot {release}</title></use>"
             )?;
         }
     }
@@ -60,8 +60,8 @@ fn put_times_of(
             let (x, y) = (spot.x.saturating_add(u64::from(layout.cell)), spot.y);
             writeln!(
                 text,
-                "<use href=\"#due\" x=\"{x}\" y=\"{y}\"><title>{kind} {job} of task {task} is due before slot \
-                 {due}</title></use>"
+                "<use class=\"due\" href=\"#due\" x=\"{x}\" y=\"{y}\"><title>{kind} {job} of task {task} is due \
+                 before slot {due}</title></use>"
             )?;
         }
     }

@@ -10,6 +10,8 @@ use crate::windows::{Whose, Window};
 use slot_types::Refusal;
 use std::alloc::Global;
 
+/// How wide a picture is.
+pub const ACROSS: u64 = 1180;
 /// How wide the slots of a band are together.
 pub const SPAN: u32 = 1000;
 /// Where the first slot of a band begins, from the left.

@@ -8,7 +8,9 @@ use std::io;
 use std::io::Write;
 
 /// The styles and the marks. The colours differ in brightness too, for prints without colour and for eyes that see less
-/// of it. On paper a picture is as wide as the page; on a screen that is dark, the picture is too.
+/// of it. Of the curves of tokens each has longer gaps than those that are drawn before it, in a pattern of 40, and those of
+/// the tasks from 8 on are thinner: so those that lie on each other can be told apart. On paper a picture is as wide as the
+/// page; on a screen that is dark, the picture is too.
 const STYLES: &str = "<style>
 @media print{svg{width:100%;height:auto}}
 svg{background:#fff;print-color-adjust:exact;-webkit-print-color-adjust:exact}
@@ -17,6 +19,7 @@ text{font:11px sans-serif;fill:#222}
 .h{font-size:16px;font-weight:bold}
 .l{text-anchor:end}
 .n{text-anchor:middle;font-size:9px;fill:#666}
+.e{text-anchor:end}
 .p{text-anchor:middle;font-size:9px;fill:#222;pointer-events:none}
 .late{fill:#b00020;font-weight:bold}
 .lane{fill:#f5f5f5}
@@ -32,18 +35,20 @@ text{font:11px sans-serif;fill:#222}
 .erase{fill:#8a4f9e}
 .end{fill:#000}
 .w{fill:#fff}
-.spare{fill:none;stroke:#222;stroke-width:2}
-.tokens{fill:none;stroke-width:1.5}
+.spare{fill:none;stroke:#aaa;stroke-width:6}
+.tokens{fill:none;stroke-width:3}
 .t0{stroke:#0b62a4}
-.t1{stroke:#b26a00}
-.t2{stroke:#1b7837}
-.t3{stroke:#8a4f9e}
-.t4{stroke:#b00020}
-.t5{stroke:#00808a}
-.t6{stroke:#7a6a00}
-.t7{stroke:#c2408f}
-.dashed{stroke-dasharray:5 2}
+.t1{stroke:#b26a00;stroke-dasharray:35 5}
+.t2{stroke:#1b7837;stroke-dasharray:30 10}
+.t3{stroke:#8a4f9e;stroke-dasharray:25 15}
+.t4{stroke:#b00020;stroke-dasharray:20 20}
+.t5{stroke:#00808a;stroke-dasharray:15 25}
+.t6{stroke:#7a6a00;stroke-dasharray:10 30}
+.t7{stroke:#c2408f;stroke-dasharray:5 35}
+.thin{stroke-width:1.4}
 .failed{fill:none;stroke:#b00020;stroke-width:2}
+.release{stroke:#1b7837}
+.due{stroke:#b00020}
 @media screen and (prefers-color-scheme:dark){
 svg{background:#16181d}
 .back{fill:#16181d}
@@ -57,7 +62,7 @@ text{fill:#ddd}
 .busy_interval{fill:#a35a00}
 .write{fill:#2f8fd8}
 .end{fill:#fff}
-.spare{stroke:#eee}
+.spare{stroke:#777}
 .t0{stroke:#5db0f0}
 .t1{stroke:#f0b050}
 .t2{stroke:#6bd08a}
@@ -66,13 +71,13 @@ text{fill:#ddd}
 .t5{stroke:#4fd0d8}
 .t6{stroke:#d8c860}
 .t7{stroke:#f090c8}
-#release{stroke:#6bd08a}
-#due{stroke:#ff8a96}
+.release{stroke:#6bd08a}
+.due{stroke:#ff8a96}
 }
 </style>
 <defs>
-<path id=\"release\" d=\"M0,17V2M-3,6L0,1L3,6\" fill=\"none\" stroke=\"#1b7837\" stroke-width=\"1.5\"/>
-<path id=\"due\" d=\"M0,1V16M-3,12L0,17L3,12\" fill=\"none\" stroke=\"#b00020\" stroke-width=\"1.5\"/>
+<path id=\"release\" d=\"M0,17V2M-3,6L0,1L3,6\" fill=\"none\" stroke-width=\"1.5\"/>
+<path id=\"due\" d=\"M0,1V16M-3,12L0,17L3,12\" fill=\"none\" stroke-width=\"1.5\"/>
 <path id=\"waiver\" d=\"M0,3L5,9L0,15L-5,9Z\" fill=\"#fff\" stroke=\"#222\" stroke-width=\"1.5\"/>
 </defs>";
 
@@ -109,7 +114,7 @@ fn put_mark(text: &mut Vec<u8>, x: u64, mark: &str, name: &str) -> io::Result<()
     let after = x.saturating_add(10);
     writeln!(
         text,
-        "<use href=\"#{mark}\" x=\"{x}\" y=\"74\"/><text x=\"{after}\" y=\"87\">{name}</text>"
+        "<use class=\"{mark}\" href=\"#{mark}\" x=\"{x}\" y=\"74\"/><text x=\"{after}\" y=\"87\">{name}</text>"
     )
 }
 
@@ -155,10 +160,10 @@ pub fn put_legend(text: &mut Vec<u8>) -> io::Result<()> {
 
 /// Adds an item of the legend whose sample is the curve of a series.
 fn put_curve(text: &mut Vec<u8>, x: u64, series: usize) -> io::Result<()> {
-    let after = x.saturating_add(20);
+    let after = x.saturating_add(27);
     write!(text, "<path class=\"")?;
     put_class(text, series)?;
-    write!(text, "\" d=\"M{x},103h16\"/><text x=\"{after}\" y=\"107\">")?;
+    write!(text, "\" d=\"M{x},103h23\"/><text x=\"{after}\" y=\"107\">")?;
     match series.checked_sub(1) {
         Some(task) => write!(text, "{task}")?,
         None => write!(text, "spare pages")?,
@@ -172,11 +177,11 @@ pub fn put_curves(text: &mut Vec<u8>, series: usize) -> io::Result<()> {
         return Ok(());
     }
     put_curve(text, 10, 0)?;
-    writeln!(text, "<text x=\"112\" y=\"107\">tokens of task</text>")?;
-    let mut x: u64 = 196;
+    writeln!(text, "<text x=\"119\" y=\"107\">tokens of task</text>")?;
+    let mut x: u64 = 203;
     for task in 1..series {
         put_curve(text, x, task)?;
-        x = x.saturating_add(48);
+        x = x.saturating_add(55);
     }
     Ok(())
 }

@@ -88,15 +88,15 @@ fn height_of(band: &Band, pages: u32, greatest: u32) -> u64 {
     bottom.saturating_sub(high)
 }
 
-/// The class of a series: of the spare pages, or of the tokens of a task. Eight tasks have colours of their own, and eight
-/// more the same ones, dashed.
+/// The class of a series: of the spare pages, or of the tokens of a task. Eight tasks have colours and gaps of their own, and
+/// eight more the same ones, thinner.
 pub fn put_class(text: &mut Vec<u8>, series: usize) -> io::Result<()> {
     match series.checked_sub(1) {
         None => write!(text, "spare"),
         Some(task) if task < COLOURS => write!(text, "tokens t{task}"),
         Some(task) => {
             let colour = task % COLOURS;
-            write!(text, "tokens t{colour} dashed")
+            write!(text, "tokens t{colour} thin")
         }
     }
 }

@@ -4,7 +4,7 @@ ghost use Rattle.slot_types.specs.Refusal.{FailsForMemory};
 
 use crate::cells::{put_cells, put_gaps, put_waivers};
 use crate::lanes::{put_labels, put_times, put_waits};
-use crate::layouts::Layout;
+use crate::layouts::{ACROSS, Layout};
 use crate::legends::{put_curves, put_head, put_legend, put_styles};
 use crate::levels::{put_levels, series_in};
 use crate::rows::Row;
@@ -100,7 +100,7 @@ fn put_picture(
     let height = layout.height;
     writeln!(
         text,
-        "<svg xmlns=\"http://www.w3.org/2000/svg\" width=\"1180\" height=\"{height}\" viewBox=\"0 0 1180 {height}\">"
+        "<svg xmlns=\"http://www.w3.org/2000/svg\" width=\"{ACROSS}\" height=\"{height}\" viewBox=\"0 0 {ACROSS} {height}\">"
     )?;
     put_back(alloc, text, scene, layout)?;
     put_front(alloc, text, scene, layout)?;

@@ -2,7 +2,7 @@
 
 ghost use Rattle.std.specs.Prelude.{◌<◌};
 
-use crate::layouts::{Band, CURVES, LANE, LEFT, Layout, RULER, SPAN};
+use crate::layouts::{ACROSS, Band, CURVES, LANE, LEFT, Layout, RULER, SPAN};
 use crate::pictures::{Scene, Worst};
 use std::io;
 use std::io::Write;
@@ -30,36 +30,48 @@ fn tick_of(cell: u32) -> u32
     if cell < 20 { 10 } else { 5 }
 }
 
-/// How wide the number of a slot is, with a margin.
-fn width_of(slot: u32) -> u64 {
-    let mut digits: u64 = 1;
-    let mut rest = slot / 10;
-    for _ in 0..10u32 {
-        if rest == 0 {
-            break;
-        }
-        digits = digits.saturating_add(1);
-        rest /= 10;
-    }
-    digits.saturating_mul(6).saturating_add(6)
-}
-
-/// Draws the number of a slot at its tick, with its time where it is known how long a slot is, and answers how wide it is,
-/// with a margin.
-fn put_number(text: &mut Vec<u8>, x: u64, y: u64, slot: u32, units: Units) -> io::Result<u64> {
-    write!(text, "<text class=\"n\" x=\"{x}\" y=\"{y}\">")?;
+/// How wide the number of a slot is, with its time where it is known how long a slot is, and with a margin. The text is as
+/// it was.
+fn width_of(text: &mut Vec<u8>, slot: u32, units: Units) -> io::Result<u64> {
     let before = text.len();
     let at = units.slots(u64::from(slot));
     write!(text, "{at}")?;
     let signs = text.len().saturating_sub(before) as u64;
-    write!(text, "</text>")?;
+    text.truncate(before);
     Ok(signs.saturating_mul(6).saturating_add(6))
+}
+
+/// Draws the number of a slot, so wide, at its tick; before the tick, where the picture ends behind it.
+fn put_number(
+    text: &mut Vec<u8>,
+    x: u64,
+    y: u64,
+    wide: u64,
+    slot: u32,
+    units: Units,
+) -> io::Result<()> {
+    let at = units.slots(u64::from(slot));
+    if x.saturating_add(wide / 2) > ACROSS {
+        let end = ACROSS.saturating_sub(2);
+        write!(
+            text,
+            "<text class=\"n e\" x=\"{end}\" y=\"{y}\">{at}</text>"
+        )
+    } else {
+        write!(text, "<text class=\"n\" x=\"{x}\" y=\"{y}\">{at}</text>")
+    }
 }
 
 /// Draws the tick of a slot, without its number.
 fn put_tick(text: &mut Vec<u8>, band: &Band, x: u64) -> io::Result<()> {
     let (top, below) = (band.top.saturating_add(RULER), band.bottom());
     write!(text, "<path class=\"tick\" d=\"M{x},{top}V{below}\"/>")
+}
+
+/// Where the number of a slot begins at its tick, so wide with its margin.
+fn start_of(x: u64, wide: u64) -> u64 {
+    let end = x.saturating_add(wide / 2).min(ACROSS);
+    end.saturating_sub(wide)
 }
 
 /// Draws the ticks of a band, and the numbers of those that have room for one after the number before.
@@ -73,26 +85,28 @@ fn put_ticks(text: &mut Vec<u8>, band: &Band, cell: u32, units: Units) -> io::Re
         }
         let x = band.x_of(slot, cell);
         put_tick(text, band, x)?;
-        if slot == band.first || x >= free {
-            let wide = put_number(text, x, y, slot, units)?;
-            free = x.saturating_add(wide.max(width_of(band.end)));
+        let wide = width_of(text, slot, units)?;
+        let start = start_of(x, wide);
+        if slot == band.first || start >= free {
+            put_number(text, x, y, wide, slot, units)?;
+            free = start.saturating_add(wide);
         }
         writeln!(text)?;
     }
     Ok(())
 }
 
-/// Names the axis of a band.
-fn put_axis(text: &mut Vec<u8>, band: &Band) -> io::Result<()> {
-    // The number of the first slot stands over the corner, and half of it before that.
-    let (x, y) = (LEFT.saturating_sub(28), band.top.saturating_add(11));
+/// Names the axis of a band, before the number of its first slot.
+fn put_axis(text: &mut Vec<u8>, band: &Band, units: Units) -> io::Result<()> {
+    let wide = width_of(text, band.first, units)?;
+    let (x, y) = (start_of(LEFT, wide), band.top.saturating_add(11));
     writeln!(text, "<text class=\"l\" x=\"{x}\" y=\"{y}\">slot</text>")
 }
 
 /// Draws the axes and the ticks of all bands.
 pub fn put_rulers(text: &mut Vec<u8>, units: Units, layout: &Layout) -> io::Result<()> {
     for band in &layout.bands {
-        put_axis(text, band)?;
+        put_axis(text, band, units)?;
         put_ticks(text, band, layout.cell, units)?;
     }
     Ok(())

@@ -218,24 +218,47 @@ fn name_below(units: Units) -> u64 {
     if units.slot_us.is_some() { 52 } else { 40 }
 }
 
-fn put_ticks(alloc: Global, text: &mut Vec<u8>, axis: Axis, units: Units) -> io::Result<()> {
-    let (tick, bottom) = (axis.tick(), bottom());
-    let (short, label) = (bottom.saturating_add(5), bottom.saturating_add(20));
+// Draws a tick below the axis.
+fn put_tick(text: &mut Vec<u8>, x: i64) -> io::Result<()> {
+    let (bottom, short) = (bottom(), bottom().saturating_add(5));
+    write!(text, "<path class=\"axis\" d=\"M{x},{bottom}V{short}\"/>")
+}
+
+// Names a lateness below its tick.
+fn put_lateness(text: &mut Vec<u8>, x: i64, lateness: &str) -> io::Result<()> {
+    let label = bottom().saturating_add(20);
+    write!(
+        text,
+        "<text class=\"m\" x=\"{x}\" y=\"{label}\">{lateness}</text>"
+    )
+}
+
+// Draws the ticks, and names those that have room for their number after the one before.
+fn put_ticks(alloc: Global, text: &mut Vec<u8>, axis: Axis) -> io::Result<()> {
+    let tick = axis.tick();
     let first = axis.low.checked_div_euclid(tick).unwrap_or(0);
+    let mut free = i64::MIN;
     for count in 0..13i64 {
         let lateness = first.saturating_add(count).saturating_mul(tick);
-        if let Some(x) = x_of(axis, lateness) {
-            writeln!(
-                text,
-                "<path class=\"axis\" d=\"M{x},{bottom}V{short}\"/><text class=\"m\" x=\"{x}\" y=\"{label}\">{lateness}</text>"
-            )?;
+        let Some(x) = x_of(axis, lateness) else {
+            continue;
+        };
+        put_tick(text, x)?;
+        let number = format!(in alloc; "{lateness}")?;
+        let half = half_of(number.as_str());
+        if free <= x.saturating_sub(half) {
+            put_lateness(text, x, number.as_str())?;
+            free = x.saturating_add(half);
         }
+        writeln!(text)?;
     }
-    let (x, y) = (
-        CORNER.x.saturating_add(WIDTH / 2),
-        bottom.saturating_add(name_below(units)),
-    );
-    put_times(alloc, text, axis, units)?;
+    Ok(())
+}
+
+// Names the axis of latenesses, under the times.
+fn put_axis_name(text: &mut Vec<u8>, units: Units) -> io::Result<()> {
+    let x = CORNER.x.saturating_add(WIDTH / 2);
+    let y = bottom().saturating_add(name_below(units));
     writeln!(
         text,
         "<text class=\"m s\" x=\"{x}\" y=\"{y}\">lateness in slots</text>"
@@ -307,7 +330,9 @@ fn put_curves(alloc: Global, text: &mut Vec<u8>, curves: &[Curve], units: Units)
     let axis = Axis::of(curves);
     put_shares(text)?;
     put_late(text, axis)?;
-    put_ticks(alloc, text, axis, units)?;
+    put_ticks(alloc, text, axis)?;
+    put_times(alloc, text, axis, units)?;
+    put_axis_name(text, units)?;
     let groups = groups_of(alloc, curves, axis)?;
     put_groups(text, curves, groups.as_slice())
 }
