@@ -407,7 +407,8 @@ def time_text(us):
 TIMED = [
     re.compile(r"(?<=, )(?:period|deadline|held|collect_period|collect_deadline) (\d+)"),
     re.compile(r"(?<=: a collection takes at most )(\d+)|(?<=: the tightest interval has )(\d+)|(?<= slots, of which )(\d+)(?= may)"
-               r"|(?<= may be asked for: )(\d+)(?= to spare)|(?<=: an interval of )(\d+)|(?<=the greatest collect_period that would do is )(\d+)"
+               r"|(?<= may be asked for: )(\d+)(?= to spare)|(?<=: an interval of )(\d+)|(?<= slots may be asked for )(\d+)(?=: )"
+               r"|(?<=: )(\d+)(?= missing; no shorter)|(?<=the greatest collect_period that would do is )(\d+)"
                r"|(?<=least period )(\d+)|(?<=least deadline )(\d+)|(?<=least collect_deadline )(\d+)|(?<= its life has )(\d+)"),
 ]
 OF_ALPHAS = re.compile(r"(die \d+: with alpha .* and collect_periods and collect_deadlines)((?: \d+)+)(, in the long run .*\n)")

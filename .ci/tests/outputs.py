@@ -373,6 +373,32 @@ writes = 1
                      "two_dies.toml: the die of --fail-at is 2; there are 2 dies, numbered from 0")
         self.refused("compare one_die.toml one_die.csv --slots 3 --draw --task 14", "error 5 UnknownTask",
                      "one_die.toml, die 0: --task is 14; there is task 0 alone")
+        for name in ("terms.toml", "terms.csv", "crash.toml"):
+            (self.at / name).write_bytes((DATA / name).read_bytes())
+        self.refused("compare terms.toml terms.csv --slots 60 --draw --die 2", "error 4 UnknownDie",
+                     "terms.toml: --die is 2; there are 2 dies, numbered from 0")
+        self.refused("compare terms.toml terms.csv --slots 60 --draw --task 2", "error 5 UnknownTask",
+                     "terms.toml, die 0: --task is 2; there are 2 tasks, numbered from 0")
+        self.refused("draw terms.toml --demand --die 2", "error 4 UnknownDie",
+                     "terms.toml: --die is 2; there are 2 dies, numbered from 0")
+        crash = (DATA / "crash.toml").read_text()
+        (self.at / "tight.toml").write_text(crash.replace("deadline = 8000", "deadline = 1500"))
+        self.assertNotEqual(crash, (self.at / "tight.toml").read_text())
+        self.refused("draw tight.toml --demand --die 1", "error 4 UnknownDie", "tight.toml: --die is 1; there is die 0 alone")
+        (self.at / "stray.csv").write_text((DATA / "terms.csv").read_text() + "59,2,0,job,59,99,R0\n")
+        status, _, err = self.run_words("run terms.toml stray.csv --slots 60")
+        self.assertEqual((status, err.splitlines()[1].partition(": ")[2]), (1, "`die` is 2, and the plan has 2 dies, from 0 to 1"))
+
+    def test_a_strict_run_may_have_its_script_from_standard_input(self):
+        """Of `wear`, `draw` and `compare` a run is reported, too, and its texts are read once."""
+        late = (self.at / "one_die.csv").read_text().replace("1,0,0,job,1,3,R3", "1,0,0,job,1,3,R3 R3 R3")
+        self.assertIn("R3 R3 R3", late)
+        (self.at / "late.csv").write_text(late)
+        for words, front in (("wear one_die.toml -", b"row,die,block"), ("draw one_die.toml - --text", b"Die 0, slots"),
+                             ("compare one_die.toml - --csv", b"policy,die,task")):
+            with open(self.at / "late.csv", "rb") as script:
+                status, out, err = self.run_words(f"{words} --slots 4 --strict", stdin=script)
+            self.assertEqual((status, out[:len(front)], err), (4, front, "strict: 1 job wasn't done by its deadline\n"), words)
 
     def test_a_fault_of_one_of_several_reports_is_reported_with_its_place(self):
         report = (DATA / "two_dies.report.csv").read_text()

@@ -10,7 +10,7 @@ ghost use Rattle.tool_commands.specs.Acts.{AreArrivals, Ends, PrintsArrivals};
 
 use crate::checkpoint_acts::{begun_in, end_unrun};
 use crate::plan_faults::end_unread;
-use crate::stores::{PlanRead, Unread, plan_in};
+use crate::stores::{PlanRead, TimedPlan, Unread, timed_plan_in};
 use checkpoint_texts::SavedStore;
 use slot_types::{MAX_SLOT, Refusal, StorePlan};
 use std::alloc::Global;
@@ -20,6 +20,7 @@ use text_base::{Output, write_whole};
 use tool_checkpoint_runs::{RunFault, check_store};
 use tool_full_dies::{HeldPages, held_pages};
 use tool_plan_arrivals::{Fault as Unplanned, Filling, Manner, arrivals_from, fillings_from};
+use tool_slot_times::Slots;
 use tool_terms_arrivals::arrivals as terms_arrivals;
 
 /// What is reported beside a plan without terms that has no arrivals.
@@ -61,11 +62,20 @@ impl From<Refusal> for Unmade {
     }
 }
 
-/// The script of a plan's arrivals; and the plan, if it has times, with the pages that lie in cells.
+/// A plan that has times, with the pages that lie in cells.
+#[derive(Drop)]
+struct HeldStore {
+    store: StorePlan,
+    held: HeldPages,
+    /// How many us a slot takes, where that is known.
+    slot_us: Option<u32>,
+}
+
+/// The script of a plan's arrivals; and the plan, if it has times.
 #[derive(Drop)]
 struct Made {
     script: Vec<u8>,
-    store: Option<(StorePlan, HeldPages)>,
+    store: Option<HeldStore>,
 }
 
 /// The option of these that a plan with terms has no use for: it says where a die is filled, or that less is asked for than
@@ -130,7 +140,8 @@ fn script_of<R: Read + Drop, C: Read + Drop>(
 ) -> Result<Made, Unmade>
     ensures { IfOk result (λ made. AreArrivals (R.remaining plan) slots made.script.items) }
 {
-    match plan_in(alloc, plan)? {
+    let TimedPlan { plan, slot_us } = timed_plan_in(alloc, plan, None)?;
+    match plan {
         PlanRead::Plain(store) => {
             let from = begun_in(alloc, from)?;
             let held = held_in(alloc, &store, from.as_ref())?;
@@ -141,7 +152,11 @@ fn script_of<R: Read + Drop, C: Read + Drop>(
             let script = arrivals_from(alloc, &store, slots, manner, held.as_slice())?;
             Ok(Made {
                 script,
-                store: Some((store, held)),
+                store: Some(HeldStore {
+                    store,
+                    held,
+                    slot_us,
+                }),
             })
         }
         PlanRead::WithTerms(store) => {
@@ -163,7 +178,7 @@ fn print_arrivals<R: Read + Drop, C: Read + Drop, W: Output>(
     slots: u32,
     manner: Manner,
     out: &mut W,
-) -> Result<Option<(StorePlan, HeldPages)>, Unmade>
+) -> Result<Option<HeldStore>, Unmade>
     requires slots { slots ≤ MAX_SLOT }
     ensures printed { OnOk result
         (PrintsArrivals (R.remaining plan) slots (W.contents out.old) (W.contents out.new)) }
@@ -176,43 +191,56 @@ fn print_arrivals<R: Read + Drop, C: Read + Drop, W: Output>(
     Ok(made.store)
 }
 
+/// So many slots, with their time where it is known how many us one takes.
+fn timed(count: u64, slot_us: Option<u32>) -> Slots {
+    Slots { count, slot_us }
+}
+
 /// Says from which slot on a die is full in so many slots; or that it isn't, and what would be needed. A writer that fails is
 /// passed over.
-fn report_filling<E: Write>(err: &mut E, die: usize, filling: Filling, slots: u32) {
-    let life = filling.life;
+fn report_filling<E: Write>(
+    err: &mut E,
+    die: usize,
+    filling: Filling,
+    slots: u32,
+    slot_us: Option<u32>,
+) {
+    let all = timed(u64::from(slots), slot_us);
+    let life = timed(u64::from(filling.life), slot_us);
     let _ = match filling.from {
         None => writeln!(
             err,
             "die {die} is never full: none of its tasks writes, and one has to"
         ),
         Some(from) if from <= u64::from(slots) => {
-            writeln!(err, "die {die} is full from slot {from} on")
+            let at = timed(from, slot_us);
+            writeln!(err, "die {die} is full from slot {at} on")
         }
-        Some(from) if from <= u64::from(life) => writeln!(
-            err,
-            "die {die} isn't full in {slots} slots: it would be from slot {from} on, so --slots has to be {from} at least"
-        ),
-        Some(from) => writeln!(
-            err,
-            "die {die} isn't full in its life of {life} slots: that would take {from}, so it has to have fewer logical pages, \
-             or its tasks to write more"
-        ),
+        Some(from) if from <= u64::from(filling.life) => {
+            let at = timed(from, slot_us);
+            writeln!(
+                err,
+                "die {die} isn't full in {all} slots: it would be from slot {at} on, so --slots has to be {from} at least"
+            )
+        }
+        Some(from) => {
+            let at = timed(from, slot_us);
+            writeln!(
+                err,
+                "die {die} isn't full in its life of {life} slots: that would take {at}, so it has to have fewer logical \
+                 pages, or its tasks to write more"
+            )
+        }
     };
 }
 
 /// Reports of each die from which slot on it is full in so many slots. Lack of memory is passed over.
-fn report_full<E: Write>(
-    alloc: Global,
-    err: &mut E,
-    store: &StorePlan,
-    held: &HeldPages,
-    slots: u32,
-) {
-    let Ok(fillings) = fillings_from(alloc, store, held.as_slice()) else {
+fn report_full<E: Write>(alloc: Global, err: &mut E, plan: &HeldStore, slots: u32) {
+    let Ok(fillings) = fillings_from(alloc, &plan.store, plan.held.as_slice()) else {
         return;
     };
     for die in 0..fillings.len() {
-        report_filling(err, die, fillings[die], slots);
+        report_filling(err, die, fillings[die], slots, plan.slot_us);
     }
 }
 
@@ -222,16 +250,16 @@ fn end_arrivals<E: Write>(
     err: &mut E,
     slots: u32,
     fills: bool,
-    made: Result<Option<(StorePlan, HeldPages)>, Unmade>,
+    made: Result<Option<HeldStore>, Unmade>,
 ) -> u8
     ensures { result ≡ (if is_ok made then 0 else 1) }
 {
     match made {
-        Ok(store) => {
-            if let Some((store, held)) = store
+        Ok(plan) => {
+            if let Some(plan) = plan
                 && fills
             {
-                report_full(alloc, err, &store, &held, slots);
+                report_full(alloc, err, &plan, slots);
             }
             0
         }

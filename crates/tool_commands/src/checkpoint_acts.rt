@@ -8,7 +8,7 @@ use crate::endings::{end_refused, report_failure, report_refused};
 use crate::outputs::written_path;
 use crate::plan_faults::end_unread;
 use crate::shelves::{Shelf, report_unput};
-use crate::stores::{Unread, store_of};
+use crate::stores::{Unread, timed_store_of};
 use checkpoint_texts::{CheckpointReader, SavedStore, TextFault};
 use slot_types::{MAX_SLOT, Refusal};
 use std::alloc::Global;
@@ -17,6 +17,7 @@ use text_base::Output;
 use tool_checkpoint_runs::{
     FailingRun, RunFault, StoreDies, StoreRun, Unsaved, run_failing, run_script, save,
 };
+use tool_slot_times::Slots;
 use tool_watched_runs::{FailAt, Failure, RefusedRows};
 
 /// The checkpoints of a command: the one from which dies go on, if there is one, and where the one of their end is put.
@@ -55,6 +56,8 @@ struct PrintedRun {
     dies: StoreDies,
     refused: RefusedRows,
     idle: Vec<u32>,
+    /// How many us a slot takes, where that is known.
+    slot_us: Option<u32>,
 }
 
 /// What is reported of a run in which a device failed.
@@ -62,6 +65,8 @@ struct PrintedRun {
 struct FailingReported {
     refused: RefusedRows,
     failure: Failure,
+    /// How many us a slot takes, where that is known.
+    slot_us: Option<u32>,
 }
 
 /// Why nothing of a run is printed.
@@ -108,19 +113,21 @@ fn print_run<P: Read + Drop, S: Read + Drop, C: Read + Drop, W: Output>(
         (PrintsRun (P.remaining plan) (S.remaining script) slots (is_none from) saves) out.old out.new) }
     ensures few { IfOk result (λ run. length run.dies.items ≤ 8) }
 {
-    let store = store_of(alloc, plan)?;
+    let timed = timed_store_of(alloc, plan, None)?;
+    let slot_us = timed.slot_us;
     let from = begun_in(alloc, from)?;
     let StoreRun {
         dies,
         report,
         refused,
         idle,
-    } = run_script(alloc, store, from, script, slots, saves)?;
+    } = run_script(alloc, timed.store, from, script, slots, saves)?;
     report.write(out)?;
     Ok(PrintedRun {
         dies,
         refused,
         idle,
+        slot_us,
     })
 }
 
@@ -162,11 +169,12 @@ pub fn end_ran<E: Write>(err: &mut E, ran: Result<RefusedRows, Unprinted>) -> u8
 }
 
 /// Reports how long dies went on until all was done. A writer that fails is passed over.
-fn report_idle<E: Write>(err: &mut E, idle: &[u32]) {
+fn report_idle<E: Write>(err: &mut E, idle: &[u32], slot_us: Option<u32>) {
     for die in 0..idle.len() {
-        let slots = idle[die];
-        let unit = if slots == 1 { "slot" } else { "slots" };
-        if slots > 0 {
+        let count = u64::from(idle[die]);
+        let slots = Slots { count, slot_us };
+        let unit = if count == 1 { "slot" } else { "slots" };
+        if count > 0 {
             let _ = writeln!(
                 err,
                 "die {die} went on for {slots} {unit} until all was done"
@@ -236,7 +244,7 @@ pub fn act_run<P: Read + Drop, S: Read + Drop, C: Read + Drop, K: Shelf, W: Outp
         Ok(ran) => ran,
         Err(unprinted) => return end_unprinted(err, unprinted),
     };
-    report_idle(err, ran.idle.as_slice());
+    report_idle(err, ran.idle.as_slice(), ran.slot_us);
     report_refused(err, ran.refused);
     match to {
         Some(name) => put_checkpoint(alloc, ran.dies, shelf, name, err),
@@ -262,15 +270,20 @@ fn print_failing<P: Read + Drop, S: Read + Drop, W: Output>(
         (IsNotWhole W.contents W.has_failed
         (PrintsFailing (P.remaining plan) (S.remaining script) slots) out.old out.new) }
 {
-    let store = store_of(alloc, plan)?;
+    let timed = timed_store_of(alloc, plan, None)?;
+    let slot_us = timed.slot_us;
     let FailingRun {
         dies,
         report,
         refused,
         failure,
-    } = run_failing(alloc, store, script, slots, fail)?;
+    } = run_failing(alloc, timed.store, script, slots, fail)?;
     report.write(out)?;
-    Ok(FailingReported { refused, failure })
+    Ok(FailingReported {
+        refused,
+        failure,
+        slot_us,
+    })
 }
 
 /// Runs a script on fresh dies of a plan, the device of one of which fails, prints the report of what was done until
@@ -291,7 +304,7 @@ pub fn act_failing<P: Read + Drop, S: Read + Drop, W: Output, E: Write>(
 {
     match print_failing(alloc, plan, script, slots, fail, out) {
         Ok(reported) => {
-            report_failure(err, Some(reported.failure));
+            report_failure(err, Some(reported.failure), reported.slot_us);
             report_refused(err, reported.refused);
             0
         }

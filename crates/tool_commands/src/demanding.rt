@@ -66,14 +66,7 @@ fn end_undrawn<E: Write>(err: &mut E, die: u32, undrawn: Undrawn) -> u8
 {
     match undrawn {
         Undrawn::Refused(refusal) => end_refused(err, refusal),
-        Undrawn::NoDie { dies } => {
-            let status = end_refused(err, Refusal::UnknownDie);
-            let _ = match dies {
-                1 => writeln!(err, "the plan has die 0 alone"),
-                _ => writeln!(err, "the plan has {dies} dies, numbered from 0"),
-            };
-            status
-        }
+        Undrawn::NoDie { .. } => end_refused(err, Refusal::UnknownDie),
         Undrawn::NoInterval => {
             let _ = writeln!(
                 err,

@@ -5,6 +5,7 @@ ghost use Rattle.std.specs.Prelude.{◌≡◌};
 use flash_commands::{Fault, end, refusal_name};
 use slot_types::Refusal;
 use std::io::Write;
+use tool_slot_times::Slots;
 use tool_watched_runs::{FailAt, Failure, RefusedRows};
 
 /// Reports a refusal, and answers the status. Where standard output takes no more, nothing is reported. A writer that
@@ -18,17 +19,24 @@ pub fn end_refused<E: Write>(err: &mut E, refusal: Refusal) -> u8
     1
 }
 
-/// Reports in which slot a device failed that was to fail. A writer that fails is passed over.
-pub fn report_failure<E: Write>(err: &mut E, failure: Option<Failure>) {
+/// Reports in which slot a device failed that was to fail, with its time where it is known how many us a slot takes. A writer
+/// that fails is passed over.
+pub fn report_failure<E: Write>(err: &mut E, failure: Option<Failure>, slot_us: Option<u32>) {
     let Some(Failure { at, slot }) = failure else {
         return;
     };
     let FailAt { die, call } = at;
     let _ = match slot {
-        Some(slot) => writeln!(
-            err,
-            "die {die} failed in slot {slot}, at call {call} of its device"
-        ),
+        Some(slot) => {
+            let slot = Slots {
+                count: u64::from(slot),
+                slot_us,
+            };
+            writeln!(
+                err,
+                "die {die} failed in slot {slot}, at call {call} of its device"
+            )
+        }
         None => writeln!(
             err,
             "die {die} didn't fail: its device had fewer than {call} calls"

@@ -23,6 +23,7 @@ mod shelves;
 mod slot_lengths;
 mod stores;
 mod strict;
+mod strict_runs;
 
 pub use acts::act;
 pub use checkpoint_acts::Kept;

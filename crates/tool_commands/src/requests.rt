@@ -9,7 +9,8 @@ use crate::checkpoint_acts::Kept;
 use crate::listed_acts::{act_audits, act_imports};
 use crate::outputs::{clash_in, saved_to, written_path};
 use crate::shelves::{Later, STDOUT, Shelf, report_unput};
-use crate::strict::{Amiss, STRICT_STATUS, amiss_of};
+use crate::strict::{Amiss, STRICT_STATUS, amiss_of, tells_refused};
+use crate::strict_runs::{JudgedRun, act_judged, untold_run};
 use flash_commands::{Fault, Folder, Heard, Texts, end, inputs_among, inputs_in};
 use slot_types::Refusal;
 use std::alloc::Global;
@@ -299,6 +300,59 @@ fn end_strictly<E: Write>(err: &mut E, amiss: Option<Amiss>) -> u8 {
     }
 }
 
+/// Carries out a request that is to be strict, and says what isn't as it is wanted of one that ended with 0. The texts of
+/// some runs don't tell all of it: these are carried out twice.
+fn act_strictly<D: Folder, K: Shelf, E: Write>(
+    alloc: Global,
+    folder: &D,
+    shelf: &K,
+    request: &Request<'_>,
+    text: &mut Vec<u8>,
+    heard: &mut Heard<E>,
+) -> Result<JudgedRun, Refusal>
+    requires { RequestFits request.now }
+{
+    let untold = match request {
+        Request::One(command) => untold_run(*command),
+        Request::Listed(..) => None,
+    };
+    let judged = match untold {
+        Some(run) => act_judged(alloc, folder, shelf, &run, text, heard)?,
+        None => JudgedRun {
+            status: act_on(alloc, folder, shelf, request, text, heard)?,
+            amiss: None,
+        },
+    };
+    if judged.status != 0 || (judged.amiss.is_some() && !tells_refused(heard.lines())) {
+        return Ok(judged);
+    }
+    Ok(JudgedRun {
+        status: 0,
+        amiss: amiss_of(alloc, request, text.as_slice(), heard.lines())?,
+    })
+}
+
+/// Carries out a request, and says what isn't as it is wanted, where it is to be strict.
+fn act_made<D: Folder, K: Shelf, E: Write>(
+    alloc: Global,
+    folder: &D,
+    shelf: &K,
+    asked: &Asked<'_>,
+    text: &mut Vec<u8>,
+    err: &mut E,
+) -> Result<JudgedRun, Refusal>
+    requires { RequestFits asked.now.request }
+{
+    let mut heard = Heard::new(&mut *err, false);
+    if asked.strict {
+        return act_strictly(alloc, folder, shelf, &asked.request, text, &mut heard);
+    }
+    Ok(JudgedRun {
+        status: act_on(alloc, folder, shelf, &asked.request, text, &mut heard)?,
+        amiss: None,
+    })
+}
+
 /// Carries out a request, and then prints its text or puts it into its file, whole, where one is made, which a refusal
 /// doesn't. Answers the status. A checkpoint is put once the text stands in its file, and not where that fails.
 fn act_whole<D: Folder, K: Shelf, W: Output, E: Write>(
@@ -313,13 +367,7 @@ fn act_whole<D: Folder, K: Shelf, W: Output, E: Write>(
 {
     let later = Later::new(alloc);
     let mut text = Vec::new(alloc);
-    let mut heard = Heard::new(&mut *err, false);
-    let status = act_on(alloc, folder, &later, &asked.request, &mut text, &mut heard)?;
-    let amiss = if asked.strict && status == 0 {
-        amiss_of(alloc, &asked.request, &text, heard.lines())?
-    } else {
-        None
-    };
+    let JudgedRun { status, amiss } = act_made(alloc, folder, &later, asked, &mut text, err)?;
     let is_made = status == 0 || !text.is_empty();
     if is_made && !give_text(shelf, asked.output, &text, out, err) {
         return Ok(1);

@@ -147,7 +147,7 @@ fn end_report<E: Write>(err: &mut E, told: Told, ran: Result<Figured, Unprinted>
                 told.units.page_bytes.is_some(),
                 slot_us,
             );
-            report_failure(err, figured.failure);
+            report_failure(err, figured.failure, slot_us);
             end_ran(err, Ok(figured.refused))
         }
         Err(unprinted) => end_unprinted(err, unprinted),
@@ -322,7 +322,7 @@ fn end_drawn<E: Write>(err: &mut E, slots: u32, units: Units, drawn: Result<Draw
                 units.page_bytes.is_some(),
                 drawn.slot_us,
             );
-            report_failure(err, drawn.failure);
+            report_failure(err, drawn.failure, drawn.slot_us);
             end_ran(err, Ok(drawn.refused))
         }
         Err(Undrawn::Unprinted(unprinted)) => end_unprinted(err, unprinted),

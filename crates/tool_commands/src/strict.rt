@@ -121,7 +121,7 @@ fn late_in_record(record: &str) -> Option<u32> {
 }
 
 /// What isn't as it is wanted in the figures of `report`.
-fn amiss_in_figures(figures: &[u8], as_csv: bool) -> Option<Amiss> {
+pub fn amiss_in_figures(figures: &[u8], as_csv: bool) -> Option<Amiss> {
     let lines = str::from_utf8(figures).ok()?.lines();
     let mut late: u32 = 0;
     for line in lines {
@@ -139,14 +139,20 @@ fn amiss_in_figures(figures: &[u8], as_csv: bool) -> Option<Amiss> {
     }
 }
 
-/// What isn't as it is wanted of a request that ended with 0, by what it printed and what it reported.
+/// Whether it was reported that rows were refused.
+pub fn tells_refused(reported: &str) -> bool {
+    reported.lines().any(|line| line.starts_with("refused "))
+}
+
+/// What isn't as it is wanted of a request that ended with 0, by what it printed and what it reported. Of `wear`, `draw` and
+/// `compare`, whose texts don't tell all of it, [`act_judged`](crate::strict_runs::act_judged) says more.
 pub fn amiss_of(
     alloc: Global,
     request: &Request<'_>,
     printed: &[u8],
     reported: &str,
 ) -> Result<Option<Amiss>, Refusal> {
-    if reported.lines().any(|line| line.starts_with("refused ")) {
+    if tells_refused(reported) {
         return Ok(Some(Amiss::Refused));
     }
     match request {

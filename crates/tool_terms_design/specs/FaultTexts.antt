@@ -89,15 +89,15 @@ abbrev pub overload_text : (load missing : ℕ) → List ℕ
 overload_text load missing = codes "in the long run " ++ decimal load ++ codes " of each 1000000 slots are asked for: " ++ decimal missing
     ++ codes " missing" ++ full_stop
 
-abbrev pub overfull_text : Option ℕ → (slots demand excess : ℕ) → List ℕ
-overfull_text us slots demand excess = codes "an interval of " ++ slots_text us slots ++ codes " slots may be asked for " ++ decimal demand ++ codes ": "
-    ++ decimal excess ++ codes " missing; no shorter one is overfull" ++ full_stop
+abbrev pub overfull_text : Option ℕ → (slots excess : ℕ) → List ℕ
+overfull_text us slots excess = codes "an interval of " ++ slots_text us slots ++ codes " slots may be asked for " ++ slots_text us (slots + excess)
+    ++ codes ": " ++ slots_text us excess ++ codes " missing; no shorter one is overfull" ++ full_stop
 
 -- why a die doesn't pass the demand test
 abbrev pub demand_text : Option ℕ → ℕ → DemandFault → List ℕ
 demand_text us die (demand.Limits fault) = limit_text die fault
 demand_text us die (demand.Load found) = of_die die ++ overload_text found (found - 1000000)
-demand_text us die (demand.Overfull slots excess) = of_die die ++ overfull_text us slots (slots + excess) excess
+demand_text us die (demand.Overfull slots excess) = of_die die ++ overfull_text us slots excess
 
 -- what a task lacks, and what would do
 abbrev pub lack_text : Option ℕ → Lack → List ℕ

@@ -7,6 +7,7 @@ ghost use Rattle.tool_terms_design.specs.FaultTexts.{overfull_text, overload_tex
 ghost use Rattle.tool_terms_design.specs.FaultTexts.{stray_text, supply_text, table_text, terms_text, text_fault, wrong_text};
 
 use crate::numbers::{put_die, put_task};
+use crate::timed::AskedSlots;
 use demand_rules::{DemandFault, Lack, LimitFault, SupplyFault, TermsFault, TermsNumber};
 use slot_types::Cause;
 use std::io;
@@ -182,23 +183,25 @@ fn put_overload(text: &mut Vec<u8>, load: u64, missing: u64) -> io::Result<()>
 }
 
 /// Adds an interval that is overfull.
-fn put_overfull(
-    text: &mut Vec<u8>,
-    slots: u32,
-    demand: u128,
-    excess: u64,
-    slot_us: Option<u32>,
-) -> io::Result<()>
-    ensures { OnOk result (text.new.items
-        ≡ text.old.items ++ overfull_text slot_us slots demand excess) }
+fn put_overfull(text: &mut Vec<u8>, slots: u32, excess: u64, slot_us: Option<u32>) -> io::Result<()>
+    ensures { OnOk result (text.new.items ≡ text.old.items ++ overfull_text slot_us slots excess) }
 {
+    let asked = AskedSlots {
+        slots,
+        excess,
+        slot_us,
+    };
     let slots = Slots {
         count: u64::from(slots),
         slot_us,
     };
+    let missing = Slots {
+        count: excess,
+        slot_us,
+    };
     writeln!(
         text,
-        "an interval of {slots} slots may be asked for {demand}: {excess} missing; no shorter one is overfull."
+        "an interval of {slots} slots may be asked for {asked}: {missing} missing; no shorter one is overfull."
     )
 }
 
@@ -219,8 +222,7 @@ fn put_demand(
         }
         DemandFault::Overfull { slots, excess } => {
             put_die(text, die)?;
-            let demand = u128::from(slots) + u128::from(excess);
-            put_overfull(text, slots, demand, excess, slot_us)
+            put_overfull(text, slots, excess, slot_us)
         }
     }
 }

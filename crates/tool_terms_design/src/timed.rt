@@ -1,13 +1,14 @@
 //! What a task asks for, as texts: each number of slots is followed by its time, where it is known how
 //! many us a slot takes.
 
-ghost use Rattle.std.specs.Prelude.{Some};
+ghost use Rattle.std.specs.Prelude.{Some, ◌+◌};
+ghost use Rattle.tool_slot_times.specs.Times.{slots_text};
 ghost use Rattle.tool_terms_design.specs.DieTexts.{coming_text, collections_text, due_text};
 
 use demand_rules::TaskTerms;
 use std::fmt;
 use std::fmt::{Display, Formatter, Write};
-use tool_slot_times::Slots;
+use tool_slot_times::{Slots, Time};
 
 /// A cap, and when the jobs of a task come.
 #[derive(Clone, Copy, Drop)]
@@ -78,5 +79,29 @@ impl Display for Collections {
             f,
             ", writes {writes}, collect_period {every}, collect_deadline {within}"
         )
+    }
+}
+
+/// How many slots may be asked of an interval that is overfull: so many as it has, and more.
+#[derive(Clone, Copy, Drop)]
+pub struct AskedSlots {
+    pub slots: u32,
+    pub excess: u64,
+    pub slot_us: Option<u32>,
+}
+
+impl Display for AskedSlots {
+    ghost output = { λ a. Some (slots_text a.slot_us (a.slots + a.excess)) };
+
+    fn fmt<W: Write>(&self, f: &mut Formatter<W>) -> fmt::Result {
+        let count = u128::from(self.slots) + u128::from(self.excess);
+        match self.slot_us {
+            None => write!(f, "{count}"),
+            Some(slot_us) => {
+                let us = count * u128::from(slot_us);
+                let time = Time { us };
+                write!(f, "{count} ({time})")
+            }
+        }
     }
 }

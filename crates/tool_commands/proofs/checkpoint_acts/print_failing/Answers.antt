@@ -14,8 +14,8 @@ returns-in_err-write-clause-part g c =
       (
         report_text (reports_of 0 dies),
         record {
-          store = c.in_ok-store.store;
-          read = c.in_ok-store.ensures.store;
+          store = c.in_ok-timed.timed.store;
+          read = c.in_ok-timed.ensures.store;
           counts = c.in_ok-dies.field-0.refused;
           dies = dies;
           ran = c.in_ok-dies.ensures.ran;
@@ -29,8 +29,8 @@ pub returns-clause-printed : goal.returns-clause-printed
 returns-clause-printed g c =
     let dies = c.in_ok-dies.field-0.dies.items in
     record {
-      store = c.in_ok-store.store;
-      read = c.in_ok-store.ensures.store;
+      store = c.in_ok-timed.timed.store;
+      read = c.in_ok-timed.ensures.store;
       counts = c.in_ok-dies.field-0.refused;
       dies = dies;
       ran = c.in_ok-dies.ensures.ran;
