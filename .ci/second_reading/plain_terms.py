@@ -208,7 +208,7 @@ def margins_text(at, die):
             key = what.split()[1]
             found = furthest(die, task, key, loosest, tightest) if is_any else None
             said.append(f"no {key}" if found is None else f"{what} {found}")
-        text += f"die {at} task {i}: one at a time, these would do: {', '.join(said)}.\n"
+        text += f"die {at} task {i}: one at a time, with these its die would do: {', '.join(said)}.\n"
     return text
 
 

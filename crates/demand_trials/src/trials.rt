@@ -1,4 +1,4 @@
-//! Both tests of a plan together, of which the load alone is told.
+//! Both tests of a plan together, which answer its load alone.
 
 ghost use Rattle.std.specs.Prelude.{◌≡◌, ◌↔◌, IfSome, IsSome};
 ghost use Rattle.plan_rules.specs.Bound.{MeetsBound};
@@ -24,7 +24,7 @@ pub fn passing_load(plan: &DiePlan, terms: &Terms) -> Option<u32>
     if !has_terms(plan, terms) || supply_test(plan, terms).is_err() {
         return None;
     }
-    // Most plans that don't pass ask for too much in the long run, or for more tokens than they get: these are told at once.
+    // Most plans that don't pass ask for too much in the long run, or for more tokens than they get: these end here.
     let load = total_load(plan, terms.tasks.as_slice());
     if load > MILLION || !fits(plan, terms) {
         return None;

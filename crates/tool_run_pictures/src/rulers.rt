@@ -41,7 +41,7 @@ fn width_of(text: &mut Vec<u8>, slot: u32, units: Units) -> io::Result<u64> {
     Ok(signs.saturating_mul(6).saturating_add(6))
 }
 
-/// Draws the number of a slot, so wide, at its tick; before the tick, where the picture ends behind it.
+/// Draws the number of a slot, so wide, at its tick; farther left, where the picture would cut it.
 fn put_number(
     text: &mut Vec<u8>,
     x: u64,

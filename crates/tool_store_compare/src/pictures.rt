@@ -246,7 +246,8 @@ fn put_ticks(alloc: Global, text: &mut Vec<u8>, axis: Axis) -> io::Result<()> {
         put_tick(text, x)?;
         let number = format!(in alloc; "{lateness}")?;
         let half = half_of(number.as_str());
-        if free <= x.saturating_sub(half) {
+        let start = x.saturating_sub(half);
+        if free <= start {
             put_lateness(text, x, number.as_str())?;
             free = x.saturating_add(half);
         }

@@ -53,7 +53,7 @@ times_text us m = shortest_text us (codes "period") m.period ++ codes ", " ++ sh
     ++ codes ", " ++ shortest_text us (codes "collect_deadline") m.collect_deadline
 
 abbrev pub margins_line : Option ℕ → (die task : ℕ) → TaskMargins → List ℕ
-margins_line us die task m = codes "die " ++ decimal die ++ codes " task " ++ decimal task ++ codes ": one at a time, these would do: "
+margins_line us die task m = codes "die " ++ decimal die ++ codes " task " ++ decimal task ++ codes ": one at a time, with these its die would do: "
     ++ asked_text m ++ codes ", " ++ times_text us m ++ codes "." ++ 10 ∷ []
 
 -- a line for each of these tasks of a die, the first of which has this number: how far its numbers may change

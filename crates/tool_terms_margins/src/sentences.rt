@@ -148,7 +148,7 @@ fn put_line(
 {
     write!(
         text,
-        "die {die} task {task}: one at a time, these would do: "
+        "die {die} task {task}: one at a time, with these its die would do: "
     )?;
     put_asked(text, margins)?;
     write!(text, ", ")?;
