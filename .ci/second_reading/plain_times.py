@@ -1,10 +1,14 @@
 """A second reading of docs/RULES.md and crates/flashplan/README.md: of a plan with times the script of what its tasks ask for,
 and whether a script keeps it, in plain Python. It reads nothing of the program. `.ci/second_reading/plays` and
 `.ci/second_reading/used-times` use it."""
+import re
+
+from second_reading.plain_terms import time_text
 from second_reading.plain_texts import LAST_SLOT, Refused, read_plan, read_script
 from second_reading.plain_uses import HEADER, KEPT, Draws
 
 MOST_ARRIVALS = 65_536
+SLOT_LINE = re.compile(rb"# a slot is ([1-9][0-9]*) us; ")
 WANTED = "{} wants a plan that is accepted, with times (version 2) or terms: flashplan explain says more\n"
 
 
@@ -98,8 +102,11 @@ def arrivals(dies, slots, seed=0, fills=False, phases=False, jitter=0, load=100,
     return "".join(rows)
 
 
-def filling(dies, slots, held=()):
-    """What is told of when each die is full."""
+def filling(dies, slots, held=(), slot_us=None):
+    """What is told of when each die is full, with times where it is known how long a slot is."""
+    def timed(count):
+        return f"{count} ({time_text(count * slot_us)})" if slot_us else count
+
     lines = []
     for at, die in enumerate(dies):
         by = [asker.full_from for asker in askers_of(dies, True, held) if asker.at == at and asker.full_from is not None]
@@ -107,12 +114,13 @@ def filling(dies, slots, held=()):
         if full is None:
             lines.append(f"die {at} is never full: none of its tasks writes, and one has to\n")
         elif full <= slots:
-            lines.append(f"die {at} is full from slot {full} on\n")
+            lines.append(f"die {at} is full from slot {timed(full)} on\n")
         elif full <= life:
-            lines.append(f"die {at} isn't full in {slots} slots: it would be from slot {full} on, so --slots has to be {full} at least\n")
+            lines.append(f"die {at} isn't full in {timed(slots)} slots: it would be from slot {timed(full)} on, so --slots has to be "
+                         f"{full} at least\n")
         else:
-            lines.append(f"die {at} isn't full in its life of {life} slots: that would take {full}, so it has to have fewer logical "
-                         "pages, or its tasks to write more\n")
+            lines.append(f"die {at} isn't full in its life of {timed(life)} slots: that would take {timed(full)}, so it has to have "
+                         "fewer logical pages, or its tasks to write more\n")
     return "".join(lines)
 
 
@@ -202,12 +210,13 @@ def flashplan(words, read_file):
     """The status, standard output and standard error of `keeps` or `arrivals` of a plan without terms."""
     slots, fills = number_of(words, "--slots", 0), "--fill" in words
     try:
-        dies = dies_of(read_file(words[1]))
+        plan = read_file(words[1])
+        dies, told = dies_of(plan), SLOT_LINE.match(plan)
         if words[0] == "keeps":
             return *keeps(dies, read_file(words[2]), slots), ""
         script = arrivals(dies, slots, number_of(words, "--seed", 0), fills, "--phases" in words, number_of(words, "--jitter", 0),
                           number_of(words, "--load", 100))
-        return 0, script, filling(dies, slots) if fills else ""
+        return 0, script, filling(dies, slots, slot_us=int(told[1]) if told else None) if fills else ""
     except TooMany as fault:
         die, most = fault.args
         return 1, "", f"error: die {die} would get more than 65536 jobs and collections: the most slots that serve are {most}\n"
