@@ -122,7 +122,9 @@ pub fn row_of(made: DieTerms) -> Option<AlphaRow>
     let logical = greatest_logical(&mut made.plan)?;
     let own = made.plan.logical;
     made.plan.logical = logical;
-    let load = passing_load(&made.plan, &made.terms)?;
+    let Some(load) = passing_load(&made.plan, &made.terms) else {
+        return None;
+    };
     made.plan.logical = own;
     let does = bound(&made.plan).is_ok();
     Some(AlphaRow {

@@ -24,7 +24,7 @@ returns c =
     let plan : DiePlan = c.greatest_logical.new.plan in
     let most = c.in_ok-logical.logical in
     let passes : PassesDemand (with_logical plan most) made.terms × PassesSupply (with_logical plan most) made.terms =
-    c.in-Ok.ensures.passes.0 refl in
+    c.in-Some.ensures.passes.0 refl in
     let own = subst (λ (p : DiePlan). PassesDemand (with_logical p most) made.terms × PassesSupply (with_logical p most) made.terms)
     c.greatest_logical.ensures.plan passes in
     let meets : IsTrue c.is_ok-does.result ↔ MeetsBound plan = search rules in
@@ -32,8 +32,8 @@ returns c =
       is = ap (λ (p : DiePlan). record made { plan = p }) c.greatest_logical.ensures.plan;
       holds = does-with made most most c.in_ok-logical.ensures.found.meets own;
       greatest = λ more above does. c.in_ok-logical.ensures.found.greatest more above does.bound;
-      load = subst (λ (p : DiePlan). c.in-Ok.found.load ≡ load p made.terms) c.greatest_logical.ensures.plan
-          c.in-Ok.ensures.load.long_run;
+      load = subst (λ (p : DiePlan). c.in-Some.load ≡ load p made.terms) c.greatest_logical.ensures.plan
+          c.in-Some.ensures.load;
       does = subst (λ (p : DiePlan). IsTrue c.is_ok-does.result ↔ IsUsable (record made { plan = p })) c.greatest_logical.ensures.plan
           (λ yes. does-with (record made { plan = plan }) most plan.logical (meets.0 yes) passes, λ does. meets.1 does.bound);
     }
