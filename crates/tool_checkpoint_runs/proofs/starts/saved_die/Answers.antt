@@ -19,4 +19,5 @@ returns-in-Ok c = record {
       ∙ resumed_as_saved c.args.plan c.args.saved.now c.in_ok-checkpoint.checkpoint c.in_ok-device.device.blocks
       c.in_ok-checkpoint.ensures.checkpoint c.in_ok-device.ensures.holds;
   log = ap (λ (core : Core Memory). core.log) c.in-Ok.ensures.ok;
+  runs = ap (λ (core : Core Memory). core.stopped) c.in-Ok.ensures.ok;
 }

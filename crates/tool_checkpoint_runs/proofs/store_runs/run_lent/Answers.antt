@@ -3,6 +3,7 @@ use Rattle.script_texts.specs.ScriptLeft.{script_left}
 use Rattle.tool_script_runs.proofs.TextRuns.{run_of_text}
 use Rattle.tool_checkpoint_runs.specs.Runs.{running, starts_by}
 use Rattle.tool_checkpoint_runs.proofs.ManyStarts.{many_starts}
+use Rattle.tool_checkpoint_runs.proofs.NeverStopped.{all_run, none_stop}
 use Rattle.tool_checkpoint_runs.proofs.store_runs.run_lent.Goals as goal
 
 pub returns-clause-ran : goal.returns-clause-ran
@@ -12,7 +13,8 @@ returns-clause-ran g c = λ text is.
       came = running c.run_dies.new.dies.items;
       refused = c.in_ok-refused.refused.items;
       counted = rw c.deref.ensures.value at c.of-refused.ensures;
-      none_stopped = c.in_ok-check_running.ensures;
+      none_stopped = none_stop c.run_dies.new.dies.items (c.run_dies.ensures.well
+          (all_run c.in_ok-dies.dies.items c.in_ok-dies.ensures.run));
       ran = run_of_text starts text c.args.slots (length c.args.plan) (script_left g.R.Read.remaining c.args.script.now)
           c.in_ok-refused.refused.items (running c.run_dies.new.dies.items)
           (many_starts starts c.in_ok-dies.dies.items (length c.args.plan) c.in_ok-dies.ensures.starts c.in_ok-dies.ensures.count) is
