@@ -14,7 +14,7 @@ use Rattle.flash_die.specs.declared.nand.NandCall.{NandCall}
 use Rattle.slot_core.specs.Calls.{IsCall, RefusesCall, call_for}
 use Rattle.slot_core.specs.Core.{Core}
 use Rattle.slot_core.specs.Needs.{IsOnlyCall}
-use Rattle.tool_script_runs.proofs.Calls.{no_slot, not_both, slot_carried}
+use Rattle.tool_script_runs.proofs.Calls.{not_both, slot_carried}
 use Rattle.tool_watched_runs.specs.Failing.{RunsWell, calls_of}
 use Rattle.tool_watched_runs.specs.declared.failing.FailAt.{FailAt}
 
@@ -28,6 +28,9 @@ pub begins_well : (die : Core (Fuse Memory)) (fail : Option FailAt) (number : �
 begins_well die fail number none runs left =
     let all : die.device.left ≡ calls_of None number = left ∙ ap (λ (f : Option FailAt). calls_of f number) none in
     (runs, omega (arith, all))
+
+no_slot : {A : Type 0} (event : Event) → IsArrival event → event ≡ events.Slot → A
+no_slot event arrives is = absurd (subst IsArrival is arrives)
 
 -- one call of a slot at most is used up
 left_after : (needed : Option NandCall) (before after : Fuse Memory) → IsOnlyCall (EndsAsFused EndsWell) needed true before after
