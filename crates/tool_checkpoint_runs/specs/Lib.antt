@@ -1,4 +1,5 @@
 pub mod SavedDies
 pub mod Devices
 pub mod Runs
+pub mod Refusals
 pub mod Counted

@@ -2,6 +2,7 @@
 
 ghost use Rattle.std.specs.Prelude.{◌≡◌, ◌<◌, ◌≤◌, List, OnOk, length};
 ghost use Rattle.std.specs.List.{AllZip};
+ghost use Rattle.slot_types.specs.Refusal.{FailsForMemory};
 ghost use Rattle.tool_script_runs.specs.RunningDies.{RunningDie, running_of};
 ghost use Rattle.tool_script_runs.specs.ScriptRuns.{GoesOn};
 ghost use Rattle.tool_checkpoint_runs.specs.Runs.{running, starts_of};
@@ -60,6 +61,7 @@ fn carry_out(
     requires { end ≤ MAX_SLOT }
     ensures went_on { OnOk result (GoesOn (running_of die.old) (running_of die.new)) }
     ensures start { die.new.start ≡ die.old.start }
+    ensures refused { FailsForMemory result }
 {
     for slot in die.now()..end {
         if !is_pending(die, number) {
@@ -75,6 +77,7 @@ fn carry_out(
 fn settle_die(alloc: Global, die: &mut DieCore<MemoryNand>) -> Result<u32, Refusal>
     ensures went_on { OnOk result (GoesOn (running_of die.old) (running_of die.new)) }
     ensures start { die.new.start ≡ die.old.start }
+    ensures refused { FailsForMemory result }
 {
     let now = die.now();
     let end = now.saturating_add(most_slots(die)).min(MAX_SLOT);
@@ -94,15 +97,17 @@ fn settle_at(alloc: Global, dies: &mut StoreDies, place: usize) -> Result<u32, R
         AllZip GoesOn came (running dies.old.items) → AllZip GoesOn came (running dies.new.items)) }
     ensures starts { starts_of dies.new.items ≡ starts_of dies.old.items }
     ensures count { length dies.new.items ≡ length dies.old.items }
+    ensures refused { FailsForMemory result }
 {
     settle_die(alloc, &mut dies[place])
 }
 
-/// The same for each die; answers by die how many slots it took.
+/// The same for each die; answers by die how many slots it took. The only refusal is NoMemory.
 pub fn settle(alloc: Global, dies: &mut StoreDies) -> Result<Vec<u32>, Refusal>
     ensures went_on { OnOk result (AllZip GoesOn (running dies.old.items) (running dies.new.items)) }
     ensures starts { starts_of dies.new.items ≡ starts_of dies.old.items }
     ensures count { length dies.new.items ≡ length dies.old.items }
+    ensures refused { FailsForMemory result }
 {
     let mut idle = Vec::new(alloc);
     for place in 0..dies.len() {

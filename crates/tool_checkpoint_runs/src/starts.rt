@@ -1,14 +1,17 @@
 //! Dies as they start.
 
-ghost use Rattle.std.specs.Prelude.{◌≡◌, ◌≤◌, [], All, IfOk, IfNone, OnOk, length, map, position};
+ghost use Rattle.std.specs.Prelude.{◌≡◌, ◌≤◌, [], false, All, List, IfErr, IfOk, IfNone, IfSome, IsSome, OnOk, length, map, position};
 ghost use Rattle.slot_types.specs.Refusal.{FailsForMemory};
 ghost use Rattle.plan_rules.specs.Bound.{MeetsBound};
 ghost use Rattle.checkpoint_texts.specs.SavedDies.{checkpoint_of};
 ghost use Rattle.die_checkpoint.specs.Fits.{Fits};
 ghost use Rattle.die_log.specs.Model.Start.{fresh};
 ghost use Rattle.tool_script_runs.specs.RunningDies.{HasEmptyLog};
+ghost use Rattle.slot_types.specs.declared.plans.DiePlan.{DiePlan};
+ghost use Rattle.die_checkpoint.specs.Faults.{HasCheckpointFault};
+ghost use Rattle.tool_checkpoint_runs.specs.Refusals.{RefusesDie, RefusesSaved};
 ghost use Rattle.tool_checkpoint_runs.specs.Runs.{running, starts_of};
-ghost use Rattle.tool_checkpoint_runs.specs.SavedDies.{HaveBytes, is_bare, saved_start, saved_starts};
+ghost use Rattle.tool_checkpoint_runs.specs.SavedDies.{FitsDie, HaveBytes, is_bare, saved_start, saved_starts};
 
 use crate::devices::device_of;
 use crate::dies::{StoreDies, push_die};
@@ -26,6 +29,7 @@ fn fresh_die(alloc: Global, plan: DiePlan) -> Result<DieCore<MemoryNand>, Refusa
     requires { MeetsBound plan }
     ensures ok { IfOk result (λ die. die.start ≡ fresh plan) }
     ensures log { IfOk result (λ die. die.log ≡ []) }
+    ensures runs { IfOk result (λ die. die.stopped ≡ false) }
     ensures refused { FailsForMemory result }
 {
     let nand = match MemoryNand::new(alloc, plan.shape) {
@@ -43,6 +47,7 @@ pub fn fresh_store(alloc: Global, plan: StorePlan) -> Result<StoreDies, Refusal>
     requires { All MeetsBound plan }
     ensures ok { IfOk result (λ dies. starts_of dies.items ≡ map fresh plan) }
     ensures empty { IfOk result (λ dies. All HasEmptyLog (running dies.items)) }
+    ensures run { IfOk result (λ dies. All (λ die. die.stopped ≡ false) dies.items) }
     ensures count { IfOk result (λ dies. length dies.items ≡ length plan) }
     ensures refused { FailsForMemory result }
 {
@@ -66,6 +71,7 @@ fn bare_at(pages: &[SavedPage]) -> Option<usize>
 /// The first page that lies in a cell and has no bytes.
 fn first_bare(pages: &[SavedPage]) -> Option<u32>
     ensures none { IfNone result (HaveBytes pages.now) }
+    ensures some { IfSome result (λ _. IsSome (position is_bare pages.now)) }
 {
     match bare_at(pages) {
         Some(page) => Some(u32::try_from(page).unwrap_or(u32::MAX)),
@@ -74,7 +80,10 @@ fn first_bare(pages: &[SavedPage]) -> Option<u32>
 }
 
 /// Why a die that was saved isn't taken.
-fn unfit(saved: &SavedDie, die: u32, first: u32, fault: CheckpointFault) -> RunFault {
+fn unfit(saved: &SavedDie, die: u32, first: u32, fault: CheckpointFault) -> RunFault
+    ensures { (plan : DiePlan) → HasCheckpointFault plan (checkpoint_of saved.now) fault →
+        RefusesDie plan saved.now result }
+{
     match fault {
         CheckpointFault::NoMemory => RunFault::Refused(Refusal::NoMemory),
         _ => RunFault::Unfit {
@@ -96,6 +105,7 @@ pub fn check_die(
 ) -> Result<Checkpoint, RunFault>
     ensures checkpoint { IfOk result (λ made. made ≡ checkpoint_of saved.now) }
     ensures fits { OnOk result (Fits plan.now (checkpoint_of saved.now)) }
+    ensures refused { IfErr result (RefusesDie plan.now saved.now) }
 {
     let checkpoint = saved.checkpoint(alloc)?;
     match checkpoint.check(alloc, plan) {
@@ -107,6 +117,8 @@ pub fn check_die(
 /// Whether all placed pages of a die have bytes.
 pub fn check_bytes(saved: &SavedDie, die: u32, first: u32) -> Result<(), RunFault>
     ensures have { OnOk result (HaveBytes saved.now.pages) }
+    ensures refused { (plan : DiePlan) → FitsDie plan saved.now →
+        IfErr result (RefusesDie plan saved.now) }
 {
     if let Some(page) = first_bare(saved.pages.as_slice()) {
         let line = line_of_page(first, page);
@@ -125,6 +137,10 @@ fn saved_die(
 ) -> Result<DieCore<MemoryNand>, RunFault>
     ensures ok { IfOk result (λ core. core.start ≡ saved_start plan saved.now) }
     ensures log { IfOk result (λ core. core.log ≡ []) }
+    ensures runs { IfOk result (λ core. core.stopped ≡ false) }
+    ensures fits { OnOk result (FitsDie plan saved.now) }
+    ensures have { OnOk result (HaveBytes saved.now.pages) }
+    ensures refused { IfErr result (RefusesDie plan saved.now) }
 {
     let checkpoint = check_die(alloc, &plan, saved, die, first)?;
     check_bytes(saved, die, first)?;
@@ -138,6 +154,8 @@ fn saved_die(
 /// Refuses what was saved of another number of dies.
 pub fn same_store(count: usize, saved: &SavedStore) -> Result<(), RunFault>
     ensures same { OnOk result (length saved.now ≡ count) }
+    ensures refused { (plans : List DiePlan) → length plans ≡ count →
+        IfErr result (RefusesSaved plans saved.now) }
 {
     if saved.len() == count {
         return Ok(());
@@ -159,7 +177,9 @@ pub fn saved_store(
 ) -> Result<StoreDies, RunFault>
     ensures ok { IfOk result (λ dies. starts_of dies.items ≡ saved_starts plan saved.now) }
     ensures empty { IfOk result (λ dies. All HasEmptyLog (running dies.items)) }
+    ensures run { IfOk result (λ dies. All (λ die. die.stopped ≡ false) dies.items) }
     ensures count { IfOk result (λ dies. length dies.items ≡ length plan) }
+    ensures refused { IfErr result (RefusesSaved plan saved.now) }
 {
     same_store(plan.len(), saved)?;
     let mut left = saved.as_slice();

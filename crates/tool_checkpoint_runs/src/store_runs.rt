@@ -1,6 +1,6 @@
 //! A script that is run on the dies of a store.
 
-ghost use Rattle.std.specs.Prelude.{◌≡◌, ℕ, ◌≤◌, false, All, List, Option, IfOk, OnOk, length, map};
+ghost use Rattle.std.specs.Prelude.{◌≡◌, ℕ, ◌≤◌, false, All, List, Option, IfErr, IfOk, OnOk, length, map};
 ghost use Rattle.std.specs.List.{AllZip};
 ghost use Rattle.slot_types.specs.Refusal.{FailsForMemory};
 ghost use Rattle.plan_rules.specs.Bound.{MeetsBound};
@@ -9,7 +9,8 @@ ghost use Rattle.task_script.specs.StoreRuns.{reports_of};
 ghost use Rattle.script_texts.specs.ScriptLeft.{dies_of, script_left, slots_of};
 ghost use Rattle.tool_script_runs.specs.RunningDies.{HasEmptyLog};
 ghost use Rattle.tool_script_runs.specs.ScriptRuns.{GoesOn, script_in};
-ghost use Rattle.tool_checkpoint_runs.specs.Runs.{NoneStopped, RanAndWentOn, boxed_starts, running, running_in, starts_by, starts_of};
+ghost use Rattle.tool_checkpoint_runs.specs.Refusals.{RefusesRun, RefusesStart};
+ghost use Rattle.tool_checkpoint_runs.specs.Runs.{RanAndWentOn, boxed_starts, running, running_in, starts_by, starts_of};
 
 use crate::dies::{DiesOn, StoreDies, in_box, push_die};
 use crate::faults::RunFault;
@@ -37,12 +38,15 @@ pub struct StoreRun {
     pub idle: Vec<u32>,
 }
 
-/// The dies of a plan as they start.
+/// The dies of a plan as they start. Refused with the first fault of what was saved, of the first die that has one; or with
+/// NoMemory.
 fn dies_of(alloc: Global, plan: StorePlan, from: Option<SavedStore>) -> Result<StoreDies, RunFault>
     requires bound { All MeetsBound plan }
     ensures starts { IfOk result (λ dies. starts_of dies.items ≡ starts_by plan from) }
     ensures empty { IfOk result (λ dies. All HasEmptyLog (running dies.items)) }
+    ensures run { IfOk result (λ dies. All (λ die. die.stopped ≡ false) dies.items) }
     ensures count { IfOk result (λ dies. length dies.items ≡ length plan) }
+    ensures refused { IfErr result (RefusesStart plan from) }
 {
     match from {
         None => Ok(fresh_store(alloc, plan)?),
@@ -74,6 +78,7 @@ pub fn started_store(
     ensures starts { IfOk result (λ dies. boxed_starts dies.items ≡ starts_by plan from) }
     ensures empty { IfOk result (λ dies. All HasEmptyLog (map running_in dies.items)) }
     ensures count { IfOk result (λ dies. length dies.items ≡ length plan) }
+    ensures refused { IfErr result (RefusesStart plan from) }
 {
     let dies = dies_of(alloc, plan, from)?;
     let own = boxed(alloc, dies)?;
@@ -94,10 +99,11 @@ pub(crate) fn report_of<N: Nand>(alloc: Global, dies: &DiesOn<N>) -> Result<Repo
 }
 
 /// Lets each die go on until all that it accepted is done or was waived, where the run is to be saved; answers by die how
-/// many slots it took.
+/// many slots it took. The only refusal is NoMemory.
 fn settled(alloc: Global, dies: &mut StoreDies, saves: bool) -> Result<Vec<u32>, Refusal>
     ensures went_on { OnOk result (AllZip GoesOn (running dies.old.items) (running dies.new.items)) }
     ensures no_more { saves ≡ false → running dies.new.items ≡ running dies.old.items }
+    ensures refused { FailsForMemory result }
     ensures starts { starts_of dies.new.items ≡ starts_of dies.old.items }
     ensures count { length dies.new.items ≡ length dies.old.items }
 {
@@ -105,18 +111,6 @@ fn settled(alloc: Global, dies: &mut StoreDies, saves: bool) -> Result<Vec<u32>,
         return Ok(Vec::new(alloc));
     }
     settle(alloc, dies)
-}
-
-/// Whether no device of these dies has failed. DeviceFault where one has, and nothing else.
-fn check_running(dies: &StoreDies) -> Result<(), Refusal>
-    ensures { OnOk result (NoneStopped (running dies.now.items)) }
-{
-    for number in 0..dies.len() {
-        if dies[number].is_stopped() {
-            return Err(Refusal::DeviceFault);
-        }
-    }
-    Ok(())
 }
 
 /// Runs a script on the dies of a plan, as [`run_script`] does. It is lent, since a reader is large to free where the
@@ -141,10 +135,10 @@ fn run_lent<R: Read + Drop>(
     ensures starts { IfOk result (λ run. starts_of run.dies.items ≡ starts_by plan from) }
     ensures report { IfOk result (λ run. run.report ≡ text_so_far (reports_of 0 run.dies.items)) }
     ensures count { IfOk result (λ run. length run.dies.items ≡ length plan) }
+    ensures refused { IfErr result (RefusesRun plan from (script_left R.remaining script.old)) }
 {
     let mut dies = dies_of(alloc, plan, from)?;
     let refused = run_dies(alloc, script, &mut dies, slots)?;
-    check_running(&dies)?;
     let refused = RefusedRows::of(&refused);
     let idle = settled(alloc, &mut dies, saves)?;
     let report = report_of(alloc, &dies)?;
@@ -161,8 +155,7 @@ fn run_lent<R: Read + Drop>(
 /// accepted is done or was waived, at most as many slots as that work can take, and not beyond slot 1,048,576.
 ///
 /// The report is read off the log of each die over its start. Refused with the first fault of what was saved, of the first die that
-/// has one; of the script, as [`ScriptReader`] tells it; with DeviceFault where a device has
-/// failed, which none in memory does; or with ReadFault or NoMemory.
+/// has one; of the script, as [`ScriptReader`] tells it; or with ReadFault or NoMemory.
 pub fn run_script<R: Read + Drop>(
     alloc: Global,
     plan: StorePlan,
@@ -180,6 +173,8 @@ pub fn run_script<R: Read + Drop>(
     ensures starts { IfOk result (λ run. starts_of run.dies.items ≡ starts_by plan from) }
     ensures report { IfOk result (λ run. run.report ≡ text_so_far (reports_of 0 run.dies.items)) }
     ensures count { IfOk result (λ run. length run.dies.items ≡ length plan) }
+    ensures refused { IfErr result
+        (RefusesRun plan from (script_in (length plan) slots (R.remaining script))) }
 {
     let mut script = ScriptReader::new(alloc, script, &plan, slots)?;
     run_lent(alloc, plan, from, &mut script, slots, saves)

@@ -1,14 +1,16 @@
 //! Runs from a checkpoint that are watched slot by slot: what they wear, what they come to, and what is drawn of them.
 
-ghost use Rattle.std.specs.Prelude.{◌≡◌, ◌≤◌, [], All, Err, IfOk, length, map};
+ghost use Rattle.std.specs.Prelude.{◌≡◌, ◌≤◌, [], false, All, Err, IfErr, IfOk, None, OnOk, length, map};
 ghost use Rattle.std.specs.Box.{box_value};
 ghost use Rattle.tool_script_runs.specs.RunningDies.{HasEmptyLog, starts_of};
+ghost use Rattle.tool_script_runs.specs.ScriptRuns.{script_in};
 ghost use Rattle.tool_watched_runs.specs.Failing.{IsBeyond};
-ghost use Rattle.tool_watched_runs.specs.Runs.{IsDrawingFrom, IsReportFrom, begun};
+ghost use Rattle.tool_watched_runs.specs.Runs.{IsDrawingFrom, IsReportFrom, StartsWell, begun};
 ghost use Rattle.tool_watched_runs.specs.WearText.{IsWearFrom};
 ghost use Rattle.plan_rules.specs.Bound.{MeetsBound};
+ghost use Rattle.tool_checkpoint_runs.specs.Refusals.{RefusesDie, RefusesRun, RefusesSaved, RefusesStart};
 ghost use Rattle.tool_checkpoint_runs.specs.Runs.{starts_by};
-ghost use Rattle.tool_checkpoint_runs.specs.SavedDies.{saved_start, saved_starts};
+ghost use Rattle.tool_checkpoint_runs.specs.SavedDies.{FitsDie, HaveBytes, saved_start, saved_starts};
 
 use crate::devices::device_of;
 use crate::dies::in_box;
@@ -41,6 +43,10 @@ fn saved_core(
     ensures ok { IfOk result (λ core. core.start ≡ saved_start plan saved.now) }
     ensures log { IfOk result (λ core. core.log ≡ []) }
     ensures calls { IfOk result (λ core. core.device.left ≡ calls) }
+    ensures runs { IfOk result (λ core. core.stopped ≡ false) }
+    ensures fits { OnOk result (FitsDie plan saved.now) }
+    ensures have { OnOk result (HaveBytes saved.now.pages) }
+    ensures refused { IfErr result (RefusesDie plan saved.now) }
 {
     let checkpoint = check_die(alloc, &plan, saved, die, first)?;
     check_bytes(saved, die, first)?;
@@ -62,6 +68,11 @@ fn started_die(
 ) -> Result<StartedDie, RunFault>
     ensures start { IfOk result (λ started. (begun started).start ≡ saved_start plan saved.now) }
     ensures log { IfOk result (λ started. HasEmptyLog (begun started)) }
+    ensures calls { IfOk result (λ started. (box_value started.core).device.left ≡ calls) }
+    ensures runs { IfOk result (λ started. (begun started).stopped ≡ false) }
+    ensures fits { OnOk result (FitsDie plan saved.now) }
+    ensures have { OnOk result (HaveBytes saved.now.pages) }
+    ensures refused { IfErr result (RefusesDie plan saved.now) }
 {
     let Ok(levels) = Levels::at(alloc, &plan, saved.balances.as_slice(), saved.spare) else {
         return Err(RunFault::Refused(Refusal::NoMemory));
@@ -83,7 +94,9 @@ fn saved_dies(
     ensures starts { IfOk result (λ dies.
         starts_of (map begun dies.items) ≡ saved_starts plan saved.now) }
     ensures empty { IfOk result (λ dies. All HasEmptyLog (map begun dies.items)) }
+    ensures well { IfOk result (λ dies. fail ≡ None → All StartsWell dies.items) }
     ensures count { IfOk result (λ dies. length dies.items ≡ length plan) }
+    ensures refused { IfErr result (RefusesSaved plan saved.now) }
 {
     same_store(plan.len(), saved)?;
     let mut left = saved.as_slice();
@@ -115,7 +128,9 @@ fn started_dies(
     requires bound { All MeetsBound plan }
     ensures starts { IfOk result (λ dies. starts_of (map begun dies.items) ≡ starts_by plan from) }
     ensures empty { IfOk result (λ dies. All HasEmptyLog (map begun dies.items)) }
+    ensures well { IfOk result (λ dies. fail ≡ None → All StartsWell dies.items) }
     ensures count { IfOk result (λ dies. length dies.items ≡ length plan) }
+    ensures refused { IfErr result (RefusesStart plan from) }
 {
     match from {
         None => Ok(fresh_dies(alloc, plan, fail)?),
@@ -139,6 +154,8 @@ pub fn wear_from<R: Read + Drop>(
     ensures text { IfOk result (λ reported.
         IsWearFrom (starts_by plan from) (R.remaining script) slots reported.refused
         reported.text.items) }
+    ensures refused { IfErr result
+        (RefusesRun plan from (script_in (length plan) slots (R.remaining script))) }
 {
     let mut script = ScriptReader::new(alloc, script, &plan, slots)?;
     let dies = started_dies(alloc, plan, from, None)?;

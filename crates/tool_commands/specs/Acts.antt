@@ -1,5 +1,5 @@
 -- What a command prints, and its status; and what it leaves where it is refused.
-use Rattle.std.specs.Prelude.{◌≡◌, ◌==◌, ◌↔◌, ◌⊎◌, List, [], ◌∷◌, ◌++◌, ℕ, zero, suc, map, take, ⊤}
+use Rattle.std.specs.Prelude.{◌≡◌, ◌==◌, ◌↔◌, ◌⊎◌, List, [], ◌∷◌, ◌++◌, ℕ, zero, suc, length, map, take, ⊤}
 use Rattle.std.specs.Prelude.{Option, Some, None, Result, Ok, Err, IfSome, is_none, is_some, option_map, IsTrue, MatchBool, Bool, true, false}
 use Rattle.std.specs.Borrow.{Bor}
 use Rattle.std.specs.Prelude.{if◌then◌else◌}
@@ -271,8 +271,9 @@ explained_status (Err fault) = 1
 abbrev pub PrintsReport : {N : Type 0} → Option (List ℕ) → Option (List ℕ) → List (Core N) → Type 0
 PrintsReport old new dies = Appends old new (report_text (reports_of 0 dies))
 
--- The report is printed of dies that ran the whole script that was read, and so many slots. They began fresh by the plans of the
--- store that was read, or as they were saved, if that was asked for; and went on for some slots more, if their end was.
+-- The report is printed of as many dies as the store has that was read. They ran the whole script that was read, and so many
+-- slots; began fresh by the store's plans, or as they were saved, if that was asked for; and went on for some slots more, if their
+-- end was. None stopped.
 pub record PrintsRun (plan script : Option (List ℕ)) (slots : ℕ) (begins_fresh saves : Bool) (old new : Option (List ℕ)) : Type 0 where
   pub store : List DiePlan
   pub read : ReadsStore plan store
@@ -280,6 +281,7 @@ pub record PrintsRun (plan script : Option (List ℕ)) (slots : ℕ) (begins_fre
   pub begun : begins_fresh ≡ true → saved ≡ None
   pub counts : RefusedRows
   pub dies : List (Core Memory)
+  pub all : length dies ≡ length store
   pub ran : RanAndWentOn (starts_by store saved) script slots saves counts (running dies)
   pub written : PrintsReport old new dies
 

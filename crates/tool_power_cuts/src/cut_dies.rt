@@ -372,6 +372,9 @@ impl CutDie {
 impl ScriptDie for CutDie {
     ghost running = { running_of };
 
+    /// None does: the power may go in any call of its part.
+    ghost runs_well = { λ _. ⊥ };
+
     fn carry_to(&mut self, alloc: Global, slot: u32) -> Result<(), Refusal> {
         for _present in self.die.core().now()..slot {
             match self.carry_slot(alloc) {

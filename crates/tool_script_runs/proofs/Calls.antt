@@ -1,5 +1,5 @@
 -- What the calls of a die are to it as one that runs, and slots one after the other.
-use Rattle.std.proofs.Common.{◌≡◌, ℕ, zero, suc, ◌+◌, ◌<◌, ◌≤◌, Bool, true, false, ap, ◌∙◌, sym, subst, inl, inr, refl, arith, Some, None, Ok, Err}
+use Rattle.std.proofs.Common.{◌≡◌, ℕ, zero, suc, ◌+◌, ◌<◌, ◌≤◌, Bool, true, false, ap, ◌∙◌, sym, subst, inl, inr, refl, arith, Some, None, Result, Ok, Err}
 use Rattle.std.specs.Prelude.{◌-◌, max}
 use Rattle.std.proofs.lemmas.Bool.{lt-leb}
 use Rattle.std.proofs.lemmas.List.{length_push}
@@ -115,6 +115,18 @@ module _ {N : Type 0} {ends : N → NandCall → Bool → N → Type 0} {failure
         ended = λ up. not_both before.stopped up h.was_stopped;
         refused = λ _. (ap Some h.refusal_is, ap (λ (c : Core N). c.log) h.unchanged);
       }
+
+  -- a device that never fails stops no die
+  pub stays_well : (event : Event) (result : Result Reply Refusal) (before after : Core N) → IsCall ends failures never 0 event result before after
+      → (never ≡ true) × (before.stopped ≡ false) → (never ≡ true) × (after.stopped ≡ false)
+  stays_well event (Ok reply) before after call well = (well.0, call.ended.runs)
+  stays_well event (Err refusal) before after call well = (well.0, by call.ended)
+    where
+      by : RefusesCall event refusal before after → after.stopped ≡ false
+      by (inl h) = ap (λ (c : Core N). c.stopped) h.unchanged ∙ well.1
+      by (inr (inl h)) = ap (λ (c : Core N). c.stopped) h.unchanged ∙ well.1
+      by (inr (inr (inl h))) = absurd (call.device.never well.0 (ap (λ (e : Refusal). Err e) h.refusal_is))
+      by (inr (inr (inr h))) = not_both before.stopped well.1 h.was_stopped
 
 -- Slots one after the other
 

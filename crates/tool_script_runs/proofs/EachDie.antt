@@ -4,6 +4,7 @@ use Rattle.std.specs.Prelude.{All, IfSome, nat_lt, slice_get, if◌then◌else�
 use Rattle.std.proofs.Math.ListN.{set}
 use Rattle.std.proofs.lemmas.Bool.Decides.{nat_tests}
 use Rattle.std.proofs.lemmas.List.{length-map}
+use Rattle.std.proofs.lemmas.List.Elements.{All-get_or, All-set}
 use Rattle.std.proofs.lemmas.Option.{IfSome_then, get_or_from_slice_get, slice_get_within}
 use Rattle.die_log.specs.Model.Start.{Start}
 use Rattle.tool_script_runs.specs.RunningDies.{HasEmptyLog, IsCarriedTo, RunningDie, starts_of}
@@ -40,6 +41,12 @@ starts_stay {D} f (x ∷ xs) zero old new same is =
     ap (λ (s : Start). s ∷ starts_of (map f xs)) (same ∙ ap (λ (d : D). (f d).start) is)
 starts_stay f (x ∷ xs) (suc place) old new same is =
     ap (λ (l : List Start). (f x).start ∷ l) (starts_stay f xs place old new same is)
+
+-- what is so of each die is so where it is of the one that changes
+pub each_stays : {D : Type 0} (P : D → Type 0) (xs : List D) (place : ℕ) (old new : D) → place < length xs → old ≡ get_or xs place old
+    → (P old → P new) → All P xs → All P (set xs place new)
+each_stays P xs place old new below is stays all =
+    All-set P xs place new (stays (subst P (sym is) (All-get_or P xs place old below all))) all
 
 -- Rows
 

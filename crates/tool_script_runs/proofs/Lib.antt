@@ -4,3 +4,4 @@ pub mod EachDie
 pub mod ReadSoFar
 pub mod TextRuns
 pub mod GoingOn
+pub mod FewRows

@@ -1,11 +1,12 @@
 -- The rows that were read of a script so far, and what dies ran of them.
-use Rattle.std.proofs.Common.{◌≡◌, ℕ, List, [], ◌∷◌, ◌++◌, refl, ap, sym, ◌∙◌, subst, append_assoc, Option, Some, None, Ok, Err}
+use Rattle.std.proofs.Common.{◌≡◌, ℕ, List, [], ◌∷◌, ◌++◌, refl, ap, sym, ◌∙◌, subst, inl, inr, append_assoc, Option, Some, None, Ok, Err}
 use Rattle.std.specs.Prelude.{⊤, All, IfSome}
 use Rattle.std.proofs.lemmas.List.{append-nil}
+use Rattle.slot_types.specs.declared.refusals.Refusal.{Refusal}
 use Rattle.script_texts.specs.Script.{Script, Yields, with_front}
 use Rattle.script_texts.specs.declared.script_rows.ScriptItem.{ScriptItem}
 use Rattle.tool_script_runs.specs.RunningDies.{HasEmptyLog, IsCarriedTo, RunningDie}
-use Rattle.tool_script_runs.specs.ScriptRuns.{EndedRow, HasEnded, HaveEnded, HaveRun, RanAsDie, RanScript}
+use Rattle.tool_script_runs.specs.ScriptRuns.{EndedRow, HasEnded, HaveEnded, HaveRun, RanAsDie, RanScript, RefusesScript}
 use Rattle.tool_script_runs.specs.ScriptRuns.{items_of_die, rows_of_die}
 use Rattle.tool_script_runs.specs.declared.refused.RefusedRow.{RefusedRow}
 use Rattle.tool_script_runs.proofs.DieRows.{none_ended, none_ended_as, slots_more}
@@ -47,6 +48,14 @@ read_all (Some all) None new items so_far step = absurd so_far
 read_all (Some all) (Some more) new items so_far step = so_far
     ∙ (ap (with_items items) step.0 ∙ ap (λ (xs : List ScriptItem). Ok xs) (append-nil items))
 
+-- the fault of what is left is that of the whole
+read_fault : (whole left new : Option Script) (items : List ScriptItem) (e : Refusal) → IsReadTo whole left items → Yields left new (Err e)
+    → RefusesScript whole e
+read_fault None left new items e so_far step = inr tt
+read_fault (Some all) None new items e so_far step = absurd so_far
+read_fault (Some all) (Some more) new items e so_far (inl outside) = inl outside
+read_fault (Some all) (Some more) new items e so_far (inr fault) = inr (so_far ∙ ap (with_items items) fault)
+
 -- All dies
 
 -- rows of a script were read, and each die ran those of its own, of which these were refused
@@ -72,6 +81,10 @@ reads_row whole left new earlier refused before after item h step runs = record 
   read = read_more whole left new h.items item h.read step;
   ended = runs h.items h.ended;
 }
+
+pub reads_fault : (whole left new : Option Script) (refused : List RefusedRow) (dies : List RunningDie) (e : Refusal)
+    → HasRead whole left refused dies → Yields left new (Err e) → RefusesScript whole e
+reads_fault whole left new refused dies e h step = read_fault whole left new h.items e h.read step
 
 pub reads_end : (whole left new : Option Script) (refused : List RefusedRow) (dies : List RunningDie) → HasRead whole left refused dies
     → Yields left new (Ok None) → RanScript whole 0 refused dies
@@ -114,6 +127,10 @@ reads_row_as number whole left new earlier refused before after item h step runs
   read = read_more whole left new h.items item h.read step;
   ended = runs h.items h.ended;
 }
+
+pub reads_fault_as : (number : ℕ) (whole left new : Option Script) (refused : List RefusedRow) (die : RunningDie) (e : Refusal)
+    → HasReadAs number whole left refused die → Yields left new (Err e) → RefusesScript whole e
+reads_fault_as number whole left new refused die e h step = read_fault whole left new h.items e h.read step
 
 pub reads_end_as : (number : ℕ) (whole left new : Option Script) (refused : List RefusedRow) (die : RunningDie)
     → HasReadAs number whole left refused die → Yields left new (Ok None) → RanAsDie whole 0 number refused die

@@ -1,12 +1,13 @@
 -- Dies that ran the rows of a script.
 use Rattle.std.specs.Prelude.{◌≡◌, ℕ, ◌-◌, ◌==◌, nat_lt, Bool, true, false, List, [], ◌∷◌, ◌++◌, filter, map, slice_get, if◌then◌else◌}
-use Rattle.std.specs.Prelude.{All, length, Option, Some, None, IfSome, Ok, flat_map, option_map}
+use Rattle.std.specs.Prelude.{◌⊎◌, All, length, Option, Some, None, IfSome, Ok, Err, flat_map, option_map}
 use Rattle.slot_types.specs.declared.events.Event.{Event}
 use Rattle.slot_types.specs.declared.events.Event.TheVariants as events
 use Rattle.slot_types.specs.declared.refusals.Refusal.TheVariants.{DieStopped}
 use Rattle.slot_types.specs.declared.refusals.Refusal.{Refusal}
 use Rattle.die_log.specs.Model.Log.{Log, now}
 use Rattle.die_log.specs.Model.Start.{Start}
+use Rattle.text_base.specs.Readings.{IsOutside}
 use Rattle.script_texts.specs.Script.{Script, script_of}
 use Rattle.script_texts.specs.declared.script_rows.ScriptItem.{ScriptItem}
 use Rattle.tool_script_runs.specs.declared.refused.RefusedRow.{RefusedRow}
@@ -114,6 +115,10 @@ pub record RanAsDie (script : Option Script) (slots number : ℕ) (refused : Lis
   pub items : List ScriptItem
   pub read : IfSome script (λ all. all ≡ Ok items)
   pub ended : HasEnded (items_of_die items number) refused slots die
+
+-- memory ran out or the reader failed; or the script, where it is known, has this fault
+abbrev pub RefusesScript : Option Script → Refusal → Type 0
+RefusesScript script refusal = IsOutside refusal ⊎ IfSome script (λ all. all ≡ Err refusal)
 
 -- Runs of texts
 

@@ -9,6 +9,8 @@ use std::alloc::Global;
 impl<D: ScriptDie> ScriptDie for Box<D> {
     ghost running = { λ die. D.running (box_value die) };
 
+    ghost runs_well = { λ die. D.runs_well (box_value die) };
+
     fn carry_to(&mut self, alloc: Global, slot: u32) -> Result<(), Refusal> {
         self.as_mut().carry_to(alloc, slot)
     }

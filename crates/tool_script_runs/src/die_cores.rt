@@ -31,8 +31,11 @@ pub fn arrive<N: Nand>(die: &mut DieCore<N>, alloc: Global, event: Event) -> Res
 
 impl<N: Nand> ScriptDie for DieCore<N> {
     ghost use Rattle.tool_script_runs.specs.RunningDies.{running_of};
+    ghost use Rattle.std.specs.Prelude.{◌≡◌, true, false};
 
     ghost running = { running_of };
+
+    ghost runs_well = { λ die. (N.never_fails ≡ true) × (die.stopped ≡ false) };
 
     fn carry_to(&mut self, alloc: Global, slot: u32) -> Result<(), Refusal> {
         for _present in self.now()..slot {

@@ -1,7 +1,8 @@
 //! One row of a script on its die.
 
-ghost use Rattle.std.specs.Prelude.{◌≡◌, ℕ, ◌+◌, ◌<◌, ◌≤◌, ◌++◌, ◌∷◌, [], List, length, map, IfOk, OnOk};
+ghost use Rattle.std.specs.Prelude.{◌≡◌, ℕ, ◌+◌, All, ◌<◌, ◌≤◌, ◌++◌, ◌∷◌, [], List, length, map, IfOk, OnOk};
 ghost use Rattle.slot_types.specs.Arrivals.{IsArrival};
+ghost use Rattle.slot_types.specs.Refusal.{FailsForMemory};
 ghost use Rattle.script_texts.specs.declared.script_rows.ScriptItem.{ScriptItem};
 ghost use Rattle.tool_script_runs.specs.RunningDies.{starts_of};
 ghost use Rattle.tool_script_runs.specs.ScriptRuns.{EndedRow, HaveEnded, HaveRun, HaveRunBelow, TakesRow, ended_row, rows_of_die};
@@ -24,6 +25,8 @@ pub fn take_row<D: ScriptDie>(
     ensures taken { IfOk result (λ refusal.
         TakesRow (ended_row item refusal) (D.running die.old) (D.running die.new)) }
     ensures start { (D.running die.new).start ≡ (D.running die.old).start }
+    ensures well { D.runs_well die.old → D.runs_well die.new }
+    ensures refused { FailsForMemory result }
 {
     die.carry_to(alloc, item.at)?;
     die.ask(alloc, item.event)
@@ -44,6 +47,8 @@ fn take_own<D: ScriptDie>(
     ensures starts { starts_of (map D.running dies.new.items)
         ≡ starts_of (map D.running dies.old.items) }
     ensures count { length dies.new.items ≡ length dies.old.items }
+    ensures well { All D.runs_well dies.old.items → All D.runs_well dies.new.items }
+    ensures refused { FailsForMemory result }
 {
     let place = item.die as usize;
     take_row(alloc, &mut dies[place], item)
@@ -66,6 +71,8 @@ pub fn run_row<D: ScriptDie>(
     ensures starts { starts_of (map D.running dies.new.items)
         ≡ starts_of (map D.running dies.old.items) }
     ensures count { length dies.new.items ≡ length dies.old.items }
+    ensures well { All D.runs_well dies.old.items → All D.runs_well dies.new.items }
+    ensures refused { FailsForMemory result }
 {
     let asker = asker_of(&item);
     let refusal = take_own(alloc, dies, item)?;
@@ -87,6 +94,8 @@ fn carry_at<D: ScriptDie>(
     ensures starts { starts_of (map D.running dies.new.items)
         ≡ starts_of (map D.running dies.old.items) }
     ensures count { length dies.new.items ≡ length dies.old.items }
+    ensures well { All D.runs_well dies.old.items → All D.runs_well dies.new.items }
+    ensures refused { FailsForMemory result }
 {
     dies[place].carry_to(alloc, slot)
 }
@@ -100,6 +109,8 @@ pub fn carry_all<D: ScriptDie>(alloc: Global, dies: &mut Vec<D>, slot: u32) -> R
     ensures starts { starts_of (map D.running dies.new.items)
         ≡ starts_of (map D.running dies.old.items) }
     ensures count { length dies.new.items ≡ length dies.old.items }
+    ensures well { All D.runs_well dies.old.items → All D.runs_well dies.new.items }
+    ensures refused { FailsForMemory result }
 {
     for place in 0..dies.len() {
         carry_at(alloc, dies, place, slot)?;

@@ -1,11 +1,12 @@
 //! The rows of a script on the dies of a store, or on one of them, and then the slots that are left.
 
-ghost use Rattle.std.specs.Prelude.{◌≡◌, ◌≤◌, ◌++◌, ◌∷◌, [], All, List, length, map, IfOk, OnOk};
+ghost use Rattle.std.specs.Prelude.{◌≡◌, ◌≤◌, ◌++◌, ◌∷◌, [], All, List, length, map, IfErr, IfOk, OnOk};
 ghost use Rattle.slot_types.specs.Arrivals.{IsArrival};
+ghost use Rattle.slot_types.specs.Refusal.{FailsForMemory};
 ghost use Rattle.script_texts.specs.ScriptLeft.{dies_of, script_left, slots_of};
 ghost use Rattle.tool_script_runs.specs.RunningDies.{HasEmptyLog, starts_of};
 ghost use Rattle.script_texts.specs.declared.script_rows.ScriptItem.{ScriptItem};
-ghost use Rattle.tool_script_runs.specs.ScriptRuns.{HasEnded, RanAsDie, RanScript, items_of_die};
+ghost use Rattle.tool_script_runs.specs.ScriptRuns.{HasEnded, RanAsDie, RanScript, RefusesScript, items_of_die};
 
 use crate::refused::{RefusedRow, asker_of, note_refused};
 use crate::rows::{carry_all, run_row, take_row};
@@ -17,6 +18,9 @@ use std::io::Read;
 
 /// The record of a script that no reader reads.
 const LINE_PAST_ALL: u32 = 1_000_002;
+
+/// More rows than any script has.
+const MORE_THAN_ALL: u32 = 1_000_003;
 
 /// That a script has too many rows. Its reader says so before one that calls it so often can.
 const fn too_many_rows() -> Refusal {
@@ -40,9 +44,11 @@ fn read_rows<R: Read + Drop, D: ScriptDie>(
     ensures starts { starts_of (map D.running dies.new.items)
         ≡ starts_of (map D.running dies.old.items) }
     ensures count { length dies.new.items ≡ length dies.old.items }
+    ensures well { All D.runs_well dies.old.items → All D.runs_well dies.new.items }
+    ensures refused { IfErr result (RefusesScript (script_left R.remaining script.old)) }
 {
     let mut refused = Vec::new(alloc);
-    for _ in 0..LINE_PAST_ALL {
+    for _ in 0..MORE_THAN_ALL {
         let Some(item) = script.next()? else {
             return Ok(refused);
         };
@@ -72,6 +78,8 @@ pub fn run_dies<R: Read + Drop, D: ScriptDie>(
     ensures starts { starts_of (map D.running dies.new.items)
         ≡ starts_of (map D.running dies.old.items) }
     ensures count { length dies.new.items ≡ length dies.old.items }
+    ensures well { All D.runs_well dies.old.items → All D.runs_well dies.new.items }
+    ensures refused { IfErr result (RefusesScript (script_left R.remaining script.old)) }
 {
     let refused = read_rows(alloc, script, dies)?;
     carry_all(alloc, dies, slots)?;
@@ -92,6 +100,8 @@ fn run_own<D: ScriptDie>(
         HasEnded (items_of_die items number) refused.old.items 0 (D.running die.old) →
         HasEnded (items_of_die (items ++ item ∷ []) number) refused.new.items 0 (D.running die.new)) }
     ensures start { (D.running die.new).start ≡ (D.running die.old).start }
+    ensures well { D.runs_well die.old → D.runs_well die.new }
+    ensures refused { FailsForMemory result }
 {
     if item.die != number {
         return Ok(());
@@ -113,9 +123,11 @@ fn read_own<R: Read + Drop, D: ScriptDie>(
     ensures ran { IfOk result (λ refused. RanAsDie (script_left R.remaining script.old) 0 number
         refused.items (D.running die.new)) }
     ensures start { (D.running die.new).start ≡ (D.running die.old).start }
+    ensures well { D.runs_well die.old → D.runs_well die.new }
+    ensures refused { IfErr result (RefusesScript (script_left R.remaining script.old)) }
 {
     let mut refused = Vec::new(alloc);
-    for _ in 0..LINE_PAST_ALL {
+    for _ in 0..MORE_THAN_ALL {
         let Some(item) = script.next()? else {
             return Ok(refused);
         };
@@ -139,6 +151,8 @@ pub fn run_die<R: Read + Drop, D: ScriptDie>(
     ensures ran { IfOk result (λ refused. RanAsDie (script_left R.remaining script.old) slots number
         refused.items (D.running die.new)) }
     ensures start { (D.running die.new).start ≡ (D.running die.old).start }
+    ensures well { D.runs_well die.old → D.runs_well die.new }
+    ensures refused { IfErr result (RefusesScript (script_left R.remaining script.old)) }
 {
     let refused = read_own(alloc, script, die, number)?;
     die.carry_to(alloc, slots)?;

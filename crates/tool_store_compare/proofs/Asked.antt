@@ -1,5 +1,5 @@
 -- A job that was asked for.
-use Rattle.std.proofs.Common.{◌≡◌, ℕ, Bool, Option, Result, Ok, Err}
+use Rattle.std.proofs.Common.{◌≡◌, ◌∙◌, ℕ, Bool, true, false, Option, Result, Ok, Err, ap, refl}
 use Rattle.std.specs.Prelude.{IfOk}
 use Rattle.std.specs.Result.{result_err}
 use Rattle.std.proofs.lemmas.Result.{IfOk-weaker}
@@ -11,7 +11,7 @@ use Rattle.flash_die.specs.declared.nand.NandCall.{NandCall}
 use Rattle.slot_core.specs.Calls.{IsCall, reply_as}
 use Rattle.slot_core.specs.Core.{Core}
 use Rattle.tool_script_runs.specs.RunningDies.{IsAsked, running_of}
-use Rattle.tool_script_runs.proofs.Calls.{row_entered, row_refused}
+use Rattle.tool_script_runs.proofs.Calls.{row_entered, row_refused, stays_well}
 
 module _ {N : Type 0} {ends : N → NandCall → Bool → N → Type 0} {failures : N → ℕ} {never : Bool} where
   row_ended : (event : Event) (taken : Result ℕ Refusal) (before after : Core N) → IsArrival event
@@ -32,3 +32,11 @@ module _ {N : Type 0} {ends : N → NandCall → Bool → N → Type 0} {failure
       (λ (refusal : Option Refusal) (why : refusal ≡ result_err taken).
       rw (← same, ← begun, ended, why) (row_ended asked taken at after arrives call))
       is
+
+-- a device that never fails stops no die that was asked
+pub job_well : {N : Type 0} {ends : N → NandCall → Bool → N → Type 0} {failures : N → ℕ} (event : Event) (taken : Result ℕ Refusal)
+    (at before after last : Core N) → at ≡ before → last ≡ after
+    → IsCall ends failures true 0 event (reply_as replies.Taken taken) at after → before.stopped ≡ false → last.stopped ≡ false
+job_well {N} event taken at before after last begun ended call well =
+    ap (λ (core : Core N). core.stopped) ended
+    ∙ (stays_well event (reply_as replies.Taken taken) at after call (refl, ap (λ (core : Core N). core.stopped) begun ∙ well)).1

@@ -18,9 +18,12 @@ pub(crate) struct ComparedDie {
 
 impl ScriptDie for ComparedDie {
     ghost use Rattle.std.specs.Box.{box_value};
+    ghost use Rattle.std.specs.Prelude.{◌≡◌, false};
     ghost use Rattle.tool_script_runs.specs.RunningDies.{running_of};
 
     ghost running = { λ die. running_of (box_value (box_value die.store).core) };
+
+    ghost runs_well = { λ die. (box_value (box_value die.store).core).stopped ≡ false };
 
     fn carry_to(&mut self, alloc: Global, slot: u32) -> Result<(), Refusal> {
         if let Some(planned) = &mut self.planned {

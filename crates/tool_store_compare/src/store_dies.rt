@@ -1,6 +1,6 @@
 //! A die of the store that runs the rows of a script.
 
-ghost use Rattle.std.specs.Prelude.{◌≡◌, ◌<◌, IfOk};
+ghost use Rattle.std.specs.Prelude.{◌≡◌, ◌<◌, false, IfOk};
 ghost use Rattle.std.specs.Box.{box_value};
 ghost use Rattle.std.specs.Result.{result_err};
 ghost use Rattle.slot_types.specs.Refusal.{FailsForMemory};
@@ -103,8 +103,10 @@ impl StoreDie {
     /// Carries out the present slot, and counts what it carried. It is refused as by the die.
     fn step(&mut self, alloc: Global) -> Result<(), Refusal>
         requires { now (box_value self.old.core).log < MAX_SLOT }
-        ensures { TakesSlot result (running_of (box_value self.old.core))
+        ensures took { TakesSlot result (running_of (box_value self.old.core))
             (running_of (box_value self.new.core)) }
+        ensures well { (box_value self.old.core).stopped ≡ false →
+            (box_value self.new.core).stopped ≡ false }
     {
         let reply = self.core.slot(alloc, 0)?;
         if reply.slot >= self.from {
@@ -159,6 +161,8 @@ impl StoreDie {
             refusal (running_of (box_value self.old.core))
             (running_of (box_value self.new.core))) }
         ensures start { (box_value self.new.core).start ≡ (box_value self.old.core).start }
+        ensures well { (box_value self.old.core).stopped ≡ false →
+            (box_value self.new.core).stopped ≡ false }
         ensures refused { FailsForMemory result }
     {
         let ops = row.ops.as_slice();
@@ -192,9 +196,13 @@ impl StoreDie {
 
 impl ScriptDie for StoreDie {
     ghost use Rattle.std.specs.Box.{box_value};
+    ghost use Rattle.std.specs.Prelude.{◌≡◌, false};
     ghost use Rattle.tool_script_runs.specs.RunningDies.{running_of};
 
     ghost running = { λ die. running_of (box_value die.core) };
+
+    /// Its device is in memory, and never fails.
+    ghost runs_well = { λ die. (box_value die.core).stopped ≡ false };
 
     fn carry_to(&mut self, alloc: Global, slot: u32) -> Result<(), Refusal> {
         for _present in self.core.now()..slot {

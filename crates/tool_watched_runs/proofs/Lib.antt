@@ -7,3 +7,4 @@ mod WornDies
 mod RunsOf
 pub mod TablesSoFar
 pub mod OneStarted
+pub mod WellRuns

@@ -9,7 +9,7 @@ use Rattle.tool_script_runs.specs.declared.counted.RefusedRows.{RefusedRows}
 use Rattle.tool_script_runs.specs.declared.refused.RefusedRow.{RefusedRow}
 use Rattle.tool_script_runs.specs.ScriptRuns.{IsRunOf}
 use Rattle.tool_watched_runs.specs.Runs.{running, worn_of}
-use Rattle.tool_watched_runs.specs.Wear.{IsWorn, IsWornWell, Worn}
+use Rattle.tool_watched_runs.specs.Wear.{IsWorn, Worn}
 use Rattle.tool_watched_runs.specs.WearText.{IsWearFrom, wear_text}
 use Rattle.tool_watched_runs.specs.declared.die_runs.DieRun.{DieRun}
 use Rattle.tool_watched_runs.specs.declared.tallies.Tally.{Tally}
@@ -22,14 +22,15 @@ pub is_wear_text : (starts : List Start) (script : Option (List ℕ)) (slots : �
     (dies : List (Box DieRun)) (tallies : List Tally) (text : List ℕ)
     → IsRunOf starts script slots refused (map running dies) → CountsRows refused counts
     → tallies ≡ map (λ (run : Box DieRun). (worn_of run).tally) dies
-    → All (λ (run : Box DieRun). IsWornWell (worn_of run)) dies → text ≡ wear_text tallies → IsWearFrom starts script slots counts text
-is_wear_text starts script slots refused counts dies tallies text ran counted are worn is = record {
+    → All (λ (run : Box DieRun). (running run).stopped ≡ false) dies → All (λ (run : Box DieRun). IsWorn (worn_of run)) dies
+    → text ≡ wear_text tallies → IsWearFrom starts script slots counts text
+is_wear_text starts script slots refused counts dies tallies text ran counted are well worn is = record {
   dies = map worn_of dies;
   refused = refused;
   ran = subst (λ (l : List RunningDie). IsRunOf starts script slots refused l)
       (sym (map_twice (λ (die : Worn). die.run) worn_of dies)) ran;
   counted = counted;
-  none_stopped = All-map (λ (die : Worn). die.run.stopped ≡ false) worn_of dies (λ n here within. (worn n here within).1);
-  worn = All-map IsWorn worn_of dies (λ n here within. (worn n here within).0);
+  none_stopped = All-map (λ (die : Worn). die.run.stopped ≡ false) worn_of dies well;
+  worn = All-map IsWorn worn_of dies worn;
   is = is ∙ ap wear_text (are ∙ sym (map_twice (λ (die : Worn). die.tally) worn_of dies));
 }

@@ -1,6 +1,9 @@
 -- Devices that are to fail.
-use Rattle.std.specs.Prelude.{ℕ, ◌≤◌, ◌-◌, ◌==◌, Option, Some, None, if◌then◌else◌}
+use Rattle.std.specs.Prelude.{◌≡◌, ℕ, ◌+◌, ◌≤◌, ◌-◌, ◌==◌, false, Option, Some, None, if◌then◌else◌}
+use Rattle.slot_types.specs.declared.limits.TheConstants.{MAX_SLOT}
 use Rattle.die_log.specs.Model.Log.{now}
+use Rattle.flash_die.specs.Fuse.{Fuse}
+use Rattle.flash_die.specs.Memory.{Memory}
 use Rattle.slot_core.specs.Core.{Core}
 use Rattle.tool_watched_runs.specs.declared.failing.FailAt.{FailAt}
 use Rattle.tool_watched_runs.specs.declared.failing.Failure.{Failure}
@@ -18,6 +21,10 @@ calls_of (Some at) die = if at.die == die then at.call - 1 else ALL_CALLS
 abbrev pub IsBeyond : Option FailAt → ℕ → Type 0
 IsBeyond None dies = ⊥
 IsBeyond (Some at) dies = dies ≤ at.die
+
+-- a die runs, and its device has a call left for each slot that is left of a life: it makes all of them well
+abbrev pub RunsWell : Core (Fuse Memory) → Type 0
+RunsWell die = (die.stopped ≡ false) × (MAX_SLOT ≤ now die.log + die.device.left)
 
 -- what became of the device of a die that was to fail: a die that it stopped stays in the slot in which it failed
 abbrev pub failure_in : {N : Type 0} → FailAt → Core N → Failure

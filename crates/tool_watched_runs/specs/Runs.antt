@@ -13,7 +13,7 @@ use Rattle.tool_run_figures.specs.declared.lives.Life.{Life}
 use Rattle.tool_run_figures.specs.declared.records.Records.{Records}
 use Rattle.tool_script_runs.specs.Counted.{CountsRows}
 use Rattle.tool_script_runs.specs.declared.refused.RefusedRow.{RefusedRow}
-use Rattle.tool_watched_runs.specs.Failing.{failure_in}
+use Rattle.tool_watched_runs.specs.Failing.{RunsWell, failure_in}
 use Rattle.tool_watched_runs.specs.Figures.{HaveFigures}
 use Rattle.tool_watched_runs.specs.ReportText.{TellsFigures}
 use Rattle.tool_watched_runs.specs.Wear.{Worn}
@@ -34,6 +34,10 @@ running run = running_of (core_of run)
 -- a die that was started, as one that runs the rows of a script
 abbrev pub begun : StartedDie → RunningDie
 begun die = running_of (box_value die.core)
+
+-- its device makes all calls of a life well
+abbrev pub StartsWell : StartedDie → Type 0
+StartsWell die = RunsWell (box_value die.core)
 
 -- what it wore so far
 abbrev pub worn_of : Box DieRun → Worn

@@ -72,10 +72,6 @@ pub record Worn : Type 0 where
 abbrev pub IsWorn : Worn → Type 0
 IsWorn die = IsExact die.run.start die.run.log × IsWearOf die.run.start.plan.shape.blocks die.run.log die.tally
 
--- and its device didn't fail
-abbrev pub IsWornWell : Worn → Type 0
-IsWornWell die = IsWorn die × (die.run.stopped ≡ false)
-
 -- the entry of a slot of caller 0
 abbrev pub slot_entry : SlotReply → Entry
 slot_entry reply = record { caller = 0; event = events.Slot; reply = replies.Slot reply }

@@ -5,6 +5,7 @@ ghost use Rattle.std.specs.Box.{box_value};
 ghost use Rattle.slot_types.specs.Refusal.{FailsForMemory};
 ghost use Rattle.die_log.specs.Model.Log.{Log, job_at, now};
 ghost use Rattle.tool_script_runs.specs.RunningDies.{HasEmptyLog, TakesSlot, running_of};
+ghost use Rattle.tool_watched_runs.specs.Failing.{RunsWell};
 ghost use Rattle.tool_watched_runs.specs.SlotsCarried.{AreCountsOf};
 ghost use Rattle.tool_watched_runs.specs.Wear.{IsWearOf, slot_entry};
 
@@ -217,8 +218,9 @@ impl DieRun {
     /// Carries out the present slot, and notes what was done in it. It is refused as by the die; or with NoMemory.
     fn step(&mut self, alloc: Global) -> Result<(), Refusal>
         requires { now (box_value self.old.core).log < MAX_SLOT }
-        ensures { TakesSlot result (running_of (box_value self.old.core))
+        ensures took { TakesSlot result (running_of (box_value self.old.core))
             (running_of (box_value self.new.core)) }
+        ensures well { RunsWell (box_value self.old.core) → RunsWell (box_value self.new.core) }
     {
         let reply = self.core.slot(alloc, 0)?;
         self.tally.note(&reply);
@@ -240,8 +242,11 @@ impl DieRun {
 impl ScriptDie for DieRun {
     ghost use Rattle.std.specs.Box.{box_value};
     ghost use Rattle.tool_script_runs.specs.RunningDies.{running_of};
+    ghost use Rattle.tool_watched_runs.specs.Failing.{RunsWell};
 
     ghost running = { λ run. running_of (box_value run.core) };
+
+    ghost runs_well = { λ run. RunsWell (box_value run.core) };
 
     fn carry_to(&mut self, alloc: Global, slot: u32) -> Result<(), Refusal> {
         for _present in self.core.now()..slot {

@@ -1,14 +1,15 @@
 //! Scripts that are run, row by row, on dies whose devices are in memory.
 
-ghost use Rattle.std.specs.Prelude.{◌≡◌, ℕ, ◌≤◌, ◌++◌, ◌∷◌, [], List, Option, false, All, length, map, IfOk, OnOk};
+ghost use Rattle.std.specs.Prelude.{◌≡◌, ℕ, ◌≤◌, ◌++◌, ◌∷◌, [], List, Option, false, All, length, map, IfErr, IfOk, OnOk};
 ghost use Rattle.std.specs.Box.{box_value};
 ghost use Rattle.plan_rules.specs.Bound.{MeetsBound};
 ghost use Rattle.slot_types.specs.Refusal.{FailsForMemory};
 ghost use Rattle.script_texts.specs.ScriptLeft.{dies_of, script_left, slots_of};
 ghost use Rattle.tool_script_runs.specs.RunningDies.{HasEmptyLog, starts_of};
-ghost use Rattle.tool_script_runs.specs.ScriptRuns.{IsRunOf, script_in};
-ghost use Rattle.tool_watched_runs.specs.Runs.{begun, core_of, failure_among, running, worn_of};
-ghost use Rattle.tool_watched_runs.specs.Wear.{IsWorn, IsWornWell};
+ghost use Rattle.tool_script_runs.specs.ScriptRuns.{IsRunOf, RefusesScript, script_in};
+ghost use Rattle.tool_watched_runs.specs.Failing.{RunsWell};
+ghost use Rattle.tool_watched_runs.specs.Runs.{StartsWell, begun, core_of, failure_among, running, worn_of};
+ghost use Rattle.tool_watched_runs.specs.Wear.{IsWorn};
 ghost use Rattle.tool_watched_runs.specs.WearText.{IsWearFrom, IsWearText};
 
 use crate::die_runs::DieRun;
@@ -68,6 +69,8 @@ pub fn push_run(dies: &mut Vec<Box<DieRun>>, run: Box<DieRun>) -> Result<(), Ref
 fn watched(alloc: Global, dies: Vec<StartedDie>) -> Result<Vec<Box<DieRun>>, Refusal>
     requires { All HasEmptyLog (map begun dies.items) }
     ensures same { IfOk result (λ runs. map running runs.items ≡ map begun dies.items) }
+    ensures well { IfOk result (λ runs. All StartsWell dies.items →
+        All (λ run. RunsWell (core_of run)) runs.items) }
     ensures refused { FailsForMemory result }
 {
     let mut runs = Vec::new(alloc);
@@ -103,11 +106,14 @@ pub fn run_started<R: Read + Drop>(
     requires slots { slots_of script.old ≡ slots }
     requires dies { dies_of script.old ≡ length dies.items }
     requires empty { All HasEmptyLog (map begun dies.items) }
-    ensures { (text : Option (List ℕ)) →
+    ensures ran { (text : Option (List ℕ)) →
         script_left R.remaining script.old ≡ script_in (length dies.items) slots text →
         IfOk result (λ ran.
         IsRunOf (starts_of (map begun dies.items)) text slots ran.refused.items
         (map running ran.dies.items)) }
+    ensures well { IfOk result (λ ran. All StartsWell dies.items →
+        All (λ run. (running run).stopped ≡ false) ran.dies.items) }
+    ensures refused { IfErr result (RefusesScript (script_left R.remaining script.old)) }
 {
     let mut runs = watched(alloc, dies)?;
     let refused = run_dies(alloc, script, &mut runs, slots)?;
@@ -117,18 +123,14 @@ pub fn run_started<R: Read + Drop>(
     })
 }
 
-/// What a die wore, which is given up. DeviceFault where its device has failed, and nothing else.
-fn tally_of(run: Box<DieRun>) -> Result<Tally, Refusal>
-    ensures tally { IfOk result (λ tally. tally ≡ (box_value run).tally) }
-    ensures worn { IfOk result (λ _. IsWorn (worn_of run)) }
-    ensures runs { IfOk result (λ _. (running run).stopped ≡ false) }
+/// What a die wore, which is given up.
+fn tally_of(run: Box<DieRun>) -> Tally
+    ensures tally { result ≡ (box_value run).tally }
+    ensures worn { IsWorn (worn_of run) }
 {
     run.core.promises();
-    if run.core.is_stopped() {
-        return Err(Refusal::DeviceFault);
-    }
     let DieRun { tally, .. } = Box::into_inner(run);
-    Ok(tally)
+    tally
 }
 
 /// Adds what a die wore. The only refusal is NoMemory.
@@ -140,24 +142,25 @@ fn push_tally(tallies: &mut Vec<Tally>, tally: Tally) -> Result<(), Refusal>
     Ok(())
 }
 
-/// What dies wore. DeviceFault where the device of one has failed; or NoMemory.
+/// What dies wore. The only refusal is NoMemory.
 fn tallies_of(alloc: Global, dies: Vec<Box<DieRun>>) -> Result<Vec<Tally>, Refusal>
     ensures tallies { IfOk result (λ tallies.
         tallies.items ≡ map (λ die. (worn_of die).tally) dies.items) }
-    ensures worn { IfOk result (λ _. All (λ die. IsWornWell (worn_of die)) dies.items) }
+    ensures worn { IfOk result (λ _. All (λ die. IsWorn (worn_of die)) dies.items) }
+    ensures refused { FailsForMemory result }
 {
     let mut tallies = Vec::new(alloc);
     for run in dies {
-        push_tally(&mut tallies, tally_of(run)?)?;
+        push_tally(&mut tallies, tally_of(run))?;
     }
     Ok(tallies)
 }
 
-/// Runs a script on dies that were started, and reports what it wore, as a text of records: the counts are those of the
-/// dies' logs. The script is lent, since a reader is large to free where a row stops the run.
+/// Runs a script on dies that were started, whose devices make all calls of a life well, and reports what it wore, as a
+/// text of records: the counts are those of the dies' logs. The script is lent, since a reader is large to free where a row
+/// stops the run.
 ///
-/// Refused with the first fault of the script, as [`ScriptReader`] says it; with DeviceFault where a device has failed; or
-/// with ReadFault or NoMemory.
+/// Refused with the first fault of the script, as [`ScriptReader`] says it; or with ReadFault or NoMemory.
 pub fn wear_of<R: Read + Drop>(
     alloc: Global,
     script: &mut ScriptReader<R>,
@@ -168,11 +171,13 @@ pub fn wear_of<R: Read + Drop>(
     requires slots { slots_of script.old ≡ slots }
     requires dies { dies_of script.old ≡ length dies.items }
     requires empty { All HasEmptyLog (map begun dies.items) }
+    requires well { All StartsWell dies.items }
     ensures text { (text : Option (List ℕ)) →
         script_left R.remaining script.old ≡ script_in (length dies.items) slots text →
         IfOk result (λ reported.
         IsWearFrom (starts_of (map begun dies.items)) text slots reported.refused
         reported.text.items) }
+    ensures refused { IfErr result (RefusesScript (script_left R.remaining script.old)) }
 {
     let Ran { dies, refused } = run_started(alloc, script, dies, slots)?;
     let counts = RefusedRows::of(&refused);
@@ -186,8 +191,7 @@ pub fn wear_of<R: Read + Drop>(
     })
 }
 
-/// Runs a script on a store of fresh dies in memory, and reports what it wore, as [`wear_of`] does. It is refused as there;
-/// no device in memory fails.
+/// Runs a script on a store of fresh dies in memory, and reports what it wore, as [`wear_of`] does. It is refused as there.
 pub fn wear<R: Read + Drop>(
     alloc: Global,
     plan: StorePlan,
@@ -198,6 +202,8 @@ pub fn wear<R: Read + Drop>(
     requires bound { All MeetsBound plan }
     ensures text { IfOk result (λ reported.
         IsWearText plan (R.remaining script) slots reported.refused reported.text.items) }
+    ensures refused { IfErr result
+        (RefusesScript (script_in (length plan) slots (R.remaining script))) }
 {
     let mut script = ScriptReader::new(alloc, script, &plan, slots)?;
     let dies = fresh_dies(alloc, plan, None)?;

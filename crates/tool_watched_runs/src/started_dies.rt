@@ -1,12 +1,12 @@
 //! Dies that are to run the rows of a script.
 
-ghost use Rattle.std.specs.Prelude.{◌≡◌, ◌++◌, ◌∷◌, [], All, length, map, IfOk, OnOk};
+ghost use Rattle.std.specs.Prelude.{◌≡◌, ◌++◌, ◌∷◌, [], false, All, None, length, map, IfOk, OnOk};
 ghost use Rattle.std.specs.Box.{box_value};
 ghost use Rattle.slot_types.specs.Refusal.{FailsForMemory};
 ghost use Rattle.plan_rules.specs.Bound.{MeetsBound};
 ghost use Rattle.die_log.specs.Model.Start.{fresh};
 ghost use Rattle.tool_script_runs.specs.RunningDies.{HasEmptyLog, starts_of};
-ghost use Rattle.tool_watched_runs.specs.Runs.{begun};
+ghost use Rattle.tool_watched_runs.specs.Runs.{StartsWell, begun};
 
 use crate::failing::{FailAt, RunNand, calls_of};
 use flash_die::{FuseNand, MemoryNand};
@@ -32,6 +32,7 @@ fn fresh_core(alloc: Global, plan: DiePlan, calls: u64) -> Result<Box<DieCore<Ru
     ensures start { IfOk result (λ core. (box_value core).start ≡ fresh plan) }
     ensures log { IfOk result (λ core. (box_value core).log ≡ []) }
     ensures calls { IfOk result (λ core. (box_value core).device.left ≡ calls) }
+    ensures runs { IfOk result (λ core. (box_value core).stopped ≡ false) }
     ensures refused { FailsForMemory result }
 {
     let Ok(nand) = MemoryNand::new(alloc, plan.shape) else {
@@ -51,6 +52,7 @@ impl StartedDie {
         ensures start { IfOk result (λ die. (begun die).start ≡ fresh plan) }
         ensures log { IfOk result (λ die. HasEmptyLog (begun die)) }
         ensures calls { IfOk result (λ die. (box_value die.core).device.left ≡ calls) }
+        ensures runs { IfOk result (λ die. (begun die).stopped ≡ false) }
         ensures refused { FailsForMemory result }
     {
         let levels = Levels::new(alloc, &plan)?;
@@ -78,6 +80,7 @@ pub fn fresh_dies(
     requires { All MeetsBound plan }
     ensures starts { IfOk result (λ dies. starts_of (map begun dies.items) ≡ map fresh plan) }
     ensures empty { IfOk result (λ dies. All HasEmptyLog (map begun dies.items)) }
+    ensures well { IfOk result (λ dies. fail ≡ None → All StartsWell dies.items) }
     ensures count { IfOk result (λ dies. length dies.items ≡ length plan) }
     ensures refused { FailsForMemory result }
 {

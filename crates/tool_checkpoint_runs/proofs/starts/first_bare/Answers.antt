@@ -2,5 +2,5 @@ use Rattle.std.proofs.Common.{sym}
 use Rattle.tool_checkpoint_runs.proofs.LeftDevices.{none_bare}
 use Rattle.tool_checkpoint_runs.proofs.starts.first_bare.Goals as goal
 
-pub returns-in-None : goal.returns-in-None
-returns-in-None c = record { none = none_bare c.args.pages.now (sym c.in-None.ensures) }
+pub returns-in-None-clause-none : goal.returns-in-None-clause-none
+returns-in-None-clause-none c = none_bare c.args.pages.now (sym c.in-None.ensures)

@@ -1,5 +1,5 @@
-use Rattle.std.proofs.Common.{rules, ◌≡◌, ◌++◌, ◌∷◌, [], List, ap, sym, subst, ◌∙◌, arith, length, length-append, map}
-use Rattle.std.proofs.lemmas.List.Elements.{All-rest}
+use Rattle.std.proofs.Common.{rules, ◌≡◌, ◌++◌, ◌∷◌, [], List, ap, false, sym, subst, ◌∙◌, arith, length, length-append, map}
+use Rattle.std.proofs.lemmas.List.Elements.{All-push, All-rest}
 use Rattle.std.specs.Prelude.{All}
 use Rattle.std.specs.Vec.Iter.{into_iter_items}
 use Rattle.slot_types.specs.declared.plans.DiePlan.{DiePlan}
@@ -26,6 +26,9 @@ loop-plan-preserved c =
           (ap (λ (plans : List DiePlan). starts_of c.loop-plan.dies.items ++ map fresh plans) (sym here) ∙ c.loop-plan.invariant.starts);
       empty = subst (λ (dies : List (Core Memory)). All HasEmptyLog (running dies)) (sym pushed)
           (empty_more running_of c.loop-plan.dies.items c.in_ok-die.die c.loop-plan.invariant.empty c.in_ok-die.ensures.log);
+      run = subst (All (λ (die : Core Memory). die.stopped ≡ false)) (sym pushed)
+          (All-push (λ (die : Core Memory). die.stopped ≡ false) c.loop-plan.dies.items c.in_ok-die.die c.loop-plan.invariant.run
+          c.in_ok-die.ensures.runs);
       count = omega (
         arith,
         ap length pushed,

@@ -1,4 +1,4 @@
-use Rattle.std.proofs.Common.{◌∙◌, ℕ, List, ap, sym, subst}
+use Rattle.std.proofs.Common.{◌∙◌, ℕ, List, ap, refl, sym, subst}
 use Rattle.die_log.specs.Model.Start.{Start}
 use Rattle.tool_script_runs.specs.ScriptRuns.{script_in}
 use Rattle.tool_watched_runs.specs.WearText.{IsWearFrom}
@@ -7,11 +7,12 @@ use Rattle.tool_checkpoint_runs.proofs.watched_runs.wear_from.Goals as goal
 pub wear_of-requires-clause-dies : goal.wear_of-requires-clause-dies
 wear_of-requires-clause-dies g c = c.in_ok-script.ensures.dies ∙ sym c.in_ok-dies.ensures.count
 
-pub returns : goal.returns
-returns g c =
+pub wear_of-requires-clause-well : goal.wear_of-requires-clause-well
+wear_of-requires-clause-well g c = c.in_ok-dies.ensures.well refl
+
+pub returns-clause-text : goal.returns-clause-text
+returns-clause-text g c =
     let text = g.R.Read.remaining c.args.script in
-    record {
-      text = subst (λ (starts : List Start). IsWearFrom starts text c.args.slots c.in_ok-worn.worn.refused c.in_ok-worn.worn.text.items) c.in_ok-dies.ensures.starts
-          (c.in_ok-worn.ensures.text text
-          (c.in_ok-script.ensures.script ∙ ap (λ (n : ℕ). script_in n c.args.slots text) (sym c.in_ok-dies.ensures.count)));
-    }
+    subst (λ (starts : List Start). IsWearFrom starts text c.args.slots c.in_ok-worn.worn.refused c.in_ok-worn.worn.text.items) c.in_ok-dies.ensures.starts
+    (c.in_ok-worn.ensures.text text
+    (c.in_ok-script.ensures.script ∙ ap (λ (n : ℕ). script_in n c.args.slots text) (sym c.in_ok-dies.ensures.count)))

@@ -20,6 +20,7 @@ returns-in_err-write-clause-part g c =
           begun = c.in_ok-from.ensures;
           counts = c.in_ok-dies.field-0.refused;
           dies = dies;
+          all = c.in_ok-dies.ensures.count;
           ran = c.in_ok-dies.ensures.ran;
           written = refl;
         },
@@ -37,6 +38,7 @@ returns-clause-printed g c =
       begun = c.in_ok-from.ensures;
       counts = c.in_ok-dies.field-0.refused;
       dies = dies;
+      all = c.in_ok-dies.ensures.count;
       ran = c.in_ok-dies.ensures.ran;
       written = rw (whole_is (reports_of 0 dies) _ c.in_ok-dies.ensures.report) at c.in_ok-write.ensures.written;
     }

@@ -1,4 +1,4 @@
-use Rattle.std.proofs.Common.{◌≡◌, ℕ, List, length, map}
+use Rattle.std.proofs.Common.{◌≡◌, ℕ, All, List, length, map}
 use Rattle.tool_script_runs.specs.RunningDies.{starts_of}
 use Rattle.tool_script_runs.specs.ScriptRuns.{EndedRow, HaveRun, HaveRunBelow}
 use Rattle.tool_script_runs.proofs.rows.carry_all.Given as goal
@@ -9,4 +9,5 @@ invariant-loop-place g l = record {
       → HaveRunBelow l.place rows l.slot (map g.D.ScriptDie.running l.dies.items);
   starts : starts_of (map g.D.ScriptDie.running l.dies.items) ≡ starts_of (map g.D.ScriptDie.running l.fn.dies.items);
   count : length l.dies.items ≡ length l.fn.dies.items;
+  well : All g.D.ScriptDie.runs_well l.fn.dies.items → All g.D.ScriptDie.runs_well l.dies.items;
 }

@@ -2,7 +2,7 @@ use Rattle.std.proofs.Common.{refl, Option}
 use Rattle.std.proofs.lemmas.Result.{IfOk-weaker}
 use Rattle.slot_types.specs.declared.refusals.Refusal.{Refusal}
 use Rattle.tool_script_runs.specs.ScriptRuns.{TakesRow, ended_row}
-use Rattle.tool_script_runs.proofs.EachDie.{one_took_row, starts_stay}
+use Rattle.tool_script_runs.proofs.EachDie.{each_stays, one_took_row, starts_stay}
 use Rattle.tool_script_runs.proofs.rows.take_own.Goals as goal
 
 pub returns-clause-ran : goal.returns-clause-ran
@@ -20,3 +20,8 @@ pub returns-clause-starts : goal.returns-clause-starts
 returns-clause-starts g c =
     starts_stay g.D.ScriptDie.running c.args.dies.now.items c.args.item.die c.index_mut.result.now c.take_row.new.die c.take_row.ensures.start
     c.index_mut.ensures.value
+
+pub returns-clause-well : goal.returns-clause-well
+returns-clause-well g c =
+    each_stays g.D.ScriptDie.runs_well c.args.dies.now.items c.args.item.die c.index_mut.result.now c.take_row.new.die c.requires.there
+    c.index_mut.ensures.value c.take_row.ensures.well

@@ -1,6 +1,7 @@
-use Rattle.std.proofs.Common.{◌≡◌, length, map}
-use Rattle.script_texts.specs.ScriptLeft.{dies_of, script_left, slots_of}
+use Rattle.std.proofs.Common.{◌≡◌, All, length, map}
+use Rattle.script_texts.specs.ScriptLeft.{dies_of, reading_left, script_left, slots_of}
 use Rattle.tool_script_runs.specs.RunningDies.{starts_of}
+use Rattle.tool_script_runs.proofs.FewRows.{LeftAfter}
 use Rattle.tool_script_runs.proofs.ReadSoFar.{HasRead}
 use Rattle.tool_script_runs.proofs.script_runs.read_rows.Given as goal
 
@@ -12,4 +13,6 @@ invariant-loop g l = record {
   count : length l.dies.items ≡ length l.fn.dies.items;
   read : HasRead (script_left g.R.Read.remaining l.fn.script) (script_left g.R.Read.remaining l.script) l.refused.items
       (map g.D.ScriptDie.running l.dies.items);
+  left : LeftAfter l.counter (reading_left g.R.Read.remaining l.fn.script) (reading_left g.R.Read.remaining l.script);
+  well : All g.D.ScriptDie.runs_well l.fn.dies.items → All g.D.ScriptDie.runs_well l.dies.items;
 }

@@ -15,6 +15,6 @@ returns g c = record {
       IfOk-weaker c.reported.result (Tells dies refused c.args.life c.args.units c.args.as_csv c.args.fail)
       (IsReportFrom starts text c.args.slots c.args.life c.args.units c.args.as_csv c.args.fail)
       (λ (said : Reported) (tells : Tells dies refused c.args.life c.args.units c.args.as_csv c.args.fail said).
-      is_report starts text c.args.slots c.args.life c.args.units c.args.as_csv c.args.fail dies refused said (c.in_ok-ran.ensures text is) tells)
+      is_report starts text c.args.slots c.args.life c.args.units c.args.as_csv c.args.fail dies refused said (c.in_ok-ran.ensures.ran text is) tells)
       c.reported.ensures;
 }

@@ -3,7 +3,7 @@ use Rattle.std.specs.Global.{Box}
 use Rattle.std.proofs.lemmas.List.Elements.{All-cons}
 use Rattle.std.specs.Vec.Iter.{into_iter_items}
 use Rattle.tool_watched_runs.specs.Runs.{worn_of}
-use Rattle.tool_watched_runs.specs.Wear.{IsWornWell}
+use Rattle.tool_watched_runs.specs.Wear.{IsWorn}
 use Rattle.tool_watched_runs.specs.declared.die_runs.DieRun.{DieRun}
 use Rattle.tool_watched_runs.specs.declared.tallies.Tally.{Tally}
 use Rattle.tool_watched_runs.proofs.script_runs.tallies_of.Goals as goal
@@ -20,10 +20,10 @@ loop-run-preserved c =
       can_next = tt;
       is_finite = tt;
       tallies = ap (λ (all : List Tally). all ++ map tally_in left) c.in_ok-push_tally.ensures.ok
-          ∙ append_assoc old (c.in_ok-tally_of.field-0 ∷ []) (map tally_in left)
-          ∙ ap (λ (tally : Tally). old ++ tally ∷ map tally_in left) c.in_ok-tally_of.ensures.tally
+          ∙ append_assoc old (c.tally_of.result ∷ []) (map tally_in left)
+          ∙ ap (λ (tally : Tally). old ++ tally ∷ map tally_in left) c.tally_of.ensures.tally
           ∙ ap (λ (runs : List (Box DieRun)). old ++ map tally_in runs) (sym here) ∙ c.loop-run.invariant.tallies;
       worn = λ rest. c.loop-run.invariant.worn (
-          subst (All (λ (run : Box DieRun). IsWornWell (worn_of run))) (sym here)
-          (All-cons (λ (run : Box DieRun). IsWornWell (worn_of run)) c.in-Some.run' left (c.in_ok-tally_of.ensures.worn, c.in_ok-tally_of.ensures.runs) rest));
+          subst (All (λ (run : Box DieRun). IsWorn (worn_of run))) (sym here)
+          (All-cons (λ (run : Box DieRun). IsWorn (worn_of run)) c.in-Some.run' left c.tally_of.ensures.worn rest));
     }

@@ -1,15 +1,17 @@
 use Rattle.std.proofs.Common.{rules, arith, ◌≡◌, ◌++◌, ◌∷◌, List, ap, sym, subst, ◌∙◌, map}
+use Rattle.std.specs.Box.{box_value}
 use Rattle.std.specs.Prelude.{All}
 use Rattle.std.proofs.lemmas.Grind.{common_steps}
-use Rattle.std.proofs.lemmas.List.Elements.{All-rest}
+use Rattle.std.proofs.lemmas.List.Elements.{All-push, All-rest}
 use Rattle.std.specs.Vec.Iter.{into_iter_items}
 use Rattle.slot_types.specs.declared.plans.DiePlan.{DiePlan}
 use Rattle.plan_rules.specs.Bound.{MeetsBound}
 use Rattle.die_log.specs.Model.Start.{fresh}
 use Rattle.tool_script_runs.specs.RunningDies.{HasEmptyLog, starts_of}
 use Rattle.tool_script_runs.proofs.TextRuns.{as_many, empty_more, starts_more}
-use Rattle.tool_watched_runs.specs.Runs.{begun}
+use Rattle.tool_watched_runs.specs.Runs.{StartsWell, begun}
 use Rattle.tool_watched_runs.specs.declared.started_dies.StartedDie.{StartedDie}
+use Rattle.tool_watched_runs.proofs.WellRuns.{begins_well}
 use Rattle.tool_watched_runs.proofs.started_dies.fresh_dies.Goals as goal
 
 pub loop-plan-preserved : goal.loop-plan-preserved
@@ -27,6 +29,10 @@ loop-plan-preserved c =
           ∙ c.loop-plan.invariant.starts);
       empty = subst (λ (dies : List StartedDie). All HasEmptyLog (map begun dies)) (sym pushed)
           (empty_more begun c.loop-plan.dies.items c.in_ok-started.started c.loop-plan.invariant.empty c.in_ok-started.ensures.log);
+      well = λ none. subst (All StartsWell) (sym pushed)
+          (All-push StartsWell c.loop-plan.dies.items c.in_ok-started.started (c.loop-plan.invariant.well none)
+          (begins_well (box_value c.in_ok-started.started.core) c.args.fail c.loop-plan.die none c.in_ok-started.ensures.runs
+          (c.in_ok-started.ensures.calls ∙ c.calls_of-calls.ensures)));
       bound = All-rest MeetsBound c.in-Some.plan left (into_iter_items c.loop-plan.plan-iterator) here c.loop-plan.invariant.bound;
     }
 

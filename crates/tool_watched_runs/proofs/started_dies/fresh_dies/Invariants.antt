@@ -1,10 +1,10 @@
-use Rattle.std.proofs.Common.{◌≡◌, ◌++◌, map}
+use Rattle.std.proofs.Common.{◌≡◌, ◌++◌, None, map}
 use Rattle.std.specs.Prelude.{All}
 use Rattle.std.specs.Vec.Iter.{into_iter_items}
 use Rattle.plan_rules.specs.Bound.{MeetsBound}
 use Rattle.die_log.specs.Model.Start.{fresh}
 use Rattle.tool_script_runs.specs.RunningDies.{HasEmptyLog, starts_of}
-use Rattle.tool_watched_runs.specs.Runs.{begun}
+use Rattle.tool_watched_runs.specs.Runs.{StartsWell, begun}
 use Rattle.tool_watched_runs.proofs.started_dies.fresh_dies.Given as goal
 
 abbrev pub invariant-loop-plan : goal.invariant-loop-plan
@@ -13,5 +13,6 @@ invariant-loop-plan l = record {
   is_finite : goal.iterator-loop-plan.is_finite l.plan-iterator;
   starts : starts_of (map begun l.dies.items) ++ map fresh (into_iter_items l.plan-iterator) ≡ map fresh l.fn.plan;
   empty : All HasEmptyLog (map begun l.dies.items);
+  well : l.fn.fail ≡ None → All StartsWell l.dies.items;
   bound : All MeetsBound (into_iter_items l.plan-iterator);
 }

@@ -10,7 +10,9 @@ use Rattle.flash_die.specs.Memory.{Memory}
 use Rattle.slot_core.specs.Core.{Core}
 use Rattle.tool_script_runs.specs.RunningDies.{CarriesSlot, RefusesSlot, running_of}
 use Rattle.tool_script_runs.proofs.Calls.{slot_carried, slot_refused}
+use Rattle.tool_watched_runs.specs.Failing.{RunsWell}
 use Rattle.tool_watched_runs.proofs.Slots.{slot_noted, worn_after}
+use Rattle.tool_watched_runs.proofs.WellRuns.{refused_well, slot_well}
 use Rattle.tool_watched_runs.proofs.die_runs.DieRun.step.Goals as goal
 
 pub invariant_of-self-2 : goal.invariant_of-self-2
@@ -30,8 +32,8 @@ invariant_of-self-2 c = record {
       (c.count.ensures (length before.start.plan.caps) before.log logged was));
 }
 
-pub returns-in_err-reply : goal.returns-in_err-reply
-returns-in_err-reply c =
+pub returns-in_err-reply-clause-took : goal.returns-in_err-reply-clause-took
+returns-in_err-reply-clause-took c =
     let why = c.in_err-reply.field-0.0 in
     let refused : c.from_residual.result ≡ Err why = search rules in
     rw refused (
@@ -40,9 +42,20 @@ returns-in_err-reply c =
     (subst (λ (core : Core (Fuse Memory)). now core.log < MAX_SLOT) (sym c.deref_mut.ensures.value) c.requires) c.in_err-reply.ensures)
     )
 
-pub returns : goal.returns
-returns c =
+pub returns-clause-took : goal.returns-clause-took
+returns-clause-took c =
     slot_noted _ (running_of (box_value c.args.self.now.core)) (running_of c.slot.new.self)
     (subst (λ (core : Core (Fuse Memory)). CarriesSlot (running_of core) (running_of c.slot.new.self)) c.deref_mut.ensures.value
     (slot_carried c.in_ok-reply.reply c.deref_mut.result.now c.slot.new.self c.in_ok-reply.ensures))
     c.note-2.ensures
+
+pub returns-in_err-reply-clause-well : goal.returns-in_err-reply-clause-well
+returns-in_err-reply-clause-well c = λ well.
+    refused_well c.in_err-reply.field-0.0 c.deref_mut.result.now c.slot.new.self
+    (subst (λ (core : Core (Fuse Memory)). now core.log < MAX_SLOT) (sym c.deref_mut.ensures.value) c.requires) c.in_err-reply.ensures
+    (subst RunsWell (sym c.deref_mut.ensures.value) well)
+
+pub returns-clause-well : goal.returns-clause-well
+returns-clause-well c = λ well.
+    slot_well c.in_ok-reply.reply c.deref_mut.result.now c.slot.new.self c.in_ok-reply.ensures
+    (subst RunsWell (sym c.deref_mut.ensures.value) well)
