@@ -324,6 +324,26 @@ class Releases(unittest.TestCase):
         self.assertEqual(version.stated("0|flashrec 0.2.0~|\n0|flashplan 0.2.1~|\n", forms["crates/demo_examples/data/commands.txt"]),
                          ["0.2.0", "0.2.1"])
 
+    def test_the_number_of_the_interface_for_c(self):
+        texts = ["#define MG_VERSION_MAJOR 1u\n#define MG_VERSION_MINOR 2u\n", '"1.2"; "of a library', 'return "1.2, not proved";',
+                 "VERSION = 1.2\n", "find_package(Maulgreen 1.2 REQUIRED CONFIG)\n", "const VERSION: u32 = 1 << 16 | 2;\n",
+                 "if _lib.mg_version() >> 16 != 1 or _lib.mg_version() & 0xFFFF < 2:\n"]
+        for (path, form), text in zip(version.INTERFACE, texts, strict=True):
+            self.assertEqual(version.stated(text, form), [("1", "2")], path)
+        self.assertEqual(list(version.otherwise_for_c()), [])
+
+    def test_a_place_with_another_number_or_none_is_named(self):
+        with tempfile.TemporaryDirectory() as folder:
+            for name, text in ("header", "1.2"), ("same", "1.2"), ("other", "1.3"), ("none", ""):
+                (Path(folder) / name).write_text(text)
+            before = version.TOP, version.INTERFACE
+            version.TOP, version.INTERFACE = Path(folder), [(name, r"(\d)\.(\d)") for name in ("header", "same", "other", "none")]
+            try:
+                self.assertEqual(list(version.otherwise_for_c()), ["other states 1.3, and the header of the interface for C 1.2",
+                                                                   "none states no number of the interface for C"])
+            finally:
+                version.TOP, version.INTERFACE = before
+
     def test_crates_that_changed(self):
         before, nightly.crates = nightly.crates, lambda: [("low", [], []), ("mid", [], []), ("high", [], [])]
         try:
