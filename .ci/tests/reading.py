@@ -239,6 +239,15 @@ class Reading(unittest.TestCase):
         page.write_text("`.ci/nothing`, crates/high/src/lib.rt, (docs/NONE.md), [x](crates/low), [y](docs/Y.md#z) a.ci/b\n")
         self.assertEqual(docs.missing(page), [".ci/nothing", "docs/NONE.md", "docs/Y.md"])
 
+    def test_modules_that_are_not_there(self):
+        page, own = self.top / "README.md", self.top / "crates/low/README.md"
+        page.write_text("`high/src/{lib, gone}.rt`, `src/lib.rt`, `must-fail/NAME.edit`, `a/src`\n```\n`src/none`\n```\n`specs/None`\n")
+        self.assertEqual(docs.missing(page), ["high/src/gone.rt", "specs/None"])
+        own.write_text("`src/calls.rt`, `src/lost.rt`\n")
+        self.assertEqual(docs.missing(own), ["src/calls.rt", "src/lost.rt"])
+        own.write_text("`src/calls.rt` of `high`\n")
+        self.assertEqual(docs.missing(own), [])
+
     def test_edits_that_cannot_be_applied(self):
         page = self.top / "crates/high/must-fail/by_hand.md"
         page.write_text(PAGE.replace("old: Ok(1)\nnew: Ok(2)\n", ""))
