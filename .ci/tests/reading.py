@@ -26,7 +26,7 @@ def script(path):
     return module
 
 
-docs, version, nightly = map(script, ("docs", "release/version", "nightly"))
+docs, version, manual, nightly = map(script, ("docs", "release/version", "release/manual", "nightly"))
 
 SPEC = """-- What is small.
 use Rattle.low.specs.Sizes.{IsSmall as IsLittle, size}
@@ -352,6 +352,13 @@ class Releases(unittest.TestCase):
                                                                    "none states no number of the interface for C"])
             finally:
                 version.TOP, version.INTERFACE = before
+
+    def test_a_page_as_a_manual_page(self):
+        page = "# Rules\n\n## Of *lives*\n\n- A **wholly\n  free** block; w * q <= a * p, `**kept**`, *said*:\n  1. one\n  2. two\n\n```\n**as it is**\n```\n"
+        self.assertEqual(manual.page_text(page, "rules", "what it does"),
+                         ".TH RULES 7\n.SH NAME\nrules \\- what it does\n.P\n.SH OF \\fILIVES\\fR\n.P\n.IP \\(bu 2\nA \\fBwholly\n"
+                         "free\\fR block; w * q <= a * p, **kept**, \\fIsaid\\fR:\n.IP 1. 5\none\n.IP 2. 5\ntwo\n.P\n.P\n.nf\n"
+                         "**as it is**\n.fi\n")
 
     def test_crates_that_changed(self):
         before, nightly.crates = nightly.crates, lambda: [("low", [], []), ("mid", [], []), ("high", [], [])]
