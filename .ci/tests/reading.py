@@ -324,6 +324,14 @@ class Plays(unittest.TestCase):
         self.assertFalse(play_tables.is_answered("fro~", b"fro\nnt", None))
 
 
+class Helps(unittest.TestCase):
+    def test_each_script_shows_its_help_and_does_nothing_else(self):
+        ways = "common/help.sh", "help_if_asked", "ArgumentParser"
+        scripts = [path for path in CI.rglob("*") if path.is_file() and os.access(path, os.X_OK) and path.parent.name != "tests"]
+        self.assertEqual([str(path) for path in scripts if not any(way in path.read_text() for way in ways)], [])
+        self.assertIn(CI / "bindings", scripts)
+
+
 class Releases(unittest.TestCase):
     def test_versions(self):
         forms = dict(version.PLACES)
