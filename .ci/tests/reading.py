@@ -26,7 +26,7 @@ def script(path):
     return module
 
 
-docs, version, nightly = map(script, ("docs", "release/version", "nightly"))
+docs, version, manual, nightly = map(script, ("docs", "release/version", "release/manual", "nightly"))
 
 SPEC = """-- What is small.
 use Rattle.low.specs.Sizes.{IsSmall as IsLittle, size}
@@ -239,6 +239,15 @@ class Reading(unittest.TestCase):
         page.write_text("`.ci/nothing`, crates/high/src/lib.rt, (docs/NONE.md), [x](crates/low), [y](docs/Y.md#z) a.ci/b\n")
         self.assertEqual(docs.missing(page), [".ci/nothing", "docs/NONE.md", "docs/Y.md"])
 
+    def test_modules_that_are_not_there(self):
+        page, own = self.top / "README.md", self.top / "crates/low/README.md"
+        page.write_text("`high/src/{lib, gone}.rt`, `src/lib.rt`, `must-fail/NAME.edit`, `a/src`\n```\n`src/none`\n```\n`specs/None`\n")
+        self.assertEqual(docs.missing(page), ["high/src/gone.rt", "specs/None"])
+        own.write_text("`src/calls.rt`, `src/lost.rt`\n")
+        self.assertEqual(docs.missing(own), ["src/calls.rt", "src/lost.rt"])
+        own.write_text("`src/calls.rt` of `high`\n")
+        self.assertEqual(docs.missing(own), [])
+
     def test_edits_that_cannot_be_applied(self):
         page = self.top / "crates/high/must-fail/by_hand.md"
         page.write_text(PAGE.replace("old: Ok(1)\nnew: Ok(2)\n", ""))
@@ -315,6 +324,14 @@ class Plays(unittest.TestCase):
         self.assertFalse(play_tables.is_answered("fro~", b"fro\nnt", None))
 
 
+class Helps(unittest.TestCase):
+    def test_each_script_shows_its_help_and_does_nothing_else(self):
+        ways = "common/help.sh", "help_if_asked", "ArgumentParser"
+        scripts = [path for path in CI.rglob("*") if path.is_file() and os.access(path, os.X_OK) and path.parent.name != "tests"]
+        self.assertEqual([str(path) for path in scripts if not any(way in path.read_text() for way in ways)], [])
+        self.assertIn(CI / "bindings", scripts)
+
+
 class Releases(unittest.TestCase):
     def test_versions(self):
         forms = dict(version.PLACES)
@@ -323,6 +340,33 @@ class Releases(unittest.TestCase):
                                         forms["bindings/rust/Cargo.toml"]), ["1.2.3"])
         self.assertEqual(version.stated("0|flashrec 0.2.0~|\n0|flashplan 0.2.1~|\n", forms["crates/demo_examples/data/commands.txt"]),
                          ["0.2.0", "0.2.1"])
+
+    def test_the_number_of_the_interface_for_c(self):
+        texts = ["#define MG_VERSION_MAJOR 1u\n#define MG_VERSION_MINOR 2u\n", '"1.2"; "of a library', 'return "1.2, not proved";',
+                 "VERSION = 1.2\n", "find_package(Maulgreen 1.2 REQUIRED CONFIG)\n", "const VERSION: u32 = 1 << 16 | 2;\n",
+                 "if _lib.mg_version() >> 16 != 1 or _lib.mg_version() & 0xFFFF < 2:\n"]
+        for (path, form), text in zip(version.INTERFACE, texts, strict=True):
+            self.assertEqual(version.stated(text, form), [("1", "2")], path)
+        self.assertEqual(list(version.otherwise_for_c()), [])
+
+    def test_a_place_with_another_number_or_none_is_named(self):
+        with tempfile.TemporaryDirectory() as folder:
+            for name, text in ("header", "1.2"), ("same", "1.2"), ("other", "1.3"), ("none", ""):
+                (Path(folder) / name).write_text(text)
+            before = version.TOP, version.INTERFACE
+            version.TOP, version.INTERFACE = Path(folder), [(name, r"(\d)\.(\d)") for name in ("header", "same", "other", "none")]
+            try:
+                self.assertEqual(list(version.otherwise_for_c()), ["other states 1.3, and the header of the interface for C 1.2",
+                                                                   "none states no number of the interface for C"])
+            finally:
+                version.TOP, version.INTERFACE = before
+
+    def test_a_page_as_a_manual_page(self):
+        page = "# Rules\n\n## Of *lives*\n\n- A **wholly\n  free** block; w * q <= a * p, `**kept**`, *said*:\n  1. one\n  2. two\n\n```\n**as it is**\n```\n"
+        self.assertEqual(manual.page_text(page, "rules", "what it does"),
+                         ".TH RULES 7\n.SH NAME\nrules \\- what it does\n.P\n.SH OF \\fILIVES\\fR\n.P\n.IP \\(bu 2\nA \\fBwholly\n"
+                         "free\\fR block; w * q <= a * p, **kept**, \\fIsaid\\fR:\n.IP 1. 5\none\n.IP 2. 5\ntwo\n.P\n.P\n.nf\n"
+                         "**as it is**\n.fi\n")
 
     def test_crates_that_changed(self):
         before, nightly.crates = nightly.crates, lambda: [("low", [], []), ("mid", [], []), ("high", [], [])]
