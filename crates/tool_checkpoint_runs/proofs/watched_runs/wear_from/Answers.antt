@@ -1,7 +1,8 @@
-use Rattle.std.proofs.Common.{◌∙◌, ℕ, List, ap, refl, sym, subst}
+use Rattle.std.proofs.Common.{rules, ◌≡◌, ◌∙◌, ℕ, Err, List, ap, length, refl, sym, subst}
 use Rattle.die_log.specs.Model.Start.{Start}
 use Rattle.tool_script_runs.specs.ScriptRuns.{script_in}
 use Rattle.tool_watched_runs.specs.WearText.{IsWearFrom}
+use Rattle.tool_checkpoint_runs.proofs.Refused.{start_refuses_run}
 use Rattle.tool_checkpoint_runs.proofs.watched_runs.wear_from.Goals as goal
 
 pub wear_of-requires-clause-dies : goal.wear_of-requires-clause-dies
@@ -16,3 +17,10 @@ returns-clause-text g c =
     subst (λ (starts : List Start). IsWearFrom starts text c.args.slots c.in_ok-worn.worn.refused c.in_ok-worn.worn.text.items) c.in_ok-dies.ensures.starts
     (c.in_ok-worn.ensures.text text
     (c.in_ok-script.ensures.script ∙ ap (λ (n : ℕ). script_in n c.args.slots text) (sym c.in_ok-dies.ensures.count)))
+
+pub returns-in_err-dies-clause-refused : goal.returns-in_err-dies-clause-refused
+returns-in_err-dies-clause-refused g c =
+    let text = g.R.Read.remaining c.args.script in
+    let refused : c.from_residual-in_err-dies.result ≡ Err c.in_err-dies.field-0.0 = search rules in
+    rw refused (start_refuses_run c.args.plan c.args.from (script_in (length c.args.plan) c.args.slots text) c.in_err-dies.field-0.0
+    c.in_err-dies.ensures.refused)
