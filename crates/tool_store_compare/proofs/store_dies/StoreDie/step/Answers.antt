@@ -6,6 +6,7 @@ use Rattle.flash_die.specs.Memory.{Memory}
 use Rattle.slot_core.specs.Core.{Core}
 use Rattle.tool_script_runs.specs.RunningDies.{RefusesSlot, running_of}
 use Rattle.tool_script_runs.proofs.Calls.{slot_refused, stays_well}
+use Rattle.tool_store_compare.proofs.store_dies.StoreDie.step.Goals.{then-reply-self, else-reply-self}
 use Rattle.tool_store_compare.proofs.store_dies.StoreDie.step.Goals as goal
 
 pub returns-in_err-reply-clause-took : goal.returns-in_err-reply-clause-took
@@ -24,4 +25,7 @@ returns-in_err-reply-clause-well c = λ well.
     (refl, ap (λ (core : Core Memory). core.stopped) c.deref_mut.ensures.value ∙ well)).1
 
 pub returns-clause-well : goal.returns-clause-well
-returns-clause-well c = λ well. c.in_ok-reply.ensures.ended.runs
+returns-clause-well c = λ well. elim c.if-reply-self.branch [
+  | then-reply-self w ↦ rw w.self-is (c.in_ok-reply.ensures.ended.runs)
+  | else-reply-self w ↦ rw w.self-is (c.in_ok-reply.ensures.ended.runs)
+]
