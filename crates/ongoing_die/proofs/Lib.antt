@@ -5,6 +5,7 @@ mod OverAllLives
 mod NextLives
 mod Asking
 mod CarriedSlots
+mod BegunSlots
 mod Lasting
 mod NewDies
 mod Rooms

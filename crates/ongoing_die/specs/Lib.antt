@@ -2,5 +2,6 @@ pub mod Standing
 pub mod Entering
 pub mod DieAsks
 pub mod OngoingCalls
+pub mod BegunSlots
 pub mod OngoingPlans
 pub mod Resuming

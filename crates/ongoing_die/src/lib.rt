@@ -4,6 +4,7 @@
 
 mod answers;
 mod asks;
+mod begun_die;
 mod die_asks;
 mod laws;
 mod lengths;
@@ -15,6 +16,7 @@ mod slots;
 mod waiting;
 
 pub use answers::Taken;
+pub use begun_die::{BegunDie, CarriedSlot, NotBegun};
 pub use laws::stocked_checkpoints_go_on;
 pub use ongoing_die::OngoingDie;
 pub use planned_die::{PlanResumeRefusal, Shortage};

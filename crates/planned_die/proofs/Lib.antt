@@ -9,6 +9,7 @@ mod Own
 mod Reserved
 mod Cores
 mod Slotting
+pub mod BegunSlots
 mod Lived
 mod NextLife
 mod Beginning

@@ -3,6 +3,7 @@
 
 mod all_asks;
 mod asks;
+mod begun_slots;
 mod burst_jobs;
 mod bursts;
 mod collections;
@@ -22,7 +23,7 @@ mod terms;
 
 pub use bursts::Burst;
 pub use lacks::{Shortage, first_shortage};
-pub use laws::full_checkpoints_are_stocked;
+pub use laws::{begun_slots_are_slots, full_checkpoints_are_stocked};
 pub use memory::AskedJob;
 pub use planned_die::PlannedDie;
 pub use planned_log::{AskKind, AskRefusal};

@@ -371,7 +371,7 @@ impl SteppedDie {
 }
 
 /// What a driver is asked to do in a slot.
-fn reported_by(device: &MirrorNand, next: &NextSlot) -> Option<Call>
+pub fn reported_by(device: &MirrorNand, next: &NextSlot) -> Option<Call>
     ensures { result ≡ reported_by device.now.memory next.now }
 {
     match next.ran {
@@ -411,7 +411,7 @@ fn begun_by(caller: u32, slot: u32, call: Option<Call>, runs: Option<(JobNo, Nex
 }
 
 /// Whether the driver did what it was asked, and a read gave the bytes that the cell was programmed with.
-fn is_done(call: Option<Call>, ok: bool, bytes: PageData) -> bool
+pub fn is_done(call: Option<Call>, ok: bool, bytes: PageData) -> bool
     ensures { (result ≡ true) ↔ IsDone call ok bytes }
 {
     match call {

@@ -12,7 +12,7 @@ mod refusals;
 mod resumptions;
 
 pub use calls::{Begun, Call};
-pub use die::SteppedDie;
+pub use die::{SteppedDie, is_done, reported_by};
 pub use laws::{
     an_arrival_has_one_answer, arrivals_leave_the_slot, beginning_a_slot_has_one_answer,
     ending_a_slot_has_one_answer,
