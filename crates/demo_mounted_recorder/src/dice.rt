@@ -73,7 +73,8 @@ impl Fate {
             Where::Mount(writes) => Cut::After(writes),
             Where::Work { is_erase: true, .. } => Cut::Erase,
             Where::Work {
-                is_erase: false, ..
+                is_erase: false,
+                ..
             } => Cut::Program,
         };
         Power {

@@ -20,12 +20,11 @@ use crate::lives::run_lives;
 use crate::stops::Stop;
 use crate::watched::run_watched;
 use std::alloc::Global;
-use std::env;
 use std::env::Env;
-use std::io;
 use std::io::Write;
 use std::process::ExitCode;
 use std::rt::Files;
+use std::{env, io};
 
 /// The words after the program's name.
 fn words_after<R: Env>(rt: &R, alloc: Global) -> io::Result<Vec<String>> {

@@ -21,7 +21,10 @@ pub(crate) fn print_life<W: Write>(out: &mut W, life: u64, fate: &Fate) -> io::R
         Where::Mount(writes) => write!(out, "the mount is cut after {writes} writes: ")?,
         Where::Work { slot, is_erase } => {
             let what = if is_erase { "an erase" } else { "a program" };
-            write!(out, "no page has lost a write; work up to slot {slot}, and {what} is cut: ")?;
+            write!(
+                out,
+                "no page has lost a write; work up to slot {slot}, and {what} is cut: "
+            )?;
         }
     }
     print_left(out, fate.left)
@@ -36,7 +39,10 @@ pub(crate) fn print_all<W: Write>(out: &mut W, tally: &Tally) -> io::Result<()> 
         due,
         late,
     } = tally;
-    writeln!(out, "{lives} lives, of which {mounts_cut} ended in their mounts")?;
+    writeln!(
+        out,
+        "{lives} lives, of which {mounts_cut} ended in their mounts"
+    )?;
     writeln!(out, "{pages} looks at pages, and none had lost a write")?;
     writeln!(out, "{due} writes were due, and {late} of them late")
 }

@@ -8,9 +8,8 @@ use ongoing_die::{AskStop, OngoingResumeRefusal, SlotStop};
 use slot_core::CheckpointRefusal;
 use slot_types::Refusal;
 use std::alloc::AllocError;
-use std::fmt;
 use std::fmt::{Display, Formatter, Write};
-use std::io;
+use std::{fmt, io};
 
 /// Why the recorder stops early.
 #[derive(Drop)]
@@ -95,7 +94,10 @@ impl Display for Stop {
             Stop::NotRead => write!(f, "the pages aren't read in time"),
             Stop::Strange { page } => write!(f, "page {page} has bytes that nobody wrote"),
             Stop::Lost { page, number, done } => {
-                write!(f, "page {page} has write {number}, and write {done} was done")
+                write!(
+                    f,
+                    "page {page} has write {number}, and write {done} was done"
+                )
             }
             Stop::NotCut => write!(f, "the power didn't go"),
         }

@@ -127,7 +127,9 @@ impl<S: CellStore> Nand for FileNand<S> {
     /// Each slot wipes its share of the block's cells, the last one those that are left.
     fn erase_slot(&mut self, block: u32) -> Result<bool, Refusal> {
         let Shape {
-            pages, erase_slots, ..
+            pages,
+            erase_slots,
+            ..
         } = self.mirror.shape();
         let done = self.mirror.erasing(block);
         let from = first_wiped(pages, done, erase_slots);

@@ -10,7 +10,7 @@ mod sums;
 
 pub use cell_file::{CellFile, NoCellFile};
 pub use cells::CellStore;
-pub use sums::check_sum;
 pub use file_nand::FileNand;
 pub use opening::OpenRefusal;
 pub use records::{ERASED, Record};
+pub use sums::check_sum;

@@ -51,7 +51,11 @@ fn put(mirror: &mut LabelledMemory, place: Place, cell: MarkedCell)
 }
 
 /// Programs all cells of a free block as the store has them.
-fn fill_block<S: CellStore>(mirror: &mut LabelledMemory, store: &mut S, block: u32) -> io::Result<()>
+fn fill_block<S: CellStore>(
+    mirror: &mut LabelledMemory,
+    store: &mut S,
+    block: u32,
+) -> io::Result<()>
     requires in_range { block < length (device_blocks mirror.old) }
     requires free { block_at (device_blocks mirror.old) block ≡ free_block }
     ensures count { length (device_blocks mirror.new) ≡ length (device_blocks mirror.old) }
