@@ -39,6 +39,14 @@ struct Lives {
     tally: Tally,
 }
 
+/// A die in a box, since it is large to move. It is of any type, so that the proof takes it as a whole.
+fn boxed<D: Drop>(alloc: Global, die: Result<D, Stop>) -> Result<Box<D>, Stop> {
+    match Box::new(alloc, die?) {
+        Ok(die) => Ok(die),
+        Err(_) => Err(Stop::NoMemory),
+    }
+}
+
 /// The die in the file of this name, on a power supply.
 pub(crate) fn opened<'p, R: Files>(
     rt: &R,
@@ -46,7 +54,7 @@ pub(crate) fn opened<'p, R: Files>(
     name: &str,
     is_synced: bool,
     power: &'p Cell<Power>,
-) -> Result<Kept<FileNand<PoweredStore<'p, CellFile<R::File>>>>, Stop> {
+) -> Result<Box<Kept<FileNand<PoweredStore<'p, CellFile<R::File>>>>>, Stop> {
     let file = OpenOptions::new()
         .read(true)
         .write(true)
@@ -54,7 +62,7 @@ pub(crate) fn opened<'p, R: Files>(
         .open(rt, name)?;
     let store = CellFile::open(file, PART, is_synced)?;
     let part = FileNand::open(alloc, PART, PoweredStore { store, power })?;
-    mounted(alloc, part)
+    boxed(alloc, mounted(alloc, part))
 }
 
 impl Tally {
