@@ -61,7 +61,7 @@ impl Fate {
         };
         let left = match leaves {
             0 => 0,
-            1 => part + 1,
+            1 => part.saturating_add(1),
             _ => WRITE,
         };
         Fate { at, left }

@@ -47,9 +47,7 @@ fn resume<N: Nand>(
 {
     let (plan, terms) = (die_plan(alloc)?, terms(alloc)?);
     match taken {
-        Ok(taken) => resumed(OngoingDie::resume(
-            alloc, plan, terms, LONGEST, device, &taken,
-        )),
+        Ok(taken) => resumed(OngoingDie::resume(alloc, plan, terms, LONGEST, device, &taken)),
         Err(refusal) => Err(Stop::NoCheckpoint(refusal)),
     }
 }

@@ -32,13 +32,19 @@ fn reads() -> [Op; PAGES] {
     ops
 }
 
-/// Asks for a read of each page. It answers the number of the job.
-fn ask_reads<N: Nand>(alloc: Global, die: &mut OngoingDie<N>) -> Result<JobNo, Stop> {
+/// The number of a job that enters the present life.
+fn entered(taken: Taken) -> Option<JobNo> {
+    match taken {
+        Taken::Enters { first, .. } => Some(first),
+        Taken::Waits { .. } => None,
+    }
+}
+
+/// Asks for a read of each page. It answers the number of the job, which enters: a life has just begun.
+fn ask_reads<N: Nand>(alloc: Global, die: &mut OngoingDie<N>) -> Result<Option<JobNo>, Stop> {
     let ops = reads();
     match die.ask(alloc, CALLER, READER, &ops) {
-        Ok(Taken::Enters { first, .. }) => Ok(first),
-        // It is asked for at the beginning of a life.
-        Ok(Taken::Waits { .. }) => Err(Stop::NotRead),
+        Ok(taken) => Ok(entered(taken)),
         Err(stop) => Err(Stop::NotAsked(stop)),
     }
 }
@@ -66,7 +72,7 @@ pub(crate) fn look<N: Nand>(alloc: Global, die: &mut OngoingDie<N>) -> Result<[u
                 *read = bytes;
             }
         }
-        if reply.finished == Some(job) {
+        if reply.finished.is_some() && reply.finished == job {
             return numbers_in(&pages);
         }
     }

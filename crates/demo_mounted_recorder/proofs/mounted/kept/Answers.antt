@@ -18,7 +18,7 @@ returns g c =
     let blocks = g.N.Nand.blocks in
     let device = c.into_device.ensures ∙ ap (λ (d : Core _). d.device) c.checkpoint-taken.ensures.unchanged in
     let goes = subst₂ (λ (p : DiePlan) (b : List Block). IfOk c.checkpoint-taken.result (λ taken. resumed_start p taken b ≡ start))
-        c.requires.plan (ap blocks (sym device)) c.checkpoint-taken.ensures.goes_on in
+    c.requires.plan (ap blocks (sym device)) c.checkpoint-taken.ensures.goes_on in
     let same = subst (λ (log : Log). contents core.start log ≡ core.start.contents) (sym c.requires.begun) refl in
     record {
       pages = IfOk-weaker c.resume.result (λ die. die.die.core.start ≡ start) (λ die. die.die.core.start.contents ≡ core.start.contents)

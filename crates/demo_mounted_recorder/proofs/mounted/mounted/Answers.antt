@@ -16,8 +16,8 @@ returns-in-Ok g c =
       pages = IfOk-weaker c.kept.result (λ die. die.die.core.start.contents ≡ core.start.contents)
           (λ die. (pages : List Bytes) → StandsOnPart die_plan pages all_count shown → die.die.core.start.contents ≡ pages)
           (λ die same pages stands.
-            let (first, starts, labels, begins) = c.in-Ok.ensures.life pages
-                (subst (λ (p : DiePlan). StandsOnPart p pages all_count shown) (sym c.in_ok-die_plan.ensures) stands) in
-            same ∙ begins)
+          let (first, starts, labels, begins) = c.in-Ok.ensures.life pages
+          (subst (λ (p : DiePlan). StandsOnPart p pages all_count shown) (sym c.in_ok-die_plan.ensures) stands) in
+          same ∙ begins)
           c.kept.ensures.pages;
     }
