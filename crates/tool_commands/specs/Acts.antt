@@ -11,6 +11,7 @@ use Rattle.plan_texts.specs.PlanReading.{IsStoreOf}
 use Rattle.text_base.specs.Readings.{IsOutside}
 use Rattle.text_base.specs.Writing.{IsNotWhole}
 use Rattle.tool_commands.specs.KeptActs.{PrintsKeptRun}
+use Rattle.tool_commands.specs.CutActs.{EndsCut, PrintsCutting}
 use Rattle.tool_watched_runs.specs.WearText.{IsWearFrom}
 use Rattle.tool_plan_arrivals.specs.PlannedScripts.{IsPlannedScript}
 use Rattle.tool_plan_design.specs.AcceptedPlans.{IsAccepted}
@@ -413,3 +414,5 @@ EndsSo contents has_failed (command.Run plan script slots from to (Some fail)) t
     Ends contents has_failed (PrintsFailing text rows slots) old new status
 EndsSo contents has_failed (command.RunKept plan script slots) text rows old new status =
     Ends contents has_failed (PrintsKeptRun text rows slots) old new status
+EndsSo contents has_failed (command.Cut plan script slots at every leaves looks mounts die slot_us to) text rows old new status =
+    EndsCut contents has_failed (PrintsCutting text rows slots die at leaves looks) old new status

@@ -7,6 +7,7 @@ ghost use Rattle.tool_commands.specs.Acts.{EndsSo, failing, failing_in, unless_z
 use crate::arriving::act_arrivals;
 use crate::checkpoint_acts::{Kept, act_failing, act_run};
 use crate::comparing::act_compare;
+use crate::cutting::{Cuts, act_cut};
 use crate::demanding::act_demand;
 use crate::designing::act_design;
 use crate::explaining::{act_explain, act_explain_from};
@@ -265,5 +266,27 @@ pub fn act<P: Read + Drop, S: Read + Drop, C: Read + Drop, K: Shelf, W: Output, 
             }
         },
         Command::RunKept { slots, .. } => act_run_kept(alloc, plan, script, slots, out, err),
+        Command::Cut {
+            slots,
+            at,
+            leaves,
+            looks,
+            mounts,
+            die,
+            slot_us,
+            to,
+            ..
+        } => {
+            let cuts = Cuts {
+                slots,
+                at,
+                leaves,
+                looks,
+                mounts,
+                die,
+                slot_us: unless_zero(slot_us),
+            };
+            act_cut(alloc, plan, script, cuts, kept.shelf, to, out, err)
+        }
     }
 }
