@@ -4,7 +4,8 @@ is said of each page by the pages of crates/power_loss, crates/die_mount, crates
 crates/flashplan ("cut") alone. It reads nothing of the program.
 
     .ci/second_reading/plain_cuts.py PLAN SCRIPT SLOTS K LEAVES SEED    what has to be said of a cut of die 0
-    .ci/second_reading/plain_cuts.py PLAN SCRIPT SLOTS each SEED        and of cuts at each call
+    .ci/second_reading/plain_cuts.py PLAN SCRIPT SLOTS each SEED        of cuts at each call
+    .ci/second_reading/plain_cuts.py PLAN SCRIPT SLOTS mounts SEED      and of cuts of each mount, too
 
 Its plans are plain ones (version 1 or 2), whose times make no difference here. `.ci/second_reading/chance-cuts` puts
 it beside the program."""
@@ -80,6 +81,10 @@ class Part:
         self.begun[block] += 1
         if self.begun[block] == self.plan.erase_slots:
             self.begun[block], self.blocks[block] = 0, self.erased()
+
+    def in_erase(self):
+        """How many blocks are in erase."""
+        return sum(had > 0 for had in self.begun)
 
     def carry(self, call):
         kind, *where = call
@@ -161,13 +166,13 @@ class Lost:
 
 
 class Run:
-    """A script on a die. `losses` goes through its calls: of each, or of one alone, how the power goes in it. A slot
-    makes one call at most."""
+    """A script on a die. `losses` goes through its calls: of each, or of those of these numbers, how the power goes in it.
+    A slot makes one call at most. `kinds` has by call what it is, once that is done."""
 
     def __init__(self, plan, rows, slots):
         self.die, self.rows, self.slots = plain_die.Die(plan, 0), rows, slots
         self.die.flash = LabelFlash(plan)
-        self.writes, self.refused = [], 0
+        self.writes, self.refused, self.kinds = [], 0, []
 
     def losses(self, only=None):
         for at, task, release, due, ops in self.rows:
@@ -181,20 +186,30 @@ class Run:
     def carried_to(self, slot, only):
         flash = self.die.flash
         while self.die.now < slot:
-            may_go = only in (None, flash.done + 1)
-            before, done = copy.deepcopy(self.die) if may_go else None, flash.done
+            may_go = only is None or flash.done + 1 in only
+            before, done, begun = copy.deepcopy(self.die) if may_go else None, flash.done, flash.part.in_erase()
             _, _, job, act, _ = self.die.carry_out()
-            if may_go and flash.done > done:
-                yield Lost(before, flash.done, flash.made, job, act, list(self.writes))
+            if flash.done > done:
+                self.kinds.append(kind_of(flash.made, act, begun))
+                if may_go:
+                    yield Lost(before, flash.done, flash.made, job, act, list(self.writes))
             if act and act[0] == "W":
                 page = int(act[1:].partition("=")[0])
                 self.writes.append((page, flash.bytes[page]))
 
     def calls(self):
-        """How many calls it makes."""
-        for _ in self.losses(0):
+        """By call of the run what it is."""
+        for _ in self.losses(()):
             pass
-        return self.die.flash.done
+        return self.kinds
+
+
+def kind_of(call, act, begun):
+    """What a call is that is made while so many blocks are in erase."""
+    if begun > 1:
+        return "with two blocks in erase"
+    programs = "a write" if act[0] == "W" else "a copy"
+    return {"read": "a read", "erase": "an erase", "program": programs}[call[0]]
 
 
 # The mount
@@ -294,7 +309,8 @@ class Mount:
             number = self.aside if block == last else block
             lines.append(f"page,{number},{cell},{content}" if page in self.at else "page,,,")
         own = [last if block == self.aside else block for block in range(self.plan.blocks)]
-        lines += [f"block,{self.filled[block]},{self.erased[block]}" for block in own]
+        # No label tells of erases before, and the counting begins after the first one of the mount.
+        lines += [f"block,{self.filled[block]},{self.erased[block] - (block == self.first)}" for block in own]
         lines += [f"task,{cap}" for cap in self.plan.caps]
         free = sum(self.plan.pages - self.filled[block] for block in own)
         return "\n".join([*lines, f"die,0,{free - self.accounts}"]) + "\n"
@@ -431,10 +447,10 @@ def rows_of(text, die):
 
 def main(words):
     plan, rows, slots = plan_of(Path(words[0]).read_text(), 0), rows_of(Path(words[1]).read_text(), 0), int(words[2])
-    if words[3] == "each":
-        print(Each(plan, rows, slots, int(words[4])).told(0), end="")
+    if words[3] in ("each", "mounts"):
+        print(Each(plan, rows, slots, int(words[4]), mounts=words[3] == "mounts").told(0), end="")
         return 0
-    lost = next(Run(plan, rows, slots).losses(int(words[3])), None)
+    lost = next(Run(plan, rows, slots).losses([int(words[3])]), None)
     print(say(lost, 0, words[4], int(words[5]))[0] if lost else "there is no such call\n", end="")
     return 0
 

@@ -120,6 +120,19 @@ class Planned(Case):
         self.in_parts("quiet.csv", report)
         self.assertEqual(self.on_terminal("audit quiet.csv --quiet", "xterm"), "")
 
+    def test_cuts_of_each_call_tell_how_far_they_are(self):
+        for name in ("tight.toml", "tight.csv"):
+            (self.at / name).write_bytes((DATA / name).read_bytes())
+        script = (self.at / "tight.csv").read_bytes()
+        self.in_parts("slow.csv", script)
+        said = self.on_terminal("cut tight.toml slow.csv --slots 200 --every", "xterm")
+        # After the first part of the pipe 512 bytes are read at once, and the rows in these are run.
+        lines = script[:40 + 512].split(b"\n")
+        slot = [line.split(b",")[0].decode() for line in lines if b"," in line][-1]
+        self.assertTrue(said.startswith(f"\x1b[Kslot {slot} of 200, {len(lines) - 1} rows, about 0 s left\r"), said)
+        self.in_parts("quiet.csv", script)
+        self.assertEqual(self.on_terminal("cut tight.toml quiet.csv --slots 200 --every --quiet", "xterm"), "")
+
     def setUp(self):
         super().setUp()
         self.said = self.text("explain one_die.toml")
