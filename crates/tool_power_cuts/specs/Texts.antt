@@ -34,7 +34,7 @@ act_text job (acts.Write page) = codes "job " ++ decimal job ++ codes " writes p
 act_text job (acts.Trim page) = codes "job " ++ decimal job ++ codes " trims page " ++ decimal page
 act_text job (acts.CopyRead page) = codes "collection " ++ decimal job ++ codes " reads page " ++ decimal page ++ codes " in"
 act_text job (acts.CopyProgram page) = codes "collection " ++ decimal job ++ codes " copies page " ++ decimal page ++ codes " to"
-act_text job (acts.Erase block last) = codes "collection " ++ decimal job ++ codes " erases"
+act_text job (acts.Erase block) = codes "collection " ++ decimal job ++ codes " erases"
 
 -- what the slot does, and which job or collection has it
 abbrev pub runs_text : Option (ℕ × NextAct) → List ℕ

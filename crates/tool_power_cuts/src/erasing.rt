@@ -1,5 +1,7 @@
 //! Blocks of a part that are in erase.
 
+ghost use Rattle.slot_types.specs.Refusal.{FailsForMemory};
+
 use slot_types::Refusal;
 use std::alloc::Global;
 use tool_labelled_parts::{Part, PartCall};
@@ -12,7 +14,9 @@ pub struct InErase {
 }
 
 /// The blocks of a part that are in erase, in the part's order. The only refusal is NoMemory.
-pub(crate) fn erasing_of(alloc: Global, part: &Part) -> Result<Vec<InErase>, Refusal> {
+pub(crate) fn erasing_of(alloc: Global, part: &Part) -> Result<Vec<InErase>, Refusal>
+    ensures { FailsForMemory result }
+{
     let mut found = Vec::new(alloc);
     for block in 0..part.blocks() {
         let slots = part.erasing(block);

@@ -248,7 +248,7 @@ pub fn cut_at<R: Read + Drop>(
 
 /// Runs a script on a fresh die of a plan over a part in memory, and tries cuts at each call of the part, each on a
 /// part of its own. Refused as [`cut_at`] is, but for fewer calls.
-#[tactic(auto, using(crate::proofs::Told::has_tried))]
+#[tactic(auto, using(crate::proofs::Sentences::has_tried))]
 pub fn cut_each<R: Read + Drop>(
     alloc: Global,
     store: &StorePlan,

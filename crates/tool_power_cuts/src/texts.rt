@@ -1,6 +1,6 @@
 //! What came of a cut, in sentences.
 
-ghost use Rattle.std.specs.Prelude.{◌≡◌, ◌++◌, IfOk, OnOk, Some, codes, false, flat_map, ⊥};
+ghost use Rattle.std.specs.Prelude.{◌≡◌, ◌++◌, IfOk, OnOk, Some, codes, false, flat_map};
 ghost use Rattle.slot_types.specs.Refusal.{FailsForMemory};
 ghost use Rattle.tool_power_cuts.specs.Texts.{IsCutText, act_text, aside_line, call_line, call_text, calls_text, cell_text, cut_text, erasing_text};
 ghost use Rattle.tool_power_cuts.specs.Texts.{gives_text, has_page, in_erase_text, left_text, mount_line, mount_text, page_line, pages_text};
@@ -325,7 +325,7 @@ fn put_cut(
 
 /// What came of a run whose power went: the call, the blocks in erase, what the mount did, and by logical page what it
 /// gives. With the length of a slot the time that the mount takes stands in brackets. The only refusal is NoMemory.
-#[tactic(auto, using(crate::proofs::Told::is_cut_text))]
+#[tactic(auto, using(crate::proofs::Sentences::is_cut_text))]
 pub fn cut_text(
     alloc: Global,
     die: u32,

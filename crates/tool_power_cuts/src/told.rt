@@ -40,7 +40,7 @@ fn saved_of(alloc: Global, run: &mut CutRun, saves: bool) -> Result<Option<Vec<u
 /// Runs a script on a die of a plan, lets the power go in a call, mounts the part, as [`cut_at`] does, and tells what came
 /// of it: with the length of a slot how long the mount takes, and where it is wanted the checkpoint of the mounted die.
 /// Refused as [`cut_at`] is.
-#[tactic(auto, using(crate::proofs::Told::tells_cut))]
+#[tactic(auto, using(crate::proofs::Sentences::tells_cut))]
 pub fn tell_cut<R: Read + Drop>(
     alloc: Global,
     store: &StorePlan,
@@ -69,7 +69,7 @@ pub fn tell_cut<R: Read + Drop>(
 
 /// Runs a script on a die of a plan, tries cuts at each call, as [`cut_each`] does, and tells what came of them. Refused as
 /// [`cut_each`] is.
-#[tactic(auto, using(crate::proofs::Told::tells_each))]
+#[tactic(auto, using(crate::proofs::Sentences::tells_each))]
 pub fn tell_each<R: Read + Drop>(
     alloc: Global,
     store: &StorePlan,
