@@ -44,11 +44,15 @@ abbrev pub amiss_text : Amiss → List ℕ
 amiss_text (amiss.Page said) = codes ": page " ++ decimal said.page ++ codes " gives " ++ page_word said.bytes
 amiss_text (amiss.Unmounted unmounted) = codes ": " ++ unmounted_text unmounted
 
+-- of a wrong cut: at which call of the run, and what that leaves
+abbrev pub wrong_at : (die call : ℕ) → (leaves : List ℕ) → List ℕ
+wrong_at die call leaves = of_die die ++ codes ": WRONG at call " ++ decimal call ++ codes ", which leaves " ++ leaves
+
 -- the first cut that was wrong; or that none was
 abbrev pub wrong_text : ℕ → Option WrongCut → List ℕ
 wrong_text die None = of_die die ++ codes ": none was wrong" ++ 10 ∷ []
-wrong_text die (Some wrong) = of_die die ++ codes ": WRONG at call " ++ decimal wrong.call ++ codes ", which leaves "
-    ++ leaves_word wrong.leaves ++ mount_call_text wrong.mount_call ++ amiss_text wrong.amiss ++ 10 ∷ []
+wrong_text die (Some wrong) =
+    wrong_at die wrong.call (leaves_word wrong.leaves) ++ mount_call_text wrong.mount_call ++ amiss_text wrong.amiss ++ 10 ∷ []
 
 abbrev pub tried_text : ℕ → TriedRun → Option ℕ → List ℕ
 tried_text die run slot_us = tally_text die run.tally slot_us ++ wrong_text die run.wrong

@@ -13,6 +13,7 @@ mod texts;
 mod told;
 mod trials;
 mod tried_texts;
+mod written_pages;
 
 pub use cut_dies::{CutDie, Ended, part_call};
 pub use mounted_dies::mounted_die;

@@ -8,9 +8,9 @@ ghost use Rattle.tool_power_cuts.specs.Texts.{runs_text, slot_text, undone_text,
 
 use crate::cut_dies::{CutDie, Ended};
 use crate::erasing::{InErase, erase_slot, erasing_of};
-use crate::page_writes::PageWrite;
 use crate::runs::CutRun;
 use crate::said::{Gives, Lost, PageSaid, content_of};
+use crate::written_pages::is_written;
 use slot_core::NextAct;
 use slot_types::{JobNo, Refusal};
 use std::alloc::Global;
@@ -236,13 +236,6 @@ fn put_mount(text: &mut Vec<u8>, die: u32, end: &MountEnd, slot_us: Option<u32>)
     put_undone(text, die, end.undone)?;
     put_costs(text, die, end.costs, end.most, slot_us)?;
     put_aside(text, die, end.mounted.aside, end.mounted.next)
-}
-
-/// Whether one of these writes is of a page.
-fn is_written(writes: &[PageWrite], page: u32) -> bool
-    ensures { result ≡ has_page writes.now page }
-{
-    writes.iter().position(|write| write.page == page).is_some()
 }
 
 /// Adds what a page gives.

@@ -1,8 +1,8 @@
 //! What came of cuts at each call of a run, in sentences.
 
-ghost use Rattle.std.specs.Prelude.{◌≡◌, ◌++◌, IfOk, OnOk};
+ghost use Rattle.std.specs.Prelude.{◌≡◌, ◌++◌, IfOk, OnOk, Some};
 ghost use Rattle.slot_types.specs.Refusal.{FailsForMemory};
-ghost use Rattle.tool_power_cuts.specs.TriedTexts.{amiss_text, cuts_line, gave_line, leaves_word, most_line, mount_call_text, tally_text, tried_text, wrong_text};
+ghost use Rattle.tool_power_cuts.specs.TriedTexts.{amiss_text, cuts_line, gave_line, leaves_word, most_line, mount_call_text, tally_text, tried_text, wrong_at, wrong_text};
 
 use crate::runs::TriedRun;
 use crate::trials::{Amiss, Tally, WrongCut};
@@ -103,15 +103,22 @@ fn put_amiss(text: &mut Vec<u8>, amiss: Amiss) -> io::Result<()>
     }
 }
 
+/// Adds at which call the power went in a wrong cut, and what that leaves.
+fn put_wrong_at(text: &mut Vec<u8>, die: u32, call: u64, leaves: &'static str) -> io::Result<()>
+    ensures { OnOk result (text.new.items ≡ text.old.items ++ wrong_at die call leaves.now) }
+{
+    write!(
+        text,
+        "die {die}: WRONG at call {call}, which leaves {leaves}"
+    )
+}
+
 /// Adds the first cut that was wrong.
 fn put_wrong_cut(text: &mut Vec<u8>, die: u32, wrong: WrongCut) -> io::Result<()>
     ensures { OnOk result (text.new.items ≡ text.old.items ++ wrong_text die (Some wrong)) }
 {
-    let (call, leaves) = (wrong.call, word(wrong.leaves));
-    write!(
-        text,
-        "die {die}: WRONG at call {call}, which leaves {leaves}"
-    )?;
+    let leaves = word(wrong.leaves);
+    put_wrong_at(text, die, wrong.call, leaves)?;
     put_mount_call(text, wrong.mount_call)?;
     put_amiss(text, wrong.amiss)?;
     text.push(b'\n')?;
