@@ -7,4 +7,7 @@ pub mod Feeds
 pub mod Runs
 pub mod Drives
 pub mod Work
+pub mod PassWorks
+pub mod OwnRuns
+pub mod Runners
 pub mod PlannedRuns
