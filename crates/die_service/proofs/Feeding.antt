@@ -307,16 +307,15 @@ none_yet clock place at feed is later =
     let a = get_some (λ (a : Arrival). a.at) (slice_get feed place) at is in
     subst (NoneDue clock) (sym (drop_next feed place a.0 a.1)) (none_by clock a.0 (drop (place + 1) feed) (omega (arith, a.2, later)))
 
-abbrev pub on : ℕ → ℕ → ℕ → List Arrival → List Op → List RefusedEvent → Course
-on from slots place feed ops refused = record
-    { from = from; slots = slots; rest = drop place feed; place = place; ops = ops; refused = refused }
+abbrev pub on : ℕ → List Arrival → List Op → List RefusedEvent → Course
+on place feed ops refused = record { rest = drop place feed; place = place; ops = ops; refused = refused }
 
 -- the next event comes now
-pub comes_now : (from slots clock place at : ℕ) (feed : List Arrival) (event : Event) (old ops : List Op) (refused : List RefusedEvent)
+pub comes_now : (clock place at : ℕ) (feed : List Arrival) (event : Event) (old ops : List Op) (refused : List RefusedEvent)
     → option_map (λ (a : Arrival). a.at) (slice_get feed place) ≡ Some at → at ≤ clock
     → option_map (λ (a : Arrival). a.event) (slice_get feed place) ≡ Some event → AllArrive feed
-    → Comes clock (on from slots place feed old refused) event (on from slots (place + 1) feed ops refused)
-comes_now from slots clock place at feed event old ops refused is by event_is arrive =
+    → Comes clock (on place feed old refused) event (on (place + 1) feed ops refused)
+comes_now clock place at feed event old ops refused is by event_is arrive =
     let a = get_some (λ (a : Arrival). a.at) (slice_get feed place) at is in
     let same : a.0.event ≡ event = same_Some a.0.event event (sym (ap (option_map (λ (a : Arrival). a.event)) a.1) ∙ event_is) in record {
       arrival = a.0;
