@@ -10,7 +10,7 @@ use crate::runner::Runner;
 use rtrb::{Consumer, Producer, Protocol, PushError, RingBuffer};
 use slot_types::Refusal;
 use std::alloc::Global;
-use std::marker::{Model, PhantomData};
+use std::marker::PhantomData;
 use std::snapshot::Snapshot;
 use std::sync::Wait;
 use std::thread::Parker;

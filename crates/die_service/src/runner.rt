@@ -20,11 +20,10 @@ pub trait Runner<B>: Drop {
     // What comes back of a batch, to be filled again.
     ghost is_empty: { B → Type 0 };
 
-    /// Runs the batch that comes after those `before`, and leaves it empty, with its memory.
+    /// Runs the next batch, which may follow all that it was given before, and leaves it empty, with its memory.
     fn run(&mut self, alloc: Global, batch: &mut B)
-        ghost before: { List B }
-        requires given { WasGiven begins runs before self.old }
-        requires follows { may_follow before batch.old }
+        requires { (before : List B) × WasGiven begins runs before self.old
+            × may_follow before batch.old }
         ensures runs { runs self.old batch.old self.new }
         ensures emptied { is_empty batch.new };
 }
