@@ -1,8 +1,9 @@
 //! What a worker of a script's run has: a die, or why its run was refused.
 
-ghost use Rattle.std.specs.Prelude.{◌≡◌, IfOk};
+ghost use Rattle.std.specs.Prelude.{IfOk};
 ghost use Rattle.slot_types.specs.Refusal.{FailsForMemory};
 ghost use Rattle.plan_rules.specs.Bound.{MeetsBound};
+ghost use Rattle.task_script.specs.RowRunners.{IsFreshOf};
 
 use crate::row_batches::RowBatch;
 use crate::row_dies::RowDie;
@@ -21,6 +22,7 @@ impl RowRunner {
     /// A fresh die of a plan. The only refusal is NoMemory.
     pub fn new(alloc: Global, plan: &DiePlan) -> Result<RowRunner, Refusal>
         requires { MeetsBound plan.now }
+        ensures fresh { IfOk result (IsFreshOf plan.now) }
         ensures refused { FailsForMemory result }
     {
         let die = RowDie::new(alloc, plan)?;
@@ -41,11 +43,12 @@ impl Runner<RowBatch> for RowRunner {
     ghost is_empty = { λ batch. batch.rows ≡ [] };
 
     fn run(&mut self, _alloc: Global, batch: &mut RowBatch) {
-        if let Ok(die) = &mut self.die {
-            match die.run(batch) {
-                Ok(()) => {}
-                Err(refusal) => self.die = Err(refusal),
-            }
+        let ran = match &mut self.die {
+            Ok(die) => die.run(batch),
+            Err(_) => Ok(()),
+        };
+        if let Err(refusal) = ran {
+            self.die = Err(refusal);
         }
         batch.rows.clear();
     }
