@@ -3,6 +3,7 @@
 ghost use Rattle.std.specs.Prelude.{◌≡◌, ◌∷◌, ◌+◌, ◌^◌, ◌<◌, ◌≤◌, true, false, length, IsOk, IfOk, OnOk, OnErr};
 ghost use Rattle.std.specs.Prelude.{[], if◌then◌else◌};
 ghost use Rattle.std.specs.Result.{result_err};
+ghost use Rattle.slot_types.specs.Arrivals.{arrival_of};
 ghost use Rattle.slot_types.specs.Refusal.{FailsForMemory};
 ghost use Rattle.slot_types.specs.declared.replies.Reply.{Reply};
 ghost use Rattle.job_table.specs.Table.{with_job};
@@ -91,18 +92,19 @@ fn enter(
 
 impl<N: Nand> DieCore<N> {
     /// The operations of a job, counted, or why a die that isn't stopped refuses it.
-    fn checked_ops<'a>(
-        &self,
-        task: TaskNo,
-        release: u32,
-        due: u32,
-        ops: &LentOps<'a>,
-    ) -> Result<CountedOps<'a>, Refusal>
-        requires { self.now.stopped ≡ false }
+    fn checked_ops<'a>(&self, head: &JobHead, ops: &LentOps<'a>) -> Result<CountedOps<'a>, Refusal>
+        requires running { self.now.stopped ≡ false }
+        requires job { head.now.collects ≡ false }
         ensures refusal { result_err result
-            ≡ refusal_of self.now.start self.now.log (Event.Submit task release due ops.now) }
+            ≡ refusal_of self.now.start self.now.log (arrival_of head.now ops.now) }
         ensures ops { IfOk result (λ counted. counted ≡ ops.now) }
     {
+        let JobHead {
+            task,
+            release,
+            due,
+            ..
+        } = *head;
         let plan = self.volume.plan();
         if task.0 as usize >= plan.caps.len() {
             return Err(Refusal::UnknownTask);
@@ -173,7 +175,13 @@ impl<N: Nand> DieCore<N> {
             (Event.Submit task release due ops.now) (reply_as Reply.Taken result) self.old
             self.new }
     {
-        self.submit_ops(alloc, caller, task, release, due, &LentOps::list(ops))
+        let head = JobHead {
+            collects: false,
+            task,
+            release,
+            due,
+        };
+        self.submit_ops(alloc, caller, head, &LentOps::list(ops))
     }
 
     /// As `submit`, of operations that the caller keeps, in whichever form.
@@ -181,27 +189,20 @@ impl<N: Nand> DieCore<N> {
         &mut self,
         _alloc: Global,
         caller: u32,
-        task: TaskNo,
-        release: u32,
-        due: u32,
+        head: JobHead,
         ops: &LentOps,
     ) -> Result<JobNo, Refusal>
-        ensures { IsCall N.ends N.failures N.never_fails caller
-            (Event.Submit task release due ops.now) (reply_as Reply.Taken result) self.old
+        requires job { head.collects ≡ false }
+        ensures { IsCall N.ends N.failures N.never_fails caller (arrival_of head ops.now)
+            (reply_as Reply.Taken result) self.old
             self.new }
     {
         if self.volume.failed() {
             return Err(Refusal::DieStopped);
         }
-        let counted = match self.checked_ops(task, release, due, ops) {
+        let counted = match self.checked_ops(&head, ops) {
             Ok(counted) => counted,
             Err(refusal) => return Err(refusal),
-        };
-        let head = JobHead {
-            collects: false,
-            task,
-            release,
-            due,
         };
         match enter(
             &mut self.table,
@@ -214,7 +215,7 @@ impl<N: Nand> DieCore<N> {
             Err(refusal) => Err(refusal),
             Ok(number) => {
                 // The tokens are there, so this isn't refused.
-                let _ = self.volume.admit(task, counted.writes() as u32);
+                let _ = self.volume.admit(head.task, counted.writes() as u32);
                 Ok(number)
             }
         }
@@ -230,10 +231,17 @@ impl<N: Nand> DieCore<N> {
     }
 
     /// Why a collection is refused by a die that isn't stopped, if it is.
-    fn collect_refusal(&self, task: TaskNo, release: u32, due: u32) -> Option<Refusal>
-        requires { self.now.stopped ≡ false }
-        ensures { result ≡ refusal_of self.now.start self.now.log (Event.Collect task release due) }
+    fn collect_refusal(&self, head: &JobHead) -> Option<Refusal>
+        requires running { self.now.stopped ≡ false }
+        requires collection { head.now.collects ≡ true }
+        ensures { result ≡ refusal_of self.now.start self.now.log (arrival_of head.now []) }
     {
+        let JobHead {
+            task,
+            release,
+            due,
+            ..
+        } = *head;
         if task.0 as usize >= self.volume.plan().caps.len() {
             return Some(Refusal::UnknownTask);
         }
@@ -261,7 +269,7 @@ impl<N: Nand> DieCore<N> {
     /// `JobsFull`, where 65,536 were accepted; `NoMemory`.
     pub fn collect(
         &mut self,
-        _alloc: Global,
+        alloc: Global,
         caller: u32,
         task: TaskNo,
         release: u32,
@@ -271,19 +279,34 @@ impl<N: Nand> DieCore<N> {
             (reply_as Reply.Taken result) self.old
             self.new }
     {
-        if self.volume.failed() {
-            return Err(Refusal::DieStopped);
-        }
-        match self.collect_refusal(task, release, due) {
-            Some(refusal) => return Err(refusal),
-            None => {}
-        }
         let head = JobHead {
             collects: true,
             task,
             release,
             due,
         };
+        self.collect_for(alloc, caller, head)
+    }
+
+    /// As `collect`.
+    pub(crate) fn collect_for(
+        &mut self,
+        _alloc: Global,
+        caller: u32,
+        head: JobHead,
+    ) -> Result<JobNo, Refusal>
+        requires collection { head.collects ≡ true }
+        ensures { IsCall N.ends N.failures N.never_fails caller (arrival_of head [])
+            (reply_as Reply.Taken result) self.old
+            self.new }
+    {
+        if self.volume.failed() {
+            return Err(Refusal::DieStopped);
+        }
+        match self.collect_refusal(&head) {
+            Some(refusal) => return Err(refusal),
+            None => {}
+        }
         enter(
             &mut self.table,
             &mut self.events,

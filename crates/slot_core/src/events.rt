@@ -42,16 +42,10 @@ impl<N: Nand> DieCore<N> {
             (reply_as Reply.Taken result) self.old
             self.new }
     {
-        let JobHead {
-            collects,
-            task,
-            release,
-            due,
-        } = head;
-        if collects {
-            self.collect(alloc, caller, task, release, due)
+        if head.collects {
+            self.collect_for(alloc, caller, head)
         } else {
-            self.submit_ops(alloc, caller, task, release, due, ops)
+            self.submit_ops(alloc, caller, head, ops)
         }
     }
 

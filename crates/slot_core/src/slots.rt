@@ -140,9 +140,8 @@ fn carry_out<N: Nand>(
         events.push_idle(caller, reply.waived.as_slice());
         return Ok(());
     };
-    let place = work_of(table, number);
-    let turn = match table.job(number) {
-        Some(job) => take_step(volume, &job),
+    let (place, turn) = match table.job(number) {
+        Some(job) => (job.work(), take_step(volume, &job)),
         None => unreachable!(),
     };
     match turn {
@@ -158,19 +157,6 @@ fn carry_out<N: Nand>(
             reply.finished = finished(number, turn.last);
             Ok(())
         }
-    }
-}
-
-/// How many slots the job of this number took so far, which is the place of its next operation.
-fn work_of(table: &JobTable, number: JobNo) -> u32
-    ensures work { result ≡ work_at table.now.jobs number }
-    ensures reads { (job : JobRecord) → slice_get table.now.jobs number ≡ Some job
-        → length job.reads
-        ≡ count_by is_read (take job.work job.ops) }
-{
-    match table.job(number) {
-        Some(job) => job.work(),
-        None => 0,
     }
 }
 
