@@ -399,7 +399,7 @@ static void show_undoing(void) {
 
 static void show_texts(void) {
     uint32_t texts = 0;
-    for (uint32_t code = 0; code < 400; code++) {
+    for (uint32_t code = 0; code < 500; code++) {
         char name[14];
         uint32_t length = mg_refusal_name(code, name, sizeof name);
         check(length <= 13 && strlen(name) == length, "a name");
@@ -449,10 +449,110 @@ static void show_report(const char *path) {
     check(mg_report(of, 1, refuse, &pieces) == MG_EMPTY_HANDLE, "nor this one");
 }
 
+/* A die that keeps its plan: handles and pointers, causes in their order, and lives in which it asks the heap for nothing. */
+static void show_planned(void) {
+    const struct mg_plan plan = {8, 4, 3, 12, 2, 0};
+    const struct mg_task task = {6, 0, 0, 0, 0};
+    const struct mg_terms terms = {20, 10, 10, 70, 1, 20, 20}, small = {20, 10, 10, 2, 1, 20, 20};
+    const struct mg_op write = {MG_WRITE, 5, {{7}}}, read = {MG_READ, 5, {{0}}}, bad = {3, 5, {{0}}}, beyond = {MG_READ, 12, {{0}}};
+    struct mg_op many[3];
+    struct mg_unasked why = {77, 78};
+    struct mg_taken taken;
+    struct mg_call call;
+    struct mg_reply reply;
+    struct mg_waived waived[1];
+    struct mg_life life;
+    struct mg_job_head head;
+    struct mg_job_outcome outcome;
+    struct mg_cell cell;
+    struct mg_name names[4], blank;
+    uint32_t operations = 5;
+    mg_planned die = {0};
+    for (int i = 0; i < 3; i++) many[i] = read;
+    memset(&blank, 255, sizeof blank);
+    mg_planned_free(NULL);
+    mg_planned_free(&die);
+    check(mg_planned_ask(&die, 1, 0, &write, 1, &taken, &why) == MG_EMPTY_HANDLE && why.next == 0 && why.number == 0, "no die to ask");
+    check(mg_planned_ask_all(NULL, 1, 0, &write, 1, &taken, NULL) == MG_EMPTY_HANDLE && mg_planned_begin(&die, 1, &call) == MG_EMPTY_HANDLE
+          && mg_planned_end(&die, 1, &blank, &reply, NULL, 0) == MG_EMPTY_HANDLE && mg_planned_clock(&die) == 0
+          && mg_planned_life(&die, &life) == MG_EMPTY_HANDLE && mg_planned_waiting(&die, 0, &operations) == MG_EMPTY_HANDLE
+          && mg_planned_job(&die, 0, &head) == MG_EMPTY_HANDLE && mg_planned_outcome(&die, 0, &outcome, NULL, 0) == MG_EMPTY_HANDLE
+          && mg_planned_place(&die, 0, &cell) == MG_EMPTY_HANDLE && operations == 5, "of no die");
+    check(mg_planned_new(NULL, &plan, &task, &small, 1, 100, &why) == MG_EMPTY_HANDLE
+          && mg_planned_new(&die, &plan, &task, NULL, 1, 100, &why) == MG_NULL_POINTER, "what a die is made of");
+    check(mg_planned_new(&die, &plan, &task, &terms, 1, 100, &why) == MG_TOO_MUCH_DEMAND, "70 operations in 10 slots");
+    check(mg_planned_new(&die, &plan, &task, &small, 1, 0, &why) == MG_NO_LIFE && mg_planned_new(&die, &plan, NULL, NULL, 0, 9, &why) == MG_BAD_PLAN,
+          "no life, and no task");
+    struct mg_terms none = small;
+    none.work = 0;
+    check(mg_planned_new(&die, &plan, &task, &none, 1, 100, &why) == MG_BAD_TERMS, "terms out of their limits");
+    struct mg_task poor = {4, 0, 0, 0, 0};
+    check(mg_planned_new(&die, &plan, &poor, &small, 1, 100, &why) == MG_TOO_FEW_PAGES && die.at == NULL, "a cap that doesn't do");
+    check(mg_planned_new(&die, &plan, &task, &small, 1, 100, NULL) == MG_OK && mg_planned_new(&die, &plan, &task, &small, 1, 100, &why) == MG_FULL_HANDLE,
+          "a die isn't lost");
+    check(mg_planned_life(&die, &life) == MG_OK && life.first == 0 && life.slots == 100 && life.now == 0, "the longest life that is allowed");
+    left = 0; /* it asks the heap for nothing from here on */
+    check(mg_planned_ask(&die, 1, 0, &bad, 1, &taken, &why) == MG_BAD_KIND && mg_planned_ask(&die, 1, 1, NULL, 0, &taken, &why) == MG_UNKNOWN_TASK
+          && mg_planned_ask(&die, 1, 0, NULL, 0, &taken, &why) == MG_EMPTY_JOB, "kinds, tasks and empty jobs");
+    check(mg_planned_ask(&die, 1, 0, many, 3, &taken, &why) == MG_TOO_MANY_OPS && why.number == 2
+          && mg_planned_ask(&die, 1, 0, &beyond, 1, &taken, &why) == MG_BAD_PAGE && why.number == 12, "too many, and a page that isn't there");
+    check(mg_planned_ask(&die, 1, 0, NULL, 1, &taken, &why) == MG_NULL_POINTER && mg_planned_ask(&die, 1, 0, &write, 1, NULL, &why) == MG_NULL_POINTER,
+          "pointers of an ask");
+    uint32_t waits = 0, jobs = 0;
+    uint64_t due = 0;
+    for (uint32_t clock = 0; clock < 500; clock++) {
+        /* from slot 15 on, so that what the task asks for next comes near the end of each life */
+        uint32_t asked = clock < 15 ? MG_TOO_SOON : mg_planned_ask(&die, 1, 0, clock % 20 == 15 ? &write : &read, 1, &taken, &why);
+        if (clock < 15) why.next = 1;
+        if (asked == MG_OK) {
+            jobs += taken.jobs, waits += taken.waits, due = taken.due;
+            check(taken.release >= clock && taken.due == taken.release + 10, "release and due");
+        } else check(asked == MG_TOO_SOON ? why.next > 0 : asked == MG_WAITS_ALREADY, "what its task did");
+        check(mg_planned_end(&die, 1, &blank, &reply, waived, 1) == MG_NOT_BEGUN, "no slot has begun");
+        check(mg_planned_begin(&die, 9, NULL) == MG_NULL_POINTER && mg_planned_begin(&die, 9, &call) == MG_OK, "a slot");
+        check(mg_planned_begin(&die, 9, &call) == MG_BEGUN && mg_planned_ask_all(&die, 1, 0, &read, 1, &taken, &why) == MG_BEGUN
+              && why.next == 0 && why.number == 0 && mg_planned_clock(&die) == clock, "a slot has begun");
+        check(mg_planned_end(&die, 1, call.kind == MG_CALL_READ ? &call.name : &blank, &reply, waived, 1) == MG_OK && reply.caller == 9, "its end");
+        check(mg_planned_clock(&die) == clock + 1, "the clock of all lives");
+    }
+    left = UINT32_MAX;
+    check(jobs > 20 && waits > 0 && due > 450, "over five lives");
+    check(mg_planned_life(&die, &life) == MG_OK && life.first == 400 && life.now == 100, "the fifth has ended");
+    check(mg_planned_job(&die, 0, &head) == MG_OK && mg_planned_outcome(&die, 0, &outcome, names, 4) == MG_OK && outcome.lateness <= 0, "a job of it");
+    check(mg_planned_job(&die, 60000, &head) == MG_UNKNOWN_JOB && mg_planned_place(&die, 5, &cell) == MG_OK && cell.block != MG_NOWHERE, "questions");
+    /* a failed call stops the die */
+    for (call.kind = MG_CALL_NONE; call.kind != MG_CALL_PROGRAM;) {
+        uint32_t asked = mg_planned_ask_all(&die, 1, 0, &write, 1, &taken, &why);
+        check(asked == MG_OK || asked == MG_TOO_SOON || asked == MG_WAITS_ALREADY, "asks up to a program");
+        check(mg_planned_begin(&die, 9, &call) == MG_OK && mg_planned_clock(&die) < 600, "slots up to a program");
+        if (call.kind != MG_CALL_PROGRAM)
+            check(mg_planned_end(&die, 1, call.kind == MG_CALL_READ ? &call.name : &blank, &reply, waived, 1) == MG_OK, "their ends");
+    }
+    check(mg_planned_waiting(&die, 0, &operations) == MG_OK && operations <= 1 && mg_planned_life(&die, &life) == MG_OK && life.first == 500,
+          "the sixth life");
+    check(mg_planned_end(&die, 0, &blank, &reply, waived, 1) == MG_DEVICE_FAULT && mg_planned_end(&die, 1, &blank, &reply, waived, 1) == MG_DIE_STOPPED
+          && mg_planned_begin(&die, 9, &call) == MG_DIE_STOPPED && mg_planned_ask(&die, 1, 0, &read, 1, &taken, &why) == MG_DIE_STOPPED,
+          "a fault stops it");
+    check(mg_planned_place(&die, 5, &cell) == MG_OK && cell.block != MG_NOWHERE, "its pages are found");
+    mg_planned_free(&die);
+    check(die.at == NULL, "it is freed");
+    /* each allocation of its birth refused in turn */
+    uint32_t tries = 0;
+    for (uint32_t code = MG_NO_MEMORY; code == MG_NO_MEMORY; tries++) {
+        left = tries;
+        code = mg_planned_new(&die, &plan, &task, &small, 1, 100, &why);
+        left = UINT32_MAX;
+        check(code == MG_NO_MEMORY ? !die.at : die.at != NULL, "no memory, no die");
+    }
+    check(tries > 5, "it takes memory");
+    mg_planned_free(&die);
+}
+
 int main(int argc, char **argv) {
     show_handles();
     show_pointers();
     show_overdue();
+    show_planned();
     show_memory();
     show_reserves();
     show_trims();

@@ -302,3 +302,98 @@ uint32_t mg_rows(const mg_die *die, struct mg_row *rows, size_t count, uint32_t 
     mg_die own = *die;
     return flash_rows(&own, ARRAY(rows), count, total);
 }
+
+/* ---- A die that keeps its plan ------------------------------------------------------------------------------------ */
+
+static bool is_planned(const mg_planned *die) { return die && die->at; }
+
+static uint32_t unasked(uint32_t refusal, struct mg_unasked *why) {
+    if (why) *why = (struct mg_unasked){0, 0};
+    return refusal;
+}
+
+uint32_t mg_planned_new(mg_planned *die, const struct mg_plan *plan, const struct mg_task *tasks, const struct mg_terms *terms,
+                        size_t count, uint32_t longest, struct mg_unasked *why) {
+    struct mg_unasked numbers;
+    if (!die) return unasked(MG_EMPTY_HANDLE, why);
+    if (die->at) return unasked(MG_FULL_HANDLE, why);
+    if (!plan || !is_array(tasks, count) || !is_array(terms, count)) return unasked(MG_NULL_POINTER, why);
+    return flash_planned_new(die, plan, ARRAY(tasks), count, ARRAY(terms), count, longest, why ? why : &numbers);
+}
+
+void mg_planned_free(mg_planned *die) {
+    if (is_planned(die)) flash_planned_free(die);
+}
+
+static uint32_t ask(mg_planned *die, uint32_t burst, uint32_t caller, uint32_t task, const struct mg_op *ops, size_t count,
+                    struct mg_taken *taken, struct mg_unasked *why) {
+    struct mg_unasked numbers;
+    if (!is_planned(die)) return unasked(MG_EMPTY_HANDLE, why);
+    if (!taken || !is_array(ops, count)) return unasked(MG_NULL_POINTER, why);
+    return flash_planned_ask(die, burst, caller, task, ARRAY(ops), count, taken, why ? why : &numbers);
+}
+
+uint32_t mg_planned_ask(mg_planned *die, uint32_t caller, uint32_t task, const struct mg_op *ops, size_t count,
+                        struct mg_taken *taken, struct mg_unasked *why) {
+    return ask(die, 0, caller, task, ops, count, taken, why);
+}
+
+uint32_t mg_planned_ask_all(mg_planned *die, uint32_t caller, uint32_t task, const struct mg_op *ops, size_t count,
+                            struct mg_taken *taken, struct mg_unasked *why) {
+    return ask(die, 1, caller, task, ops, count, taken, why);
+}
+
+uint32_t mg_planned_begin(mg_planned *die, uint32_t caller, struct mg_call *call) {
+    if (!is_planned(die)) return MG_EMPTY_HANDLE;
+    if (!call) return MG_NULL_POINTER;
+    return flash_planned_begin(die, caller, call);
+}
+
+uint32_t mg_planned_end(mg_planned *die, uint32_t ok, const struct mg_name *name, struct mg_reply *reply, struct mg_waived *waived,
+                        size_t count) {
+    if (!is_planned(die)) return MG_EMPTY_HANDLE;
+    if (!name || !reply || !is_array(waived, count)) return MG_NULL_POINTER;
+    return flash_planned_end(die, ok, name, reply, ARRAY(waived), count);
+}
+
+uint64_t mg_planned_clock(const mg_planned *die) {
+    if (!is_planned(die)) return 0;
+    mg_planned own = *die;
+    return flash_planned_clock(&own);
+}
+
+uint32_t mg_planned_life(const mg_planned *die, struct mg_life *life) {
+    if (!is_planned(die)) return MG_EMPTY_HANDLE;
+    if (!life) return MG_NULL_POINTER;
+    mg_planned own = *die;
+    return flash_planned_life(&own, life);
+}
+
+uint32_t mg_planned_waiting(const mg_planned *die, uint32_t task, uint32_t *operations) {
+    if (!is_planned(die)) return MG_EMPTY_HANDLE;
+    if (!operations) return MG_NULL_POINTER;
+    mg_planned own = *die;
+    return flash_planned_waiting(&own, task, operations);
+}
+
+uint32_t mg_planned_job(const mg_planned *die, uint32_t number, struct mg_job_head *job) {
+    if (!is_planned(die)) return MG_EMPTY_HANDLE;
+    if (!job) return MG_NULL_POINTER;
+    mg_planned own = *die;
+    return flash_planned_job(&own, number, job);
+}
+
+uint32_t mg_planned_outcome(const mg_planned *die, uint32_t job, struct mg_job_outcome *outcome, struct mg_name *reads,
+                            size_t count) {
+    if (!is_planned(die)) return MG_EMPTY_HANDLE;
+    if (!outcome || !is_array(reads, count)) return MG_NULL_POINTER;
+    mg_planned own = *die;
+    return flash_planned_outcome(&own, job, outcome, ARRAY(reads), count);
+}
+
+uint32_t mg_planned_place(const mg_planned *die, uint32_t page, struct mg_cell *place) {
+    if (!is_planned(die)) return MG_EMPTY_HANDLE;
+    if (!place) return MG_NULL_POINTER;
+    mg_planned own = *die;
+    return flash_planned_place(&own, page, place);
+}

@@ -3,7 +3,8 @@
  * HANDLES. One `struct mg_die` is one die. `{0}` is empty; mg_new, mg_resume and mg_mount_end fill an empty one, mg_free empties
  * it, and nothing else may look inside. A handle is never copied: both copies would free the die. Every call of an empty handle, or
  * of none, is answered: MG_EMPTY_HANDLE, or 0 by mg_now, mg_len, mg_records, mg_serial and mg_mount_calls_left; mg_free does nothing
- * then. What fills a handle answers MG_FULL_HANDLE of a full one. So it is with `struct mg_mount`, mg_mount_new and mg_mount_free.
+ * then. What fills a handle answers MG_FULL_HANDLE of a full one. So it is with `struct mg_mount`, mg_mount_new and mg_mount_free, and
+ * with `struct mg_planned`, mg_planned_new and mg_planned_free; mg_planned_clock answers 0 of an empty one.
  *
  * THREADS. Several dies share nothing but the heap. A die may be made on one thread and used on another. A call that takes a
  * `const` handle is a question: it reads the die, and several may run beside each other. While any other call of a die runs,
@@ -42,7 +43,7 @@ extern "C" {
  * something is added. So a program that was compiled with this header works with a library of the same major number whose
  * minor one isn't below: MG_FITS(mg_version()). */
 #define MG_VERSION_MAJOR 1u
-#define MG_VERSION_MINOR 1u
+#define MG_VERSION_MINOR 2u
 #define MG_VERSION (MG_VERSION_MAJOR << 16 | MG_VERSION_MINOR)
 #define MG_FITS(version) ((version) >> 16 == MG_VERSION_MAJOR && ((version) & 0xFFFFu) + 1u > MG_VERSION_MINOR)
 
@@ -97,7 +98,19 @@ enum {
     MG_ABOVE_CAP = 305,          /* a balance is above its task's cap [first: the first such task] */
     MG_OTHER_SUM = 306,          /* the accounts share out another number of pages than are free [first: they, and
                                        4,294,967,295 where they are more; second: free] */
-    MG_SHARED_CELL = 307         /* a page lies in the cell of a page before it [first: the first such page] */
+    MG_SHARED_CELL = 307,        /* a page lies in the cell of a page before it [first: the first such page] */
+    /* of a die that keeps its plan; in brackets, what `struct mg_unasked` has */
+    MG_TOO_MANY_WRITES = 401,    /* more writes than the task may ask for in a period [number: its most] */
+    MG_TOO_SOON = 402,           /* with what the task asked for in its last period it would be too much [next: the first slot
+                                    with room for all of it, from the start of the present life] */
+    MG_WAITS_ALREADY = 403,      /* it would be due after the life, and an ask of the task waits for the next one already */
+    MG_LIFE_END = 404,           /* it would be due after the life; such an ask waits, so none is refused for this */
+    MG_NO_LIFE = 405,            /* no number of slots up to `longest` is a life: a collection would be due after its end, or
+                                    there aren't numbers for all that may come in it */
+    MG_SHORT_LIFE = 406,         /* the longest life that is allowed is shorter than a deadline [number: the first such task] */
+    MG_BAD_TERMS = 407,          /* terms out of their limits, or of another number of tasks */
+    MG_TOO_MUCH_DEMAND = 408,    /* more may be asked than there are slots, in the long run or in some interval */
+    MG_TOO_FEW_PAGES = 409       /* a task's collections give less than it writes, or its cap doesn't cover it */
 };
 
 /* What a refusal has beside its number. */
@@ -113,7 +126,7 @@ const char *mg_refusal_text(uint32_t refusal);
 /* MG_VERSION of the library. */
 uint32_t mg_version(void);
 
-/* The same as a text: "1.1"; "1.1, not proved" of a library that was built without a proof. */
+/* The same as a text: "1.2"; "1.2, not proved" of a library that was built without a proof. */
 const char *mg_version_text(void);
 
 /* ---- What the library asks of the program ------------------------------------------------------------------------
@@ -517,6 +530,104 @@ typedef int (*mg_put)(void *to, const char *text, size_t size);
  * no report. A die of which it tells may be asked meanwhile, and nothing else. EMPTY_HANDLE, NO_MEMORY; NOT_TAKEN, where a piece
  * wasn't taken, after which none is put out. */
 uint32_t mg_report(const mg_die *const *dies, size_t count, mg_put put, void *to);
+
+/* ---- A die that keeps its plan ------------------------------------------------------------------------------------
+ *
+ * Tasks ask, and the die does the rest: it enters its collections, begins one life after the other, and refuses each ask that
+ * breaks its own task's part of the plan. Whatever it takes is done by its `due`, whatever the other tasks ask, while slots are
+ * carried out and no call of the device fails. All memory is taken by mg_planned_new: no ask and no slot is refused for memory, or
+ * takes any. Of its handle holds what is said of a die's, and slots are begun and ended as a die's are.
+ *
+ * A life has so many slots, and the die takes the longest one that its plan and `longest` allow. The first ask or slot after its end
+ * begins the next one, in which jobs and collections have numbers from 0 again: up to that call mg_planned_outcome tells what became
+ * of those before. An ask that would be due after the end of a life waits for the next one, at most one a task: its jobs are the
+ * first of that life, from number 0 on, in the order of their tasks. `release` and `due` are slots of the clock of all lives
+ * (mg_planned_clock), and those of an outcome and of a call are slots of the present life. */
+
+typedef struct mg_planned { void *at; } mg_planned;
+
+/* What a task asks for. The periods of different tasks need have no common multiple. */
+struct mg_terms {
+    uint32_t period;           /* in any so many slots, 1 to 4,294,967,295, it asks for jobs .. */
+    uint32_t deadline;         /* due so many slots after their release: 1 to `held` */
+    uint32_t held;             /* so long a job may hold the tokens for what it writes: `deadline`, or more, up to 1,048,576 */
+    uint32_t work;             /* .. of so many operations in all, 1 to 1,048,576, */
+    uint32_t writes;           /* and so many writes in all, 0 to `work` */
+    uint32_t collect_period;   /* a collection comes at each multiple of this: 1 to 1,048,576 */
+    uint32_t collect_deadline; /* and is due so many slots later: 1 to `collect_period` */
+};
+
+/* The numbers of a refusal. */
+struct mg_unasked {
+    uint64_t next;   /* MG_TOO_SOON: the first slot with room for all of it, if the task asks for nothing else before, from the
+                        start of the present life (`first` of mg_planned_life); 0 else */
+    uint32_t number; /* MG_TOO_MANY_OPS, MG_TOO_MANY_WRITES: the task's most; MG_BAD_PAGE: the first such page; MG_WORN_OUT: the
+                        block; MG_SHORT_LIFE: the task; 0 else */
+};
+
+/* Makes a die at slot 0 in an empty handle, with lives of at most `longest` slots, 1 to 1,048,576; shorter lives take less memory.
+ * Each task has its terms; `common` is 0, and of a task its cap alone is looked at. Its chip has to be erased.
+ *
+ * The first that stands: NO_MEMORY, since plan and terms are copied first; BAD_SHAPE; BAD_PLAN, as for mg_plan_bound; BAD_TERMS;
+ * TOO_MUCH_DEMAND; TOO_FEW_PAGES; NO_LIFE; SHORT_LIFE; NO_MEMORY, which may also come before these. The handle stays empty then. */
+uint32_t mg_planned_new(mg_planned *die, const struct mg_plan *plan, const struct mg_task *tasks, const struct mg_terms *terms,
+                        size_t count, uint32_t longest, struct mg_unasked *why);
+
+/* Frees a die, and leaves its handle empty. Of an empty handle, or of none, it does nothing. */
+void mg_planned_free(mg_planned *die);
+
+/* What an ask is answered that is taken. */
+struct mg_taken {
+    uint64_t release; /* the slot in which its jobs are released, */
+    uint64_t due;     /* and the slot before which they are done: slots of the clock of all lives */
+    uint32_t waits;   /* 1: it waits for the next life */
+    uint32_t first;   /* the number of its first job; each next one has the next number; 0 where it waits */
+    uint32_t jobs;    /* how many jobs; 0 where it waits */
+};
+
+/* Asks for a job of 1 to 64 operations, done in order, one a slot: it is released now, and due a deadline of its task later; or,
+ * where that is after the life, it waits, and is released in the first slot of the next one.
+ *
+ * The first that stands: BAD_KIND, among the operations that are looked at, one more than any task may ask for; BEGUN: a slot has
+ * begun, so ask again once it has ended, nothing has changed; DIE_STOPPED; CLOCK_END, at slot 2^61 of all lives, and WORN_OUT, where a
+ * life has ended and the next one can't begin; UNKNOWN_TASK; EMPTY_JOB; TOO_MANY_OPS, more than 64 or than the task's `work`; BAD_PAGE;
+ * TOO_MANY_WRITES; TOO_SOON; WAITS_ALREADY. What the others ask is no cause, nor is memory. */
+uint32_t mg_planned_ask(mg_planned *die, uint32_t caller, uint32_t task, const struct mg_op *ops, size_t count,
+                        struct mg_taken *taken, struct mg_unasked *why);
+
+/* Asks for a burst of 1 to `work` operations: they become jobs of 64 operations, in order, of which the last may have fewer, all with
+ * one release and one due. All of them are taken, or none is. Refused as a job is, but that TOO_MANY_OPS is more than `work` alone. */
+uint32_t mg_planned_ask_all(mg_planned *die, uint32_t caller, uint32_t task, const struct mg_op *ops, size_t count,
+                            struct mg_taken *taken, struct mg_unasked *why);
+
+/* Begins the present slot, as mg_begin does: the next life, where one has ended, with what waited for it; and the slot's collections.
+ * The first that stands: BEGUN; DIE_STOPPED; CLOCK_END; WORN_OUT, as for an ask. Nothing has begun then, or changed. */
+uint32_t mg_planned_begin(mg_planned *die, uint32_t caller, struct mg_call *call);
+
+/* Ends the slot that has begun, as mg_end does. The first that stands: DIE_STOPPED; NOT_BEGUN; DEVICE_FAULT, which stops the die for
+ * good: the slot isn't in the log, and its collections are. */
+uint32_t mg_planned_end(mg_planned *die, uint32_t ok, const struct mg_name *name, struct mg_reply *reply, struct mg_waived *waived,
+                        size_t count);
+
+/* The present slot of the clock of all lives; 0 of an empty handle. */
+uint64_t mg_planned_clock(const mg_planned *die);
+
+/* The present life, up to the first call after its end. */
+struct mg_life {
+    uint64_t first; /* the slot of the clock of all lives in which it began */
+    uint32_t slots; /* how many slots it has */
+    uint32_t now;   /* its present slot */
+};
+uint32_t mg_planned_life(const mg_planned *die, struct mg_life *life);
+
+/* How many operations the task's ask has that waits for the next life; 0 where none waits, and of a task that isn't there. */
+uint32_t mg_planned_waiting(const mg_planned *die, uint32_t task, uint32_t *operations);
+
+/* Of the jobs and collections of the present life, as mg_job and mg_outcome; and where a page lies, as mg_place, of a stopped die, too.
+ * Nothing is ever overdue while slots are carried out, nor late. */
+uint32_t mg_planned_job(const mg_planned *die, uint32_t number, struct mg_job_head *job);
+uint32_t mg_planned_outcome(const mg_planned *die, uint32_t job, struct mg_job_outcome *outcome, struct mg_name *reads, size_t count);
+uint32_t mg_planned_place(const mg_planned *die, uint32_t page, struct mg_cell *place);
 
 /* ---- For auditors, without a die --------------------------------------------------------------------------------- */
 

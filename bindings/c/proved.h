@@ -51,6 +51,20 @@ uint32_t flash_worst(mg_die *die, struct mg_worst_job *worst);
 uint32_t flash_overdue(mg_die *die, struct mg_overdue_job *overdue);
 uint32_t flash_certificate(mg_die *die, struct mg_cert *certificate, uint32_t *jobs, size_t count);
 uint32_t flash_rows(mg_die *die, struct mg_row *rows, size_t count, uint32_t *total);
+uint32_t flash_planned_new(mg_planned *die, const struct mg_plan *plan, const struct mg_task *tasks, size_t count,
+                           const struct mg_terms *terms, size_t term_count, uint32_t longest, struct mg_unasked *why);
+void flash_planned_free(mg_planned *die);
+uint32_t flash_planned_ask(mg_planned *die, uint32_t burst, uint32_t caller, uint32_t task, const struct mg_op *ops, size_t count,
+                           struct mg_taken *taken, struct mg_unasked *why);
+uint32_t flash_planned_begin(mg_planned *die, uint32_t caller, struct mg_call *call);
+uint32_t flash_planned_end(mg_planned *die, uint32_t ok, const struct mg_name *name, struct mg_reply *reply,
+                           struct mg_waived *waived, size_t count);
+uint64_t flash_planned_clock(mg_planned *die);
+uint32_t flash_planned_life(mg_planned *die, struct mg_life *life);
+uint32_t flash_planned_waiting(mg_planned *die, uint32_t task, uint32_t *operations);
+uint32_t flash_planned_job(mg_planned *die, uint32_t number, struct mg_job_head *job);
+uint32_t flash_planned_outcome(mg_planned *die, uint32_t job, struct mg_job_outcome *outcome, struct mg_name *reads, size_t count);
+uint32_t flash_planned_place(mg_planned *die, uint32_t page, struct mg_cell *place);
 uint32_t flash_check(const struct mg_row *rows, size_t row_count, const struct mg_cert *certificate, const uint32_t *jobs,
                      size_t count);
 #endif

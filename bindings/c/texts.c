@@ -3,9 +3,9 @@
 
 const char *mg_version_text(void) {
 #ifdef MG_UNPROVED
-    return "1.1, not proved";
+    return "1.2, not proved";
 #else
-    return "1.1";
+    return "1.2";
 #endif
 }
 
@@ -57,6 +57,15 @@ const char *mg_refusal_text(uint32_t refusal) {
     case MG_ABOVE_CAP: return "a balance is above its task's cap";
     case MG_OTHER_SUM: return "the accounts share out another number of pages than are free";
     case MG_SHARED_CELL: return "a page lies in the cell of a page before it";
+    case MG_TOO_MANY_WRITES: return "more writes than the task may ask for in a period";
+    case MG_TOO_SOON: return "with what the task asked for in its last period it would be too much";
+    case MG_WAITS_ALREADY: return "it would be due after the life, and an ask of the task waits for the next one already";
+    case MG_LIFE_END: return "it would be due after the life";
+    case MG_NO_LIFE: return "no number of slots up to the longest is a life of this plan";
+    case MG_SHORT_LIFE: return "the longest life that is allowed is shorter than a task's deadline";
+    case MG_BAD_TERMS: return "terms out of their limits, or of another number of tasks";
+    case MG_TOO_MUCH_DEMAND: return "more may be asked than there are slots, in the long run or in some interval";
+    case MG_TOO_FEW_PAGES: return "a task's collections give less than it writes, or its cap doesn't cover it";
     default: return "no refusal of this number";
     }
 }

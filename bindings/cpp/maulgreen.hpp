@@ -33,6 +33,9 @@ using overdue_job = struct ::mg_overdue_job;
 using cell = ::mg_cell;
 using label = ::mg_label;
 using step = ::mg_step;
+using terms = ::mg_terms;
+using taken = ::mg_taken;
+using life = ::mg_life;
 
 // Why a call is refused: its number of maulgreen.h, and the numbers that it has.
 class refusal : public std::exception {
@@ -40,17 +43,25 @@ public:
     explicit refusal(std::uint32_t code, ::mg_why why = {0, 0}) : code(code), why(why) {
         ::mg_refusal_name(code, name_.data(), name_.size());
     }
+    refusal(std::uint32_t code, ::mg_unasked asked) : code(code), why{asked.number, 0}, next(asked.next) {
+        ::mg_refusal_name(code, name_.data(), name_.size());
+    }
     const char *what() const noexcept override { return name_.data(); }      // "NoTokens"
     const char *text() const noexcept { return ::mg_refusal_text(code); } // what that means, in a line
 
     const std::uint32_t code;
     const ::mg_why why;
+    const std::uint64_t next = 0; // of an ask that comes too soon the first slot with room for it, from the start of the present life
 
 private:
     std::array<char, 16> name_{};
 };
 
 inline void must(std::uint32_t code, const ::mg_why &why = {0, 0}) {
+    if (code != MG_OK) throw refusal(code, why);
+}
+
+inline void must(std::uint32_t code, const ::mg_unasked &why) {
     if (code != MG_OK) throw refusal(code, why);
 }
 
@@ -410,6 +421,91 @@ private:
     ::mg_mount handle_{nullptr};
     plan size_{};
     std::size_t tasks_ = 0;
+};
+
+// A die that keeps its plan: tasks ask, and it does the rest. It moves and isn't copied, and frees its die; members that are `const`
+// may run beside each other. Slots are begun and ended, and no ask comes between.
+class planned {
+public:
+    planned(const plan &p, const std::vector<task> &tasks, const std::vector<maulgreen::terms> &terms, std::uint32_t longest) {
+        if (!fits()) throw std::runtime_error("another version of libmaulgreen");
+        if (terms.size() != tasks.size()) throw refusal(MG_BAD_TERMS);
+        ::mg_unasked why{0, 0};
+        must(::mg_planned_new(&handle_, &p, tasks.data(), terms.data(), tasks.size(), longest, &why), why);
+    }
+    planned(const planned &) = delete;
+    planned &operator=(const planned &) = delete;
+    planned(planned &&other) noexcept : handle_(std::exchange(other.handle_, ::mg_planned{nullptr})) {}
+    planned &operator=(planned &&other) noexcept {
+        std::swap(handle_, other.handle_);
+        return *this;
+    }
+    ~planned() { ::mg_planned_free(&handle_); }
+
+    // Asks for a job, or for a burst, which becomes as many jobs as it takes.
+    taken ask(std::uint32_t caller, std::uint32_t task, const std::vector<op> &ops) { return asked(::mg_planned_ask, caller, task, ops); }
+    taken ask_all(std::uint32_t caller, std::uint32_t task, const std::vector<op> &ops) { return asked(::mg_planned_ask_all, caller, task, ops); }
+
+    // Begins the present slot: what the device is to do. It is to be ended.
+    maulgreen::call begin(std::uint32_t caller) {
+        maulgreen::call said{};
+        must(::mg_planned_begin(&handle_, caller, &said));
+        return said;
+    }
+
+    // Ends it: whether the device did that, and the name of what a read gave.
+    reply end(bool ok, const name &gave = {}) {
+        reply said{};
+        std::array<::mg_waived, 16> waived{};
+        must(::mg_planned_end(&handle_, ok ? 1 : 0, &gave, &said, waived.data(), waived.size()));
+        said.waived_ones.assign(waived.begin(), waived.begin() + said.waived);
+        return said;
+    }
+
+    // The present slot of the clock of all lives, and the present life.
+    std::uint64_t clock() const { return ::mg_planned_clock(&handle_); }
+    maulgreen::life life() const {
+        maulgreen::life said{};
+        must(::mg_planned_life(&handle_, &said));
+        return said;
+    }
+
+    // How many operations the task's ask has that waits for the next life; 0 where none waits.
+    std::uint32_t waiting(std::uint32_t task) const {
+        std::uint32_t said = 0;
+        must(::mg_planned_waiting(&handle_, task, &said));
+        return said;
+    }
+
+    job_head job(std::uint32_t number) const {
+        job_head said{};
+        must(::mg_planned_job(&handle_, number, &said));
+        return said;
+    }
+
+    maulgreen::outcome outcome(std::uint32_t job) const {
+        maulgreen::outcome said{};
+        std::array<name, 64> reads{};
+        must(::mg_planned_outcome(&handle_, job, &said, reads.data(), reads.size()));
+        said.read_names.assign(reads.begin(), reads.begin() + said.reads);
+        return said;
+    }
+
+    // The cell in which a logical page lies, if it lies in one; of a die that is stopped, too.
+    std::optional<cell> place(std::uint32_t page) const {
+        cell said{};
+        must(::mg_planned_place(&handle_, page, &said));
+        return said.block == MG_NOWHERE ? std::nullopt : std::optional<cell>(said);
+    }
+
+private:
+    template <typename Ask> taken asked(Ask ask, std::uint32_t caller, std::uint32_t task, const std::vector<op> &ops) {
+        taken said{};
+        ::mg_unasked why{0, 0};
+        must(ask(&handle_, caller, task, ops.data(), ops.size(), &said, &why), why);
+        return said;
+    }
+    ::mg_planned handle_{nullptr};
 };
 
 } // namespace maulgreen

@@ -53,6 +53,10 @@ _Row = _struct("_Row", "number release due work done completion")
 _Place = _struct("_Place", "block page")
 _Block = _struct("_Block", "filled erases")
 _Label = _struct("_Label", "page", [("serial", U64)])
+_Terms = _struct("_Terms", "period deadline held work writes collect_period collect_deadline")
+_Taken = _struct("_Taken", "waits first jobs", [("release", U64), ("due", U64)])
+_Unasked = _struct("_Unasked", "number", [("next", U64)])
+_Life = _struct("_Life", "slots now", [("first", U64)])
 _Step = _struct("_Step", "kind block page logical last", [("serial", U64)])
 _Bytes = type("_Bytes", (c.Structure,), {"_fields_": [(word, U64) for word in "birth reserved life question resume".split()]})
 _NOWHERE = _NO_PAGE = 0xFFFFFFFF
@@ -76,6 +80,35 @@ class Task(NamedTuple):
     collect_period: int = 0
     work: int = 0
     writes: int = 0
+
+
+class Terms(NamedTuple):
+    """What a task asks for of a die that keeps its plan: in any `period` slots `work` operations and `writes` writes at most, jobs due
+    `deadline` slots after their release, `held` as long or longer, a collection at each multiple of `collect_period`, due so many slots
+    later."""
+    period: int
+    deadline: int
+    held: int
+    work: int
+    writes: int
+    collect_period: int
+    collect_deadline: int
+
+
+class Taken(NamedTuple):
+    """What an ask is answered that is taken: its jobs are released and due so, slots of the clock of all lives. `first` is the number of
+    the first of `jobs`, or None where it waits for the next life."""
+    release: int
+    due: int
+    first: Optional[int]
+    jobs: int
+
+
+class Life(NamedTuple):
+    """The present life: the slot of the clock of all lives in which it began, how many slots it has, and the present one."""
+    first: int
+    slots: int
+    now: int
 
 
 class Step(NamedTuple):
@@ -213,24 +246,30 @@ def _library() -> str:
 
 _lib = c.CDLL(_library())
 for _word in ("version refusal_name plan_bound plan_test memory new submit collect begin end reserve reserve_jobs renew "
-              "renew_giving_back now place part_block mount_new mount_next mount_tell mount_done mount_place mount_end entries entry_waived job outcome worst overdue certificate rows check checkpoint resume").split():
+              "renew_giving_back now place part_block mount_new mount_next mount_tell mount_done mount_place mount_end planned_new planned_ask planned_ask_all planned_begin planned_end planned_life planned_waiting "
+              "planned_job planned_outcome planned_place entries entry_waived job outcome worst overdue certificate rows check checkpoint resume").split():
     getattr(_lib, "mg_" + _word).restype = U32
-_lib.mg_len.restype = _lib.mg_records.restype = _lib.mg_serial.restype = _lib.mg_mount_calls_left.restype = U64
-_lib.mg_free.restype = _lib.mg_mount_free.restype = None
+_lib.mg_len.restype = _lib.mg_records.restype = _lib.mg_serial.restype = _lib.mg_mount_calls_left.restype = _lib.mg_planned_clock.restype = U64
+_lib.mg_free.restype = _lib.mg_mount_free.restype = _lib.mg_planned_free.restype = None
 _lib.mg_refusal_text.restype = c.c_char_p
 # Another major number has other calls; a lower minor one lacks some of these.
-if _lib.mg_version() >> 16 != 1 or _lib.mg_version() & 0xFFFF < 1:
+if _lib.mg_version() >> 16 != 1 or _lib.mg_version() & 0xFFFF < 2:
     raise ImportError("another version of libmaulgreen.so")
 
 
 class Refusal(Exception):
-    """Why a call is refused: its number of maulgreen.h, its name, what it means, and the numbers that it has."""
+    """Why a call is refused: its number of maulgreen.h, its name, what it means, and the numbers that it has; `next` is that of an ask
+    that comes too soon."""
 
     def __init__(self, code, why=None):
         text = c.create_string_buffer(16)
         _lib.mg_refusal_name(U32(code), text, c.c_size_t(16))
         self.code, self.name, self.text = code, text.value.decode(), _lib.mg_refusal_text(U32(code)).decode()
-        self.first, self.second = (why.first, why.second) if why else (0, 0)
+        if isinstance(why, _Unasked):
+            self.first, self.second, self.next = why.number, 0, why.next
+            super().__init__(f"{self.name} {why.number} {why.next}")
+            return
+        self.first, self.second, self.next = (why.first, why.second, 0) if why else (0, 0, 0)
         super().__init__(f"{self.name} {self.first} {self.second}" if why else self.name)
 
 
@@ -575,3 +614,121 @@ class Die:
         rows, total = (_Row * 65536)(), U32()
         _must(self._call("rows", rows, c.c_size_t(65536), c.byref(total)))
         return [Row(r.number, r.release, r.due, r.work, r.completion if r.done else None) for r in rows[:total.value]]
+
+
+class Planned:
+    """A die that keeps its plan: tasks ask, and it does the rest; `with` frees it. Whatever it takes is done by its `due`, whatever the
+    other tasks ask, while slots are carried out and no call of the device fails. Calls of several threads wait for each other; an ask
+    while a slot has begun is refused."""
+
+    def __init__(self, plan: Plan, tasks: Iterable[Task], terms: Iterable[Terms], longest: int):
+        """A die over a chip that is erased, with lives of at most `longest` slots. Each task has its terms, and a cap; the plan has no times."""
+        self._at = None
+        self._lock = threading.RLock()
+        tasks, terms = list(tasks), list(terms)
+        if len(tasks) != len(terms):
+            raise ValueError(f"{len(tasks)} tasks have {len(terms)} terms")
+        handle, why = _Handle(), _Unasked()
+        given, own, count = _plan(plan, tasks)
+        of_each, _ = _list(_Terms, (_numbers(_Terms, Terms(*t)) for t in terms))
+        _must(_lib.mg_planned_new(c.byref(handle), given, own, of_each, count, U32(_u32(longest)), c.byref(why)), why)
+        self._at = handle
+
+    def __enter__(self):
+        return self
+
+    def __exit__(self, *_):
+        self.close()
+
+    def __del__(self):
+        self.close()
+
+    def close(self) -> None:
+        if self._at is not None:
+            with self._lock:
+                _lib.mg_planned_free(c.byref(self._at))
+                self._at = None
+
+    def __copy__(self):
+        raise TypeError("a die isn't copied")
+
+    def __deepcopy__(self, _):
+        raise TypeError("a die isn't copied")
+
+    def _call(self, function: str, *words) -> int:
+        with self._lock:
+            if self._at is None:
+                raise ValueError("the die was freed")
+            return getattr(_lib, "mg_planned_" + function)(c.byref(self._at), *words)
+
+    def _asked(self, function, task, ops, caller) -> Taken:
+        ops, count = _list(_Op, map(_op, ops))
+        taken, why = _Taken(), _Unasked()
+        _must(self._call(function, U32(_u32(caller)), U32(_u32(task)), ops, count, c.byref(taken), c.byref(why)), why)
+        return Taken(taken.release, taken.due, None if taken.waits else taken.first, taken.jobs)
+
+    def ask(self, task: int, ops: Iterable[Op], caller: int = 0) -> Taken:
+        """Asks for a job of (READ, page), (WRITE, page, name) and (TRIM, page)."""
+        return self._asked("ask", task, ops, caller)
+
+    def ask_all(self, task: int, ops: Iterable[Op], caller: int = 0) -> Taken:
+        """Asks for a burst, which becomes as many jobs as it takes: all of them are taken, or none is."""
+        return self._asked("ask_all", task, ops, caller)
+
+    def begin(self, caller: int = 0) -> Call:
+        """Begins the present slot, and reports what the device is to do."""
+        call = _Call()
+        _must(self._call("begin", U32(_u32(caller)), c.byref(call)))
+        return Call(call.kind, call.block, call.page, call.last == 1, call.slot, call.act, call.job,
+                    None if call.logical == _NO_PAGE else call.logical, bytes(call.name))
+
+    def end(self, ok: bool, name: bytes = BLANK) -> Reply:
+        """Ends the slot that has begun: whether the device did it, and the name of what a read gave."""
+        said, waived = _Reply(), (_Waived * 16)()
+        _must(self._call("end", U32(1 if ok else 0), c.byref(_name(name)), c.byref(said), waived, c.c_size_t(16)))
+        return Reply(said.slot, said.act, said.job, said.page, said.finished == 1,
+                     [Waived(w.job, w.given) for w in waived[:said.waived]], bytes(said.name), said.caller)
+
+    def slot(self, drive: Callable[[Call], Tuple[bool, bytes]], caller: int = 0) -> Reply:
+        """One slot. drive(call) does what is asked on the device, and answers (ok, name). Where it raises, the slot is a fault."""
+        call = self.begin(caller)
+        try:
+            ok, name = drive(call)
+        except BaseException:
+            try:
+                self.end(False)
+            except Refusal:
+                pass
+            raise
+        return self.end(ok, name)
+
+    def clock(self) -> int:
+        """The present slot of the clock of all lives."""
+        return self._call("clock")
+
+    def life(self) -> Life:
+        life = _Life()
+        _must(self._call("life", c.byref(life)))
+        return Life(life.first, life.slots, life.now)
+
+    def waiting(self, task: int) -> int:
+        """How many operations the task's ask has that waits for the next life; 0 where none waits."""
+        said = U32()
+        _must(self._call("waiting", U32(_u32(task)), c.byref(said)))
+        return said.value
+
+    def job(self, number: int) -> Job:
+        job = _Job()
+        _must(self._call("job", U32(_u32(number)), c.byref(job)))
+        return Job(job.collects == 1, job.task, job.release, job.due)
+
+    def outcome(self, job: int) -> Outcome:
+        said, reads = _Outcome(), (_Name * 64)()
+        _must(self._call("outcome", U32(_u32(job)), c.byref(said), reads, c.c_size_t(64)))
+        return Outcome(said.state, said.completion, said.lateness, said.given, [bytes(r) for r in reads[:said.reads]])
+
+    def place(self, page: int) -> Optional[Tuple[int, int]]:
+        """The cell in which a logical page lies, (block, page), or None; of a die that is stopped, too."""
+        at = _Place()
+        _must(self._call("place", U32(_u32(page)), c.byref(at)))
+        return None if at.block == _NOWHERE else (at.block, at.page)

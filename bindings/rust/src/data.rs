@@ -272,6 +272,13 @@ pub struct Job {
     pub due: u32,
 }
 
+impl Job {
+    pub(crate) fn of(said: &raw::Job) -> Job {
+        let raw::Job { collects, task, release, due } = *said;
+        Job { collects: collects == 1, task, release, due }
+    }
+}
+
 /// What became of a job or a collection.
 #[derive(Clone, PartialEq, Eq, Debug)]
 pub enum Outcome {
@@ -279,6 +286,18 @@ pub enum Outcome {
     /// `completion` is 1 + its last slot, `lateness` that minus its due, `given` the tokens that a collection gave.
     Done { completion: u32, lateness: i64, given: u32, reads: Vec<Name> },
     Waived { given: u32 },
+}
+
+impl Outcome {
+    /// A job has 64 operations at most, and so has `reads`.
+    pub(crate) fn of(said: &raw::Outcome, reads: &[Name; 64]) -> Outcome {
+        let raw::Outcome { lateness, state, completion, given, reads: count } = *said;
+        match state {
+            0 => Outcome::Waiting,
+            1 => Outcome::Done { completion, lateness, given, reads: reads[..count as usize].to_vec() },
+            _ => Outcome::Waived { given },
+        }
+    }
 }
 
 /// The done job or collection with the greatest lateness.

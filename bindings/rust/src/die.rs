@@ -73,7 +73,7 @@ unsafe impl Sync for Die {}
 
 /// The version of the interface that this crate was written for: a library of the same major number serves, whose minor one
 /// isn't below.
-const VERSION: u32 = 1 << 16 | 1;
+const VERSION: u32 = 1 << 16 | 2;
 
 pub(crate) fn must_fit() {
     // SAFETY: it takes nothing.
@@ -288,8 +288,7 @@ impl Die {
     pub fn job(&self, number: u32) -> Result<Job, Refusal> {
         let mut said = raw::Job::default();
         plain(unsafe { raw::mg_job(&self.handle, number, &mut said) })?;
-        let raw::Job { collects, task, release, due } = said;
-        Ok(Job { collects: collects == 1, task, release, due })
+        Ok(Job::of(&said))
     }
 
     /// Who submitted a job or a collection: to find that takes a step for each entry before it. `UnknownJob` where there is none of
@@ -305,12 +304,7 @@ impl Die {
         let mut said = raw::Outcome::default();
         let mut reads = [Name::BLANK; 64]; // a job has 64 operations at most
         plain(unsafe { raw::mg_outcome(&self.handle, job, &mut said, reads.as_mut_ptr(), reads.len()) })?;
-        let raw::Outcome { lateness, state, completion, given, reads: count } = said;
-        Ok(match state {
-            0 => Outcome::Waiting,
-            1 => Outcome::Done { completion, lateness, given, reads: reads[..count as usize].to_vec() },
-            _ => Outcome::Waived { given },
-        })
+        Ok(Outcome::of(&said, &reads))
     }
 
     /// The done job or collection with the greatest lateness. `NothingDone`.

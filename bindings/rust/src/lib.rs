@@ -112,6 +112,7 @@ extern crate alloc;
 mod data;
 mod die;
 mod mount;
+mod planned;
 mod raw;
 mod refusals;
 
@@ -121,4 +122,5 @@ pub use data::{
 };
 pub use die::{check, Die, Slot};
 pub use mount::{Label, Mount, Step};
+pub use planned::{Life, Planned, Taken, Terms};
 pub use refusals::{Flaw, Misfit, Refusal};

@@ -41,6 +41,10 @@ structs! {
     Place { block: u32, page: u32 }
     Block { filled: u32, erases: u32 }
     Label { serial: u64, page: u32 }
+    Terms { period: u32, deadline: u32, held: u32, work: u32, writes: u32, collect_period: u32, collect_deadline: u32 }
+    Taken { release: u64, due: u64, waits: u32, first: u32, jobs: u32 }
+    Unasked { next: u64, number: u32 }
+    Life { first: u64, slots: u32, now: u32 }
     Step { serial: u64, kind: u32, block: u32, page: u32, logical: u32, last: u32 }
 }
 
@@ -101,6 +105,26 @@ extern "C" {
     pub fn mg_overdue(die: *mut Handle, overdue: *mut Overdue) -> u32;
     pub fn mg_certificate(die: *const Handle, certificate: *mut Certificate, jobs: *mut u32, count: usize) -> u32;
     pub fn mg_rows(die: *const Handle, rows: *mut Row, count: usize, total: *mut u32) -> u32;
+    pub fn mg_planned_new(
+        die: *mut Handle, plan: *const Plan, tasks: *const Task, terms: *const Terms, count: usize, longest: u32, why: *mut Unasked,
+    ) -> u32;
+    pub fn mg_planned_free(die: *mut Handle);
+    pub fn mg_planned_ask(
+        die: *mut Handle, caller: u32, task: u32, ops: *const Op, count: usize, taken: *mut Taken, why: *mut Unasked,
+    ) -> u32;
+    pub fn mg_planned_ask_all(
+        die: *mut Handle, caller: u32, task: u32, ops: *const Op, count: usize, taken: *mut Taken, why: *mut Unasked,
+    ) -> u32;
+    pub fn mg_planned_begin(die: *mut Handle, caller: u32, call: *mut Call) -> u32;
+    pub fn mg_planned_end(
+        die: *mut Handle, ok: u32, name: *const Name, reply: *mut Reply, waived: *mut Waived, count: usize,
+    ) -> u32;
+    pub fn mg_planned_clock(die: *const Handle) -> u64;
+    pub fn mg_planned_life(die: *const Handle, life: *mut Life) -> u32;
+    pub fn mg_planned_waiting(die: *const Handle, task: u32, operations: *mut u32) -> u32;
+    pub fn mg_planned_job(die: *const Handle, number: u32, job: *mut Job) -> u32;
+    pub fn mg_planned_outcome(die: *const Handle, job: u32, outcome: *mut Outcome, reads: *mut Name, count: usize) -> u32;
+    pub fn mg_planned_place(die: *const Handle, page: u32, place: *mut Place) -> u32;
     pub fn mg_check(
         rows: *const Row, row_count: usize, certificate: *const Certificate, jobs: *const u32, count: usize,
     ) -> u32;

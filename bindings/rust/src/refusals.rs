@@ -62,6 +62,25 @@ pub enum Refusal {
     Certificate(Flaw),
     /// A checkpoint doesn't fit the plan.
     Checkpoint(Misfit),
+    /// More operations than the task may ask for at once: its most.
+    TooManyAsked { most: u32 },
+    /// More writes than the task may ask for in a period: its most.
+    TooManyWrites { most: u32 },
+    /// With what the task asked for in its last period it would be too much: the first slot with room for all of it, from the
+    /// start of the present life.
+    TooSoon { next: u64 },
+    /// It would be due after the life, and an ask of the task waits for the next one already.
+    WaitsAlready,
+    /// No number of slots up to the longest is a life of this plan.
+    NoLife,
+    /// The longest life that is allowed is shorter than the deadline of this task: the first such.
+    ShortLife { task: u32 },
+    /// Terms out of their limits, or of another number of tasks.
+    BadTerms,
+    /// More may be asked than there are slots, in the long run or in some interval.
+    TooMuchDemand,
+    /// A task's collections give less than it writes, or its cap doesn't cover it.
+    TooFewPages,
     /// A number that maulgreen.h doesn't have.
     Other(u32),
 }
@@ -153,9 +172,35 @@ impl Refusal {
                 Misfit::OtherSum { .. } => 306,
                 Misfit::SharedCell { .. } => 307,
             },
+            TooManyAsked { .. } => 7,
+            TooManyWrites { .. } => 401,
+            TooSoon { .. } => 402,
+            WaitsAlready => 403,
+            NoLife => 405,
+            ShortLife { .. } => 406,
+            BadTerms => 407,
+            TooMuchDemand => 408,
+            TooFewPages => 409,
             Other(number) => number,
         }
     }
+}
+
+/// What an ask was answered, or why no die was made that keeps its plan.
+pub(crate) fn asked(code: u32, why: &raw::Unasked) -> Result<(), Refusal> {
+    use Refusal::*;
+    Err(match code {
+        7 => TooManyAsked { most: why.number },
+        401 => TooManyWrites { most: why.number },
+        402 => TooSoon { next: why.next },
+        403 => WaitsAlready,
+        405 => NoLife,
+        406 => ShortLife { task: why.number },
+        407 => BadTerms,
+        408 => TooMuchDemand,
+        409 => TooFewPages,
+        _ => return answer(code, &raw::Why { first: why.number, second: 0 }),
+    })
 }
 
 /// What a call answered, by its number.

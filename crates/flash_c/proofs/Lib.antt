@@ -1,7 +1,9 @@
 pub mod LooseValues
 pub mod HandleSteps
 pub mod MountHandleSteps
+pub mod PlannedHandleSteps
 pub mod Mounting
 pub mod Faults
 pub mod Filling
 pub mod Verdicts
+pub mod Rooms

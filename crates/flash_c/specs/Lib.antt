@@ -11,3 +11,4 @@ pub mod Conversions
 pub mod Texts
 pub mod Checkpoints
 pub mod Answers
+pub mod Planned

@@ -1,5 +1,5 @@
 -- The names of refusals.
-use Rattle.std.specs.Prelude.{ℕ, ◌==◌, List, [], ◌∷◌, codes, if◌then◌else◌}
+use Rattle.std.specs.Prelude.{ℕ, ◌==◌, List, [], ◌∷◌, codes, if◌then◌else◌, nat_lt}
 
 pub record CodeName : Type 0 where
   pub number : ℕ
@@ -67,9 +67,23 @@ names =
     ∷ code_name 307 (codes "SharedCell")
     ∷ []
 
+-- those of a die that keeps its plan
+abbrev pub plan_names : List CodeName
+plan_names =
+    code_name 401 (codes "TooManyWrites")
+    ∷ code_name 402 (codes "TooSoon")
+    ∷ code_name 403 (codes "WaitsAlready")
+    ∷ code_name 404 (codes "LifeEnd")
+    ∷ code_name 405 (codes "NoLife")
+    ∷ code_name 406 (codes "ShortLife")
+    ∷ code_name 407 (codes "BadTerms")
+    ∷ code_name 408 (codes "TooMuchDemand")
+    ∷ code_name 409 (codes "TooFewPages")
+    ∷ []
+
 abbrev pub name_among : List CodeName → ℕ → List ℕ
 name_among [] number = codes "Unknown"
 name_among (first ∷ rest) number = if number == first.number then first.name else name_among rest number
 
 abbrev pub name_at : ℕ → List ℕ
-name_at number = name_among names number
+name_at number = if nat_lt 400 number then name_among plan_names number else name_among names number

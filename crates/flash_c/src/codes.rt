@@ -82,6 +82,33 @@ pub const OTHER_SUM: u32 = 306;
 /// Two pages lie in one cell.
 pub const SHARED_CELL: u32 = 307;
 
+/// More writes than a task may ask for in a period.
+pub const TOO_MANY_WRITES: u32 = 401;
+
+/// With what the task asked for in its last period it would be too much.
+pub const TOO_SOON: u32 = 402;
+
+/// An ask of the task waits for the next life already.
+pub const WAITS_ALREADY: u32 = 403;
+
+/// A job would be due after its die's life.
+pub const LIFE_END: u32 = 404;
+
+/// No life of so many slots or fewer.
+pub const NO_LIFE: u32 = 405;
+
+/// A life is shorter than a task's deadline.
+pub const SHORT_LIFE: u32 = 406;
+
+/// Terms that aren't the plan's, or are out of their limits.
+pub const BAD_TERMS: u32 = 407;
+
+/// More is asked for than there are slots.
+pub const TOO_MUCH_DEMAND: u32 = 408;
+
+/// A task's collections or its cap don't cover what it writes.
+pub const TOO_FEW_PAGES: u32 = 409;
+
 /// The number of a refusal of the store.
 pub(crate) fn of_refusal(refusal: Refusal) -> u32
     ensures { result ≡ code_of (StepRefusal.Die refusal) }

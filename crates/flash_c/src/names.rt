@@ -31,7 +31,7 @@ pub(crate) fn name_of(page: PageData) -> FlashName
 }
 
 /// The operation that one of C stands for.
-fn op_in(op: &FlashOp) -> Op
+pub(crate) fn op_in(op: &FlashOp) -> Op
     ensures { result ≡ op_in op.now }
 {
     match op.kind {

@@ -181,7 +181,7 @@ pub extern "C" fn flash_outcome(
 }
 
 /// Puts what reads gave into place, as far as there is room.
-fn put_reads(places: &mut [FlashName], outcome: &Outcome)
+pub(crate) fn put_reads(places: &mut [FlashName], outcome: &Outcome)
     ensures { places.new ≡ array_with name_of places.old (says.reads_in outcome.now) }
 {
     match outcome {

@@ -223,3 +223,52 @@ pub struct FlashStep {
     /// 1 where the slot of the erase is its last.
     pub last: u32,
 }
+
+/// What a task asks for of a die that keeps its plan. All times are in slots.
+#[repr(C)]
+#[derive(Clone, Copy, Drop)]
+pub struct FlashTerms {
+    pub period: u32,
+    pub deadline: u32,
+    pub held: u32,
+    pub work: u32,
+    pub writes: u32,
+    pub collect_period: u32,
+    pub collect_deadline: u32,
+}
+
+/// What an ask is answered that isn't refused. Slots are those of the clock of all lives.
+#[repr(C)]
+#[derive(Clone, Copy, Drop)]
+pub struct FlashTaken {
+    pub release: u64,
+    pub due: u64,
+    /// 1 where it waits for the next life.
+    pub waits: u32,
+    /// The number of its first job; 0 where it waits.
+    pub first: u32,
+    /// How many jobs it is; 0 where it waits.
+    pub jobs: u32,
+}
+
+/// The numbers of a refused ask, 0 where it has none.
+#[repr(C)]
+#[derive(Clone, Copy, Drop)]
+pub struct FlashUnasked {
+    /// The first slot with room for it, from the start of the present life.
+    pub next: u64,
+    /// The most operations or writes, the page, or the block.
+    pub number: u32,
+}
+
+/// The present life of a die that keeps its plan.
+#[repr(C)]
+#[derive(Clone, Copy, Drop)]
+pub struct FlashLife {
+    /// The slot of the clock of all lives in which it began.
+    pub first: u64,
+    /// How many slots it has.
+    pub slots: u32,
+    /// Its present slot.
+    pub now: u32,
+}

@@ -2,12 +2,24 @@
 
 ghost use Rattle.std.specs.Prelude.{◌≡◌, ◌≤◌, ◌++◌, ◌∷◌, [], length};
 ghost use Rattle.flash_c.specs.Lists.{array_with};
-ghost use Rattle.flash_c.specs.Texts.{name_at};
+ghost use Rattle.flash_c.specs.Texts.{name_among, name_at, names, plan_names};
 ghost use Rattle.flash_c.specs.Conversions.{number_in};
 
 /// The name of a refusal's number.
 pub(crate) fn name_of(refusal: u32) -> &'static str
     ensures name { result.now ≡ name_at refusal }
+    ensures short { length result.now ≤ 13 }
+{
+    if refusal > 400 {
+        plan_name_of(refusal)
+    } else {
+        own_name_of(refusal)
+    }
+}
+
+/// The name of a number up to 400.
+fn own_name_of(refusal: u32) -> &'static str
+    ensures name { result.now ≡ name_among names refusal }
     ensures short { length result.now ≤ 13 }
 {
     match refusal {
@@ -65,6 +77,25 @@ pub(crate) fn name_of(refusal: u32) -> &'static str
         305 => "AboveCap",
         306 => "OtherSum",
         307 => "SharedCell",
+        _ => "Unknown",
+    }
+}
+
+/// The name of a number above 400: of a refusal of a die that keeps its plan.
+fn plan_name_of(refusal: u32) -> &'static str
+    ensures name { result.now ≡ name_among plan_names refusal }
+    ensures short { length result.now ≤ 13 }
+{
+    match refusal {
+        401 => "TooManyWrites",
+        402 => "TooSoon",
+        403 => "WaitsAlready",
+        404 => "LifeEnd",
+        405 => "NoLife",
+        406 => "ShortLife",
+        407 => "BadTerms",
+        408 => "TooMuchDemand",
+        409 => "TooFewPages",
         _ => "Unknown",
     }
 }

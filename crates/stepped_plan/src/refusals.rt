@@ -1,0 +1,23 @@
+//! Why a call is refused.
+
+use ongoing_die::{AskStop, SlotStop};
+
+/// Why an ask is refused.
+#[derive(Clone, Copy, PartialEq, Eq, Debug, Drop)]
+pub enum PlanAskStop {
+    /// A slot has begun and is to be ended first: no task's doing, and not the die's.
+    Begun,
+    /// As a die that goes on by itself refuses it.
+    Ask(AskStop),
+}
+
+/// Why a slot isn't begun, or isn't ended.
+#[derive(Clone, Copy, PartialEq, Eq, Debug, Drop)]
+pub enum PlanSlotStop {
+    /// A slot has begun and is to be ended first.
+    Begun,
+    /// No slot has begun.
+    NotBegun,
+    /// As a die that goes on by itself refuses it.
+    Slot(SlotStop),
+}
