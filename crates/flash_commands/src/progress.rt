@@ -1,5 +1,7 @@
 //! Readers that show on a terminal how far they are, at most ten times a second.
 
+ghost use Rattle.std.specs.Prelude.{◌≤◌};
+
 use crate::files::{Folder, path_of};
 use slot_types::Refusal;
 use std::env::Env;
@@ -29,6 +31,9 @@ pub fn clears_lines<R: Env>(rt: &R) -> bool {
 
 /// The least milliseconds between two texts.
 const PAUSE: u128 = 100;
+
+/// How many bytes of a script are read at once where it is shown how far it is run: a few rows.
+const AT_ONCE: usize = 512;
 
 /// The files of the system, whose readers show how far they are; `-` is standard input. Nothing is known of what they
 /// hold.
@@ -172,6 +177,16 @@ impl<'a, R: Clock + Eprint, F> Watched<'a, R, F> {
         }
     }
 
+    /// How much of so many bytes is read at once.
+    fn at_once(&self, len: usize) -> usize
+        ensures { result ≤ len }
+    {
+        match self.shown {
+            Shown::Slots { .. } => len.min(AT_ONCE),
+            _ => len,
+        }
+    }
+
     /// Clears the line, where something was shown.
     fn end(&self) {
         if self.said != self.begun {
@@ -183,7 +198,8 @@ impl<'a, R: Clock + Eprint, F> Watched<'a, R, F> {
 /// Reads what the file has.
 impl<R: Clock + Eprint, F: Read> Read for Watched<'_, R, F> {
     fn read(&mut self, buf: &mut [u8]) -> io::Result<usize> {
-        let count = self.file.read(buf)?;
+        let most = self.at_once(buf.len());
+        let count = self.file.read(&mut buf[..most])?;
         match buf.get(..count) {
             Some([]) | None => self.end(),
             Some(read) => self.note(read),

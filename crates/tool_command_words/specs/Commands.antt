@@ -3,9 +3,9 @@ use Rattle.std.specs.Prelude.{ℕ, ◌&&◌, ◌||◌, ◌==◌, Bool, not, List
 use Rattle.std.specs.Str.{bytes_eq}
 use Rattle.clap.specs.Words.{Row, Text, all_of, first_of}
 use Rattle.tool_command_words.specs.RequestTexts.{CommandText, Explain, Fit, Design, Arrivals, Fill, Keeps, Wear, Report}
-use Rattle.tool_command_words.specs.RequestTexts.{Draw, Demand, Compare, Run, RunKept, RequestText, Listed}
+use Rattle.tool_command_words.specs.RequestTexts.{Draw, Demand, Compare, Run, RunKept, Cut, RequestText, Listed}
 use Rattle.tool_command_words.specs.Together.{asked_together}
-use Rattle.tool_command_words.specs.Values.{◌>>=◌, fail_of, number_upto}
+use Rattle.tool_command_words.specs.Values.{◌>>=◌, fail_of, leaves_of, number_upto}
 use Rattle.tool_command_words.specs.declared.asked.ListCommand.{ListCommand}
 use Rattle.tool_command_words.specs.declared.asked.ListCommand.TheVariants as listed
 
@@ -186,6 +186,21 @@ run_of rows = do
   keep ← first_of (codes "keep") rows
   if bytes_eq keep (codes "true") then run_kept_of rows else run_plain_of rows
 
+abbrev pub cut_from : List Row → Text → Text → ℕ → Option CommandText
+cut_from rows plan script slots = do
+  at ← first_of (codes "at") rows >>= number_upto
+  every ← first_of (codes "every") rows
+  leaves ← leaves_of rows
+  looks ← first_of (codes "looks") rows >>= number_upto
+  mounts ← first_of (codes "mounts") rows
+  die ← first_of (codes "die") rows >>= number_upto
+  slot_us ← first_of (codes "slot-us") rows >>= number_upto
+  Some (Cut plan script slots at (bytes_eq every (codes "true")) leaves looks (bytes_eq mounts (codes "true")) die slot_us
+      (first_of (codes "to") rows))
+
+abbrev pub cut_of : List Row → Option CommandText
+cut_of rows = on_script rows (cut_from rows)
+
 abbrev pub command_named : Text → List Row → Option CommandText
 command_named name rows =
     if bytes_eq name (codes "explain") then explain_of rows
@@ -199,6 +214,7 @@ command_named name rows =
     else if bytes_eq name (codes "draw") then draw_of rows
     else if bytes_eq name (codes "compare") then compare_of rows
     else if bytes_eq name (codes "run") then run_of rows
+    else if bytes_eq name (codes "cut") then cut_of rows
     else None
 
 abbrev pub audit_of : List Row → Option RequestText

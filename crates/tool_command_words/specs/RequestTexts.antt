@@ -6,6 +6,7 @@ use Rattle.clap.specs.Words.{Text}
 use Rattle.tool_command_words.specs.declared.asked.Asked.{Asked}
 use Rattle.tool_command_words.specs.declared.asked.Command.{Command}
 use Rattle.tool_command_words.specs.declared.asked.Command.TheVariants as command
+use Rattle.tool_command_words.specs.declared.asked.Leftover.{Leftover}
 use Rattle.tool_command_words.specs.declared.asked.ListCommand.{ListCommand}
 use Rattle.tool_command_words.specs.declared.asked.Request.{Request}
 use Rattle.tool_command_words.specs.declared.asked.Request.TheVariants as request
@@ -28,6 +29,8 @@ pub data CommandText : Type 0 where
       (checkpoint : Option Text) → CommandText
   Run : (plan script : Text) (slots : ℕ) (from to : Option Text) (fail : Option FailingDie) → CommandText
   RunKept : (plan script : Text) (slots : ℕ) → CommandText
+  Cut : (plan script : Text) (slots at : ℕ) (every : Bool) (leaves : Option Leftover) (looks : ℕ) (mounts : Bool) (die slot_us : ℕ)
+      (to : Option Text) → CommandText
 
 -- what is asked for: a command on the files that it names, or one on several files of a kind
 pub data RequestText : Type 0 where
@@ -56,6 +59,8 @@ text_of_command (command.Compare plan script slots first pool slot_us page_bytes
     Compare plan.now script.now slots first pool slot_us page_bytes as_csv draws die task (name_of checkpoint)
 text_of_command (command.Run plan script slots from to fail) = Run plan.now script.now slots (name_of from) (name_of to) fail
 text_of_command (command.RunKept plan script slots) = RunKept plan.now script.now slots
+text_of_command (command.Cut plan script slots at every leaves looks mounts die slot_us to) =
+    Cut plan.now script.now slots at every leaves looks mounts die slot_us (name_of to)
 
 abbrev pub text_of_request : Request → RequestText
 text_of_request (request.One command) = One (text_of_command command)
@@ -73,6 +78,7 @@ FitsRun (command.Compare plan script slots first pool slot_us page_bytes as_csv 
     slots ≤ 1048576
 FitsRun (command.Run plan script slots from to fail) = slots ≤ 1048576
 FitsRun (command.RunKept plan script slots) = slots ≤ 1048576
+FitsRun (command.Cut plan script slots at every leaves looks mounts die slot_us to) = slots ≤ 1048576
 FitsRun _ = ⊤
 
 abbrev pub RequestFits : Request → Type 0

@@ -176,6 +176,18 @@ run_saved_app = with_rule (with_rule (with_rule run_files_app slots_rule) (optio
 abbrev pub run_app : App
 run_app = with_rule (with_rule (with_rule run_saved_app fail_rule) (flag_rule (codes "keep"))) strict_rule
 
+abbrev pub cut_files_app : App
+cut_files_app = on_files (new_app (codes "cut"))
+
+abbrev pub cut_at_app : App
+cut_at_app = with_rule (with_rule (with_rule cut_files_app slots_rule) (count_rule (codes "at"))) (flag_rule (codes "every"))
+
+abbrev pub cut_left_app : App
+cut_left_app = with_rule (with_rule (with_rule cut_at_app (option_rule (codes "leaves"))) (count_rule (codes "looks"))) (flag_rule (codes "mounts"))
+
+abbrev pub cut_app : App
+cut_app = with_rule (with_rule (with_rule cut_left_app die_rule) (count_rule (codes "slot-us"))) (option_rule (codes "to"))
+
 abbrev pub audit_app : App
 audit_app = with_rule (with_rule (new_app (codes "audit")) (list_rule (codes "REPORT"))) strict_rule
 
@@ -185,8 +197,8 @@ named_app = let app = new_app (codes "flashplan") in record app { top = record a
 
 -- the program's command line
 abbrev pub flashplan_app : App
-flashplan_app = with_command (with_command (with_command (with_command (with_command (with_command (with_command (with_command (with_command (with_command (with_command (with_command (with_command
-    named_app explain_app) fit_app) design_app) arrivals_app) fill_app) keeps_app) wear_app) report_app) draw_app) compare_app) import_app) run_app) audit_app
+flashplan_app = with_command (with_command (with_command (with_command (with_command (with_command (with_command (with_command (with_command (with_command (with_command (with_command (with_command (with_command
+    named_app explain_app) fit_app) design_app) arrivals_app) fill_app) keeps_app) wear_app) report_app) draw_app) compare_app) import_app) run_app) cut_app) audit_app
 
 -- whether a command has an argument that is global
 abbrev pub has_globals : Command → Bool

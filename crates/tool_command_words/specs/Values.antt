@@ -2,6 +2,9 @@
 use Rattle.std.specs.Prelude.{ℕ, ◌+◌, ◌==◌, Bool, nat_le, nat_lt, List, codes, drop, position, take}
 use Rattle.std.specs.Prelude.{Option, Some, None, option_and_then, option_map, if◌then◌else◌}
 use Rattle.tool_command_words.specs.declared.asked.FailingDie.{FailingDie}
+use Rattle.std.specs.Str.{bytes_eq}
+use Rattle.tool_command_words.specs.declared.asked.Leftover.{Leftover}
+use Rattle.tool_command_words.specs.declared.asked.Leftover.TheVariants as left
 use Rattle.clap.specs.Words.{Row, Text, first_of}
 use Rattle.text_base.specs.Number.{number_of}
 
@@ -32,3 +35,19 @@ fail_read (Some text) = option_map Some (fail_upto text)
 -- the device that is to fail, if one is
 abbrev pub fail_of : List Row → Option (Option FailingDie)
 fail_of rows = fail_read (first_of (codes "fail-at") rows)
+
+-- what is left of a call, by its word
+abbrev pub leaves_upto : Text → Option Leftover
+leaves_upto text =
+    if bytes_eq text (codes "blank") then Some left.Blank
+    else if bytes_eq text (codes "torn") then Some left.Torn
+    else if bytes_eq text (codes "whole") then Some left.Whole
+    else None
+
+abbrev pub leaves_read : Option Text → Option (Option Leftover)
+leaves_read None = Some None
+leaves_read (Some text) = option_map Some (leaves_upto text)
+
+-- what is left of a call, if it is said
+abbrev pub leaves_of : List Row → Option (Option Leftover)
+leaves_of rows = leaves_read (first_of (codes "leaves") rows)

@@ -9,6 +9,14 @@ pub struct FailingDie {
     pub call: u32,
 }
 
+/// What is left of a call in which the power goes: nothing of it, a part, or all.
+#[derive(Clone, Copy, PartialEq, Eq, Drop)]
+pub enum Leftover {
+    Blank,
+    Torn,
+    Whole,
+}
+
 /// What the words of a command line ask for. Files stand by their names.
 #[derive(Clone, Copy, PartialEq, Eq)]
 pub enum Command<'a> {
@@ -163,6 +171,29 @@ pub enum Command<'a> {
         script: &'a str,
         /// How many slots each die runs, from 0 to 1,048,576.
         slots: u32,
+    },
+    /// Run a script on a die whose power goes, and tell what each page gives after the mount.
+    Cut {
+        plan: &'a str,
+        script: &'a str,
+        /// How many slots the die runs, from 0 to 1,048,576.
+        slots: u32,
+        /// In which call of its device the power goes, the first being 1; 0 where it goes at each.
+        at: u32,
+        /// Whether it goes at each call, one after the other.
+        every: bool,
+        /// What is left of the call; where it isn't said, nothing of it, or each of the three at each call.
+        leaves: Option<Leftover>,
+        /// The seed of how blocks in erase look.
+        looks: u32,
+        /// Whether each mount is cut, too, at each of its calls.
+        mounts: bool,
+        /// Which die.
+        die: u32,
+        /// How many microseconds a slot takes; 0 where it isn't said.
+        slot_us: u32,
+        /// The file that gets the checkpoint of the mounted die.
+        to: Option<&'a str>,
     },
 }
 

@@ -5,11 +5,11 @@ ghost use Rattle.clap.specs.Words.{Text, found_of, rows_of};
 ghost use Rattle.tool_command_words.specs.RequestTexts.{CommandText, FitsRun, RequestFits, text_of_command, text_of_request};
 ghost use Rattle.tool_command_words.specs.Commands.{arrivals_of, audit_of, command_named, compare_of, demand_of, design_of, draw_of, draw_run_of, explain_of, fill_of, fit_of};
 ghost use Rattle.tool_command_words.specs.Commands.{import_in, import_of, keeps_of, names_form, names_run, names_script, names_units, names_window, on_script, report_of, request_named};
-ghost use Rattle.tool_command_words.specs.Commands.{run_kept_of, run_of, run_plain_of, wear_of};
+ghost use Rattle.tool_command_words.specs.Commands.{cut_of, run_kept_of, run_of, run_plain_of, wear_of};
 
 use crate::asked::{Command, ListCommand, Request};
 use crate::together::goes_together;
-use crate::values::{fail, number_at, value, values};
+use crate::values::{fail, leaves, number_at, value, values};
 use clap::ArgMatches;
 use slot_types::MAX_SLOT;
 use std::alloc::{AllocError, Global};
@@ -352,6 +352,35 @@ fn run<'a>(met: &ArgMatches<'a>) -> Option<Command<'a>>
     }
 }
 
+/// The command `cut` that was met.
+fn cut<'a>(met: &ArgMatches<'a>) -> Option<Command<'a>>
+    ensures cut { option_map text_of_command result ≡ cut_of (rows_of (found_of met.now)) }
+    ensures fits { IfSome result FitsRun }
+{
+    let (plan, script, slots) = scripted(met)?;
+    let at = number_at(met, "at")?;
+    let every = value(met, "every")? == "true";
+    let leaves = leaves(met)?;
+    let looks = number_at(met, "looks")?;
+    let mounts = value(met, "mounts")? == "true";
+    let die = number_at(met, "die")?;
+    let slot_us = number_at(met, "slot-us")?;
+    let to = value(met, "to");
+    Some(Command::Cut {
+        plan,
+        script,
+        slots,
+        at,
+        every,
+        leaves,
+        looks,
+        mounts,
+        die,
+        slot_us,
+        to,
+    })
+}
+
 /// The command `audit` that was met.
 fn audit<'a>(alloc: Global, met: &ArgMatches<'a>) -> Result<Option<Request<'a>>, AllocError>
     ensures audit { IfOk result (λ made.
@@ -421,6 +450,8 @@ fn command_named<'a>(name: &str, met: &ArgMatches<'a>) -> Option<Command<'a>>
         compare(met)
     } else if name == "run" {
         run(met)
+    } else if name == "cut" {
+        cut(met)
     } else {
         None
     }

@@ -246,6 +246,29 @@ fn in_run(words: &[String]) -> Option<Conflict<'_>> {
     saved.or(beside(words, "--fail-at", "--keep", why))
 }
 
+/// The options of `cut` that don't go together.
+fn in_cut(words: &[String]) -> Option<Conflict<'_>> {
+    if has(words, "--every") {
+        let at = some_beside(words, "--at", "--every", "the power goes at each call");
+        return at.or(beside(
+            words,
+            "--to",
+            "--every",
+            "no checkpoint is left by many cuts",
+        ));
+    }
+    if has(words, "--mounts") {
+        return Some(Conflict {
+            option: "--mounts",
+            value: "",
+            other: "no --every",
+            other_value: "",
+            why: "mounts are cut after each cut of a run",
+        });
+    }
+    None
+}
+
 /// The first two options in the words that don't go together, where clap and the numbers have no fault.
 pub(crate) fn conflict_in(words: &[String]) -> Option<Conflict<'_>> {
     match words.get(1)?.as_str() {
@@ -254,6 +277,7 @@ pub(crate) fn conflict_in(words: &[String]) -> Option<Conflict<'_>> {
         "compare" => in_compare(words),
         "report" => in_report(words),
         "run" => in_run(words),
+        "cut" => in_cut(words),
         _ => None,
     }
 }

@@ -4,7 +4,7 @@ use crate::values::number_in;
 use command_arguments::value_at;
 
 /// The options that have a number from 0 to 1,048,576. The last two are files but for `draw` and `compare`.
-const NUMBERS: [&str; 14] = [
+const NUMBERS: [&str; 16] = [
     "--slots",
     "--seed",
     "--jitter",
@@ -17,12 +17,14 @@ const NUMBERS: [&str; 14] = [
     "--page-bytes",
     "--due",
     "--lives",
+    "--at",
+    "--looks",
     "--from",
     "--to",
 ];
 
 /// How many of these never name a file.
-const NEVER_FILES: usize = 12;
+const NEVER_FILES: usize = 14;
 
 /// The options that have a number in these words.
 fn numbers_in(words: &[String]) -> &'static [&'static str] {

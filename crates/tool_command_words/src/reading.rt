@@ -99,6 +99,9 @@ fn parsed<'a>(
 /// - `import TRACE.. --slot-us U --due D --plan`;
 /// - `run PLAN SCRIPT --slots N --from CHECKPOINT --to CHECKPOINT --fail-at DIE:K`, where the last goes with neither
 ///   checkpoint; `run PLAN SCRIPT --slots N --keep`, which goes with none of these;
+/// - `cut PLAN SCRIPT --slots N --at K --leaves LEFT --looks S --die D --slot-us U --to CHECKPOINT`, with K from 1, and
+///   LEFT one of `blank`, `torn` and `whole`;
+/// - `cut PLAN SCRIPT --slots N --every --leaves LEFT --looks S --mounts --die D --slot-us U`;
 /// - `audit REPORT..`.
 ///
 /// The files, N, the checkpoint of `fill` and U of `import` have to be there; the rest may be left out. A number is

@@ -8,6 +8,7 @@ ghost use Rattle.tool_command_words.specs.Syntax.{IsCommand, flashplan_app, name
 mod arrivals;
 mod audit;
 mod compare;
+mod cut;
 mod design;
 mod draw;
 mod explain;
@@ -26,6 +27,7 @@ use audit::audit_words;
 use clap::{Arg, Command};
 use command_arguments::{VERSION, flag};
 use compare::compare_words;
+use cut::cut_words;
 use design::design_words;
 use draw::draw_words;
 use explain::explain_words;
@@ -49,7 +51,8 @@ fn name<'a>(alloc: Global) -> Command<'a>
         .after_help(
             "Ends with 0 where all went well, 1 where a plan isn't accepted, or something was refused or failed,\n\
              2 for a fault of the words, 3 where a script breaks its plan, no plan was found, no checkpoint may\n\
-             be taken, or a certificate is refused, 4 where --strict finds something refused or late.\n\n\
+             be taken, a certificate is refused, or a page is wrong after a cut, 4 where --strict finds something\n\
+             refused or late.\n\n\
              Example: flashplan explain plan.toml\n\
              man maulgreen-texts has the texts; share/doc/maulgreen/docs/DESIGNING.md walks through a recorder's plan",
         )
@@ -121,5 +124,6 @@ pub fn program_words<'a>(alloc: Global) -> Result<Command<'a>, AllocError>
     let comparing = with_command(alloc, drawing, compare_words(alloc));
     let importing = with_command(alloc, comparing, import_words(alloc));
     let running = with_command(alloc, importing, run_words(alloc));
-    with_command(alloc, running, audit_words(alloc))
+    let cutting = with_command(alloc, running, cut_words(alloc));
+    with_command(alloc, cutting, audit_words(alloc))
 }

@@ -71,6 +71,19 @@ pub(crate) fn goes_together(command: Command<'_>) -> bool
             let window = has_slots(from, slots);
             !(as_csv && draws) && ((draws || (die == 0 && task == 0)) && (window && units))
         }
+        Command::Cut {
+            at,
+            every,
+            mounts,
+            to,
+            ..
+        } => {
+            if every {
+                at == 0 && to.is_none()
+            } else {
+                0 < at && !mounts
+            }
+        }
         _ => true,
     }
 }

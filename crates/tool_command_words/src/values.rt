@@ -2,9 +2,9 @@
 
 ghost use Rattle.std.specs.Prelude.{◌≡◌, ◌≤◌, ◌<◌, IfOk, IfSome, length, map, option_and_then, option_map, position};
 ghost use Rattle.clap.specs.Words.{all_of, first_of, found_of, rows_of};
-ghost use Rattle.tool_command_words.specs.Values.{fail_of, fail_upto, is_colon, number_upto};
+ghost use Rattle.tool_command_words.specs.Values.{fail_of, fail_upto, is_colon, leaves_of, leaves_upto, number_upto};
 
-use crate::asked::FailingDie;
+use crate::asked::{FailingDie, Leftover};
 use clap::ArgMatches;
 use slot_types::MAX_SLOT;
 use std::alloc::{AllocError, Global};
@@ -95,5 +95,30 @@ pub(crate) fn fail<'a>(met: &ArgMatches<'a>) -> Option<Option<FailingDie>>
     match value(met, "fail-at") {
         None => Some(None),
         Some(text) => Some(Some(fail_in(text.as_bytes())?)),
+    }
+}
+
+/// What is left of a call, by its word.
+pub(crate) fn leaves_in(text: &str) -> Option<Leftover>
+    ensures { result ≡ leaves_upto text.now }
+{
+    if text == "blank" {
+        Some(Leftover::Blank)
+    } else if text == "torn" {
+        Some(Leftover::Torn)
+    } else if text == "whole" {
+        Some(Leftover::Whole)
+    } else {
+        None
+    }
+}
+
+/// What is left of a call, if it is said; none where it can't be read.
+pub(crate) fn leaves<'a>(met: &ArgMatches<'a>) -> Option<Option<Leftover>>
+    ensures { result ≡ leaves_of (rows_of (found_of met.now)) }
+{
+    match value(met, "leaves") {
+        None => Some(None),
+        Some(text) => Some(Some(leaves_in(text)?)),
     }
 }

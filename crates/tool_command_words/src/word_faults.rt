@@ -6,7 +6,7 @@ ghost use Rattle.tool_command_words.specs.Reading.{range_fault};
 
 use crate::conflicts::conflict_in;
 use crate::number_faults::bad_number;
-use crate::values::fail_in;
+use crate::values::{fail_in, leaves_in, number_in};
 use clap::Error;
 use clap::error::ErrorKind;
 use command_arguments::value_in;
@@ -35,14 +35,36 @@ fn failing_fault(alloc: Global, words: &[String]) -> Result<Option<String>, Allo
     Ok(None)
 }
 
+/// What is left of a call that can't be read, or a cut at no call, as a sentence.
+fn cut_fault(alloc: Global, words: &[String]) -> Result<Option<String>, AllocError> {
+    if !words
+        .get(1)
+        .is_some_and(|command| command.as_str() == "cut")
+    {
+        return Ok(None);
+    }
+    if let Some(value) = value_in(words, "--leaves")
+        && leaves_in(value).is_none()
+    {
+        return Ok(Some(format!(in alloc;
+            "--leaves is {value:?}, and has to be blank, torn or whole"
+        )?));
+    }
+    let is_every = words.iter().any(|word| word.as_str() == "--every");
+    if !is_every && number_in(value_in(words, "--at").unwrap_or("0")) == Some(0) {
+        return Ok(Some(format!(in alloc; "cut wants --at K, with a K from 1, or --every")?));
+    }
+    Ok(None)
+}
+
 /// What is wanted of words whose options go together: a command; of `draw` what it draws.
 fn wanted_in(words: &[String]) -> &'static str {
     let draws = words
         .get(1)
         .is_some_and(|command| command.as_str() == "draw");
     if !draws {
-        "a command is wanted: explain, fit, design, arrivals, fill, keeps, wear, report, draw, compare, import, run or \
-         audit"
+        "a command is wanted: explain, fit, design, arrivals, fill, keeps, wear, report, draw, compare, import, run, cut \
+         or audit"
     } else if words.iter().any(|word| word.as_str() == "--demand") {
         "draw --demand draws no run: it takes no SCRIPT"
     } else {
@@ -59,6 +81,9 @@ fn reported_of(alloc: Global, words: &[String]) -> Result<String, AllocError> {
         );
     }
     if let Some(said) = failing_fault(alloc, words)? {
+        return Ok(said);
+    }
+    if let Some(said) = cut_fault(alloc, words)? {
         return Ok(said);
     }
     match conflict_in(words) {

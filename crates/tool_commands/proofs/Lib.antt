@@ -1,5 +1,6 @@
 mod Audits
 mod BegunSo
+mod CutSo
 mod DesignedSo
 mod EndedSo
 mod FilledDies

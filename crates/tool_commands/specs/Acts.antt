@@ -11,6 +11,7 @@ use Rattle.plan_texts.specs.PlanReading.{IsStoreOf}
 use Rattle.text_base.specs.Readings.{IsOutside}
 use Rattle.text_base.specs.Writing.{IsNotWhole}
 use Rattle.tool_commands.specs.KeptActs.{PrintsKeptRun}
+use Rattle.tool_commands.specs.CutActs.{EndsCut, PrintsCutting}
 use Rattle.tool_watched_runs.specs.WearText.{IsWearFrom}
 use Rattle.tool_plan_arrivals.specs.PlannedScripts.{IsPlannedScript}
 use Rattle.tool_plan_design.specs.AcceptedPlans.{IsAccepted}
@@ -226,7 +227,8 @@ pub record PrintsDrawing (plan script : Option (List ℕ)) (slots die : ℕ) (fa
   pub ran : IsDrawingFrom (starts_by store saved) script slots die fail said
   pub written : Appends old new said.text.items
 
--- a comparison is printed of such a run with runs of plain layers, of which nothing is said
+-- dies ran that began fresh by the plans of the store that was read, or as they were saved, if that was asked for; and some text is
+-- printed, of which nothing is said
 pub record PrintsCompared (plan script : Option (List ℕ)) (slots : ℕ) (begins_fresh : Bool) (old new : Option (List ℕ)) : Type 0 where
   pub store : List DiePlan
   pub read : ReadsStore plan store
@@ -252,7 +254,7 @@ abbrev pub SaysKept : Option (List ℕ) → Option (List ℕ) → ℕ → Bool �
 SaysKept plan script slots true = ByKind plan (KeepsTerms plan script slots) (KeepsPlans plan script slots)
 SaysKept plan script slots false = ByKind plan (BreaksTerms plan script slots) (BreaksPlans plan script slots)
 
--- which of both it is is printed
+-- the one or the other holds, and some text is printed, of which nothing is said
 abbrev pub PrintsKept : Option (List ℕ) → Option (List ℕ) → ℕ → Bool → Option (List ℕ) → Option (List ℕ) → Type 0
 PrintsKept plan script slots keeps old new = SaysKept plan script slots keeps × PrintsText old new
 
@@ -415,3 +417,5 @@ EndsSo contents has_failed (command.Run plan script slots from to (Some fail)) t
     Ends contents has_failed (PrintsFailing text rows slots) old new status
 EndsSo contents has_failed (command.RunKept plan script slots) text rows old new status =
     Ends contents has_failed (PrintsKeptRun text rows slots) old new status
+EndsSo contents has_failed (command.Cut plan script slots at every leaves looks mounts die slot_us to) text rows old new status =
+    EndsCut contents has_failed (PrintsCutting text rows slots die at leaves looks) old new status

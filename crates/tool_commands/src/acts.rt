@@ -7,6 +7,7 @@ ghost use Rattle.tool_commands.specs.Acts.{EndsSo, failing, failing_in, unless_z
 use crate::arriving::act_arrivals;
 use crate::checkpoint_acts::{Kept, act_failing, act_run};
 use crate::comparing::act_compare;
+use crate::cutting::{Cuts, act_cut};
 use crate::demanding::act_demand;
 use crate::designing::act_design;
 use crate::explaining::{act_explain, act_explain_from};
@@ -103,9 +104,10 @@ fn begun<C: Drop>(from: Option<C>, begins_fresh: bool) -> Option<C>
 /// `draw --demand` prints the picture of what may be asked of a die, as [`act_demand`] says, and reads no script.
 /// `compare` prints the table, the records or the picture of [`compare`](tool_store_compare::compare), whole. `run`
 /// prints the report of dies that go on from a checkpoint, and has the checkpoint of their end written, as [`act_run`]
-/// says, and `run --keep` that of dies that keep their plans, as [`act_run_kept`] does. Where a device is to fail, `err`
-/// gets a line that says in which slot it did, as `die 0 failed in slot 12, at call 7 of its device`, or that it didn't;
-/// the status stays, and rows that come later for its die are refused.
+/// says, and `run --keep` that of dies that keep their plans, as [`act_run_kept`] does. `cut` prints what is said of a run
+/// whose power goes, and has the checkpoint of the mounted die written, as [`act_cut`] says. Where a device is to fail,
+/// `err` gets a line that says in which slot it did, as `die 0 failed in slot 12, at call 7 of its device`, or that it
+/// didn't; the status stays, and rows that come later for its die are refused.
 ///
 /// No more of the plan is read than 1,048,577 bytes. Where a text is refused, memory runs out, or a reader or `out`
 /// fails, that is reported in a line to `err`, as `error 21 ReadFault`, and the status is 1; where `out` fails nothing
@@ -265,5 +267,27 @@ pub fn act<P: Read + Drop, S: Read + Drop, C: Read + Drop, K: Shelf, W: Output, 
             }
         },
         Command::RunKept { slots, .. } => act_run_kept(alloc, plan, script, slots, out, err),
+        Command::Cut {
+            slots,
+            at,
+            leaves,
+            looks,
+            mounts,
+            die,
+            slot_us,
+            to,
+            ..
+        } => {
+            let cuts = Cuts {
+                slots,
+                at,
+                leaves,
+                looks,
+                mounts,
+                die,
+                slot_us: unless_zero(slot_us),
+            };
+            act_cut(alloc, plan, script, cuts, kept.shelf, to, out, err)
+        }
     }
 }

@@ -5,7 +5,7 @@ ghost use Rattle.std.specs.List.{AllZip};
 ghost use Rattle.text_base.specs.Writing.{IsNotWhole};
 ghost use Rattle.plan_rules.specs.Bound.{MeetsBound};
 ghost use Rattle.tool_script_runs.specs.RunningDies.{HasEmptyLog};
-ghost use Rattle.tool_checkpoint_runs.specs.Runs.{boxed_starts, running_in, starts_by};
+ghost use Rattle.tool_checkpoint_runs.specs.Runs.{NoneStopped, boxed_starts, running_in, starts_by};
 ghost use Rattle.tool_kept_runs.specs.KeptPlans.{IsKeptPlan};
 ghost use Rattle.tool_commands.specs.Acts.{Ends, PrintsCompared};
 ghost use Rattle.tool_commands.specs.KeptActs.{ReadsKept};
@@ -23,7 +23,7 @@ use std::io::{Read, Write};
 use terms_texts::{StoreTerms, plans_of};
 use text_base::{Output, write_whole};
 use tool_checkpoint_runs::{RunFault, started_store};
-use tool_kept_runs::{KeptFault, kept_plans};
+use tool_kept_runs::{KeptFault, KeptReason, kept_plans};
 use tool_slot_times::Units;
 use tool_store_compare::{CompareFault, Form, Measure, StartedDies, compare_started, store_copy};
 use tool_watched_runs::RefusedRows;
@@ -150,6 +150,7 @@ fn started(
     requires bound { All MeetsBound store.now }
     ensures starts { IfOk result (λ dies. boxed_starts dies.items ≡ starts_by store.now saved) }
     ensures empty { IfOk result (λ dies. All HasEmptyLog (map running_in dies.items)) }
+    ensures run { IfOk result (λ dies. NoneStopped (map running_in dies.items)) }
     ensures count { IfOk result (λ dies. length dies.items ≡ length store.now) }
 {
     let own = store_copy(alloc, store)?;
@@ -197,7 +198,14 @@ fn print_compared<P: Read + Drop, S: Read + Drop, C: Read + Drop, W: Output>(
 fn report_beside<E: Write>(err: &mut E, beside: Beside) {
     report_refused(err, beside.refused);
     if let Some(fault) = beside.unplanned {
-        let _ = writeln!(err, "not compared with dies that keep their plans: {fault}");
+        let reason = KeptReason {
+            fault,
+            slot_us: beside.slot_us,
+        };
+        let _ = writeln!(
+            err,
+            "not compared with dies that keep their plans: {reason}"
+        );
     }
 }
 

@@ -5,6 +5,7 @@ mod acts;
 mod arriving;
 mod checkpoint_acts;
 mod comparing;
+mod cutting;
 mod demanding;
 mod designing;
 mod endings;

@@ -47,7 +47,7 @@ pub fn written_path(name: &str) -> &str {
 /// The file that gets a checkpoint, if one does.
 pub(crate) fn saved_to<'a>(request: &Request<'a>) -> Option<&'a str> {
     match request {
-        Request::One(Command::Run { to, .. }) => *to,
+        Request::One(Command::Run { to, .. } | Command::Cut { to, .. }) => *to,
         Request::One(Command::Fill { to, .. }) => Some(*to),
         _ => None,
     }

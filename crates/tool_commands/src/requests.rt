@@ -32,9 +32,9 @@ fn files_of<'a>(command: Command<'a>) -> (&'a str, Option<&'a str>, Option<&'a s
         | Command::Fill { plan, .. }
         | Command::Demand { plan, .. } => (plan, None, None),
         Command::Arrivals { plan, from, .. } => (plan, None, from),
-        Command::Keeps { plan, script, .. } | Command::RunKept { plan, script, .. } => {
-            (plan, Some(script), None)
-        }
+        Command::Keeps { plan, script, .. }
+        | Command::RunKept { plan, script, .. }
+        | Command::Cut { plan, script, .. } => (plan, Some(script), None),
         Command::Wear {
             plan,
             script,
@@ -79,7 +79,9 @@ fn parts_of(command: Command<'_>) -> (Option<(&'static str, u32)>, Option<(&'sta
             fail: Some(fail),
             ..
         } => (Some(("the die of --fail-at", fail.die)), None),
-        Command::Draw { die, .. } | Command::Demand { die, .. } => (Some(("--die", die)), None),
+        Command::Draw { die, .. } | Command::Demand { die, .. } | Command::Cut { die, .. } => {
+            (Some(("--die", die)), None)
+        }
         Command::Compare { die, task, .. } => (Some(("--die", die)), Some(("--task", task))),
         _ => (None, None),
     }
@@ -136,7 +138,8 @@ pub fn slots_of(request: &Request<'_>) -> Option<u32> {
             | Command::Draw { slots, .. }
             | Command::Compare { slots, .. }
             | Command::Run { slots, .. }
-            | Command::RunKept { slots, .. },
+            | Command::RunKept { slots, .. }
+            | Command::Cut { slots, .. },
         ) => Some(*slots),
         _ => None,
     }

@@ -102,14 +102,6 @@ pub fn timed_plan_in<R: Read + Drop>(
     }
 }
 
-/// Reads a plan as [`timed_plan_in`] does, whatever the length of a slot.
-pub fn plan_in<R: Read + Drop>(alloc: Global, plan: R) -> Result<PlanRead, Unread>
-    ensures { IfOk result (ReadsPlan (R.remaining plan)) }
-{
-    let timed = timed_plan_in(alloc, plan, None)?;
-    Ok(timed.plan)
-}
-
 /// Reads the plans of a store's dies, of a plan with terms or without, as [`timed_plan_in`] does: of one with terms, which
 /// has passed its tests, without these. It is refused as [`timed_plan_in`] refuses it.
 pub fn timed_store_of<R: Read + Drop>(

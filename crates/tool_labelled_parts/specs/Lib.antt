@@ -1,1 +1,2 @@
 pub mod Mounts
+pub mod Texts

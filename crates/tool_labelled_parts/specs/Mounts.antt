@@ -25,6 +25,14 @@ part_call bytes (does.Program place label) = calls.Program place label bytes
 abbrev pub one_more : ℕ → ℕ
 one_more n = min (n + 1) (2 ^ 64 - 1)
 
+-- both, up to that number
+abbrev pub sum_upto : ℕ → ℕ → ℕ
+sum_upto m n = min (m + n) (2 ^ 64 - 1)
+
+-- how many slots these calls take at most, each of which is done within one
+abbrev pub took : MountCosts → ℕ
+took costs = sum_upto (sum_upto (sum_upto costs.labels costs.reads) costs.copies) costs.erase_slots
+
 -- with one call more, which is the last slot of an erase or isn't
 abbrev pub costs_by : MountCall → Bool → MountCosts → MountCosts
 costs_by (does.Read place) last costs = record costs { reads = one_more costs.reads }

@@ -1,7 +1,7 @@
 //! What a mount costs.
 
 ghost use Rattle.std.specs.Prelude.{◌≡◌};
-ghost use Rattle.tool_labelled_parts.specs.Mounts.{costs_by};
+ghost use Rattle.tool_labelled_parts.specs.Mounts.{costs_by, took};
 
 use die_mount::MountCall;
 
@@ -31,7 +31,9 @@ impl MountCosts {
     };
 
     /// How many slots these calls take at most: each is done within one.
-    pub fn slots(self) -> u64 {
+    pub fn slots(self) -> u64
+        ensures { result ≡ took self }
+    {
         self.labels
             .saturating_add(self.reads)
             .saturating_add(self.copies)

@@ -1,5 +1,8 @@
 //! Why a part isn't mounted.
 
+ghost use Rattle.std.specs.Prelude.{◌≡◌, Some};
+ghost use Rattle.tool_labelled_parts.specs.Texts.{misuse_text, unmounted_text};
+
 use crate::part_calls::Misuse;
 use slot_types::Refusal;
 use std::alloc::{AllocError, AllocFailed};
@@ -62,7 +65,9 @@ impl From<Refusal> for Unmounted {
 }
 
 /// A call that no part does, in words.
-fn misuse_text(misuse: Misuse) -> &'static str {
+fn misuse_text(misuse: Misuse) -> &'static str
+    ensures { result.now ≡ misuse_text misuse }
+{
     match misuse {
         Misuse::NoSuchCell => "a call of a cell that isn't there",
         Misuse::NotGood => "a read of a cell that isn't good",
@@ -73,9 +78,7 @@ fn misuse_text(misuse: Misuse) -> &'static str {
 }
 
 impl Display for Unmounted {
-    ghost use Rattle.std.specs.Prelude.{None};
-
-    ghost output = { λ _. None };
+    ghost output = { λ unmounted. Some (unmounted_text unmounted) };
 
     fn fmt<W: fmt::Write>(&self, f: &mut Formatter<W>) -> fmt::Result {
         match self {

@@ -2,3 +2,4 @@ pub mod Holding
 pub mod Running
 pub mod TextRuns
 pub mod Telling
+pub mod Sentences

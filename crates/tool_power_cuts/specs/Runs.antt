@@ -1,5 +1,5 @@
 -- Runs whose power went.
-use Rattle.std.specs.Prelude.{◌≡◌, ℕ, List, Option, Some, map, slice_get}
+use Rattle.std.specs.Prelude.{◌≡◌, ℕ, List, Option, Some, None, map, slice_get}
 use Rattle.std.specs.Box.{box_value}
 use Rattle.slot_types.specs.declared.plans.DiePlan.{DiePlan}
 use Rattle.die_log.specs.Model.Start.{fresh}
@@ -10,6 +10,7 @@ use Rattle.tool_script_runs.specs.declared.counted.RefusedRows.{RefusedRows}
 use Rattle.tool_script_runs.specs.declared.refused.RefusedRow.{RefusedRow}
 use Rattle.tool_power_cuts.specs.declared.cut_dies.Ended.TheVariants as ends
 use Rattle.tool_power_cuts.specs.declared.runs.CutRun.{CutRun}
+use Rattle.tool_power_cuts.specs.declared.runs.TriedRun.{TriedRun}
 use Rattle.tool_power_cuts.specs.CutDies.{Cutting, running_of}
 use Rattle.tool_labelled_parts.specs.Mounts.{HasMounted}
 use Rattle.tool_power_cuts.specs.Said.{SaysAll}
@@ -33,3 +34,9 @@ pub record IsCutRun (store : List DiePlan) (text : Option (List ℕ)) (slots num
   pub plan_is : slice_get store number ≡ Some plan
   pub goes_on : GoesOn plan run.end.mounted.checkpoint run.end.names.items (box_value run.die)
   pub said : SaysAll run.before.die run.before.earlier run.before.writes (box_value run.die) run.pages.items
+
+-- a die ran the script to its end, while cuts were tried at its calls
+pub record HasTried (store : List DiePlan) (text : Option (List ℕ)) (slots number : ℕ) (run : TriedRun) : Type 0 where
+  pub die : Cutting
+  pub ran : RanCutting store text slots number run.refused die
+  pub whole : die.ended ≡ None

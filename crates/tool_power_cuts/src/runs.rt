@@ -8,7 +8,7 @@ ghost use Rattle.die_log.specs.Model.Start.{fresh};
 ghost use Rattle.stepped_die.specs.Names.{GoesOn};
 ghost use Rattle.stepped_die.specs.Steps.{IsNew};
 ghost use Rattle.tool_labelled_parts.specs.Mounts.{HasMounted};
-ghost use Rattle.tool_power_cuts.specs.Runs.{IsCutRun, RanCutting};
+ghost use Rattle.tool_power_cuts.specs.Runs.{HasTried, IsCutRun, RanCutting};
 ghost use Rattle.tool_power_cuts.specs.Said.{SaysAll};
 ghost use Rattle.tool_power_cuts.specs.Writes.{writes_of};
 
@@ -84,7 +84,7 @@ pub struct CutRun {
 }
 
 /// A run at each call of which cuts were tried.
-#[derive(Drop)]
+#[derive(Clone, Copy, Drop)]
 pub struct TriedRun {
     pub tally: Tally,
     /// The first cut that was wrong, if one was.
@@ -151,15 +151,23 @@ fn run<R: Read + Drop>(
     Ok(RefusedRows::of(refused.as_slice()))
 }
 
+/// Why a die runs no longer that no power was cut of.
+fn fault_of(ended: Ended) -> CutFault {
+    match ended {
+        Ended::Cut(_) => CutFault::Refused(Refusal::DieStopped),
+        Ended::Misused(misuse) => CutFault::Unmounted(Unmounted::Misused(misuse)),
+        Ended::Misread => CutFault::Misread,
+        Ended::NoMemory => CutFault::Refused(Refusal::NoMemory),
+    }
+}
+
 /// The call in which the power went.
 fn call_cut(die: &CutDie) -> Result<PartCall, CutFault>
     ensures { IfOk result (λ call. die.now.ended ≡ Some (Ended.Cut call)) }
 {
     match die.ended() {
         Some(Ended::Cut(call)) => Ok(call),
-        Some(Ended::Misused(misuse)) => Err(CutFault::Unmounted(Unmounted::Misused(misuse))),
-        Some(Ended::Misread) => Err(CutFault::Misread),
-        Some(Ended::NoMemory) => Err(CutFault::Refused(Refusal::NoMemory)),
+        Some(ended) => Err(fault_of(ended)),
         None => Err(CutFault::FewerCalls { calls: die.calls() }),
     }
 }
@@ -240,6 +248,7 @@ pub fn cut_at<R: Read + Drop>(
 
 /// Runs a script on a fresh die of a plan over a part in memory, and tries cuts at each call of the part, each on a
 /// part of its own. Refused as [`cut_at`] is, but for fewer calls.
+#[tactic(auto, using(crate::proofs::Sentences::has_tried))]
 pub fn cut_each<R: Read + Drop>(
     alloc: Global,
     store: &StorePlan,
@@ -251,12 +260,13 @@ pub fn cut_each<R: Read + Drop>(
     requires few_dies { length store.now ≤ 8 }
     requires bound { All MeetsBound store.now }
     requires few_slots { slots ≤ MAX_SLOT }
+    ensures tried { IfOk result (HasTried store.now (R.remaining script) slots die) }
 {
     let trials = Trials::new(plan_of(store, die)?, tries);
     let mut tried = fresh_die(alloc, plan_of(store, die)?, None, Some(trials))?;
     let refused = run(alloc, store, script, slots, &mut tried, die)?;
-    if tried.ended().is_some() {
-        let _ = call_cut(&tried)?;
+    if let Some(ended) = tried.ended() {
+        return Err(fault_of(ended));
     }
     let (tally, wrong) = match tried.trials() {
         Some(trials) => (trials.tally(), trials.wrong()),

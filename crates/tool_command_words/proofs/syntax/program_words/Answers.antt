@@ -14,4 +14,5 @@ returns c =
     let comparing = c.with_command-comparing.ensures _ _ drawing c.compare_words.ensures in
     let importing = c.with_command-importing.ensures _ _ comparing c.import_words.ensures in
     let running = c.with_command-running.ensures _ _ importing c.run_words.ensures in
-    c.with_command.ensures _ _ running c.audit_words.ensures
+    let cutting = c.with_command-cutting.ensures _ _ running c.cut_words.ensures in
+    c.with_command.ensures _ _ cutting c.audit_words.ensures

@@ -15,7 +15,7 @@ returns-in_err-write-clause-part g c =
       (
         report_text (reports_of 0 (cores_of dies)),
         record {
-          plans = c.in_ok-plans.plans;
+          plans = c.in_ok-plans.field-0.plans;
           read = c.in_ok-plans.ensures.kept;
           dies = dies;
           ran = c.in_ok-dies.ensures.ran;
@@ -29,7 +29,7 @@ pub returns-clause-printed : goal.returns-clause-printed
 returns-clause-printed g c =
     let dies = c.in_ok-dies.field-0.dies.items in
     record {
-      plans = c.in_ok-plans.plans;
+      plans = c.in_ok-plans.field-0.plans;
       read = c.in_ok-plans.ensures.kept;
       dies = dies;
       ran = c.in_ok-dies.ensures.ran;
