@@ -1,6 +1,6 @@
 //! Numbers by chance, and what becomes of a life by them.
 
-use crate::power::{Cut, Power};
+use crate::power::{Cut, Leaves, Power};
 
 /// Numbers by chance, each from the one before.
 #[derive(Clone, Copy, Drop)]
@@ -24,20 +24,29 @@ impl Dice {
     }
 }
 
-/// Where the power goes in a life.
-#[derive(Clone, Copy, Drop)]
-pub(crate) enum Where {
-    /// In the mount, at the write after so many. A mount has more.
-    Mount(u32),
-    /// At work, from this slot on, at the next program or the next slot of an erase.
-    Work { slot: u32, is_erase: bool },
+/// How a life ends.
+#[derive(Clone, Copy, PartialEq, Eq, Drop)]
+pub(crate) enum End {
+    /// Its start is cut: where what was saved is voided, or else in its mount, at the write after so many. A mount has
+    /// more.
+    Start(u32),
+    /// It works up to this slot, and then the next program is cut.
+    Program(u32),
+    /// Or the next slot of an erase.
+    Erase(u32),
+    /// It works up to this slot, and is shut down; the write of the text that is saved is cut.
+    Text(u32),
+    /// Or the write of its seal.
+    Seal(u32),
+    /// Or none.
+    Shutdown(u32),
 }
 
-/// Where the power goes in a life, and how many bytes of the write are left at which it goes.
+/// How a life ends, and what is left of the write at which its power goes.
 #[derive(Clone, Copy, Drop)]
 pub(crate) struct Fate {
-    pub(crate) at: Where,
-    pub(crate) left: u32,
+    pub(crate) end: End,
+    pub(crate) leaves: Leaves,
 }
 
 /// No mount has fewer writes: without power all blocks count as closed, so at least six are erased.
@@ -46,41 +55,49 @@ const MOUNT: u32 = 24;
 /// In how many slots at work the power goes.
 const WORK: u32 = 512;
 
-/// How many bytes a write has.
-pub(crate) const WRITE: u32 = 36;
+/// A shutdown after work up to this slot, by what falls of three.
+fn shutdown(save: u32, slot: u32) -> End {
+    match save {
+        0 => End::Text(slot),
+        1 => End::Seal(slot),
+        _ => End::Shutdown(slot),
+    }
+}
 
 impl Fate {
-    /// The next one: one life in three is cut in its mount. Of a third of the writes nothing is left, of a third all.
+    /// The next one: one life in three is cut in its start, and of the others one in three is shut down. Of a third of
+    /// the writes that are cut nothing is left, of a third all.
     pub(crate) fn draw(dice: &mut Dice) -> Fate {
-        let (is_mount, writes, slot) = (dice.below(3) == 0, dice.below(MOUNT), dice.below(WORK));
-        let (is_erase, leaves, part) = (dice.below(2) == 0, dice.below(3), dice.below(WRITE - 1));
-        let at = if is_mount {
-            Where::Mount(writes)
+        let (is_start, writes, slot) = (dice.below(3) == 0, dice.below(MOUNT), dice.below(WORK));
+        let (is_erase, leaves, share) = (dice.below(2) == 0, dice.below(3), dice.below(35));
+        let (is_shut, save) = (dice.below(3) == 0, dice.below(3));
+        let end = if is_start {
+            End::Start(writes)
+        } else if is_shut {
+            shutdown(save, slot)
+        } else if is_erase {
+            End::Erase(slot)
         } else {
-            Where::Work { slot, is_erase }
+            End::Program(slot)
         };
-        let left = match leaves {
-            0 => 0,
-            1 => part.saturating_add(1),
-            _ => WRITE,
+        let leaves = match leaves {
+            0 => Leaves::Nothing,
+            1 => Leaves::Part { share },
+            _ => Leaves::All,
         };
-        Fate { at, left }
+        Fate { end, leaves }
     }
 
-    /// The power, as it goes in the mount or at the work's last slot.
+    /// The power, as it goes in the start, after the work's last slot, or as the die is shut down.
     pub(crate) fn power(&self) -> Power {
-        let cut = match self.at {
-            Where::Mount(writes) => Cut::After(writes),
-            Where::Work { is_erase: true, .. } => Cut::Erase,
-            Where::Work {
-                is_erase: false,
-                ..
-            } => Cut::Program,
+        let cut = match self.end {
+            End::Start(writes) => Cut::Start(writes),
+            End::Program(_) => Cut::Program,
+            End::Erase(_) => Cut::Erase,
+            End::Text(_) => Cut::Text,
+            End::Seal(_) => Cut::Seal,
+            End::Shutdown(_) => Cut::Never,
         };
-        Power {
-            cut,
-            left: self.left as usize,
-            has_gone: false,
-        }
+        Power::cut_at(cut, self.leaves)
     }
 }

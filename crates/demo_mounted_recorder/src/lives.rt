@@ -1,17 +1,20 @@
-//! Lives of one die, each from a mount to the next loss of power.
+//! Lives of one die, each from a start to a shutdown or to the next loss of power.
 
-use crate::dice::{Dice, Fate, Where};
-use crate::mounted::{Kept, mounted};
+use crate::dice::{Dice, End, Fate};
 use crate::plan::{PAGES, PART};
 use crate::power::{Power, PoweredStore};
 use crate::recorder::{Recorder, look};
 use crate::report::{print_all, print_life};
+use crate::shutdowns::shut;
+use crate::started::{Kept, started};
 use crate::stops::Stop;
 use crate::witness::Witness;
+use clean_shutdown::StartRefusal;
 use device_mount::MountRefusal;
 use file_nand::{CellFile, FileNand};
 use flash_die::Nand;
 use ongoing_die::{OngoingDie, SlotStop};
+use slot_types::Refusal;
 use std::alloc::Global;
 use std::cell::Cell;
 use std::fs::OpenOptions;
@@ -21,11 +24,20 @@ use std::rt::Files;
 /// In so many slots each die writes and erases.
 const WAIT: u32 = 512;
 
+/// How a life begins.
+#[derive(Clone, Copy, PartialEq, Eq, Drop)]
+pub(crate) enum Begun {
+    Mounted,
+    /// From what was saved, and no cell was written for it.
+    Saved,
+}
+
 /// What came of all lives up to now.
 #[derive(Clone, Copy, Drop)]
 pub(crate) struct Tally {
     pub(crate) lives: u64,
-    pub(crate) mounts_cut: u64,
+    pub(crate) starts_cut: u64,
+    pub(crate) from_saved: u64,
     pub(crate) pages: u64,
     pub(crate) due: u64,
     pub(crate) late: u64,
@@ -36,6 +48,8 @@ pub(crate) struct Tally {
 struct Lives {
     /// What is known of the pages, once they were looked at.
     witness: Option<Witness>,
+    /// How the present life begins.
+    begun: Begun,
     tally: Tally,
 }
 
@@ -47,6 +61,9 @@ fn boxed<D: Drop>(alloc: Global, die: Result<D, Stop>) -> Result<Box<D>, Stop> {
     }
 }
 
+/// A die in a file, on a power supply.
+type Filed<'p, F> = Kept<FileNand<PoweredStore<'p, CellFile<F>>>>;
+
 /// The die in the file of this name, on a power supply.
 pub(crate) fn opened<'p, R: Files>(
     rt: &R,
@@ -54,32 +71,44 @@ pub(crate) fn opened<'p, R: Files>(
     name: &str,
     is_synced: bool,
     power: &'p Cell<Power>,
-) -> Result<Box<Kept<FileNand<PoweredStore<'p, CellFile<R::File>>>>>, Stop> {
+) -> Result<Box<Filed<'p, R::File>>, Stop> {
     let file = OpenOptions::new()
         .read(true)
         .write(true)
         .create(true)
         .open(rt, name)?;
     let store = CellFile::open(file, PART, is_synced)?;
-    let part = FileNand::open(alloc, PART, PoweredStore { store, power })?;
-    boxed(alloc, mounted(alloc, part))
+    let part = FileNand::open_saved(alloc, PART, PoweredStore { store, power })?;
+    boxed(alloc, started(alloc, part))
 }
 
 impl Tally {
     const NONE: Tally = Tally {
         lives: 0,
-        mounts_cut: 0,
+        starts_cut: 0,
+        from_saved: 0,
         pages: 0,
         due: 0,
         late: 0,
     };
 
-    /// A life has ended so.
-    fn add(&mut self, fate: &Fate) {
+    /// A life has begun and ended so.
+    fn add(&mut self, begun: Begun, fate: &Fate) {
         self.lives = self.lives.saturating_add(1);
-        if let Where::Mount(_) = fate.at {
-            self.mounts_cut = self.mounts_cut.saturating_add(1);
+        if let End::Start(_) = fate.end {
+            self.starts_cut = self.starts_cut.saturating_add(1);
+        } else if begun == Begun::Saved {
+            self.from_saved = self.from_saved.saturating_add(1);
         }
+    }
+}
+
+/// How a life has begun by now, on this power supply: a mount writes cells.
+fn begun_by(power: &Cell<Power>) -> Begun {
+    if power.get().cells == 0 {
+        Begun::Saved
+    } else {
+        Begun::Mounted
     }
 }
 
@@ -105,16 +134,13 @@ impl Lives {
         self.tally.late = self.tally.late.saturating_add(late);
     }
 
-    /// A life after its mount: all pages are looked at, the recorder works for so many slots, and then the power goes. It
-    /// answers why it went on no longer.
+    /// A life after its start: all pages are looked at, and the recorder works for so many slots.
     fn work<N: Nand>(
         &mut self,
         alloc: Global,
         die: &mut OngoingDie<N>,
         slots: u32,
-        power: &Cell<Power>,
-        fate: &Fate,
-    ) -> Result<(), Stop> {
+    ) -> Result<Recorder, Stop> {
         let numbers = look(alloc, die)?;
         let mut recorder = Recorder::new(self.find(&numbers)?);
         for _ in 0..slots {
@@ -123,7 +149,17 @@ impl Lives {
         }
         recorder.settle(die);
         self.count(&recorder);
-        power.set(fate.power());
+        Ok(recorder)
+    }
+
+    /// Works until the power goes. It answers why it went on no longer.
+    fn lose_power<N: Nand>(
+        &mut self,
+        alloc: Global,
+        die: &mut OngoingDie<N>,
+        recorder: Recorder,
+    ) -> Result<(), Stop> {
+        let mut recorder = recorder;
         for _ in 0..WAIT {
             recorder.ask(alloc, die)?;
             self.witness = Some(recorder.witness);
@@ -132,7 +168,7 @@ impl Lives {
         Ok(())
     }
 
-    /// A life, up to where its power goes.
+    /// A life, up to where it is shut down, or its power goes.
     fn live<R: Files>(
         &mut self,
         rt: &R,
@@ -141,16 +177,28 @@ impl Lives {
         power: &Cell<Power>,
         fate: &Fate,
     ) -> Result<(), Stop> {
-        match fate.at {
-            Where::Mount(_) => {
+        let slots = match fate.end {
+            End::Start(_) => {
                 power.set(fate.power());
                 opened(rt, alloc, name, false, power)?;
-                Ok(())
+                return Ok(());
             }
-            Where::Work { slot, .. } => {
-                power.set(Power::ON);
-                let mut die = opened(rt, alloc, name, false, power)?;
-                self.work(alloc, &mut die, slot, power, fate)
+            End::Program(slots) | End::Erase(slots) => slots,
+            End::Text(slots) | End::Seal(slots) | End::Shutdown(slots) => slots,
+        };
+        power.set(Power::on());
+        let mut die = opened(rt, alloc, name, false, power)?;
+        self.begun = begun_by(power);
+        let mut recorder = self.work(alloc, &mut die, slots)?;
+        match fate.end {
+            End::Text(_) | End::Seal(_) | End::Shutdown(_) => {
+                let end = shut(alloc, Box::into_inner(die), &mut recorder, power, fate);
+                self.witness = Some(recorder.witness);
+                end
+            }
+            _ => {
+                power.set(fate.power());
+                self.lose_power(alloc, &mut die, recorder)
             }
         }
     }
@@ -159,22 +207,29 @@ impl Lives {
 /// Whether this is what a device without power is answered.
 fn is_fault(stop: &Stop) -> bool {
     match stop {
-        Stop::NotMounted(MountRefusal::DeviceFault) => true,
+        Stop::NotStarted(StartRefusal::NotTaken) => true,
+        Stop::NotStarted(
+            StartRefusal::NotMounted {
+                why: MountRefusal::DeviceFault,
+            },
+        ) => true,
         Stop::NoSlot(SlotStop::DeviceFault) => true,
+        Stop::NotSaved(Refusal::DeviceFault) => true,
         _ => false,
     }
 }
 
-/// A life has ended so. Its power has to have gone.
-fn ended(end: Result<(), Stop>, power: &Cell<Power>) -> Result<(), Stop> {
-    match end {
-        Ok(()) => Err(Stop::NotCut),
-        Err(stop) if power.get().has_gone && is_fault(&stop) => Ok(()),
-        Err(stop) => Err(stop),
+/// A life has ended so. Its power has to have gone, unless it was shut down.
+fn ended(end: Result<(), Stop>, power: &Cell<Power>, fate: &Fate) -> Result<(), Stop> {
+    match (end, fate.end) {
+        (Ok(()), End::Shutdown(_)) => Ok(()),
+        (Ok(()), _) => Err(Stop::NotCut),
+        (Err(stop), _) if power.get().has_gone && is_fault(&stop) => Ok(()),
+        (Err(stop), _) => Err(stop),
     }
 }
 
-/// So many lives on the file of this name, each of which ends where the dice say.
+/// So many lives on the file of this name, each of which ends as the dice say.
 pub(crate) fn run_lives<R: Files, W: Write>(
     rt: &R,
     alloc: Global,
@@ -183,18 +238,22 @@ pub(crate) fn run_lives<R: Files, W: Write>(
     seed: u64,
     out: &mut W,
 ) -> Result<(), Stop> {
-    let power = Cell::new(Power::ON);
+    let power = Cell::new(Power::on());
     let mut dice = Dice::new(seed);
     let mut lives = Lives {
         witness: None,
+        begun: Begun::Mounted,
         tally: Tally::NONE,
     };
     for life in 0..count {
         let fate = Fate::draw(&mut dice);
         let end = lives.live(rt, alloc, name, &power, &fate);
-        ended(end, &power)?;
-        lives.tally.add(&fate);
-        print_life(out, life + 1, &fate)?;
+        ended(end, &power, &fate)?;
+        if let End::Start(_) = fate.end {
+            lives.begun = begun_by(&power);
+        }
+        lives.tally.add(lives.begun, &fate);
+        print_life(out, life + 1, lives.begun, &fate)?;
     }
     Ok(print_all(out, &lives.tally)?)
 }

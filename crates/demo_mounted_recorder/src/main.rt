@@ -1,17 +1,19 @@
-//! A recorder whose die lies in a file and is mounted from that: it survives each loss of power.
+//! A recorder whose die lies in a file and is mounted from that: it survives each loss of power. After a clean shutdown it
+//! goes on from what was saved, without a mount.
 //!
 //! `demo_mounted_recorder FILE` records until it is ended. `demo_mounted_recorder FILE LIVES SEED` has so many lives, each of
-//! which ends with a loss of power by chance.
+//! which ends by chance, with a loss of power or a clean shutdown.
 #![tactic(auto)]
 
 mod dice;
 mod lives;
-mod mounted;
 mod plan;
 mod power;
 mod recorder;
 mod report;
 mod samples;
+mod shutdowns;
+mod started;
 mod stops;
 mod watched;
 mod witness;

@@ -19,6 +19,9 @@ const SHAPE: Shape = Shape { blocks: 15, ..PART };
 /// How many pages the die has.
 pub(crate) const PAGES: usize = 16;
 
+/// How many pages each task may have.
+pub(crate) const CAPS: [u32; 3] = [6, 6, 4];
+
 /// No life of the die is longer.
 pub(crate) const LONGEST: u32 = 4096;
 
@@ -104,7 +107,7 @@ pub(crate) fn die_plan(alloc: Global) -> Result<DiePlan, Refusal>
         shape: SHAPE,
         logical: 16,
         alpha: 2,
-        caps: Caps::from_vec(Vec::from_slice(alloc, &[6, 6, 4])?),
+        caps: Caps::from_vec(Vec::from_slice(alloc, &CAPS)?),
         times: None,
     })
 }

@@ -2,58 +2,109 @@
 
 use file_nand::{CellStore, ERASED, Record};
 use slot_types::Place;
+use std::alloc::Global;
 use std::cell::Cell;
 use std::io;
 use std::io::ErrorKind;
 
-/// At which write of a cell the power goes.
+/// At which write the power goes.
 #[derive(Clone, Copy, Drop)]
 pub(crate) enum Cut {
     /// At none.
     Never,
-    /// At the one after so many.
-    After(u32),
-    /// At the next one of a program.
+    /// In a start: where what was saved is voided, or else at the write of a cell after so many.
+    Start(u32),
+    /// At the next write of a program.
     Program,
     /// At the next one of an erase.
     Erase,
+    /// At that of the text of what is saved.
+    Text,
+    /// At that of its seal.
+    Seal,
+}
+
+/// What a write leaves at which the power goes.
+#[derive(Clone, Copy, PartialEq, Eq, Drop)]
+pub(crate) enum Leaves {
+    Nothing,
+    /// Some of its bytes, the more the greater the share is, of 35.
+    Part { share: u32 },
+    All,
+}
+
+/// How many bytes a write of a cell has, one of the text of what is saved, and one of a seal.
+pub(crate) const CELL: u32 = 36;
+
+pub(crate) const TEXT: u32 = 228;
+
+pub(crate) const SEAL: u32 = 12;
+
+impl Leaves {
+    /// How many of a write's bytes are left: of `count`, or none, or some.
+    pub(crate) fn of(self, count: u32) -> u32 {
+        match self {
+            Leaves::Nothing => 0,
+            Leaves::Part { share } => {
+                let more = u64::from(share).saturating_mul(u64::from(count.saturating_sub(1))) / 35;
+                u32::try_from(more).unwrap_or(0).saturating_add(1)
+            }
+            Leaves::All => count,
+        }
+    }
 }
 
 /// A power supply.
 #[derive(Clone, Copy, Drop)]
 pub(crate) struct Power {
     pub(crate) cut: Cut,
-    /// How many of its bytes the write leaves in the cell at which the power goes; the others are as they were.
-    pub(crate) left: usize,
+    pub(crate) leaves: Leaves,
     pub(crate) has_gone: bool,
+    /// How many cells were written since it came, the one at which it goes counted, too.
+    pub(crate) cells: u32,
 }
 
 impl Power {
-    /// It stays.
-    pub(crate) const ON: Power = Power {
-        cut: Cut::Never,
-        left: 0,
-        has_gone: false,
-    };
-
-    /// Whether it goes at this write.
-    fn goes_at(&self, record: &Record) -> bool {
-        match self.cut {
-            Cut::Never => false,
-            Cut::After(writes) => writes == 0,
-            Cut::Program => *record != ERASED,
-            Cut::Erase => *record == ERASED,
+    /// It goes at this write, of which that is left.
+    pub(crate) fn cut_at(cut: Cut, leaves: Leaves) -> Power {
+        Power {
+            cut,
+            leaves,
+            has_gone: false,
+            cells: 0,
         }
     }
 
-    /// After a write at which it didn't go.
-    fn counted(self) -> Power {
+    /// It stays.
+    pub(crate) fn on() -> Power {
+        Power::cut_at(Cut::Never, Leaves::All)
+    }
+
+    /// Whether it goes at this write of a cell.
+    fn goes_at_cell(&self, record: &Record) -> bool {
         match self.cut {
-            Cut::After(writes) => Power {
-                cut: Cut::After(writes.saturating_sub(1)),
-                ..self
-            },
-            _ => self,
+            Cut::Start(writes) => self.cells == writes,
+            Cut::Program => *record != ERASED,
+            Cut::Erase => *record == ERASED,
+            Cut::Never | Cut::Text | Cut::Seal => false,
+        }
+    }
+
+    /// Whether it goes at this write of what is saved: of its text, of a seal, or of zeros in the place of that.
+    fn goes_at_saved(&self, at: u64, bytes: &[u8]) -> bool {
+        match self.cut {
+            Cut::Text => at > 0,
+            Cut::Seal => at == 0 && bytes[..] != [0; 12][..],
+            Cut::Start(_) => at == 0 && bytes[..] == [0; 12][..],
+            Cut::Never | Cut::Program | Cut::Erase => false,
+        }
+    }
+
+    /// After one more write of a cell.
+    fn counted(self) -> Power {
+        Power {
+            cells: self.cells.saturating_add(1),
+            ..self
         }
     }
 }
@@ -69,27 +120,47 @@ fn no_power() -> io::Error {
     io::Error::from(ErrorKind::BrokenPipe)
 }
 
-/// What is left of a write that is cut after so many bytes.
-fn torn(old: &Record, new: &Record, left: usize) -> Record {
+/// What is left of a cell's write that is cut after so many bytes.
+fn torn(old: &Record, new: &Record, left: u32) -> Record {
     let mut record = *old;
     for at in 0..36 {
-        if at < left {
+        if (at as u32) < left {
             record[at] = new[at];
         }
     }
     record
 }
 
+/// The first bytes, so many.
+fn first_of(bytes: &[u8], count: u32) -> &[u8] {
+    let (first, _) = bytes.split_at(bytes.len().min(count as usize));
+    first
+}
+
 impl<'p, S: CellStore> PoweredStore<'p, S> {
-    /// The power goes at this write.
-    fn cut(&mut self, place: Place, record: &Record, power: Power) -> io::Result<()> {
+    /// The power goes.
+    fn cut(&mut self, power: Power) {
         self.power.set(Power {
             has_gone: true,
             ..power
         });
+    }
+
+    /// The power goes at this write of a cell.
+    fn cut_cell(&mut self, place: Place, record: &Record, power: Power) -> io::Result<()> {
+        self.cut(power.counted());
         let old = self.store.read_cell(place)?;
         self.store
-            .write_cell(place, &torn(&old, record, power.left))?;
+            .write_cell(place, &torn(&old, record, power.leaves.of(CELL)))?;
+        Err(no_power())
+    }
+
+    /// The power goes at this write of what is saved.
+    fn cut_saved(&mut self, at: u64, bytes: &[u8], power: Power) -> io::Result<()> {
+        self.cut(power);
+        let count = u32::try_from(bytes.len()).unwrap_or(u32::MAX);
+        self.store
+            .write_saved(at, first_of(bytes, power.leaves.of(count)))?;
         Err(no_power())
     }
 }
@@ -107,10 +178,28 @@ impl<'p, S: CellStore> CellStore for PoweredStore<'p, S> {
         if power.has_gone {
             return Err(no_power());
         }
-        if power.goes_at(record) {
-            return self.cut(place, record, power);
+        if power.goes_at_cell(record) {
+            return self.cut_cell(place, record, power);
         }
         self.power.set(power.counted());
         self.store.write_cell(place, record)
+    }
+
+    fn read_saved(&mut self, alloc: Global) -> io::Result<Vec<u8>> {
+        if self.power.get().has_gone {
+            return Err(no_power());
+        }
+        self.store.read_saved(alloc)
+    }
+
+    fn write_saved(&mut self, at: u64, bytes: &[u8]) -> io::Result<()> {
+        let power = self.power.get();
+        if power.has_gone {
+            return Err(no_power());
+        }
+        if power.goes_at_saved(at, bytes) {
+            return self.cut_saved(at, bytes, power);
+        }
+        self.store.write_saved(at, bytes)
     }
 }

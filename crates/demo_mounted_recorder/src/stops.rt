@@ -2,7 +2,7 @@
 
 ghost use Rattle.std.specs.Prelude.{◌≡◌, None};
 
-use device_mount::MountRefusal;
+use clean_shutdown::StartRefusal;
 use file_nand::{NoCellFile, OpenRefusal};
 use ongoing_die::{AskStop, OngoingResumeRefusal, SlotStop};
 use slot_core::CheckpointRefusal;
@@ -21,7 +21,7 @@ pub(crate) enum Stop {
     Fault(io::Error),
     /// The file has something else.
     OtherFile,
-    NotMounted(MountRefusal),
+    NotStarted(StartRefusal),
     NoCheckpoint(CheckpointRefusal),
     NotResumed(OngoingResumeRefusal),
     /// A task isn't given what its plan lets it have.
@@ -34,6 +34,9 @@ pub(crate) enum Stop {
     Strange { page: u32 },
     /// A page has neither its last finished write nor the one after it.
     Lost { page: u32, number: u64, done: u64 },
+    /// Its tasks ask for nothing, and still the die isn't at rest.
+    NotQuiet,
+    NotSaved(Refusal),
     /// The power didn't go where it should.
     NotCut,
 }
@@ -86,7 +89,7 @@ impl Display for Stop {
             Stop::NoMemory => write!(f, "there is no memory"),
             Stop::Fault(error) => write!(f, "{error}"),
             Stop::OtherFile => write!(f, "the file has something else"),
-            Stop::NotMounted(why) => write!(f, "the part isn't mounted: {why:?}"),
+            Stop::NotStarted(why) => write!(f, "no die is started: {why:?}"),
             Stop::NoCheckpoint(why) => write!(f, "no checkpoint is taken: {why:?}"),
             Stop::NotResumed(why) => write!(f, "the die doesn't go on: {why:?}"),
             Stop::NotAsked(why) => write!(f, "a task is refused: {why:?}"),
@@ -99,6 +102,8 @@ impl Display for Stop {
                     "page {page} has write {number}, and write {done} was done"
                 )
             }
+            Stop::NotQuiet => write!(f, "the die comes to no rest"),
+            Stop::NotSaved(why) => write!(f, "the checkpoint isn't saved: {why:?}"),
             Stop::NotCut => write!(f, "the power didn't go"),
         }
     }

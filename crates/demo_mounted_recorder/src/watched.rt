@@ -62,7 +62,7 @@ pub(crate) fn run_watched<R: Files, W: Write>(
     name: &str,
     out: &mut W,
 ) -> Result<(), Stop> {
-    let power = Cell::new(Power::ON);
+    let power = Cell::new(Power::on());
     let mut die = opened(rt, alloc, name, true, &power)?;
     go_on(alloc, &mut die, out)
 }

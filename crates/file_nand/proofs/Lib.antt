@@ -1,1 +1,3 @@
 pub mod Filling
+pub mod Left
+pub mod Standing

@@ -3,6 +3,7 @@
 use crate::cells::CellStore;
 use crate::records::{ERASED, Record};
 use slot_types::{Place, Shape};
+use std::alloc::Global;
 use std::fs::OpenFile;
 use std::io;
 use std::io::{ErrorKind, Read, Seek, SeekFrom, Write};
@@ -15,12 +16,15 @@ const MARK: [u8; 16] = *b"Maulgreen chip 1";
 /// How far apart cells lie, in bytes: a disk writes no less at once, so that no write of a cell touches another one.
 const STRIDE: u64 = 4096;
 
-/// Cells in a file: first a header, and then each cell in a part of its own of 4,096 bytes, block by block.
+/// Cells in a file: first a header, then each cell in a part of its own of 4,096 bytes, block by block, and then what is
+/// saved.
 #[derive(Drop)]
 pub struct CellFile<F: Read + Write + Seek + OpenFile + Drop> {
     file: F,
     /// Cells in a block.
     pages: u32,
+    /// Where what is saved lies in the file.
+    saved: u64,
     is_synced: bool,
 }
 
@@ -60,6 +64,13 @@ fn read_at<F: Read + Seek>(file: &mut F, position: u64, bytes: &mut [u8]) -> io:
     }
 }
 
+/// Where a cell of a block of so many pages lies in a file; that of the block past the last one is where the cells end.
+fn position_of(pages: u32, block: u32, page: u32) -> u64 {
+    let first = u64::from(block).saturating_mul(u64::from(pages));
+    let cell = first.saturating_add(u64::from(page));
+    cell.saturating_add(1).saturating_mul(STRIDE)
+}
+
 fn write_at<F: Write + Seek>(file: &mut F, position: u64, bytes: &[u8]) -> io::Result<()> {
     file.seek(SeekFrom::Start(position))?;
     file.write_all(bytes)
@@ -75,6 +86,7 @@ impl<F: Read + Write + Seek + OpenFile + Drop> CellFile<F> {
         let mut cells = CellFile {
             file,
             pages: shape.pages,
+            saved: position_of(shape.pages, shape.blocks, 0),
             is_synced,
         };
         match cells.begin(&header_of(shape)) {
@@ -109,17 +121,28 @@ impl<F: Read + Write + Seek + OpenFile + Drop> CellFile<F> {
         }
     }
 
-    /// Where a cell lies in the file.
-    fn position(&self, place: Place) -> u64 {
-        let first = u64::from(place.block).saturating_mul(u64::from(self.pages));
-        let cell = first.saturating_add(u64::from(place.page));
-        cell.saturating_add(1).saturating_mul(STRIDE)
+    /// Asks the disk to have what was written, where it `is_synced`.
+    fn sync_data(&self) -> io::Result<()> {
+        if self.is_synced {
+            self.file.sync_data()
+        } else {
+            Ok(())
+        }
+    }
+
+    /// How many bytes the file has from where what is saved lies.
+    fn saved_bytes(&mut self) -> io::Result<usize> {
+        let length = self.file.seek(SeekFrom::End(0))?;
+        match usize::try_from(length.saturating_sub(self.saved)) {
+            Ok(bytes) => Ok(bytes),
+            Err(_) => Err(io::Error::from(ErrorKind::OutOfMemory)),
+        }
     }
 }
 
 impl<F: Read + Write + Seek + OpenFile + Drop> CellStore for CellFile<F> {
     fn read_cell(&mut self, place: Place) -> io::Result<Record> {
-        let position = self.position(place);
+        let position = position_of(self.pages, place.block, place.page);
         let mut record = ERASED;
         if read_at(&mut self.file, position, &mut record)? {
             Ok(record)
@@ -130,12 +153,21 @@ impl<F: Read + Write + Seek + OpenFile + Drop> CellStore for CellFile<F> {
     }
 
     fn write_cell(&mut self, place: Place, record: &Record) -> io::Result<()> {
-        let position = self.position(place);
+        let position = position_of(self.pages, place.block, place.page);
         write_at(&mut self.file, position, record)?;
-        if self.is_synced {
-            self.file.sync_data()
-        } else {
-            Ok(())
-        }
+        self.sync_data()
+    }
+
+    fn read_saved(&mut self, alloc: Global) -> io::Result<Vec<u8>> {
+        let count = self.saved_bytes()?;
+        let mut bytes = vec![in alloc; 0; count]?;
+        // The file has as many.
+        let _ = read_at(&mut self.file, self.saved, bytes.as_mut_slice())?;
+        Ok(bytes)
+    }
+
+    fn write_saved(&mut self, at: u64, bytes: &[u8]) -> io::Result<()> {
+        write_at(&mut self.file, self.saved.saturating_add(at), bytes)?;
+        self.sync_data()
     }
 }

@@ -1,18 +1,22 @@
 //! A device that keeps labels, and whose cells lie in a file.
 
-ghost use Rattle.std.specs.Prelude.{◌≡◌, ◌<◌, false};
+ghost use Rattle.std.specs.Prelude.{◌≡◌, ◌+◌, ◌<◌, false, None};
 ghost use Rattle.flash_die.specs.Calls.{FailsByFault};
 
 use crate::cells::CellStore;
 use crate::records::{ERASED, Record, record_of};
+use crate::saves::{TEXT, VOID, seal_of, text_of};
 use flash_die::Nand;
 use labelled_nand::{LabelledMemory, LabelledNand, Look};
+use saving_nand::{NotSaved, Saved, SavingNand};
 use slot_types::{PageData, Place, Refusal, Shape};
+use std::alloc::Global;
+use std::io;
 use std::marker::Model;
 
 /// A device that keeps labels, and writes each cell to a store, as to a file, before the call that changes it ends. It
-/// goes by a device in memory that has the same cells: contracts see that one, and how many calls have failed. A call
-/// fails where the store can't be written.
+/// goes by a device in memory that has the same cells: contracts see that one, how many calls have failed, and what is
+/// saved. A call fails where the store can't be written.
 ///
 /// What the store has when the program is started again no contract says: that is the store's to keep (`CellStore`).
 #[derive(Drop)]
@@ -20,14 +24,25 @@ pub struct FileNand<S: CellStore> {
     pub(crate) mirror: LabelledMemory,
     pub(crate) store: S,
     pub(crate) failed: u32,
+    /// The serial of the next program.
+    pub(crate) next: u64,
+    pub(crate) saved: Option<Saved>,
+    /// Whether the store may have something that is saved and not void.
+    pub(crate) may_have: bool,
 }
 
 impl<S: CellStore> Model for FileNand<S> {
-    ghost use Rattle.file_nand.specs.Filed.{Filed};
+    ghost use Rattle.file_nand.specs.Filed.{Filed, IsSoundFiled};
 
     ghost Value = { Filed };
 
-    ghost view = { λ d. record { marked = d.mirror; failed = d.failed } };
+    ghost view = { λ d. record { marked = d.mirror; failed = d.failed; saved = d.saved } };
+
+    ghost invariant = { λ d. IsSoundFiled d.next (record {
+      marked = d.mirror;
+      failed = d.failed;
+      saved = d.saved;
+    }) };
 }
 
 /// The first of the cells, of so many, that a slot of an erase wipes: so many slots were before, of so many.
@@ -43,24 +58,62 @@ impl<S: CellStore> FileNand<S> {
         self.store
     }
 
+    /// Saves a text in the store: first the text, and once it is there its seal.
+    fn write_sealed(&mut self, text: &[u8]) -> io::Result<()>
+        ensures { self.new ≡ self.old }
+    {
+        self.store.write_saved(TEXT, text)?;
+        self.store.write_saved(0, &seal_of(text))
+    }
+
+    /// A write of the store has failed, while nothing is saved.
+    fn fault(&mut self) -> Refusal
+        requires few { self.old.failed < 4294967295 }
+        requires void { self.old.saved ≡ None }
+        ensures counted { self.new ≡ record self.old { failed = self.old.failed + 1 } }
+        ensures refusal { result ≡ Refusal.DeviceFault }
+    {
+        self.failed += 1;
+        Refusal::DeviceFault
+    }
+
+    /// Voids what is saved, before a call touches a cell.
+    fn void(&mut self) -> Result<(), Refusal>
+        requires few { self.old.failed < 4294967295 }
+        ensures marked { self.new.marked ≡ self.old.marked }
+        ensures void { self.new.saved ≡ None }
+        ensures fails { FailsByFault false result self.old.failed self.new.failed }
+    {
+        self.saved = None;
+        if !self.may_have {
+            return Ok(());
+        }
+        if self.store.write_saved(0, &VOID).is_err() {
+            return Err(self.fault());
+        }
+        self.may_have = false;
+        Ok(())
+    }
+
     /// Writes a cell to the store.
     fn write(&mut self, place: Place, kept: &Record) -> Result<(), Refusal>
         requires few { self.old.failed < 4294967295 }
+        requires void { self.old.saved ≡ None }
+        ensures void { self.new.saved ≡ None }
         ensures marked { self.new.marked ≡ self.old.marked }
         ensures fails { FailsByFault false result self.old.failed self.new.failed }
     {
         match self.store.write_cell(place, kept) {
             Ok(()) => Ok(()),
-            Err(_) => {
-                self.failed += 1;
-                Err(Refusal::DeviceFault)
-            }
+            Err(_) => Err(self.fault()),
         }
     }
 
     /// Writes to the store what a cell has now.
     fn keep(&mut self, place: Place) -> Result<(), Refusal>
         requires few { self.old.failed < 4294967295 }
+        requires void { self.old.saved ≡ None }
+        ensures void { self.new.saved ≡ None }
         ensures marked { self.new.marked ≡ self.old.marked }
         ensures fails { FailsByFault false result self.old.failed self.new.failed }
     {
@@ -74,6 +127,8 @@ impl<S: CellStore> FileNand<S> {
     /// Wipes cells of a block in the store: from this one on, up to that one.
     fn wipe(&mut self, block: u32, from: u32, to: u32) -> Result<(), Refusal>
         requires few { self.old.failed < 4294967295 }
+        requires void { self.old.saved ≡ None }
+        ensures void { self.new.saved ≡ None }
         ensures marked { self.new.marked ≡ self.old.marked }
         ensures fails { FailsByFault false result self.old.failed self.new.failed }
     {
@@ -111,6 +166,7 @@ impl<S: CellStore> Nand for FileNand<S> {
     }
 
     fn program(&mut self, place: Place, bytes: PageData) -> Result<(), Refusal> {
+        self.void()?;
         match self.mirror.program(place, bytes) {
             Ok(()) => self.keep(place),
             Err(_) => unreachable!(),
@@ -118,14 +174,19 @@ impl<S: CellStore> Nand for FileNand<S> {
     }
 
     fn program_page(&mut self, place: Place, page: u32, bytes: PageData) -> Result<(), Refusal> {
+        self.void()?;
         match self.mirror.program_page(place, page, bytes) {
-            Ok(()) => self.keep(place),
+            Ok(()) => {
+                self.next = self.next.saturating_add(1);
+                self.keep(place)
+            }
             Err(_) => unreachable!(),
         }
     }
 
     /// Each slot wipes its share of the block's cells, the last one those that are left.
     fn erase_slot(&mut self, block: u32) -> Result<bool, Refusal> {
+        self.void()?;
         let Shape {
             pages,
             erase_slots,
@@ -150,10 +211,11 @@ impl<S: CellStore> LabelledNand for FileNand<S> {
 
     ghost labels = { filed_labels };
 
-    ghost follows = { λ before after call ended. (ended refl).labels };
+    ghost follows = { λ before after call ended. (ended.marked refl).labels };
 
     fn number_from(&mut self, serial: u64) {
         self.mirror.number_from(serial);
+        self.next = serial;
     }
 
     fn look(&mut self, place: Place) -> Result<Look, Refusal> {
@@ -161,5 +223,47 @@ impl<S: CellStore> LabelledNand for FileNand<S> {
             Ok(look) => Ok(look),
             Err(_) => unreachable!(),
         }
+    }
+}
+
+impl<S: CellStore> SavingNand for FileNand<S> {
+    ghost saved = { λ d. d.saved };
+
+    ghost voids = { λ before after call well ended. ended.saved };
+
+    fn next_serial(&self) -> u64 {
+        self.next
+    }
+
+    fn save(&mut self, alloc: Global, saved: Saved) -> Result<(), NotSaved> {
+        let Ok(text) = text_of(alloc, &saved) else {
+            let refusal = Refusal::NoMemory;
+            return Err(NotSaved { saved, refusal });
+        };
+        if let Err(refusal) = self.void() {
+            return Err(NotSaved { saved, refusal });
+        }
+        self.may_have = true;
+        if self.write_sealed(text.as_slice()).is_err() {
+            let refusal = self.fault();
+            return Err(NotSaved { saved, refusal });
+        }
+        self.saved = Some(saved);
+        Ok(())
+    }
+
+    fn take_saved(&mut self) -> Result<Option<Saved>, Refusal> {
+        let taken = self.saved.take();
+        self.void()?;
+        if let Some(saved) = &taken {
+            self.mirror.number_from(saved.next);
+            self.next = saved.next;
+        }
+        Ok(taken)
+    }
+
+    fn count_as_closed(&mut self) {
+        self.mirror.power_comes();
+        self.next = 0;
     }
 }

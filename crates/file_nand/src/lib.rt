@@ -6,6 +6,7 @@ mod cells;
 mod file_nand;
 mod opening;
 mod records;
+mod saves;
 mod sums;
 
 pub use cell_file::{CellFile, NoCellFile};

@@ -9,7 +9,7 @@ use Rattle.flash_die.specs.declared.nand.NandCall.{NandCall}
 use Rattle.labelled_nand.specs.Calls.{labels_after_call}
 use Rattle.power_loss.specs.Aside.{die_labels}
 use Rattle.power_loss.specs.Labels.{Labels}
-use Rattle.labelled_die.specs.Beside.{Beside, EndsBeside, IsSoundBeside, blocks_beside, call_on_part, labels_beside}
+use Rattle.labelled_die.specs.Beside.{Beside, EndsBeside, IsPartBeside, IsSoundBeside, blocks_beside, call_on_part, labels_beside}
 use Rattle.labelled_die.proofs.Besides.{IsBelow, labels_follow}
 
 -- Where no call has failed yet
@@ -32,9 +32,9 @@ of_ok (Ok x) well h = h
 of_ok (Err e) well h = absurd (true≢false well)
 
 module _ {N : Type 0} (ends : N → NandCall → Bool → N → Type 0) (never : Bool) (shape_of : N → Shape) (blocks : N → List Block) (labels : N → Labels)
-    (follows : (before after : N) (call : NandCall) → ends before call true after
+    (failures : N → ℕ) (follows : (before after : N) (call : NandCall) → ends before call true after
     → labels after ≡ labels_after_call (shape_of before).erase_slots (blocks before) call (labels before)) where
-  pub ready : (d : Beside N) → IsSoundBeside never shape_of blocks labels d → d.failed ≡ false → Ready shape_of blocks labels d
+  pub ready : (d : Beside N) → IsSoundBeside never shape_of blocks labels failures d → d.failed ≡ false → Ready shape_of blocks labels d
   ready d s f =
       let p = s.part f in
       let e : (shape_of d.part).blocks ≡ d.shape.blocks + 1 = ap (λ (x : Shape). x.blocks) s.shape_is in
@@ -46,8 +46,17 @@ module _ {N : Type 0} (ends : N → NandCall → Bool → N → Type 0) (never :
         slots = ap (λ (x : Shape). x.erase_slots) s.shape_is;
       }
 
+  -- where no call has failed the part is one of which the block stands aside
+  pub stands : (d : Beside N) → IsSoundBeside never shape_of blocks labels failures d → failures d.part ≡ 0
+      → IsPartBeside (shape_of d.part) (blocks d.part) (labels d.part) d.aside
+  stands d s well = by_flag d.failed refl
+    where
+      by_flag : (t : Bool) → d.failed ≡ t → IsPartBeside (shape_of d.part) (blocks d.part) (labels d.part) d.aside
+      by_flag false e = s.part e
+      by_flag true e = absurd (omega (arith, s.counted e, well))
+
   -- the labels after a call that ended well
-  pub labels_pass : (d : Beside N) (call : NandCall) (part : N) → IsSoundBeside never shape_of blocks labels d → d.failed ≡ false
+  pub labels_pass : (d : Beside N) (call : NandCall) (part : N) → IsSoundBeside never shape_of blocks labels failures d → d.failed ≡ false
       → IsBelow d.shape.blocks call → ends d.part (call_on_part d.shape.blocks d.aside call) true part
       → die_labels d.shape.blocks d.aside (labels part)
       ≡ labels_after_call d.shape.erase_slots (blocks_beside blocks d) call (labels_beside labels d)
@@ -59,7 +68,7 @@ module _ {N : Type 0} (ends : N → NandCall → Bool → N → Type 0) (never :
       ∙ labels_follow d.shape.blocks d.aside k.le d.shape.erase_slots (blocks d.part) call (labels d.part) k.long k.labelled below)
 
   pub passes : {A : Type 0} (d : Beside N) (call : NandCall) (r : Result A Refusal) (failed : Bool) (part : N)
-      → IsSoundBeside never shape_of blocks labels d → d.failed ≡ false → IsBelow d.shape.blocks call
+      → IsSoundBeside never shape_of blocks labels failures d → d.failed ≡ false → IsBelow d.shape.blocks call
       → ends d.part (call_on_part d.shape.blocks d.aside call) (is_ok r) part
       → EndsBeside ends blocks labels d call (is_ok r) (record d { part = part; failed = failed })
   passes d call r failed part s f below made = record {

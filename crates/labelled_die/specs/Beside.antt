@@ -39,11 +39,12 @@ blocks_beside blocks d = without_aside d.shape.blocks d.aside free_block (blocks
 abbrev pub labels_beside : {N : Type 0} → (N → Labels) → Beside N → Labels
 labels_beside labels d = die_labels d.shape.blocks d.aside (labels d.part)
 
-pub record IsSoundBeside {N : Type 0} (never_fails : Bool) (shape_of : N → Shape) (blocks : N → List Block) (labels : N → Labels) (d : Beside N)
-    : Type 0 where
+pub record IsSoundBeside {N : Type 0} (never_fails : Bool) (shape_of : N → Shape) (blocks : N → List Block) (labels : N → Labels) (failures : N → ℕ)
+    (d : Beside N) : Type 0 where
   pub shape_is : shape_of d.part ≡ record d.shape { blocks = d.shape.blocks + 1 }
   pub part : d.failed ≡ false → IsPartBeside (shape_of d.part) (blocks d.part) (labels d.part) d.aside
   pub never : never_fails ≡ true → d.failed ≡ false
+  pub counted : d.failed ≡ true → 0 < failures d.part
 
 -- the call of the part that a call here is
 abbrev pub call_on_part : (last aside : ℕ) → NandCall → NandCall

@@ -37,7 +37,7 @@ impl<N: LabelledNand> Model for BesideNand<N> {
       refused = d.refused;
     } };
 
-    ghost invariant = { λ d. IsSoundBeside N.never_fails N.shape_of N.blocks N.labels (record {
+    ghost invariant = { λ d. IsSoundBeside N.never_fails N.shape_of N.blocks N.labels N.failures (record {
       part = d.part;
       shape = d.shape;
       aside = d.aside;
@@ -64,6 +64,24 @@ impl<N: LabelledNand> BesideNand<N> {
             failed: false,
             refused: 0,
         }
+    }
+
+    /// The number that the part gives the block aside.
+    pub fn aside(&self) -> u32
+        ensures { result ≡ self.now.aside }
+    {
+        self.aside
+    }
+
+    /// Where no call has failed, the part is one of which this block stands aside. The body does nothing.
+    pub fn stands_beside(&self)
+        ensures part { N.failures self.now.part ≡ 0
+            → IsPartBeside (N.shape_of self.now.part) (N.blocks self.now.part)
+            (N.labels self.now.part) self.now.aside }
+        ensures shape { N.shape_of self.now.part
+            ≡ record self.now.shape { blocks = self.now.shape.blocks + 1 } }
+    {
+        let _ = &self.part;
     }
 
     /// The part, given up with the rest.

@@ -1,4 +1,4 @@
-use Rattle.std.proofs.Common.{◌≡◌, ◌<◌, ℕ, length}
+use Rattle.std.proofs.Common.{◌≡◌, ◌≢◌, ℕ, length}
 use Rattle.flash_die.specs.Flash.{block_at}
 use Rattle.labelled_nand.specs.Memory.{device_blocks}
 use Rattle.file_nand.proofs.opening.fill_block.Given as goal
@@ -8,6 +8,7 @@ invariant-loop-page g l = record {
   count : length (device_blocks l.mirror) ≡ length (device_blocks l.initial.mirror);
   filled : length (block_at (device_blocks l.mirror) l.block).pages ≡ l.page;
   quiet : (block_at (device_blocks l.mirror) l.block).erasing ≡ 0;
-  later : (b : ℕ) → l.block < b → block_at (device_blocks l.mirror) b ≡ block_at (device_blocks l.initial.mirror) b;
+  unerased : (block_at (device_blocks l.mirror) l.block).erases ≡ 0;
+  others : (b : ℕ) → b ≢ l.block → block_at (device_blocks l.mirror) b ≡ block_at (device_blocks l.initial.mirror) b;
   shape : l.mirror.shape ≡ l.initial.mirror.shape;
 }

@@ -13,7 +13,7 @@ returns-clause-blocks g c =
     let m = c.self.inside in
     let b = c.args.block in
     let d : Beside g.row.N.Denot = record { part = m.part; shape = m.shape; aside = m.aside; failed = m.failed; refused = m.refused } in
-    let k = ready g.N.Nand.ends g.N.Nand.never_fails g.N.Nand.shape_of g.N.Nand.blocks g.N.LabelledNand.labels g.met.N.LabelledNand.follows d
+    let k = ready g.N.Nand.ends g.N.Nand.never_fails g.N.Nand.shape_of g.N.Nand.blocks g.N.LabelledNand.labels g.N.Nand.failures g.met.N.LabelledNand.follows d
     c.self.invariant c.if-self.false in
     let at : c.on_part-block.result ≡ on_part m.shape.blocks m.aside b = first_of (search rules, cc) in
     let h = rw (← c.self.view_is) at c.requires.erasable in
@@ -32,11 +32,11 @@ returns-clause-ends g c =
     let b = c.args.block in
     let r = c.erase_slot-result in
     let d : Beside g.row.N.Denot = record { part = m.part; shape = m.shape; aside = m.aside; failed = m.failed; refused = m.refused } in
-    let k = ready g.N.Nand.ends g.N.Nand.never_fails g.N.Nand.shape_of g.N.Nand.blocks g.N.LabelledNand.labels g.met.N.LabelledNand.follows d
+    let k = ready g.N.Nand.ends g.N.Nand.never_fails g.N.Nand.shape_of g.N.Nand.blocks g.N.LabelledNand.labels g.N.Nand.failures g.met.N.LabelledNand.follows d
     c.self.invariant c.if-self.false in
     let at : c.on_part-block.result ≡ on_part m.shape.blocks m.aside b = first_of (search rules, cc) in
     let h = rw (← c.self.view_is) at c.requires.erasable in
     let lt = below m.shape.blocks m.aside k.le (g.N.Nand.blocks m.part) b k.long h.in_range in
-    rw (← c.self.view_is) (passes g.N.Nand.ends g.N.Nand.never_fails g.N.Nand.shape_of g.N.Nand.blocks g.N.LabelledNand.labels
+    rw (← c.self.view_is) (passes g.N.Nand.ends g.N.Nand.never_fails g.N.Nand.shape_of g.N.Nand.blocks g.N.LabelledNand.labels g.N.Nand.failures
     g.met.N.LabelledNand.follows d (calls.EraseSlot b) r.result c.is_err-self-inside.result r.new.self c.self.invariant c.if-self.false lt
     (subst (λ (x : ℕ). g.N.Nand.ends m.part (calls.EraseSlot x) (is_ok r.result) r.new.self) at r.ensures.ends))

@@ -8,7 +8,7 @@ use Rattle.die_log.specs.Model.Opening.{renewed_start}
 use Rattle.die_log.specs.Model.Start.{Start}
 use Rattle.slot_core.specs.Core.{Core}
 use Rattle.slot_core.specs.Resumptions.{resumed_start}
-use Rattle.demo_mounted_recorder.proofs.mounted.kept.Goals as goal
+use Rattle.demo_mounted_recorder.proofs.started.kept.Goals as goal
 
 -- The start of the resumed die is that of the renewed log, and with an empty log that has the same pages.
 pub returns : goal.returns

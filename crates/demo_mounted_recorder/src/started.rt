@@ -1,23 +1,26 @@
-//! The die that begins where a mount of its part has ended, and keeps its plan.
+//! The die that is started on its part, and keeps its plan.
 
-ghost use Rattle.std.specs.Prelude.{◌≡◌, [], List, IfOk, Ok};
+ghost use Rattle.std.specs.Prelude.{◌≡◌, ◌<◌, [], List, IfOk, None, Ok, Some};
 ghost use Rattle.slot_types.specs.declared.pages.PageData.{PageData as Bytes};
+ghost use Rattle.flash_die.specs.Flash.{free_block};
 ghost use Rattle.flash_volume.specs.Checkpoints.{IsAsLeft};
 ghost use Rattle.die_log.specs.Model.Start.{Start};
 ghost use Rattle.slot_core.specs.Resumptions.{resumed_start};
 ghost use Rattle.labelled_nand.specs.PoweredUp.{IsPoweredUp};
-ghost use Rattle.power_loss.specs.Aside.{StandsOnPart};
+ghost use Rattle.power_loss.specs.Aside.{StandsOnPart, without_aside};
 ghost use Rattle.power_loss.specs.Mounted.{all_count};
+ghost use Rattle.saving_nand.specs.declared.saved.Saved.{Saved as Stood};
+ghost use Rattle.clean_shutdown.specs.Starting.{GoesOnFrom, shown_of};
 ghost use Rattle.demo_mounted_recorder.specs.Plan.{die_plan};
 
 use crate::plan::{LONGEST, die_plan, terms};
 use crate::stops::Stop;
-use device_mount::mount;
+use clean_shutdown::start_up;
 use die_checkpoint::Checkpoint;
 use flash_die::Nand;
 use labelled_die::BesideNand;
-use labelled_nand::LabelledNand;
 use ongoing_die::{OngoingDie, OngoingNotResumed};
+use saving_nand::SavingNand;
 use slot_core::{CheckpointRefusal, DieCore};
 use std::alloc::Global;
 
@@ -63,17 +66,24 @@ fn kept<N: Nand>(alloc: Global, core: DieCore<N>) -> Result<OngoingDie<N>, Stop>
     resume(alloc, core.into_device(), taken)
 }
 
-/// Mounts a part that was powered up, and makes of the die one that keeps its plan. Where a mount could go on from what
-/// the part shows, as it can wherever the power went, the die begins with just the pages that are found.
-pub(crate) fn mounted<N: LabelledNand>(alloc: Global, part: N) -> Result<Kept<N>, Stop>
-    requires powered { IsPoweredUp (N.shape_of part) (N.blocks part) (N.labels part)
-        (N.failures part) }
-    ensures pages { IfOk result (λ die. (pages : List Bytes)
-        → StandsOnPart die_plan pages all_count (N.labels part).blocks
+/// Starts a die on a part whose power has come, and makes of it one that keeps its plan: it has the pages that were saved,
+/// where that fits the plan. Else, where a mount could go on from what the part shows, as it can wherever the power went,
+/// it has just the pages that are found.
+pub(crate) fn started<N: SavingNand>(alloc: Global, part: N) -> Result<Kept<N>, Stop>
+    requires ready { N.saved part ≡ None → IsPoweredUp (N.shape_of part) (N.blocks part)
+        (N.labels part) (N.failures part) }
+    requires few_failures { N.failures part < 4294967295 }
+    ensures goes_on { IfOk result (λ die. (saved : Stood) → N.saved part ≡ Some saved
+        → GoesOnFrom die_plan (N.shape_of part) (N.saved part)
+        → die.die.core.start.contents ≡ (resumed_start die_plan saved.checkpoint
+        (without_aside die_plan.shape.blocks saved.aside free_block (N.blocks part))).contents) }
+    ensures mounted { IfOk result (λ die. ¬ GoesOnFrom die_plan (N.shape_of part) (N.saved part)
+        → (pages : List Bytes) → StandsOnPart die_plan pages all_count
+        (shown_of (N.shape_of part).pages (N.saved part) (N.labels part).blocks)
         → die.die.core.start.contents ≡ pages) }
 {
-    match mount(alloc, die_plan(alloc)?, part) {
+    match start_up(alloc, die_plan(alloc)?, part) {
         Ok(core) => kept(alloc, core),
-        Err(no) => Err(Stop::NotMounted(no.refusal)),
+        Err(no) => Err(Stop::NotStarted(no.refusal)),
     }
 }
