@@ -548,11 +548,196 @@ static void show_planned(void) {
     mg_planned_free(&die);
 }
 
+static int tells(const struct mg_unresumed *why, uint32_t first, uint32_t second, uint32_t third) {
+    return why->first == first && why->second == second && why->third == third;
+}
+
+enum { OF_PLANNED = 12 }; /* its logical pages */
+struct written { struct mg_cell places[OF_PLANNED]; struct mg_name names[OF_PLANNED]; struct mg_block blocks[8]; uint32_t balances[1], spare; };
+
+static uint32_t write_down(mg_planned *die, struct written *to, struct mg_why *why) {
+    return mg_planned_checkpoint(die, to->places, OF_PLANNED, to->names, OF_PLANNED, to->blocks, 8, to->balances, 1, &to->spare, why);
+}
+
+static uint32_t go_on(mg_planned *die, const struct mg_terms *terms, uint32_t longest, const struct written *from, struct mg_unresumed *why) {
+    static const struct mg_plan own = {8, 4, 3, OF_PLANNED, 2, 0};
+    static const struct mg_task cap = {6, 0, 0, 0, 0};
+    return mg_planned_resume(die, &own, &cap, terms, 1, longest, from->places, OF_PLANNED, from->names, OF_PLANNED, from->blocks, 8,
+                             from->balances, 1, from->spare, why);
+}
+
+/* Slots of a die that keeps its plan, on a chip that does what it is asked. */
+static void carry_slots(mg_planned *die, uint32_t slots) {
+    struct mg_call call;
+    struct mg_reply reply;
+    struct mg_waived waived[1];
+    struct mg_name blank;
+    memset(&blank, 255, sizeof blank);
+    while (slots-- > 0)
+        check(mg_planned_begin(die, 9, &call) == MG_OK
+              && mg_planned_end(die, 1, call.kind == MG_CALL_READ ? &call.name : &blank, &reply, waived, 1) == MG_OK, "a slot");
+}
+
+/* A die that keeps its plan is written down, and goes on from there: pointers, and causes in their order. */
+static void show_planned_shutdown(void) {
+    const struct mg_plan own = {8, 4, 3, OF_PLANNED, 2, 0};
+    const struct mg_task cap = {6, 0, 0, 0, 0};
+    const struct mg_terms terms = {20, 10, 10, 2, 1, 20, 20};
+    const struct mg_op write = {MG_WRITE, 5, {{7}}};
+    struct mg_why why = unsaid;
+    struct mg_unresumed un = {7, 8, 9};
+    struct mg_taken taken;
+    struct mg_call call;
+    struct mg_life life;
+    struct mg_cell cell;
+    static struct written at, broken;
+    uint32_t block = 99;
+    mg_planned die = {0};
+    check(write_down(&die, &at, &why) == MG_EMPTY_HANDLE && says(&why, 0, 0) && write_down(NULL, &at, NULL) == MG_EMPTY_HANDLE
+          && go_on(NULL, &terms, 100, &at, &un) == MG_EMPTY_HANDLE && tells(&un, 0, 0, 0) && mg_planned_serial(&die) == 0
+          && mg_planned_serial(NULL) == 0 && mg_planned_part_block(&die, 0, &block) == MG_EMPTY_HANDLE && block == 99, "of no die");
+    check(mg_planned_new(&die, &own, &cap, &terms, 1, 100, NULL) == MG_OK, "a die");
+    check(mg_planned_checkpoint(&die, NULL, OF_PLANNED, NULL, 0, NULL, 0, NULL, 0, &at.spare, &why) == MG_NULL_POINTER
+          && mg_planned_checkpoint(&die, NULL, 0, NULL, 0, NULL, 0, NULL, 0, NULL, NULL) == MG_NULL_POINTER
+          && mg_planned_checkpoint(&die, NULL, 0, NULL, 0, NULL, 0, NULL, 0, &at.spare, NULL) == MG_OK && at.spare == 24,
+          "an array of none");
+    check(mg_planned_serial(&die) == 1 && mg_planned_part_block(&die, 7, &block) == MG_OK && block == 7
+          && mg_planned_part_block(&die, 7, NULL) == MG_NULL_POINTER, "its part");
+    check(mg_planned_begin(&die, 9, &call) == MG_OK && write_down(&die, &at, &why) == MG_BEGUN && says(&why, 0, 0), "within a slot");
+    check(mg_planned_end(&die, 1, &call.name, &(struct mg_reply){0}, &(struct mg_waived){0, 0}, 1) == MG_OK, "its end");
+    check(mg_planned_ask(&die, 1, 0, &write, 1, &taken, NULL) == MG_OK, "a write");
+    why = unsaid;
+    check(write_down(&die, &at, &why) == MG_NOT_QUIET && says(&why, taken.first, 0), "work waits");
+    carry_slots(&die, 1);
+    check(mg_planned_serial(&die) == 2, "a program");
+    uint32_t tries = 0;
+    for (uint32_t code = MG_NO_MEMORY; code == MG_NO_MEMORY; tries++) {
+        left = tries;
+        code = write_down(&die, &at, &why);
+        left = UINT32_MAX;
+    }
+    check(tries > 4 && at.places[5].block == 0 && at.places[5].page == 0 && at.places[4].block == MG_NOWHERE && at.names[5].bytes[0] == 7
+          && at.blocks[0].filled == 1 && at.balances[0] == 5, "what stands");
+    carry_slots(&die, 93);
+    check(mg_planned_ask(&die, 1, 0, &write, 1, &taken, NULL) == MG_OK && taken.waits == 1, "an ask that waits");
+    broken = at;
+    check(write_down(&die, &broken, &why) == MG_ASK_WAITS && says(&why, 0, 0) && !memcmp(&at, &broken, sizeof at), "it would be lost");
+    mg_planned other = {0};
+    check(go_on(&die, &terms, 100, &at, &un) == MG_FULL_HANDLE && tells(&un, 0, 0, 0), "a die isn't lost");
+    un.first = 7;
+    check(mg_planned_resume(&other, NULL, &cap, &terms, 1, 100, NULL, 0, NULL, 0, NULL, 0, NULL, 0, 0, &un) == MG_NULL_POINTER
+          && tells(&un, 0, 0, 0)
+          && mg_planned_resume(&other, &own, &cap, NULL, 1, 100, NULL, 0, NULL, 0, NULL, 0, NULL, 0, 0, NULL) == MG_NULL_POINTER
+          && mg_planned_resume(&other, &own, &cap, &terms, 1, 100, NULL, 1, NULL, 0, NULL, 0, NULL, 0, 0, NULL) == MG_NULL_POINTER
+          && mg_planned_resume(&other, &own, &cap, &terms, 1, 100, NULL, 0, NULL, 0, NULL, 0, NULL, 0, 0, NULL) == MG_OTHER_SHAPE,
+          "what it goes on from");
+    broken = at;
+    broken.spare++;
+    check(go_on(&other, &terms, 100, &broken, &un) == MG_OTHER_SUM && tells(&un, 32, 31, 0), "accounts of more pages than are free");
+    broken = at;
+    broken.places[4] = at.places[5];
+    check(go_on(&other, &terms, 100, &broken, &un) == MG_SHARED_CELL && tells(&un, 5, 0, 0), "two pages in a cell");
+    struct mg_terms others = terms;
+    others.work = 0;
+    check(go_on(&other, &others, 100, &at, &un) == MG_BAD_TERMS && tells(&un, 0, 0, 0), "terms out of their limits");
+    others.work = 70;
+    check(go_on(&other, &others, 100, &at, &un) == MG_TOO_MUCH_DEMAND, "70 operations in 10 slots");
+    check(go_on(&other, &terms, 19, &at, &un) == MG_NO_LIFE, "a collection would be due after it");
+    broken = at;
+    broken.balances[0] = 2, broken.spare += 3;
+    check(go_on(&other, &terms, 19, &broken, &un) == MG_NO_LIFE && go_on(&other, &terms, 100, &broken, &un) == MG_NOT_STOCKED && tells(&un, 0, 2, 3),
+          "a task with too few pages");
+    others = terms;
+    others.collect_period = 9, others.collect_deadline = 9;
+    check(go_on(&other, &others, 9, &at, &un) == MG_SHORT_LIFE && tells(&un, 0, 0, 0), "a life shorter than a deadline");
+    for (tries = 0;; tries++) {
+        left = tries;
+        uint32_t code = go_on(&other, &terms, 60, &at, &un);
+        left = UINT32_MAX;
+        if (code == MG_OK) break;
+        check(code == MG_NO_MEMORY && tells(&un, 0, 0, 0) && !other.at, "no memory, no die");
+    }
+    check(tries > 10 && mg_planned_life(&other, &life) == MG_OK && life.first == 0 && life.slots == 60 && life.now == 0, "another length of lives");
+    check(mg_planned_clock(&other) == 0 && mg_planned_serial(&other) == 1 && mg_planned_place(&other, 5, &cell) == MG_OK && cell.block == 0, "it goes on");
+    left = 0; /* it asks the heap for nothing from here on */
+    check(mg_planned_ask(&other, 1, 0, &write, 1, &taken, NULL) == MG_OK && taken.due == 10, "it takes asks");
+    carry_slots(&other, 500);
+    left = UINT32_MAX;
+    check(mg_planned_clock(&other) == 500 && mg_planned_serial(&other) > 1, "over lives");
+    mg_planned_free(&other);
+    mg_planned_free(&die);
+}
+
+/* A mount ends in a die that keeps its plan. */
+static void show_planned_mount(void) {
+    const struct mg_plan own = {8, 4, 3, OF_PLANNED, 2, 0};
+    const struct mg_task cap = {6, 0, 0, 0, 0};
+    const struct mg_terms terms[2] = {{20, 10, 10, 2, 1, 20, 20}, {20, 10, 10, 2, 1, 20, 20}};
+    const struct mg_op read = {MG_READ, 5, {{0}}}, write = {MG_WRITE, 2, {{9}}};
+    struct mg_unresumed why = {7, 8, 9};
+    struct mg_name names[6] = {{{0}}};
+    struct mg_cell cell;
+    struct mg_life life;
+    struct mg_call call;
+    struct mg_reply reply;
+    struct mg_waived waived[1];
+    struct mg_taken taken;
+    uint32_t block;
+    mg_mount mount = {0};
+    mg_planned die = {0};
+    names[5].bytes[0] = 171;
+    check(mg_mount_end_planned(&mount, terms, 1, 100, names, 6, &die, &why) == MG_EMPTY_HANDLE && tells(&why, 0, 0, 0)
+          && mg_mount_end_planned(NULL, terms, 1, 100, names, 6, &die, NULL) == MG_EMPTY_HANDLE, "of no mount");
+    check(mg_mount_new(&mount, &own, &cap, 1) == MG_OK, "a mount");
+    why.first = 7;
+    check(mg_mount_end_planned(&mount, terms, 1, 100, names, 6, &die, &why) == MG_WRONG_STEP && tells(&why, 0, 0, 0) && !die.at, "it hasn't ended");
+    for (uint32_t b = 0; b < 9; b++)
+        check((b == 8 ? tell(&mount, MG_NO_LABEL, 0, 5, 41) : mg_mount_tell(&mount, NULL, 0, NULL)) == MG_OK, "a block is told");
+    struct mg_step step;
+    while (mg_mount_next(&mount, &step) == MG_OK && step.kind == MG_STEP_ERASE) check(mg_mount_done(&mount) == MG_OK, "a slot of an erase");
+    check(step.kind == MG_STEP_END, "its end");
+    check(mg_mount_end_planned(&mount, terms, 1, 100, names, 6, NULL, &why) == MG_EMPTY_HANDLE
+          && mg_mount_end_planned(&mount, NULL, 1, 100, names, 6, &die, &why) == MG_NULL_POINTER
+          && mg_mount_end_planned(&mount, terms, 1, 100, NULL, 6, &die, NULL) == MG_NULL_POINTER, "where to, and with what");
+    check(mg_mount_end_planned(&mount, terms, 2, 100, names, 6, &die, &why) == MG_BAD_TERMS && mg_mount_end_planned(&mount, NULL, 0, 100, names, 6, &die, &why) == MG_BAD_TERMS
+          && mg_mount_end_planned(&mount, terms, 1, 19, names, 6, &die, &why) == MG_NO_LIFE && tells(&why, 0, 0, 0), "terms of another number of tasks, and no life");
+    struct mg_terms others = terms[0];
+    others.collect_period = 9, others.collect_deadline = 9;
+    check(mg_mount_end_planned(&mount, &others, 1, 9, names, 6, &die, &why) == MG_SHORT_LIFE && !die.at, "a life shorter than a deadline");
+    uint32_t tries = 0;
+    for (;; tries++) {
+        left = tries;
+        uint32_t code = mg_mount_end_planned(&mount, terms, 1, 100, names, 6, &die, &why);
+        left = UINT32_MAX;
+        if (code == MG_OK) break;
+        check(code == MG_NO_MEMORY && tells(&why, 0, 0, 0) && !die.at && mg_mount_next(&mount, &step) == MG_OK, "it may be asked again");
+    }
+    check(tries > 10 && mg_mount_end_planned(&mount, terms, 1, 100, names, 6, &die, &why) == MG_FULL_HANDLE, "a die isn't lost");
+    mg_planned second = {0};
+    check(mg_mount_next(&mount, &step) == MG_WRONG_STEP && mg_mount_end_planned(&mount, terms, 1, 100, names, 6, &second, &why) == MG_WRONG_STEP, "and no other one");
+    mg_mount_free(&mount);
+    check(mg_planned_serial(&die) == 42 && mg_planned_part_block(&die, 0, &block) == MG_OK && block == 8 && mg_planned_life(&die, &life) == MG_OK
+          && life.slots == 100 && life.now == 0, "its part, and its life");
+    check(mg_planned_place(&die, 5, &cell) == MG_OK && cell.block == 0 && cell.page == 1, "the page lies in the block of the one aside");
+    left = 0;
+    check(mg_planned_ask(&die, 1, 0, &read, 1, &taken, NULL) == MG_OK && mg_planned_ask(&die, 1, 0, &write, 1, &taken, NULL) == MG_OK, "all of a period at once");
+    check(mg_planned_begin(&die, 9, &call) == MG_OK && call.kind == MG_CALL_READ && call.name.bytes[0] == 171
+          && mg_planned_end(&die, 1, &call.name, &reply, waived, 1) == MG_OK && mg_planned_serial(&die) == 42, "the page, by its name");
+    check(mg_planned_begin(&die, 9, &call) == MG_OK && call.kind == MG_CALL_PROGRAM && call.logical == 2 && mg_planned_serial(&die) == 42
+          && mg_planned_end(&die, 1, &call.name, &reply, waived, 1) == MG_OK && mg_planned_serial(&die) == 43, "the next one's serial");
+    carry_slots(&die, 300);
+    left = UINT32_MAX;
+    check(mg_planned_serial(&die) >= 43 && mg_planned_life(&die, &life) == MG_OK && life.first == 300, "over lives");
+    mg_planned_free(&die);
+}
+
 int main(int argc, char **argv) {
     show_handles();
     show_pointers();
     show_overdue();
     show_planned();
+    show_planned_shutdown();
+    show_planned_mount();
     show_memory();
     show_reserves();
     show_trims();

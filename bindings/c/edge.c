@@ -397,3 +397,60 @@ uint32_t mg_planned_place(const mg_planned *die, uint32_t page, struct mg_cell *
     mg_planned own = *die;
     return flash_planned_place(&own, page, place);
 }
+
+static uint32_t unresumed(uint32_t refusal, struct mg_unresumed *why) {
+    if (why) *why = (struct mg_unresumed){0, 0, 0};
+    return refusal;
+}
+
+static uint32_t unkept(const mg_planned *die) { return !die ? MG_EMPTY_HANDLE : die->at ? MG_FULL_HANDLE : MG_OK; }
+
+uint32_t mg_planned_checkpoint(mg_planned *die, struct mg_cell *places, size_t place_count, struct mg_name *names, size_t name_count,
+                               struct mg_block *blocks, size_t block_count, uint32_t *balances, size_t balance_count, uint32_t *spare,
+                               struct mg_why *why) {
+    struct mg_why numbers;
+    if (!is_planned(die)) return refused(MG_EMPTY_HANDLE, why);
+    if (!spare || !is_array(places, place_count) || !is_array(names, name_count) || !is_array(blocks, block_count)
+        || !is_array(balances, balance_count))
+        return refused(MG_NULL_POINTER, why);
+    return flash_planned_checkpoint(die, ARRAY(places), place_count, ARRAY(names), name_count, ARRAY(blocks), block_count,
+                                    ARRAY(balances), balance_count, spare, why ? why : &numbers);
+}
+
+uint32_t mg_planned_resume(mg_planned *die, const struct mg_plan *plan, const struct mg_task *tasks, const struct mg_terms *terms,
+                           size_t count, uint32_t longest, const struct mg_cell *places, size_t place_count, const struct mg_name *names,
+                           size_t name_count, const struct mg_block *blocks, size_t block_count, const uint32_t *balances,
+                           size_t balance_count, uint32_t spare, struct mg_unresumed *why) {
+    struct mg_unresumed numbers;
+    uint32_t handle = unkept(die);
+    if (handle) return unresumed(handle, why);
+    if (!plan || !is_array(tasks, count) || !is_array(terms, count) || !is_array(places, place_count) || !is_array(names, name_count)
+        || !is_array(blocks, block_count) || !is_array(balances, balance_count))
+        return unresumed(MG_NULL_POINTER, why);
+    return flash_planned_resume(die, plan, ARRAY(tasks), count, ARRAY(terms), count, longest, ARRAY(places), place_count, ARRAY(names),
+                                name_count, ARRAY(blocks), block_count, ARRAY(balances), balance_count, spare, why ? why : &numbers);
+}
+
+uint32_t mg_mount_end_planned(mg_mount *mount, const struct mg_terms *terms, size_t count, uint32_t longest, const struct mg_name *names,
+                              size_t name_count, mg_planned *die, struct mg_unresumed *why) {
+    struct mg_unresumed numbers;
+    if (!is_mounting(mount)) return unresumed(MG_EMPTY_HANDLE, why);
+    uint32_t handle = unkept(die);
+    if (handle) return unresumed(handle, why);
+    if (!is_array(terms, count) || !is_array(names, name_count)) return unresumed(MG_NULL_POINTER, why);
+    return flash_mount_end_planned(mount, ARRAY(terms), count, longest, ARRAY(names), name_count, die, why ? why : &numbers);
+}
+
+uint64_t mg_planned_serial(const mg_planned *die) {
+    if (!is_planned(die)) return 0;
+    mg_planned own = *die;
+    return flash_planned_serial(&own);
+}
+
+uint32_t mg_planned_part_block(const mg_planned *die, uint32_t block, uint32_t *part_block) {
+    if (!is_planned(die)) return MG_EMPTY_HANDLE;
+    if (!part_block) return MG_NULL_POINTER;
+    mg_planned own = *die;
+    *part_block = flash_planned_part_block(&own, block);
+    return MG_OK;
+}

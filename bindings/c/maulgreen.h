@@ -4,7 +4,8 @@
  * it, and nothing else may look inside. A handle is never copied: both copies would free the die. Every call of an empty handle, or
  * of none, is answered: MG_EMPTY_HANDLE, or 0 by mg_now, mg_len, mg_records, mg_serial and mg_mount_calls_left; mg_free does nothing
  * then. What fills a handle answers MG_FULL_HANDLE of a full one. So it is with `struct mg_mount`, mg_mount_new and mg_mount_free, and
- * with `struct mg_planned`, mg_planned_new and mg_planned_free; mg_planned_clock answers 0 of an empty one.
+ * with `struct mg_planned`, which mg_planned_new, mg_planned_resume and mg_mount_end_planned fill, and mg_planned_free; mg_planned_clock
+ * and mg_planned_serial answer 0 of an empty one.
  *
  * THREADS. Several dies share nothing but the heap. A die may be made on one thread and used on another. A call that takes a
  * `const` handle is a question: it reads the die, and several may run beside each other. While any other call of a die runs,
@@ -43,7 +44,7 @@ extern "C" {
  * something is added. So a program that was compiled with this header works with a library of the same major number whose
  * minor one isn't below: MG_FITS(mg_version()). */
 #define MG_VERSION_MAJOR 1u
-#define MG_VERSION_MINOR 2u
+#define MG_VERSION_MINOR 3u
 #define MG_VERSION (MG_VERSION_MAJOR << 16 | MG_VERSION_MINOR)
 #define MG_FITS(version) ((version) >> 16 == MG_VERSION_MAJOR && ((version) & 0xFFFFu) + 1u > MG_VERSION_MINOR)
 
@@ -110,7 +111,10 @@ enum {
     MG_SHORT_LIFE = 406,         /* the longest life that is allowed is shorter than a deadline [number: the first such task] */
     MG_BAD_TERMS = 407,          /* terms out of their limits, or of another number of tasks */
     MG_TOO_MUCH_DEMAND = 408,    /* more may be asked than there are slots, in the long run or in some interval */
-    MG_TOO_FEW_PAGES = 409       /* a task's collections give less than it writes, or its cap doesn't cover it */
+    MG_TOO_FEW_PAGES = 409,      /* a task's collections give less than it writes, or its cap doesn't cover it */
+    MG_ASK_WAITS = 410,          /* an ask waits for the next life, and would be lost [first: the first such task] */
+    MG_NOT_STOCKED = 411         /* a task has too few pages to go on with: it lacks more to its cap than alpha and what it may write in a
+                                    period [first: the first such task; second: it has; third: it needs] */
 };
 
 /* What a refusal has beside its number. */
@@ -126,7 +130,7 @@ const char *mg_refusal_text(uint32_t refusal);
 /* MG_VERSION of the library. */
 uint32_t mg_version(void);
 
-/* The same as a text: "1.2"; "1.2, not proved" of a library that was built without a proof. */
+/* The same as a text: "1.3"; "1.3, not proved" of a library that was built without a proof. */
 const char *mg_version_text(void);
 
 /* ---- What the library asks of the program ------------------------------------------------------------------------
@@ -154,7 +158,7 @@ struct mg_plan {
 struct mg_task {
     uint32_t cap;            /* the most free pages that it may own tokens for: at least 1 */
     /* the rest isn't looked at in a plan without times */
-    uint32_t period;         /* its jobs come at most once in so many slots, and have as long: 1 to 1,048,576 */
+    uint32_t period;         /* in slots, 1 to 1,048,576: its jobs come at most once in a period, and have as long */
     uint32_t collect_period; /* its collections come at each multiple of this, and have as long: 1 to 1,048,576 */
     uint32_t work;           /* the most operations of a job: 1 to 64 */
     uint32_t writes;         /* the most writes among these: 0 to `work` */
@@ -273,16 +277,16 @@ struct mg_waived { uint32_t job, given; };
 uint32_t mg_end(mg_die *die, uint32_t ok, const struct mg_name *name, struct mg_reply *reply,
                    struct mg_waived *waived, size_t count);
 
-/* Takes the memory for so many later slots: begin and end of these take no memory and are never refused for it. Each slot
+/* Takes the memory for `slots` later slots: begin and end of these take no memory and are never refused for it. Each slot
  * that is ended uses one of them up, and one that has begun is the first of them; each mg_renew reserves them all again. It may
- * be called at any time, within a slot and of a die that is stopped, too. NO_MEMORY, where nothing changes; never where so many
- * are reserved already. */
+ * be called at any time, within a slot and of a die that is stopped, too. NO_MEMORY, where nothing changes; it never comes where
+ * as many are reserved already. */
 uint32_t mg_reserve(mg_die *die, uint32_t slots);
 
-/* Takes the memory for so many later jobs and collections, with so many operations in all: while that lasts, mg_submit and
+/* Takes the memory for `jobs` later jobs and collections, with `operations` operations in all: while that lasts, mg_submit and
  * mg_collect take no memory and are never refused for it. Each one that is accepted uses one of them up, with as many operations
  * as it has; one of more operations than are left may be refused. Each mg_renew reserves them all again. It may be called at any
- * time, as mg_reserve. NO_MEMORY, where nothing changes; never where so many of both are reserved already.
+ * time, as mg_reserve. NO_MEMORY, where nothing changes; it never comes where as many of both are reserved already.
  *
  * Reserve jobs first, and slots after them: a list that grows gets twice its room, so the other way round takes more. */
 uint32_t mg_reserve_jobs(mg_die *die, uint32_t jobs, uint32_t operations);
@@ -291,16 +295,16 @@ uint32_t mg_reserve_jobs(mg_die *die, uint32_t jobs, uint32_t operations);
  * and the new one. With C cells (blocks * pages), K tasks, and K' of them rounded up to 4, 8 or 16:
  *
  *   birth     1,136 + 20 C + 4 logical + 60 blocks + 8 (pages + 1) + 8 (blocks / 64, rounded up) + 53 K + 4 K', and 16 K' more
- *             in a plan with times. It has so many from mg_new or mg_resume on. This is exact
- *   reserved  that, and 24 a slot, 108 a job or collection, 37 an operation, and 12 K: with so much reserved at once, jobs first;
- *             of it 8 a job are given back when it is reserved. It has so many until all of that is used up, also in later lives,
+ *             in a plan with times. It has them from mg_new or mg_resume on. This is exact
+ *   reserved  that, and 24 a slot, 108 a job or collection, 37 an operation, and 12 K: with all of it reserved at once, jobs first;
+ *             of it 8 a job are given back when it is reserved. It has them until all of that is used up, also in later lives,
  *             in each of which it is reserved again. Exact, too, for 64
  *             and more of each and no fewer slots than jobs; else it says what shorter lists take
- *   life      with nothing reserved, by the end of a life of so many slots, jobs and operations in all, each list having grown
- *             to between once and twice its items: 24 to 48 a slot, 112 to 200 a job or collection, 42 an operation, and half of
- *             the greatest list, while that is moved. Not tight: alike entries are kept once, callers only where they change, and
- *             each job is taken for a collection that is waived, and that waits while all others do. Lives of random jobs take
- *             more than a third of it
+ *   life      with nothing reserved, by the end of a life of `slots` slots, `jobs` jobs and `operations` operations in all,
+ *             each list having grown to between once and twice its items: 24 to 48 a slot, 112 to 200 a job or collection, 42
+ *             an operation, and half of the greatest list, while that is moved. Not tight: alike entries are kept once, callers
+ *             only where they change, and each job is taken for a collection that is waived, and that waits while all others
+ *             do. Lives of random jobs take more than a third of it
  *   question  what a question takes beside that and gives back before it answers: a report, 60 to 96 a job, or a checkpoint
  *   resume    what mg_resume takes until it has answered: beside a birth, the arrays of the checkpoint
  *
@@ -330,7 +334,7 @@ uint32_t mg_renew_giving_back(mg_die *die, struct mg_why *why);
 #define MG_NOWHERE UINT32_MAX
 struct mg_cell { uint32_t block, page; };
 
-/* How many pages of a block are programmed since its last erase, the first so many, and how often it was erased. */
+/* Of a block how many pages are programmed since its last erase, its first ones, and how often it was erased. */
 struct mg_block { uint32_t filled, erases; };
 
 /* Reports what stands at a moment at which all that was accepted is done or was waived, and leaves the die as it is: by logical
@@ -348,8 +352,8 @@ uint32_t mg_checkpoint(mg_die *die, struct mg_cell *places, size_t place_count, 
  * A page that lies nowhere, or that has no name here, is blank. What the chip has changed meanwhile is found: a read that gives
  * another name than the one of its page here is a fault.
  *
- * The chip has to be as the checkpoint says: so many pages of each block are programmed, and no block is in erase. The die
- * programs and erases as it goes on, and then the chip isn't as it was: so destroy a checkpoint before the first
+ * The chip has to be as the checkpoint says: of each block the first `filled` pages are programmed, and no block is in erase.
+ * The die programs and erases as it goes on, and then the chip isn't as it was: so destroy a checkpoint before the first
  * MG_CALL_PROGRAM or MG_CALL_ERASE of the die that goes on from it. From a spent one a die is made all the same, which gives old
  * data as good. All that
  * the arrays alone can show is tested. The first that stands: NO_MEMORY, which may come at any time; BAD_PLAN,
@@ -538,7 +542,7 @@ uint32_t mg_report(const mg_die *const *dies, size_t count, mg_put put, void *to
  * carried out and no call of the device fails. All memory is taken by mg_planned_new: no ask and no slot is refused for memory, or
  * takes any. Of its handle holds what is said of a die's, and slots are begun and ended as a die's are.
  *
- * A life has so many slots, and the die takes the longest one that its plan and `longest` allow. The first ask or slot after its end
+ * All lives have the same number of slots, the most that its plan and `longest` allow. The first ask or slot after a life's end
  * begins the next one, in which jobs and collections have numbers from 0 again: up to that call mg_planned_outcome tells what became
  * of those before. An ask that would be due after the end of a life waits for the next one, at most one a task: its jobs are the
  * first of that life, from number 0 on, in the order of their tasks. `release` and `due` are slots of the clock of all lives
@@ -548,13 +552,13 @@ typedef struct mg_planned { void *at; } mg_planned;
 
 /* What a task asks for. The periods of different tasks need have no common multiple. */
 struct mg_terms {
-    uint32_t period;           /* in any so many slots, 1 to 4,294,967,295, it asks for jobs .. */
-    uint32_t deadline;         /* due so many slots after their release: 1 to `held` */
-    uint32_t held;             /* so long a job may hold the tokens for what it writes: `deadline`, or more, up to 1,048,576 */
-    uint32_t work;             /* .. of so many operations in all, 1 to 1,048,576, */
-    uint32_t writes;           /* and so many writes in all, 0 to `work` */
+    uint32_t period;           /* in slots, 1 to 4,294,967,295: `work` and `writes` bound what it asks for in a period */
+    uint32_t deadline;         /* slots from a job's release to when it is due: 1 to `held` */
+    uint32_t held;             /* the most slots for which a job may hold its tokens: `deadline`, or more, up to 1,048,576 */
+    uint32_t work;             /* the most operations in a period, of all its jobs: 1 to 1,048,576 */
+    uint32_t writes;           /* the most writes in a period, of all its jobs: 0 to `work` */
     uint32_t collect_period;   /* a collection comes at each multiple of this: 1 to 1,048,576 */
-    uint32_t collect_deadline; /* and is due so many slots later: 1 to `collect_period` */
+    uint32_t collect_deadline; /* slots from then to when it is due: 1 to `collect_period` */
 };
 
 /* The numbers of a refusal. */
@@ -628,6 +632,48 @@ uint32_t mg_planned_waiting(const mg_planned *die, uint32_t task, uint32_t *oper
 uint32_t mg_planned_job(const mg_planned *die, uint32_t number, struct mg_job_head *job);
 uint32_t mg_planned_outcome(const mg_planned *die, uint32_t job, struct mg_job_outcome *outcome, struct mg_name *reads, size_t count);
 uint32_t mg_planned_place(const mg_planned *die, uint32_t page, struct mg_cell *place);
+
+/* What stands between two slots where all that was accepted is done or was waived and no ask waits, with the names of the pages, as
+ * mg_checkpoint reports it. The die stays as it is. After the slot that ends a life, up to the next ask or slot, nothing that was
+ * accepted is left, and each task has what it needs to go on with the same terms, where `held` is `deadline`: so a checkpoint that was
+ * taken there always goes on with the same plan, terms and `longest`.
+ *
+ * The first that stands: BEGUN; DIE_STOPPED; NOT_QUIET; WORN_OUT; ASK_WAITS; NO_MEMORY, which may come before ASK_WAITS. */
+uint32_t mg_planned_checkpoint(mg_planned *die, struct mg_cell *places, size_t place_count, struct mg_name *names, size_t name_count,
+                               struct mg_block *blocks, size_t block_count, uint32_t *balances, size_t balance_count, uint32_t *spare,
+                               struct mg_why *why);
+
+/* The numbers of why no die that keeps its plan goes on, 0 where it has none: those in brackets above. */
+struct mg_unresumed { uint32_t first, second, third; };
+
+/* Makes a die in an empty handle that goes on from a checkpoint, as mg_resume does: at slot 0 of the longest life of at most `longest`
+ * slots, with the clock of all lives at 0, and with all memory that it ever needs. Its promises go on. Terms and `longest` may be others
+ * than before. What tasks asked for before isn't in a checkpoint: what a task lacks to its cap beyond alpha pages counts as asked to
+ * write in slot 0, so until its period is over it may ask for so much less.
+ *
+ * The first that stands: NO_MEMORY, which may come at any time; as of mg_resume OTHER_SHAPE, BAD_PLAN, OVERFULL, SECOND_OPEN, WORN_OUT,
+ * UNPROGRAMMED, ABOVE_CAP, OTHER_SUM, SHARED_CELL; BAD_TERMS; TOO_MUCH_DEMAND; TOO_FEW_PAGES; NO_LIFE; NOT_STOCKED; SHORT_LIFE. The
+ * handle stays empty then. */
+uint32_t mg_planned_resume(mg_planned *die, const struct mg_plan *plan, const struct mg_task *tasks, const struct mg_terms *terms,
+                           size_t count, uint32_t longest, const struct mg_cell *places, size_t place_count, const struct mg_name *names,
+                           size_t name_count, const struct mg_block *blocks, size_t block_count, const uint32_t *balances,
+                           size_t balance_count, uint32_t spare, struct mg_unresumed *why);
+
+/* Makes a die that keeps its plan in an empty handle, which begins where the mount has ended, as mg_mount_end does: at slot 0 of the
+ * longest life of at most `longest` slots. Each task of the mount's plan has its terms (mg_planned_new), and as many tokens as its cap;
+ * nothing counts as asked for before. The mount is over then.
+ *
+ * The first that stands, after those of the handles: NO_MEMORY, which may come at any time; WRONG_STEP, where the mount hasn't ended;
+ * BAD_TERMS, TOO_MUCH_DEMAND, TOO_FEW_PAGES, NO_LIFE and SHORT_LIFE, as of mg_planned_new. All of these leave the mount. With terms and
+ * `longest` with which the die before the loss of power was made it is NO_MEMORY alone. */
+uint32_t mg_mount_end_planned(mg_mount *mount, const struct mg_terms *terms, size_t count, uint32_t longest, const struct mg_name *names,
+                              size_t name_count, mg_planned *die, struct mg_unresumed *why);
+
+/* As mg_serial and mg_part_block; the serial rises over all lives, and a mounted die goes on with those of its mount. A die that
+ * mg_planned_resume makes numbers from 1 on again, and knows of no block aside: a driver with labels goes on by a mount after a
+ * shutdown, too. */
+uint64_t mg_planned_serial(const mg_planned *die);
+uint32_t mg_planned_part_block(const mg_planned *die, uint32_t block, uint32_t *part_block);
 
 /* ---- For auditors, without a die --------------------------------------------------------------------------------- */
 

@@ -36,6 +36,8 @@ uint32_t flash_mount_done(mg_mount *mount);
 uint64_t flash_mount_calls_left(mg_mount *mount);
 uint32_t flash_mount_place(mg_mount *mount, uint32_t page, struct mg_cell *place);
 uint32_t flash_mount_end(mg_mount *mount, const struct mg_name *names, size_t count, mg_die *die);
+uint32_t flash_mount_end_planned(mg_mount *mount, const struct mg_terms *terms, size_t term_count, uint32_t longest,
+                                 const struct mg_name *names, size_t count, mg_planned *die, struct mg_unresumed *why);
 uint64_t flash_serial(mg_die *die);
 uint32_t flash_part_block(mg_die *die, uint32_t block);
 uint32_t flash_now(mg_die *die);
@@ -65,6 +67,16 @@ uint32_t flash_planned_waiting(mg_planned *die, uint32_t task, uint32_t *operati
 uint32_t flash_planned_job(mg_planned *die, uint32_t number, struct mg_job_head *job);
 uint32_t flash_planned_outcome(mg_planned *die, uint32_t job, struct mg_job_outcome *outcome, struct mg_name *reads, size_t count);
 uint32_t flash_planned_place(mg_planned *die, uint32_t page, struct mg_cell *place);
+uint32_t flash_planned_checkpoint(mg_planned *die, struct mg_cell *places, size_t place_count, struct mg_name *names, size_t name_count,
+                                  struct mg_block *blocks, size_t block_count, uint32_t *balances, size_t balance_count,
+                                  uint32_t *spare, struct mg_why *why);
+uint32_t flash_planned_resume(mg_planned *die, const struct mg_plan *plan, const struct mg_task *tasks, size_t count,
+                              const struct mg_terms *terms, size_t term_count, uint32_t longest, const struct mg_cell *places,
+                              size_t place_count, const struct mg_name *names, size_t name_count, const struct mg_block *blocks,
+                              size_t block_count, const uint32_t *balances, size_t balance_count, uint32_t spare,
+                              struct mg_unresumed *why);
+uint64_t flash_planned_serial(mg_planned *die);
+uint32_t flash_planned_part_block(mg_planned *die, uint32_t block);
 uint32_t flash_check(const struct mg_row *rows, size_t row_count, const struct mg_cert *certificate, const uint32_t *jobs,
                      size_t count);
 #endif

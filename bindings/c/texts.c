@@ -3,9 +3,9 @@
 
 const char *mg_version_text(void) {
 #ifdef MG_UNPROVED
-    return "1.2, not proved";
+    return "1.3, not proved";
 #else
-    return "1.2";
+    return "1.3";
 #endif
 }
 
@@ -66,6 +66,8 @@ const char *mg_refusal_text(uint32_t refusal) {
     case MG_BAD_TERMS: return "terms out of their limits, or of another number of tasks";
     case MG_TOO_MUCH_DEMAND: return "more may be asked than there are slots, in the long run or in some interval";
     case MG_TOO_FEW_PAGES: return "a task's collections give less than it writes, or its cap doesn't cover it";
+    case MG_ASK_WAITS: return "an ask waits for the next life, and would be lost";
+    case MG_NOT_STOCKED: return "a task lacks more to its cap than alpha pages and what it may write in a period";
     default: return "no refusal of this number";
     }
 }

@@ -111,5 +111,34 @@ int main() {
     maulgreen::slot read_back = mounted.begin(9);
     check(read_back.call().name == fifth && read_back.end(true, fifth).finished, "with the page's name");
     check(refused([&] { mount.step(); }) == MG_WRONG_STEP, "a mount makes one die");
+    // A die that keeps its plan is written down and goes on, and a mount ends in one.
+    const maulgreen::plan small{8, 4, 3, 12, 2, 0};
+    const std::vector<maulgreen::task> cap{{6, 0, 0, 0, 0}};
+    const std::vector<maulgreen::terms> terms{{20, 10, 10, 2, 1, 20, 20}};
+    maulgreen::planned kept(small, cap, terms, 100);
+    kept.ask(1, 0, {maulgreen::write(5, fifth)});
+    check(refused([&] { kept.checkpoint(); }) == MG_NOT_QUIET, "work waits");
+    for (int i = 0; i < 2; i++) { // the second slot waives the collection
+        kept.begin(9);
+        kept.end(true);
+    }
+    maulgreen::checkpoint at = kept.checkpoint();
+    check(kept.serial() == 2 && kept.part_block(3) == 3 && at.names[5] == fifth && at.places[5].block == 0, "what stands");
+    kept = maulgreen::planned(small, cap, terms, 60, at); // the chip keeps its pages
+    check(kept.life().slots == 60 && kept.serial() == 1 && kept.checkpoint().balances == at.balances, "it goes on");
+    at.balances[0] -= 4, at.spare += 4;
+    try {
+        maulgreen::planned(small, cap, terms, 60, at);
+        check(false, "a task with too few pages");
+    } catch (const maulgreen::refusal &why) {
+        check(why.code == MG_NOT_STOCKED && why.why.second == 2 && why.third == 3, "it has 2 pages and needs 3");
+    }
+    maulgreen::mount again(small, cap);
+    check(refused([&] { again.end_planned(terms, 100, {}); }) == MG_WRONG_STEP, "blocks come first");
+    for (maulgreen::step step = again.step(); step.kind != MG_STEP_END; step = again.step())
+        if (step.kind == MG_STEP_TELL) again.tell(step.block == 8 ? std::vector<maulgreen::label>{{41, 5}} : std::vector<maulgreen::label>{});
+        else again.done();
+    maulgreen::planned begun = again.end_planned(terms, 100, {{}, {}, {}, {}, {}, fifth});
+    check(begun.serial() == 42 && begun.part_block(0) == 8 && begun.place(5)->block == 0, "it begins there");
     std::cout << "all as it should be\n";
 }

@@ -46,12 +46,16 @@ public:
     refusal(std::uint32_t code, ::mg_unasked asked) : code(code), why{asked.number, 0}, next(asked.next) {
         ::mg_refusal_name(code, name_.data(), name_.size());
     }
+    refusal(std::uint32_t code, ::mg_unresumed un) : code(code), why{un.first, un.second}, third(un.third) {
+        ::mg_refusal_name(code, name_.data(), name_.size());
+    }
     const char *what() const noexcept override { return name_.data(); }      // "NoTokens"
     const char *text() const noexcept { return ::mg_refusal_text(code); } // what that means, in a line
 
     const std::uint32_t code;
     const ::mg_why why;
     const std::uint64_t next = 0; // of an ask that comes too soon the first slot with room for it, from the start of the present life
+    const std::uint32_t third = 0; // of a task with too few pages to go on with how many it needs
 
 private:
     std::array<char, 16> name_{};
@@ -62,6 +66,10 @@ inline void must(std::uint32_t code, const ::mg_why &why = {0, 0}) {
 }
 
 inline void must(std::uint32_t code, const ::mg_unasked &why) {
+    if (code != MG_OK) throw refusal(code, why);
+}
+
+inline void must(std::uint32_t code, const ::mg_unresumed &why) {
     if (code != MG_OK) throw refusal(code, why);
 }
 
@@ -123,6 +131,7 @@ inline std::uint32_t check(const std::vector<row> &rows, const certificate &c) {
 }
 
 class die;
+class planned;
 
 // A slot that has begun. The die may be asked meanwhile, and jobs may arrive.
 class slot {
@@ -406,6 +415,9 @@ public:
         return said.block == MG_NOWHERE ? std::nullopt : std::optional<cell>(said);
     }
 
+    // The die that keeps its plan and begins where it has ended.
+    planned end_planned(const std::vector<maulgreen::terms> &terms, std::uint32_t longest, const std::vector<name> &names);
+
     // The die that begins where it has ended; by logical page the name of what lies there.
     die end(const std::vector<name> &names) {
         auto made = new ::mg_die{nullptr};
@@ -427,17 +439,34 @@ private:
 // may run beside each other. Slots are begun and ended, and no ask comes between.
 class planned {
 public:
-    planned(const plan &p, const std::vector<task> &tasks, const std::vector<maulgreen::terms> &terms, std::uint32_t longest) {
+    planned(const plan &p, const std::vector<task> &tasks, const std::vector<maulgreen::terms> &terms, std::uint32_t longest)
+        : size_(p), tasks_(tasks.size()) {
         if (!fits()) throw std::runtime_error("another version of libmaulgreen");
         if (terms.size() != tasks.size()) throw refusal(MG_BAD_TERMS);
         ::mg_unasked why{0, 0};
         must(::mg_planned_new(&handle_, &p, tasks.data(), terms.data(), tasks.size(), longest, &why), why);
     }
+
+    // A die that goes on from a checkpoint. The chip has to be as that says.
+    planned(const plan &p, const std::vector<task> &tasks, const std::vector<maulgreen::terms> &terms, std::uint32_t longest,
+            const maulgreen::checkpoint &c)
+        : size_(p), tasks_(tasks.size()) {
+        if (!fits()) throw std::runtime_error("another version of libmaulgreen");
+        if (terms.size() != tasks.size()) throw refusal(MG_BAD_TERMS);
+        ::mg_unresumed why{0, 0, 0};
+        must(::mg_planned_resume(&handle_, &p, tasks.data(), terms.data(), tasks.size(), longest, c.places.data(), c.places.size(),
+                                 c.names.data(), c.names.size(), c.blocks.data(), c.blocks.size(), c.balances.data(),
+                                 c.balances.size(), c.spare, &why),
+             why);
+    }
     planned(const planned &) = delete;
     planned &operator=(const planned &) = delete;
-    planned(planned &&other) noexcept : handle_(std::exchange(other.handle_, ::mg_planned{nullptr})) {}
+    planned(planned &&other) noexcept
+        : handle_(std::exchange(other.handle_, ::mg_planned{nullptr})), size_(other.size_), tasks_(other.tasks_) {}
     planned &operator=(planned &&other) noexcept {
         std::swap(handle_, other.handle_);
+        std::swap(size_, other.size_);
+        std::swap(tasks_, other.tasks_);
         return *this;
     }
     ~planned() { ::mg_planned_free(&handle_); }
@@ -459,6 +488,29 @@ public:
         std::array<::mg_waived, 16> waived{};
         must(::mg_planned_end(&handle_, ok ? 1 : 0, &gave, &said, waived.data(), waived.size()));
         said.waived_ones.assign(waived.begin(), waived.begin() + said.waived);
+        return said;
+    }
+
+    // What stands between two slots where nothing that was accepted is left, with the names of the pages. The die stays as it is.
+    maulgreen::checkpoint checkpoint() {
+        maulgreen::checkpoint said;
+        said.places.resize(size_.logical);
+        said.names.resize(size_.logical);
+        said.blocks.resize(size_.blocks);
+        said.balances.resize(tasks_);
+        ::mg_why why{0, 0};
+        must(::mg_planned_checkpoint(&handle_, said.places.data(), said.places.size(), said.names.data(), said.names.size(),
+                                     said.blocks.data(), said.blocks.size(), said.balances.data(), said.balances.size(),
+                                     &said.spare, &why),
+             why);
+        return said;
+    }
+
+    // What the label of the next program bears, and which block of the part one of the die is.
+    std::uint64_t serial() const { return ::mg_planned_serial(&handle_); }
+    std::uint32_t part_block(std::uint32_t block) const {
+        std::uint32_t said = 0;
+        must(::mg_planned_part_block(&handle_, block, &said));
         return said;
     }
 
@@ -505,8 +557,19 @@ private:
         must(ask(&handle_, caller, task, ops.data(), ops.size(), &said, &why), why);
         return said;
     }
+    friend class mount;
+    planned(::mg_planned made, const plan &p, std::size_t tasks) : handle_(made), size_(p), tasks_(tasks) {}
     ::mg_planned handle_{nullptr};
+    plan size_{};
+    std::size_t tasks_ = 0;
 };
+
+inline planned mount::end_planned(const std::vector<maulgreen::terms> &terms, std::uint32_t longest, const std::vector<name> &names) {
+    ::mg_planned made{nullptr};
+    ::mg_unresumed why{0, 0, 0};
+    must(::mg_mount_end_planned(&handle_, terms.data(), terms.size(), longest, names.data(), names.size(), &made, &why), why);
+    return planned(made, size_, tasks_);
+}
 
 } // namespace maulgreen
 #endif

@@ -5,7 +5,9 @@
     bindings/histories/planned.py COUNT SEED    plays them, names the first that differs, and ends with 1 where one did
 
 The library is that of MAULGREEN_LIB. Lives are short, so that most histories go over several; tasks ask for too much, too soon,
-for pages and tasks that aren't there, within slots, and near the end of a life; in some the device fails."""
+for pages and tasks that aren't there, within slots, and near the end of a life; in some the device fails. Dies are written down at
+any moment, and go on from there, with other terms and lengths of lives, too; and the power goes, between slots and within them, in
+the middle of a program and of an erase. After a mount every page has to be there, and the die plays on from what the mount left."""
 import random
 import sys
 from pathlib import Path
@@ -15,21 +17,57 @@ sys.path[:0] = [str(HERE.parents[1] / ".ci"), str(HERE.parent / "python")]
 import maulgreen
 from common.repository import help_if_asked
 from second_reading import plain_kept
-from second_reading.plain_die import WAIVED, Die, Plan, Refused
+from second_reading.plain_die import WAIVED, Die, Plan, Refused, Stood
 
 TOP = "terms = 1\ndies = 1\nblocks = {blocks}\npages = 4\nerase_slots = 2\nlogical = 20\nalpha = 2\n"
 
 
 # The rules
 
+def die_plan(plan):
+    return Plan([plan[word] for word in ("blocks", "pages", "erase_slots", "logical", "alpha")], [task["cap"] for task in plan["tasks"]])
+
+
 class Ongoing:
     """A die that keeps its plan and goes on by itself."""
 
     def __init__(self, plan, life):
         self.plan, self.life, self.tasks = plan, life, plan["tasks"]
-        numbers = [plan[word] for word in ("blocks", "pages", "erase_slots", "logical", "alpha")]
-        self.die = Die(Plan(numbers, [task["cap"] for task in self.tasks]), 10**9)
+        self.die = Die(die_plan(plan), 10**9)
         self.first, self.asked, self.waiting = 0, [[] for _ in self.tasks], [None] * len(self.tasks)
+        self.serial = 1
+
+    def written(self):
+        """What stands where a checkpoint is taken; else the name of why none is, and its number."""
+        why = self.die.not_quiet()
+        if why:
+            word, _, number = why.partition(" ")
+            return {"stopped": "DieStopped", "waits": "NotQuiet"}[word], int(number or 0)
+        waits = [task for task, ops in enumerate(self.waiting) if ops is not None]
+        return ("AskWaits", waits[0]) if waits else self.die.stood()
+
+    def resumed(self, plan, life, stood):
+        """It goes on from a checkpoint: with an empty log, and what each task lacks beyond alpha pages asked for in slot 0."""
+        self.plan, self.life, self.tasks = plan, life, plan["tasks"]
+        assert self.die.resume(die_plan(plan), stood) == "ok"
+        self.first, self.serial, self.waiting = 0, 1, [None] * len(self.tasks)
+        lacks = [max(task["cap"] - balance - plan["alpha"], 0) for task, balance in zip(self.tasks, stood.balances)]
+        self.asked = [[(0, lack, lack)] if lack else [] for lack in lacks]
+
+    @classmethod
+    def mounted(cls, plan, life, stood, names, serial):
+        """It begins on a device as a mount left it."""
+        self = cls(plan, life)
+        flash, accounts = self.die.flash, self.die.accounts
+        for (used, erases), block in zip(stood.blocks, flash.blocks):
+            block.cells = [0] * used + [None] * (plan["pages"] - used)
+            block.erases = erases
+        for page, at in enumerate(stood.places):
+            if at:
+                flash.blocks[at[0]].cells[at[1]] = page
+        flash.at, flash.bytes = list(stood.places), [name.hex() if at else flash.bytes[0] for at, name in zip(stood.places, names)]
+        accounts.spare, accounts.balance, self.serial = stood.spare, list(stood.balances), serial
+        return self
 
     def go_on(self):
         """Begins the next life, where one has ended, with what waited."""
@@ -112,9 +150,11 @@ class Ongoing:
             self.die.stopped = True
             return "DeviceFault"
         try:
-            return self.die.slot()
+            said = self.die.slot()
         except Refused as refusal:
             return str(refusal)
+        self.serial += (self.die.flash.last_call or "").startswith("program")
+        return said
 
     def next_trim(self):
         """Whether the slot would trim a page, once what it waives was waived."""
@@ -156,6 +196,79 @@ def life_within(plan, longest):
     """The longest life of at most so many slots."""
     return next((slots for slots in range(longest, 0, -1)
                  if plain_kept.arrivals_in(plan, slots) <= plain_kept.MOST_ARRIVALS and plain_kept.all_due(plan, slots)), None)
+
+
+def resume_refusal(plan, longest, balances):
+    """Why a die doesn't go on that has these balances, its checkpoint being fit: a name, and its numbers."""
+    life = life_within(plan, longest)
+    if life is None:
+        return "NoLife", 0, 0, 0
+    for number, (task, have) in enumerate(zip(plan["tasks"], balances)):
+        need = max(task["cap"] - (plan["alpha"] + task["writes"]), 0)
+        if have < need:
+            return "NotStocked", number, have, need
+    late = [at for at, task in enumerate(plan["tasks"]) if task["deadline"] > life]
+    return ("ShortLife", late[0], 0, 0) if late else None
+
+
+FAULTS = {"other shape": "OtherShape", "overfull": "Overfull", "second open": "SecondOpen", "unprogrammed": "Unprogrammed",
+          "above cap": "AboveCap", "accounts": "OtherSum", "shared": "SharedCell"}
+
+
+def fault_of(plan, stood):
+    """What is wrong with a checkpoint first, if anything: a name, and its numbers."""
+    why = stood.fault(die_plan(plan))
+    if why is None:
+        return None
+    word = next(word for word in FAULTS if why.startswith(word))
+    numbers = [int(number) for number in why[len(word):].replace("free", "").split()] + [0, 0]
+    return FAULTS[word], numbers[0], numbers[1], 0
+
+
+# The part
+
+class Part:
+    """What the cells of a part show: the name, the logical page and the serial, or nothing where a cell is torn."""
+
+    def __init__(self, dice):
+        self.dice, self.cells, self.erasing = dice, {}, set()
+        # of the die before, where one went on from a checkpoint: its blocks on the part, and how far its serials came
+        self.block_of, self.above = [], 0
+
+    def begins(self, die, blocks):
+        """A die begins on it, which isn't one that goes on from a checkpoint."""
+        self.block_of, self.above = [die.part_block(block) for block in range(blocks)], 0
+
+    def read(self, at):
+        return (self.cells.get(at) or (maulgreen.BLANK,))[0]
+
+    def program(self, at, name, page, serial):
+        assert at not in self.cells, f"cell {at} is programmed twice"
+        self.cells[at] = name, page, serial
+
+    def erase_slot(self, block, last):
+        self.erasing.add(block)
+        if last:
+            self.erasing.discard(block)
+            for cell in [cell for cell in self.cells if cell[0] == block]:
+                del self.cells[cell]
+
+    def cut(self, at=None, name=None, page=None, serial=None):
+        """The power goes, perhaps in a program, of which the whole is there, or a torn cell, or nothing. Whether the whole is."""
+        there = at is not None and self.dice.randrange(3)
+        if there:
+            self.program(at, name, page, serial)
+            if there == 1:
+                self.cells[at] = None
+        for cell in self.cells:
+            if cell[0] in self.erasing and self.dice.randrange(2):
+                self.cells[cell] = None
+        self.erasing = set()
+        return there == 2
+
+    def labels(self, block, pages):
+        shown = [self.cells.get((block, page)) for page in range(pages)]
+        return [(label[1], label[2]) if label else None for label in shown]
 
 
 # Asks, and what a driver does
@@ -204,6 +317,7 @@ class History:
         self.plan = plan_by(dice)
         self.longest = dice.choice((20, 130, 300, 800))
         self.life = life_within(self.plan, self.longest)
+        self.part, self.ever = Part(dice), [set() for _ in range(self.plan["logical"])]
 
     def note(self, word):
         self.counts[word] = self.counts.get(word, 0) + 1
@@ -211,11 +325,15 @@ class History:
     def same(self, what, made, wanted):
         assert made == wanted, f"{what}: {made}, and by the rules {wanted}"
 
-    def made(self):
+    def given(self, plan):
+        """A plan, its tasks and their terms, as the library takes them."""
         words = ("period", "deadline", "held", "work", "writes", "collect_period", "collect_deadline")
-        plan = maulgreen.Plan(*(self.plan[word] for word in ("blocks", "pages", "erase_slots", "logical", "alpha")))
-        tasks = [maulgreen.Task(task["cap"]) for task in self.plan["tasks"]]
-        terms = [maulgreen.Terms(*(task[word] for word in words)) for task in self.plan["tasks"]]
+        return (maulgreen.Plan(*(plan[word] for word in ("blocks", "pages", "erase_slots", "logical", "alpha"))),
+                [maulgreen.Task(task["cap"]) for task in plan["tasks"]],
+                [maulgreen.Terms(*(task[word] for word in words)) for task in plan["tasks"]])
+
+    def made(self):
+        plan, tasks, terms = self.given(self.plan)
         late = [at for at, task in enumerate(self.plan["tasks"]) if self.life is not None and task["deadline"] > self.life]
         try:
             die = maulgreen.Planned(plan, tasks, terms, self.longest)
@@ -234,38 +352,197 @@ class History:
         self.same("an ask", asked(die, burst, number, ops), wanted)
         self.note(wanted[0] if isinstance(wanted[0], str) else "Waits" if wanted[2] is None else "Enters")
 
-    def slot(self, die, rules, cells):
+    def changed(self, caps=False):
+        """The plan, perhaps with terms by which fewer writes are asked for, and perhaps with larger caps; and a longest life, perhaps
+        another one."""
+        plan = dict(self.plan, tasks=[dict(task) for task in self.plan["tasks"]])
+        if self.dice.randrange(2):
+            for task in plan["tasks"]:
+                task["writes"] = self.dice.randint(0, task["writes"])
+        if caps and self.dice.randrange(3) == 0:
+            more = dict(plan, tasks=[dict(task, cap=task["cap"] + self.dice.randrange(7)) for task in plan["tasks"]])
+            plan = plan if die_plan(more).refusal() else more
+        return plan, self.dice.choice((self.longest, self.longest, 1, 25, 60, 200))
+
+    def writes_down(self, die, rules):
+        """A checkpoint, or why none is taken. What was written down, or nothing."""
+        wanted = rules.written()
+        try:
+            taken = die.checkpoint()
+        except maulgreen.Refusal as refusal:
+            self.same("a checkpoint", (refusal.name, refusal.first), wanted)
+            self.note(refusal.name)
+            return None
+        assert isinstance(wanted, Stood), f"a checkpoint was taken, and by the rules {wanted}"
+        names = [bytes.fromhex(name) for name in rules.die.flash.bytes]
+        self.same("a checkpoint", tuple(taken), (wanted.places, names, wanted.blocks, wanted.balances, wanted.spare))
+        self.note("checkpoints")
+        return taken
+
+    def breaks(self, taken):
+        """A checkpoint with another number somewhere."""
+        places, names, blocks, balances, spare = (list(part) if isinstance(part, list) else part for part in taken)
+        kind = self.dice.randrange(6)
+        if kind == 0:
+            spare += self.dice.choice((1, -1)) if spare else 1
+        elif kind == 1:
+            balances[self.dice.randrange(len(balances))] += self.dice.choice((1, 50))
+        elif kind == 2:
+            places[self.dice.randrange(len(places))] = self.dice.choice((places[0], (len(blocks), 0), (0, 4)))
+        elif kind == 3:
+            used, erases = blocks[at := self.dice.randrange(len(blocks))]
+            blocks[at] = maulgreen.Block(used + self.dice.choice((1, 5)), erases)
+        elif kind == 4:
+            self.dice.choice((places, names, blocks, balances)).pop()
+        return maulgreen.Checkpoint(places, names, blocks, balances, spare)
+
+    def shuts_down(self, die, rules):
+        """The die is shut down, if it may be, and goes on from its checkpoint, or why it doesn't. The die of then."""
+        taken = self.writes_down(die, rules)
+        if taken is None or self.dice.randrange(3) == 0:
+            return die
+        if self.dice.randrange(2):
+            broken = self.breaks(taken)
+            wanted = fault_of(self.plan, Stood(broken.places, broken.blocks, broken.spare, broken.balances))
+            if wanted:
+                self.unresumed(self.plan, self.longest, broken, wanted)
+        plan, longest = self.changed(caps=True)
+        wanted = resume_refusal(plan, longest, taken.balances)
+        if wanted:
+            self.unresumed(plan, longest, taken, wanted)
+            return die
+        die.close()
+        die = maulgreen.Planned(*self.given(plan), longest, taken)
+        self.part.above += rules.serial - 1
+        self.plan, self.longest, self.life = plan, longest, life_within(plan, longest)
+        rules.resumed(plan, self.life, Stood(taken.places, taken.blocks, taken.spare, taken.balances))
+        self.note("resumed")
+        return die
+
+    def unresumed(self, plan, longest, taken, wanted):
+        try:
+            maulgreen.Planned(*self.given(plan), longest, taken).close()
+        except maulgreen.Refusal as refusal:
+            self.same("a die that goes on", (refusal.name, refusal.first, refusal.second, refusal.third), wanted)
+            self.note(refusal.name)
+            return
+        raise AssertionError(f"a die goes on, and by the rules {wanted}")
+
+    def mounts(self, rules, may):
+        """A mount of what the cells show, and the die and the rules from there on; `may` has what pages may hold."""
+        part, blocks = self.part, self.plan["blocks"]
+        plan, tasks, terms = self.given(self.plan)
+        with maulgreen.Mount(plan, tasks) as mount:
+            while (step := mount.step()).kind != maulgreen.NEEDS_NOTHING:
+                if self.dice.randrange(30) == 0:
+                    self.unmounted(mount, terms, self.longest, ("WrongStep", 0, 0, 0))
+                if step.kind == maulgreen.TELL_BLOCK:
+                    mount.tell(part.labels(step.block, 4))
+                    continue
+                if step.kind == maulgreen.READ_PAGE:
+                    read = part.read((step.block, step.page))
+                elif step.kind == maulgreen.PROGRAM_PAGE:
+                    part.program((step.block, step.page), read, step.logical, step.serial)
+                else:
+                    part.erase_slot(step.block, step.last)
+                mount.done()
+                if self.dice.randrange(300) == 0:
+                    part.cut()
+                    self.note("cuts of mounts")
+                    return self.mounts(rules, may)
+            newest = {}
+            for label in part.cells.values():
+                if label and label[2] > newest.get(label[1], (-1,))[0]:
+                    newest[label[1]] = label[2], label[0]
+            names = [newest.get(page, (0, maulgreen.BLANK))[1] for page in range(self.plan["logical"])]
+            changed, longest = self.changed()
+            wanted = resume_refusal(changed, longest, [task.cap for task in tasks])
+            if wanted:
+                self.unmounted(mount, self.given(changed)[2], longest, wanted)
+                changed, longest = self.plan, self.longest
+            self.unmounted(mount, terms + terms[:1], longest, ("BadTerms", 0, 0, 0))
+            die = mount.end_planned(self.given(changed)[2], longest, names)
+        self.plan, self.longest, self.life = changed, longest, life_within(changed, longest)
+        part.begins(die, blocks)
+        taken = die.checkpoint()
+        for page, (at, name) in enumerate(zip(taken.places, taken.names)):
+            assert name in may[page], f"page {page} has {name.hex()} after a mount"
+            if at:
+                self.same("a page of a mounted die", part.read((part.block_of[at[0]], at[1])), name)
+        self.same("full accounts", taken.balances, [task.cap for task in tasks])
+        serial = die.serial()
+        assert all(label is None or label[2] < serial for label in part.cells.values()), "a serial comes again"
+        self.note("mounts")
+        return die, Ongoing.mounted(self.plan, self.life, Stood(taken.places, taken.blocks, taken.spare, taken.balances), taken.names, serial)
+
+    def unmounted(self, mount, terms, longest, wanted):
+        try:
+            mount.end_planned(terms, longest, []).close()
+        except maulgreen.Refusal as refusal:
+            self.same("a mounted die", (refusal.name, refusal.first, refusal.second, refusal.third), wanted)
+            self.note("mount " + refusal.name)
+            return
+        raise AssertionError(f"a mounted die begins, and by the rules {wanted}")
+
+    def loses_power(self, die, rules, call=None):
+        """The power goes, between two slots or in one; and a mount. The die and the rules of then."""
+        held = [bytes.fromhex(name) for name in rules.die.flash.bytes]
+        # a page that was trimmed may come back
+        may = [{name} if at else {name} | self.ever[page] for page, (at, name) in enumerate(zip(rules.die.flash.at, held))]
+        if call and call.kind == maulgreen.PROGRAM_CELL:
+            if self.part.cut((self.part.block_of[call.block], call.page), call.name, call.logical, die.serial() + self.part.above):
+                self.ever[call.logical].add(call.name)
+                may[call.logical].add(call.name)
+        else:
+            if call and call.kind == maulgreen.ERASE_SLOT:
+                self.part.erasing.add(self.part.block_of[call.block])
+            self.part.cut()
+        self.note("cuts in a slot" if call else "cuts")
+        die.close()
+        return self.mounts(rules, may)
+
+    def slot(self, die, rules):
         ended = rules.begin()
         try:
             call = die.begin(9)
         except maulgreen.Refusal as refusal:
             self.same("a slot", refusal.name, ended)
-            return
+            return die, rules
         assert ended is None, f"a slot began, and by the rules {ended}"
+        if self.dice.randrange(self.cutting) == 0:
+            return self.loses_power(die, rules, call)
+        if self.dice.randrange(9) == 0:
+            try:
+                die.checkpoint()
+            except maulgreen.Refusal as refusal:
+                self.same("a checkpoint within a slot", (refusal.name, refusal.first), ("Begun", 0))
+            else:
+                raise AssertionError("a checkpoint within a slot")
         if self.dice.randrange(4) == 0:
             self.same("an ask within a slot", asked(die, False, 0, [("R", 0, "")]), ("Begun", 0, 0))
             self.same("the clock", die.clock(), rules.first + rules.die.now)
         fails = self.dice.randrange(self.failing) == 0
-        at = call.block, call.page
-        gave = cells.get(at, maulgreen.BLANK) if call.kind == maulgreen.READ_CELL else maulgreen.BLANK
+        at = self.part.block_of[call.block], call.page
+        gave = self.part.read(at) if call.kind == maulgreen.READ_CELL else maulgreen.BLANK
         if not fails and call.kind == maulgreen.PROGRAM_CELL:
-            assert at not in cells, f"cell {at} is programmed twice"
-            cells[at] = call.name
-        if not fails and call.kind == maulgreen.ERASE_SLOT and call.last:
-            for cell in [cell for cell in cells if cell[0] == call.block]:
-                del cells[cell]
+            self.part.program(at, call.name, call.logical, die.serial() + self.part.above)
+            self.ever[call.logical].add(call.name)
+        if not fails and call.kind == maulgreen.ERASE_SLOT:
+            self.part.erase_slot(at[0], call.last)
         wanted = rules.end(fails)
         try:
             reply = die.end(not fails, gave)
         except maulgreen.Refusal as refusal:
             self.same("an end", refusal.name, wanted)
             self.note(refusal.name)
-            return
+            return die, rules
         slot, waived, head, act, last = wanted
         self.same("a reply", (reply.slot, [tuple(w) for w in reply.waived], reply.job, (reply.act, reply.page), reply.finished, reply.caller),
                   (slot, waived, head or 0, said(act), last, 9))
         self.same("a call", (call.kind, call.block, call.page), call_of(rules.die.flash.last_call, act))
+        self.same("a serial", die.serial(), rules.serial)
         self.note("slots")
+        return die, rules
 
     def outcomes(self, die, rules):
         life = die.life()
@@ -291,16 +568,22 @@ class History:
         die = self.made()
         if die is None:
             return
-        rules, cells = Ongoing(self.plan, self.life), {}
+        rules = Ongoing(self.plan, self.life)
+        self.part.begins(die, self.plan["blocks"])
         self.failing = self.dice.choice((10**9, 10**9, 200))
-        with die:
-            for _ in range(self.dice.choice((100, 400, 1000))):
-                for _ in range(self.dice.choice((0, 0, 0, 1, 2))):
-                    self.asks(die, rules)
-                self.slot(die, rules, cells)
-                if self.dice.randrange(20) == 0:
-                    self.outcomes(die, rules)
-            self.note("lives" if rules.first else "one life")
+        self.cutting, shuts = self.dice.choice((10**9, 10**9, 150)), self.dice.choice((10**9, 10**9, 40))
+        for _ in range(self.dice.choice((100, 400, 1000))):
+            for _ in range(self.dice.choice((0, 0, 0, 1, 2))):
+                self.asks(die, rules)
+            die, rules = self.slot(die, rules)
+            if self.dice.randrange(20) == 0:
+                self.outcomes(die, rules)
+            if shuts < 10**9 and (rules.die.now == rules.life or self.dice.randrange(shuts) == 0):
+                die = self.shuts_down(die, rules)
+            if self.cutting < 10**9 and (rules.die.stopped or self.dice.randrange(self.cutting) == 0):
+                die, rules = self.loses_power(die, rules)
+        self.note("lives" if rules.first else "one life")
+        die.close()
 
 
 def main():

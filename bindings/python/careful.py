@@ -137,6 +137,39 @@ with maulgreen.Mount(PLAN, [TASK]) as mount:
         assert refusal.name == "WrongStep"
 is_wrong(mount.step)
 
+# A die that keeps its plan is shut down and mounted.
+TERMS = maulgreen.Terms(20, 10, 10, 2, 1, 20, 20)
+CAP, SMALL = Task(6), PLAN._replace(logical=12)
+kept = maulgreen.Planned(SMALL, [CAP], [TERMS], 100)
+taken = kept.checkpoint()
+for wrong in (-1, OTHER, 1.0, None):
+    is_wrong(lambda: kept.part_block(wrong))
+    is_wrong(lambda: maulgreen.Planned(SMALL, [CAP], [TERMS], wrong, taken))
+    is_wrong(lambda: maulgreen.Planned(SMALL, [CAP], [TERMS], 100, taken._replace(spare=wrong)))
+is_wrong(lambda: maulgreen.Planned(SMALL, [CAP], [], 100, taken))
+is_wrong(lambda: maulgreen.Planned(SMALL, [CAP], [TERMS], 100, taken._replace(names=[b"short"])))
+kept.close()
+is_wrong(kept.checkpoint)
+is_wrong(kept.serial)
+try:
+    maulgreen.Planned(SMALL, [CAP], [TERMS], 100, taken._replace(balances=[0], spare=taken.spare + 6))
+    raise SystemExit("wrong: a task with too few pages goes on")
+except maulgreen.Refusal as refusal:
+    assert (refusal.name, refusal.first, refusal.second, refusal.third) == ("NotStocked", 0, 0, 3)
+with maulgreen.Planned(SMALL, [CAP], [TERMS], 60, taken) as kept:
+    assert kept.life() == maulgreen.Life(0, 60, 0) and kept.checkpoint() == taken and kept.serial() == 1
+with maulgreen.Mount(SMALL, [CAP]) as mount:
+    is_wrong(lambda: mount.end_planned([TERMS], -1, []))
+    is_wrong(lambda: mount.end_planned([TERMS], 100, [b"short"]))
+    while (step := mount.step()).kind != maulgreen.NEEDS_NOTHING:
+        if step.kind == maulgreen.TELL_BLOCK:
+            mount.tell([(7, 40)] if step.block == 2 else [])
+        else:
+            mount.done()
+    with mount.end_planned([TERMS], 100, [BLANK] * 7 + [b"x" * 16]) as kept:
+        assert kept.serial() == 41 and kept.place(7) == (2, 0) and kept.ask(0, [(READ, 7)]).due == 10
+        assert kept.slot(lambda call: (True, call.name)).name == b"x" * 16
+
 # Questions of three threads beside slots: ctypes lets go of the interpreter's lock meanwhile.
 done = threading.Event()
 

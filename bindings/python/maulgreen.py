@@ -57,6 +57,7 @@ _Terms = _struct("_Terms", "period deadline held work writes collect_period coll
 _Taken = _struct("_Taken", "waits first jobs", [("release", U64), ("due", U64)])
 _Unasked = _struct("_Unasked", "number", [("next", U64)])
 _Life = _struct("_Life", "slots now", [("first", U64)])
+_Unresumed = _struct("_Unresumed", "first second third")
 _Step = _struct("_Step", "kind block page logical last", [("serial", U64)])
 _Bytes = type("_Bytes", (c.Structure,), {"_fields_": [(word, U64) for word in "birth reserved life question resume".split()]})
 _NOWHERE = _NO_PAGE = 0xFFFFFFFF
@@ -247,24 +248,25 @@ def _library() -> str:
 _lib = c.CDLL(_library())
 for _word in ("version refusal_name plan_bound plan_test memory new submit collect begin end reserve reserve_jobs renew "
               "renew_giving_back now place part_block mount_new mount_next mount_tell mount_done mount_place mount_end planned_new planned_ask planned_ask_all planned_begin planned_end planned_life planned_waiting "
-              "planned_job planned_outcome planned_place entries entry_waived job outcome worst overdue certificate rows check checkpoint resume").split():
+              "planned_job planned_outcome planned_place planned_checkpoint planned_resume planned_part_block mount_end_planned entries entry_waived job outcome worst overdue certificate rows check checkpoint resume").split():
     getattr(_lib, "mg_" + _word).restype = U32
-_lib.mg_len.restype = _lib.mg_records.restype = _lib.mg_serial.restype = _lib.mg_mount_calls_left.restype = _lib.mg_planned_clock.restype = U64
+_lib.mg_len.restype = _lib.mg_records.restype = _lib.mg_serial.restype = _lib.mg_mount_calls_left.restype = _lib.mg_planned_clock.restype = _lib.mg_planned_serial.restype = U64
 _lib.mg_free.restype = _lib.mg_mount_free.restype = _lib.mg_planned_free.restype = None
 _lib.mg_refusal_text.restype = c.c_char_p
 # Another major number has other calls; a lower minor one lacks some of these.
-if _lib.mg_version() >> 16 != 1 or _lib.mg_version() & 0xFFFF < 2:
+if _lib.mg_version() >> 16 != 1 or _lib.mg_version() & 0xFFFF < 3:
     raise ImportError("another version of libmaulgreen.so")
 
 
 class Refusal(Exception):
     """Why a call is refused: its number of maulgreen.h, its name, what it means, and the numbers that it has; `next` is that of an ask
-    that comes too soon."""
+    that comes too soon, `third` how many pages a task needs that has too few to go on with."""
 
     def __init__(self, code, why=None):
         text = c.create_string_buffer(16)
         _lib.mg_refusal_name(U32(code), text, c.c_size_t(16))
         self.code, self.name, self.text = code, text.value.decode(), _lib.mg_refusal_text(U32(code)).decode()
+        self.third = getattr(why, "third", 0)
         if isinstance(why, _Unasked):
             self.first, self.second, self.next = why.number, 0, why.next
             super().__init__(f"{self.name} {why.number} {why.next}")
@@ -412,6 +414,30 @@ class Mount:
         _must(self._call("end", *_list(_Name, map(_name, names)), c.byref(handle)))
         return Die._of(handle, *self._shape)
 
+    def end_planned(self, terms: Iterable[Terms], longest: int, names: Iterable[bytes]) -> "Planned":
+        """The die that keeps its plan and begins where it has ended, with lives of at most `longest` slots."""
+        handle, why = _Handle(), _Unresumed()
+        _must(self._call("end_planned", *_list(_Terms, (_numbers(_Terms, Terms(*t)) for t in terms)), U32(_u32(longest)),
+                         *_list(_Name, map(_name, names)), c.byref(handle), c.byref(why)), why)
+        return Planned._of(handle, *self._shape)
+
+
+def _as_arrays(checkpoint: Checkpoint):
+    """A checkpoint as the library has it."""
+    return (*_list(_Place, (_numbers(_Place, at or (_NOWHERE, 0)) for at in checkpoint.places)), *_list(_Name, map(_name, checkpoint.names)),
+            *_list(_Block, (_numbers(_Block, b) for b in checkpoint.blocks)), *_list(U32, map(_u32, checkpoint.balances)),
+            U32(_u32(checkpoint.spare)))
+
+
+def _checkpoint_by(call, plan: Plan, tasks: int) -> Checkpoint:
+    """What stands, as this call says it of a die of this plan and of so many tasks."""
+    places, names, blocks = (_Place * plan.logical)(), (_Name * plan.logical)(), (_Block * plan.blocks)()
+    balances, spare, why = (U32 * tasks)(), U32(), _Why()
+    _must(call("checkpoint", places, c.c_size_t(plan.logical), names, c.c_size_t(plan.logical), blocks, c.c_size_t(plan.blocks),
+               balances, c.c_size_t(tasks), c.byref(spare), c.byref(why)), why)
+    return Checkpoint([None if p.block == _NOWHERE else (p.block, p.page) for p in places], [bytes(n) for n in names],
+                      [Block(b.filled, b.erases) for b in blocks], list(balances), spare.value)
+
 
 class Die:
     """One die; `with` frees it. Calls of several threads wait for each other."""
@@ -427,10 +453,7 @@ class Die:
             _must(_lib.mg_new(c.byref(handle), *_plan(plan, tasks)))
         else:
             why = _Why()
-            _must(_lib.mg_resume(
-                c.byref(handle), *_plan(plan, tasks), *_list(_Place, (_numbers(_Place, at or (_NOWHERE, 0)) for at in checkpoint.places)),
-                *_list(_Name, map(_name, checkpoint.names)), *_list(_Block, (_numbers(_Block, b) for b in checkpoint.blocks)),
-                *_list(U32, map(_u32, checkpoint.balances)), U32(_u32(checkpoint.spare)), c.byref(why)), why)
+            _must(_lib.mg_resume(c.byref(handle), *_plan(plan, tasks), *_as_arrays(checkpoint), c.byref(why)), why)
         self._at = handle
 
     @classmethod
@@ -528,13 +551,7 @@ class Die:
 
     def checkpoint(self) -> Checkpoint:
         """What stands at a moment at which all is done or was waived, with the names of the pages."""
-        plan, count = self._shape
-        places, names, blocks = (_Place * plan.logical)(), (_Name * plan.logical)(), (_Block * plan.blocks)()
-        balances, spare, why = (U32 * count)(), U32(), _Why()
-        _must(self._call("checkpoint", places, c.c_size_t(plan.logical), names, c.c_size_t(plan.logical), blocks,
-                                    c.c_size_t(plan.blocks), balances, c.c_size_t(count), c.byref(spare), c.byref(why)), why)
-        return Checkpoint([None if p.block == _NOWHERE else (p.block, p.page) for p in places], [bytes(n) for n in names],
-                          [Block(b.filled, b.erases) for b in blocks], list(balances), spare.value)
+        return _checkpoint_by(self._call, *self._shape)
 
     def serial(self) -> int:
         """What the label of the next program bears."""
@@ -621,18 +638,33 @@ class Planned:
     other tasks ask, while slots are carried out and no call of the device fails. Calls of several threads wait for each other; an ask
     while a slot has begun is refused."""
 
-    def __init__(self, plan: Plan, tasks: Iterable[Task], terms: Iterable[Terms], longest: int):
-        """A die over a chip that is erased, with lives of at most `longest` slots. Each task has its terms, and a cap; the plan has no times."""
+    def __init__(self, plan: Plan, tasks: Iterable[Task], terms: Iterable[Terms], longest: int, checkpoint: Optional[Checkpoint] = None):
+        """A die over a chip that is erased, with lives of at most `longest` slots; with a checkpoint one that goes on from there, over a chip
+        that is as that says. Each task has its terms, and a cap; the plan has no times."""
         self._at = None
         self._lock = threading.RLock()
         tasks, terms = list(tasks), list(terms)
         if len(tasks) != len(terms):
             raise ValueError(f"{len(tasks)} tasks have {len(terms)} terms")
-        handle, why = _Handle(), _Unasked()
-        given, own, count = _plan(plan, tasks)
+        self._shape = Plan(*plan), len(tasks)
+        handle, given = _Handle(), _plan(plan, tasks)
         of_each, _ = _list(_Terms, (_numbers(_Terms, Terms(*t)) for t in terms))
-        _must(_lib.mg_planned_new(c.byref(handle), given, own, of_each, count, U32(_u32(longest)), c.byref(why)), why)
+        words = (c.byref(handle), given[0], given[1], of_each, given[2], U32(_u32(longest)))
+        if checkpoint is None:
+            why = _Unasked()
+            _must(_lib.mg_planned_new(*words, c.byref(why)), why)
+        else:
+            why = _Unresumed()
+            _must(_lib.mg_planned_resume(*words, *_as_arrays(checkpoint), c.byref(why)), why)
         self._at = handle
+
+    @classmethod
+    def _of(cls, handle, plan, tasks):
+        die = cls.__new__(cls)
+        die._lock = threading.RLock()
+        die._shape = plan, len(tasks)
+        die._at = handle
+        return die
 
     def __enter__(self):
         return self
@@ -701,6 +733,20 @@ class Planned:
                 pass
             raise
         return self.end(ok, name)
+
+    def checkpoint(self) -> Checkpoint:
+        """What stands between two slots where nothing that was accepted is left, with the names of the pages."""
+        return _checkpoint_by(self._call, *self._shape)
+
+    def serial(self) -> int:
+        """What the label of the next program bears. It rises over all lives."""
+        return self._call("serial")
+
+    def part_block(self, block: int) -> int:
+        """The number that the part gives a block of the die."""
+        said = U32()
+        _must(self._call("part_block", U32(_u32(block)), c.byref(said)))
+        return said.value
 
     def clock(self) -> int:
         """The present slot of the clock of all lives."""

@@ -1,5 +1,6 @@
 /* Takes the power from the driver at random, in its work and in its recovery, and lets programs fail. It looks after each cut,
- * and of each die that is stopped, whether a page has lost what was reported as written, or has again what was trimmed.
+ * and of each die that is stopped, whether a page has lost what was reported as written, or has again what was trimmed; and of a
+ * die that keeps a plan (KEEPS_PLAN), whether all that was taken was done by its `due`.
  *
  *   cuts FILE CUTS SEED */
 #define _DEFAULT_SOURCE
@@ -13,7 +14,7 @@
 
 /* What the world knows, which no cut takes: by page the version that was last reported as written, 0 where it was trimmed, and the
  * one that was asked for after it. */
-static struct { uint32_t done[LOGICAL], asked[LOGICAL], versions[LOGICAL], programs, trims, stopped; } *world;
+static struct { uint32_t done[LOGICAL], asked[LOGICAL], versions[LOGICAL], programs, trims, stopped; uint64_t due[LOGICAL]; } *world;
 
 static void check(int holds, const char *what) {
     if (holds) return;
@@ -43,20 +44,42 @@ static void look(struct driver *driver, bool is_stopped) {
     }
 }
 
+/* What a task may do where its ask wasn't taken: a die that keeps a plan collects by itself. */
+static void untaken(struct driver *driver, uint32_t task, uint32_t refusal) {
+#ifdef KEEPS_PLAN
+    (void)driver, (void)task;
+    check(refusal == MG_TOO_SOON || refusal == MG_WAITS_ALREADY, "a write is taken, or comes too soon");
+#else
+    const uint32_t now = mg_now(&driver->die);
+    check(refusal == MG_NO_TOKENS, "a write is taken, or waits for tokens");
+    mg_collect(&driver->die, 0, task, now, now + 200, NULL, NULL);
+#endif
+}
+
+/* What was asked of a page is done, of a die that keeps a plan in time. */
+static void is_done(struct driver *driver, uint32_t page) {
+    world->done[page] = world->asked[page];
+#ifdef KEEPS_PLAN
+    check(mg_planned_clock(&driver->die) <= world->due[page], "all is done by its due");
+#else
+    (void)driver;
+#endif
+}
+
 static void work(struct driver *driver, int slots) {
     while (slots-- > 0) {
         uint8_t payload[PAYLOAD];
-        uint32_t job, now = mg_now(&driver->die), task = (uint32_t)rand() % TASKS, page = (uint32_t)rand() % LOGICAL;
+        uint32_t task = (uint32_t)rand() % TASKS, page = (uint32_t)rand() % LOGICAL;
         if (rand() % 2 == 0 && world->asked[page] == world->done[page]) {
             bool trims = rand() % 6 == 0;
-            uint32_t due = now + 5 + (uint32_t)rand() % 40, version = trims ? 0 : world->versions[page] + 1;
+            uint32_t within = 5 + (uint32_t)rand() % 40, version = trims ? 0 : world->versions[page] + 1;
             fill(payload, page, version);
-            uint32_t refusal = trims ? driver_trim(driver, task, page, due, &job) : driver_write(driver, task, page, payload, due, &job);
-            check(refusal == MG_OK || refusal == MG_NO_TOKENS, "a write is taken, or waits for tokens");
+            uint64_t *due = &world->due[page];
+            uint32_t refusal = trims ? driver_trim(driver, task, page, within, due) : driver_write(driver, task, page, payload, within, due);
             if (refusal == MG_OK) {
                 world->asked[page] = version;
                 world->versions[page] += !trims;
-            } else mg_collect(&driver->die, 0, task, now, now + 200, NULL, NULL);
+            } else untaken(driver, task, refusal);
         }
         struct mg_reply reply;
         uint32_t refusal = driver_slot(driver, &reply);
@@ -68,8 +91,8 @@ static void work(struct driver *driver, int slots) {
             continue;
         }
         check(refusal == MG_OK, "a slot");
-        if (reply.act == MG_DID_TRIM) world->done[reply.page] = world->asked[reply.page], world->trims++;
-        if (reply.act == MG_DID_WRITE) world->done[reply.page] = world->asked[reply.page], world->programs++;
+        if (reply.act == MG_DID_TRIM) is_done(driver, reply.page), world->trims++;
+        if (reply.act == MG_DID_WRITE) is_done(driver, reply.page), world->programs++;
     }
 }
 
@@ -87,7 +110,7 @@ static int life(const char *file, unsigned seed, long cut_opening, long cut_work
         chip_cut(cut_work);
         chip_fail(rand() % 3 ? 0 : 1 + rand() % 400);
         work(&driver, 3000);
-        mg_free(&driver.die);
+        DIE(free)(&driver.die);
         _exit(0);
     }
     int status;

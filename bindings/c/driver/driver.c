@@ -4,6 +4,10 @@
 /* One block of the chip stands aside. */
 static const struct mg_plan plan = {BLOCKS - 1, PAGES, ERASE_SLOTS, LOGICAL, ALPHA, 0};
 static const struct mg_task tasks[TASKS] = {{CAP, 0, 0, 0, 0}, {CAP, 0, 0, 0, 0}};
+#ifdef KEEPS_PLAN
+/* In 200 slots a task may ask for 40 operations, 4 of them writes, done in 100; a collection comes each 200. */
+static const struct mg_terms terms[TASKS] = {{200, 100, 100, 40, 4, 200, 200}, {200, 100, 100, 40, 4, 200, 200}};
+#endif
 
 /* ---- Names and labels -------------------------------------------------------------------------------------------- */
 
@@ -69,7 +73,7 @@ static bool note_trim(struct driver *driver, uint32_t logical) {
         driver->note_page = 0;
         if (!erase_all(driver->note_block)) return false;
     }
-    driver->trims[logical] = mg_serial(&driver->die) + driver->above;
+    driver->trims[logical] = DIE(serial)(&driver->die) + driver->above;
     memcpy(payload, driver->trims, sizeof driver->trims);
     return program(driver->note_block, driver->note_page++, payload, name_of(payload), NOTE, ++driver->notes);
 }
@@ -95,17 +99,28 @@ static bool find_notes(struct driver *driver) {
 
 /* ---- Buffers ----------------------------------------------------------------------------------------------------- */
 
-static struct buffer *buffer_of(struct driver *driver, uint32_t job) {
+/* A copy's payload waits for the next call of its collection. */
+static struct buffer *copy_of(struct driver *driver, uint32_t job) {
     for (int i = 0; i < BUFFERS; i++)
-        if (driver->buffers[i].is_used && driver->buffers[i].job == job) return &driver->buffers[i];
+        if (driver->buffers[i].is_used && driver->buffers[i].is_copy && driver->buffers[i].job == job) return &driver->buffers[i];
     return NULL;
 }
 
-static bool keep(struct driver *driver, uint32_t job, const uint8_t *payload) {
+/* A write's is found by its name, since one that waits for the next life of a die has no number yet. */
+static struct buffer *written(struct driver *driver, struct mg_name name) {
+    for (int i = 0; i < BUFFERS; i++)
+        if (driver->buffers[i].is_used && !driver->buffers[i].is_copy && !memcmp(&driver->buffers[i].name, &name, sizeof name))
+            return &driver->buffers[i];
+    return NULL;
+}
+
+static bool keep(struct driver *driver, bool is_copy, uint32_t job, struct mg_name name, const uint8_t *payload) {
     for (int i = 0; i < BUFFERS; i++)
         if (!driver->buffers[i].is_used) {
             driver->buffers[i].is_used = true;
+            driver->buffers[i].is_copy = is_copy;
             driver->buffers[i].job = job;
+            driver->buffers[i].name = name;
             memcpy(driver->buffers[i].payload, payload, PAYLOAD);
             return true;
         }
@@ -116,22 +131,22 @@ static bool keep(struct driver *driver, uint32_t job, const uint8_t *payload) {
 
 /* Does what the die asks: whether it went well, and the name of what a read gave. */
 static bool drive(struct driver *driver, const struct mg_call *call, struct mg_name *gave) {
-    struct buffer *buffer = buffer_of(driver, call->job);
+    struct buffer *buffer = call->act >= MG_COPY_READ ? copy_of(driver, call->job) : written(driver, call->name);
     struct chip_page page;
     uint32_t block;
-    if (mg_part_block(&driver->die, call->block, &block)) return false;
+    if (DIE(part_block)(&driver->die, call->block, &block)) return false;
     /* a copy's buffer is free at the collection's next call, whichever it is; a write's, once it is programmed */
     if (buffer && (call->act >= MG_COPY_READ || call->kind == MG_CALL_PROGRAM)) buffer->is_used = false;
     switch (call->kind) {
     case MG_CALL_READ:
         if (!chip_read(block, call->page, &page)) return false;
         *gave = name_of(page.payload);
-        if (call->act == MG_COPY_READ) return keep(driver, call->job, page.payload);
+        if (call->act == MG_COPY_READ) return keep(driver, true, call->job, *gave, page.payload);
         memcpy(driver->read, page.payload, PAYLOAD);
         return true;
     case MG_CALL_PROGRAM:
         if (!buffer) return false;
-        return program(block, call->page, buffer->payload, call->name, call->logical, mg_serial(&driver->die) + driver->above);
+        return program(block, call->page, buffer->payload, call->name, call->logical, DIE(serial)(&driver->die) + driver->above);
     case MG_CALL_ERASE: return chip_erase_slot(block, call->last);
     case MG_CALL_TRIM: return note_trim(driver, call->logical);
     default: return true;
@@ -142,34 +157,54 @@ uint32_t driver_slot(struct driver *driver, struct mg_reply *reply) {
     struct mg_call call;
     struct mg_name gave = {{0}};
     struct mg_waived waived[TASKS];
-    uint32_t refusal = mg_begin(&driver->die, 0, &call);
+    uint32_t refusal = DIE(begin)(&driver->die, 0, &call);
     if (refusal) return refusal;
     bool ok = drive(driver, &call, &gave);
-    return mg_end(&driver->die, ok, &gave, reply, waived, TASKS);
+    return DIE(end)(&driver->die, ok, &gave, reply, waived, TASKS);
 }
 
-uint32_t driver_write(struct driver *driver, uint32_t task, uint32_t page, const uint8_t *payload, uint32_t due,
-                      uint32_t *job) {
+/* Asks for a job of one operation. */
+static uint32_t ask(struct driver *driver, uint32_t task, const struct mg_op *op, uint32_t slots, uint64_t *due) {
+#ifdef KEEPS_PLAN
+    struct mg_taken taken;
+    (void)slots;
+    uint32_t refusal = mg_planned_ask(&driver->die, 0, task, op, 1, &taken, NULL);
+    if (!refusal) *due = taken.due;
+    return refusal;
+#else
+    const uint32_t now = mg_now(&driver->die);
+    *due = now + slots;
+    return mg_submit(&driver->die, 0, task, now, now + slots, op, 1, NULL, NULL);
+#endif
+}
+
+uint32_t driver_write(struct driver *driver, uint32_t task, uint32_t page, const uint8_t *payload, uint32_t slots, uint64_t *due) {
     struct mg_op write = {MG_WRITE, page, name_of(payload)};
-    uint32_t refusal = mg_submit(&driver->die, 0, task, mg_now(&driver->die), due, &write, 1, job, NULL);
-    return refusal ? refusal : keep(driver, *job, payload) ? MG_OK : BROKEN;
+    uint32_t refusal = ask(driver, task, &write, slots, due);
+    return refusal ? refusal : keep(driver, false, 0, write.name, payload) ? MG_OK : BROKEN;
 }
 
-uint32_t driver_trim(struct driver *driver, uint32_t task, uint32_t page, uint32_t due, uint32_t *job) {
+uint32_t driver_trim(struct driver *driver, uint32_t task, uint32_t page, uint32_t slots, uint64_t *due) {
     const struct mg_op trim = {MG_TRIM, page, {{0}}};
-    return mg_submit(&driver->die, 0, task, mg_now(&driver->die), due, &trim, 1, job, NULL);
+    return ask(driver, task, &trim, slots, due);
 }
 
 uint32_t driver_read(struct driver *driver, uint32_t page, uint8_t *payload, bool *blank) {
     static const struct mg_name none = {{255, 255, 255, 255, 255, 255, 255, 255, 255, 255, 255, 255, 255, 255, 255, 255}};
     const struct mg_op read = {MG_READ, page, {{0}}};
     struct mg_reply reply;
-    uint32_t job, now = mg_now(&driver->die), refusal = mg_submit(&driver->die, 0, 0, now, now + 1, &read, 1, &job, NULL);
+    uint64_t due;
+    uint32_t refusal;
+    /* a die that keeps a plan may say that it is too soon: then slots pass */
+    while ((refusal = ask(driver, 0, &read, 1, &due)) == MG_TOO_SOON || refusal == MG_WAITS_ALREADY) {
+        refusal = driver_slot(driver, &reply);
+        if (refusal) return refusal;
+    }
     if (refusal) return refusal;
     do {
         refusal = driver_slot(driver, &reply);
         if (refusal) return refusal;
-    } while (reply.act != MG_DID_READ || reply.job != job);
+    } while (reply.act != MG_DID_READ || reply.page != page);
     *blank = !memcmp(&reply.name, &none, sizeof none);
     if (!*blank) memcpy(payload, driver->read, PAYLOAD);
     return MG_OK;
@@ -180,11 +215,11 @@ uint32_t driver_read(struct driver *driver, uint32_t page, uint8_t *payload, boo
 uint32_t driver_rescue(struct driver *driver, uint32_t page, uint8_t *payload, bool *blank) {
     struct mg_cell at;
     struct chip_page read;
-    uint32_t block, refusal = mg_place(&driver->die, page, &at);
+    uint32_t block, refusal = DIE(place)(&driver->die, page, &at);
     if (refusal) return refusal;
     *blank = at.block == MG_NOWHERE;
     if (*blank) return MG_OK;
-    if (mg_part_block(&driver->die, at.block, &block) || !chip_read(block, at.page, &read)) return BROKEN;
+    if (DIE(part_block)(&driver->die, at.block, &block) || !chip_read(block, at.page, &read)) return BROKEN;
     memcpy(payload, read.payload, PAYLOAD);
     return MG_OK;
 }
@@ -242,15 +277,21 @@ static uint32_t carry_out(struct driver *driver, mg_mount *mount) {
 
 uint32_t driver_open(struct driver *driver) {
     mg_mount mount = {0};
-    mg_free(&driver->die);
+    DIE(free)(&driver->die);
     memset(driver, 0, sizeof *driver);
     memset(driver->names, 0xFF, sizeof driver->names);
     if (!find_notes(driver)) return BROKEN;
     uint32_t refusal = mg_mount_new(&mount, &plan, tasks, TASKS);
     if (!refusal) refusal = carry_out(driver, &mount);
+#ifdef KEEPS_PLAN
+    if (!refusal) refusal = mg_mount_end_planned(&mount, terms, TASKS, LONGEST, driver->names, LOGICAL, &driver->die, NULL);
+    mg_mount_free(&mount);
+#else
     if (!refusal) refusal = mg_mount_end(&mount, driver->names, LOGICAL, &driver->die);
     mg_mount_free(&mount);
     /* With that nothing is refused for memory, nor waits for it, until a renewal is due. */
     if (!refusal) refusal = mg_reserve_jobs(&driver->die, JOBS, JOBS);
-    return refusal ? refusal : mg_reserve(&driver->die, SLOTS);
+    if (!refusal) refusal = mg_reserve(&driver->die, SLOTS);
+#endif
+    return refusal;
 }

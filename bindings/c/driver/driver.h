@@ -1,7 +1,10 @@
 /* A driver over maulgreen.h: two tasks write, trim and read pages of 2,048 bytes. What a page holds is named by a digest, and a
  * label in its spare area says which logical page it is and how new. The chip has one block more than the die's plan: so after a
  * loss of power the driver tells a mount what all cells show, does what it asks, and has a die again. A trim leaves no label: a
- * note of it goes into one of two blocks that neither die nor mount knows, and labels that are older aren't told. */
+ * note of it goes into one of two blocks that neither die nor mount knows, and labels that are older aren't told.
+ *
+ * With KEEPS_PLAN it has a die that keeps a plan: tasks ask, and what is taken is done by its `due`, also where the driver was
+ * mounted before. */
 #ifndef DRIVER_H
 #define DRIVER_H
 #include "../maulgreen.h"
@@ -10,17 +13,27 @@
 enum { TASKS = 2, LOGICAL = 150, ALPHA = 4, CAP = 16, BUFFERS = 40, BROKEN = 1000 };
 enum { SLOTS = 16384, JOBS = 8192 }; /* that are reserved: in 1,592,202 bytes with the 11,122 of its birth, as mg_memory says */
 
-struct buffer { bool is_used; uint32_t job; uint8_t payload[PAYLOAD]; };
+#ifdef KEEPS_PLAN
+enum { LONGEST = 4000 }; /* slots of a life */
+typedef mg_planned driver_die;
+#define DIE(call) mg_planned_##call
+#else
+typedef mg_die driver_die;
+#define DIE(call) mg_##call
+#endif
+
+/* A payload on its way: of a write until it is programmed, found by its name; of a copy until its collection's next call. */
+struct buffer { bool is_used, is_copy; uint32_t job; struct mg_name name; uint8_t payload[PAYLOAD]; };
 
 struct driver {
-    mg_die die;
+    driver_die die;
     uint64_t above;              /* what the serials of labels have more than those of the die and of its mount */
     uint64_t trims[LOGICAL];     /* by page the least serial since its last trim: what is older isn't there any more */
     uint64_t notes;              /* how many were written */
     uint32_t note_block, note_page; /* where the next note goes */
     struct mg_name names[LOGICAL];  /* by page, of the newest label that the mount was told */
     uint64_t serials[LOGICAL];
-    struct buffer buffers[BUFFERS]; /* of writes until they are programmed, of copies until the collection's next call */
+    struct buffer buffers[BUFFERS];
     uint8_t read[PAYLOAD];       /* what the last read of a job gave */
 };
 
@@ -29,11 +42,12 @@ struct driver {
 /* Finds what is on the chip, mounts it, and makes a die of it. */
 uint32_t driver_open(struct driver *driver);
 
-/* Asks for a write by `due`, which is done in some later slot. */
-uint32_t driver_write(struct driver *driver, uint32_t task, uint32_t page, const uint8_t *payload, uint32_t due, uint32_t *job);
+/* Asks for a write, which is done in some later slot. A die that keeps a plan says by which slot of its clock, and `slots` isn't
+ * looked at; another one is asked for it within so many slots. */
+uint32_t driver_write(struct driver *driver, uint32_t task, uint32_t page, const uint8_t *payload, uint32_t slots, uint64_t *due);
 
 /* Asks for a page to be blank, as driver_write. */
-uint32_t driver_trim(struct driver *driver, uint32_t task, uint32_t page, uint32_t due, uint32_t *job);
+uint32_t driver_trim(struct driver *driver, uint32_t task, uint32_t page, uint32_t slots, uint64_t *due);
 
 /* Reads a page, in as many slots as it takes; `blank` where it was never written. */
 uint32_t driver_read(struct driver *driver, uint32_t page, uint8_t *payload, bool *blank);

@@ -1,6 +1,6 @@
 //! Drives a chip of 4 KiB pages, which is simulated here: what `../c/example.c` does, in Rust.
 
-use maulgreen::{check, Act, Call, Die, Entered, Label, Misfit, Mount, Name, Op, Outcome, Place, Plan, Refusal, Step};
+use maulgreen::{check, Act, Call, Die, Entered, Label, Misfit, Mount, Name, Op, Outcome, Place, Plan, Planned, Refusal, Step, Terms};
 use std::collections::HashMap;
 
 const PAYLOAD: usize = 4096;
@@ -213,6 +213,46 @@ fn main() -> Result<(), Refusal> {
     assert!(matches!(slot.call(), Call::Read { block: 0, page: 0, name, .. } if name == fifth));
     slot.end(true, fifth)?;
     println!("a mount, and the die that begins where it ends");
+
+    // A die that keeps its plan is written down and goes on, and a mount ends in one.
+    let plan = Plan { logical: 12, caps: vec![6], ..plan };
+    let terms = Terms { period: 20, deadline: 10, held: 10, work: 2, writes: 1, collect_period: 20, collect_deadline: 20 };
+    let mut kept = Planned::new(&plan, &[terms], 100)?;
+    kept.ask(1, 0, &[Op::Write(5, fifth)])?;
+    assert_eq!(kept.checkpoint(), Err(Refusal::NotQuiet { job: 0 }));
+    kept.begin_slot(9)?;
+    assert_eq!(kept.checkpoint(), Err(Refusal::Begun));
+    kept.end_slot(true, Name::BLANK)?;
+    kept.begin_slot(9)?; // it waives the collection
+    kept.end_slot(true, Name::BLANK)?;
+    assert_eq!((kept.serial(), kept.part_block(3)), (2, 3));
+    let mut written = kept.checkpoint()?;
+    assert_eq!(written.pages[5], (Some(Place { block: 0, page: 0 }), fifth));
+    drop(kept);
+    assert_eq!(Planned::resume(&plan, &[terms], 19, &written).err(), Some(Refusal::NoLife));
+    written.balances[0] -= 4;
+    written.spare += 4;
+    assert_eq!(Planned::resume(&plan, &[terms], 100, &written).err(), Some(Refusal::NotStocked { task: 0, have: 2, need: 3 }));
+    written.balances[0] += 4;
+    written.spare -= 4;
+    let mut kept = Planned::resume(&plan, &[terms], 60, &written)?;
+    assert_eq!((kept.life().slots, kept.serial(), kept.checkpoint()?), (60, 1, written));
+    let mut mount = Mount::new(&plan)?;
+    assert_eq!(mount.end_planned(&[terms], 100, &[]).err(), Some(Refusal::WrongStep));
+    while let Some(step) = mount.next_step()? {
+        match step {
+            Step::Tell { block: 8 } => mount.tell(&[Some(Label { page: 5, serial: 41 })])?,
+            Step::Tell { .. } => mount.tell(&[])?,
+            _ => mount.done()?,
+        }
+    }
+    assert_eq!(mount.end_planned(&[terms, terms], 100, &[]).err(), Some(Refusal::BadTerms));
+    let mut kept = mount.end_planned(&[terms], 100, &[Name::BLANK, Name::BLANK, Name::BLANK, Name::BLANK, Name::BLANK, fifth])?;
+    assert_eq!((kept.serial(), kept.part_block(0), kept.place(5)), (42, 8, Some(Place { block: 0, page: 0 })));
+    kept.ask(1, 0, &[Op::Read(5)])?;
+    assert!(matches!(kept.begin_slot(9)?.call, Call::Read { name, .. } if name == fifth));
+    kept.end_slot(true, fifth)?;
+    println!("a die that keeps its plan goes on, and begins where a mount ends");
     println!("all as it should be");
     Ok(())
 }

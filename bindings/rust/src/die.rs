@@ -73,7 +73,7 @@ unsafe impl Sync for Die {}
 
 /// The version of the interface that this crate was written for: a library of the same major number serves, whose minor one
 /// isn't below.
-const VERSION: u32 = 1 << 16 | 2;
+const VERSION: u32 = 1 << 16 | 3;
 
 pub(crate) fn must_fit() {
     // SAFETY: it takes nothing.
@@ -83,6 +83,58 @@ pub(crate) fn must_fit() {
 
 /// The block of a page that lies nowhere.
 pub(crate) const NOWHERE: u32 = u32::MAX;
+
+/// A checkpoint as the library has it.
+pub(crate) struct Written {
+    pub(crate) places: Vec<raw::Place>,
+    pub(crate) names: Vec<Name>,
+    pub(crate) blocks: Vec<raw::Block>,
+    pub(crate) balances: Vec<u32>,
+    pub(crate) spare: u32,
+}
+
+impl Written {
+    pub(crate) fn of(checkpoint: &Checkpoint) -> Written {
+        let Checkpoint { ref pages, ref blocks, ref balances, spare } = *checkpoint;
+        let nowhere = raw::Place { block: NOWHERE, page: 0 };
+        Written {
+            places: pages.iter().map(|(at, _)| at.map_or(nowhere, |Place { block, page }| raw::Place { block, page })).collect(),
+            names: pages.iter().map(|(_, name)| *name).collect(),
+            blocks: blocks.iter().map(|&BlockCounts { filled, erases }| raw::Block { filled, erases }).collect(),
+            balances: balances.clone(),
+            spare,
+        }
+    }
+}
+
+type TakeCheckpoint = unsafe extern "C" fn(
+    *mut raw::Handle, *mut raw::Place, usize, *mut Name, usize, *mut raw::Block, usize, *mut u32, usize, *mut u32, *mut raw::Why,
+) -> u32;
+
+/// What stands, as this call says it of a die of so many logical pages, blocks and tasks.
+///
+/// # Safety
+/// The handle is full, and the call is one of its kind of die.
+pub(crate) unsafe fn checkpoint_by(take: TakeCheckpoint, handle: &mut raw::Handle, counts: [usize; 3]) -> Result<Checkpoint, Refusal> {
+    let [logical, blocks, tasks] = counts;
+    let mut places = vec![raw::Place::default(); logical];
+    let mut names = vec![Name::BLANK; logical];
+    let mut counts = vec![raw::Block::default(); blocks];
+    let mut balances = vec![0; tasks];
+    let (mut spare, mut why) = (0, NO_NUMBERS);
+    let code = take(
+        handle, places.as_mut_ptr(), places.len(), names.as_mut_ptr(), names.len(), counts.as_mut_ptr(), counts.len(),
+        balances.as_mut_ptr(), balances.len(), &mut spare, &mut why,
+    );
+    answer(code, &why)?;
+    let place = |raw::Place { block, page }| (block != NOWHERE).then_some(Place { block, page });
+    Ok(Checkpoint {
+        pages: places.into_iter().map(place).zip(names).collect(),
+        blocks: counts.into_iter().map(|raw::Block { filled, erases }| BlockCounts { filled, erases }).collect(),
+        balances,
+        spare,
+    })
+}
 
 impl Die {
     /// A die at slot 0, of a chip that is erased. `BadShape`, `BadPlan` or `NoMemory` where it is refused.
@@ -106,13 +158,7 @@ impl Die {
         must_fit();
         let counts = [plan.logical as usize, plan.blocks as usize, plan.caps.len()];
         let (plan, tasks) = plan.raw();
-        let Checkpoint { ref pages, ref blocks, ref balances, spare } = *checkpoint;
-        let nowhere = raw::Place { block: NOWHERE, page: 0 };
-        let places: Vec<raw::Place> =
-            pages.iter().map(|(at, _)| at.map_or(nowhere, |Place { block, page }| raw::Place { block, page })).collect();
-        let names: Vec<Name> = pages.iter().map(|(_, name)| *name).collect();
-        let blocks: Vec<raw::Block> =
-            blocks.iter().map(|&BlockCounts { filled, erases }| raw::Block { filled, erases }).collect();
+        let Written { places, names, blocks, balances, spare } = Written::of(checkpoint);
         let (mut handle, mut why) = (raw::Handle::EMPTY, NO_NUMBERS);
         // SAFETY: the handle is empty, and stays so where this is refused; each count is its slice's.
         let code = unsafe {
@@ -128,26 +174,8 @@ impl Die {
     /// What stands, with the names of the pages. The die stays as it is. Refused with the first that stands: `DieStopped`,
     /// `NotQuiet`, `WornOut`, `NoMemory`.
     pub fn checkpoint(&mut self) -> Result<Checkpoint, Refusal> {
-        let [logical, blocks, tasks] = self.counts;
-        let mut places = vec![raw::Place::default(); logical];
-        let mut names = vec![Name::BLANK; logical];
-        let mut counts = vec![raw::Block::default(); blocks];
-        let mut balances = vec![0; tasks];
-        let (mut spare, mut why) = (0, NO_NUMBERS);
-        let code = unsafe {
-            raw::mg_checkpoint(
-                &mut self.handle, places.as_mut_ptr(), places.len(), names.as_mut_ptr(), names.len(), counts.as_mut_ptr(), counts.len(),
-                balances.as_mut_ptr(), balances.len(), &mut spare, &mut why,
-            )
-        };
-        answer(code, &why)?;
-        let place = |raw::Place { block, page }| (block != NOWHERE).then_some(Place { block, page });
-        Ok(Checkpoint {
-            pages: places.into_iter().map(place).zip(names).collect(),
-            blocks: counts.into_iter().map(|raw::Block { filled, erases }| BlockCounts { filled, erases }).collect(),
-            balances,
-            spare,
-        })
+        // SAFETY: the handle is full.
+        unsafe { checkpoint_by(raw::mg_checkpoint, &mut self.handle, self.counts) }
     }
 
     /// Accepts a job of 1 to 64 operations, and answers its number. Refused, where nothing changes, with the first that

@@ -3,7 +3,8 @@
 use crate::data::{Name, Place, Plan};
 use crate::die::{must_fit, plain, Die, NOWHERE, NO_NUMBERS};
 use crate::raw;
-use crate::refusals::{answer, Refusal};
+use crate::planned::{Planned, Terms};
+use crate::refusals::{answer, resumed, Refusal};
 use alloc::vec::Vec;
 
 /// What a program left in its cell: the logical page, and the program's serial, which is below 2^63.
@@ -105,6 +106,21 @@ impl Mount {
         let mut handle = raw::Handle::EMPTY;
         plain(unsafe { raw::mg_mount_end(&mut self.handle, names.as_ptr(), names.len(), &mut handle) })?;
         Ok(Die { handle, counts: self.counts })
+    }
+
+    /// The die that keeps its plan and begins where the mount has ended, with full accounts, in the longest life of at most `longest`
+    /// slots. The mount is over then. `NoMemory`; `WrongStep` where it hasn't ended; `BadTerms`, `TooMuchDemand`, `TooFewPages`,
+    /// `NoLife`, `ShortLife`, as of [`Planned::new`]: these leave it. With the terms and `longest` of before it is `NoMemory` alone.
+    pub fn end_planned(&mut self, terms: &[Terms], longest: u32, names: &[Name]) -> Result<Planned, Refusal> {
+        let terms: Vec<raw::Terms> = terms.iter().map(Terms::raw).collect();
+        let (mut handle, mut why) = (raw::Handle::EMPTY, raw::Unresumed::default());
+        let code = unsafe {
+            raw::mg_mount_end_planned(
+                &mut self.handle, terms.as_ptr(), terms.len(), longest, names.as_ptr(), names.len(), &mut handle, &mut why,
+            )
+        };
+        resumed(code, &why)?;
+        Ok(Planned { handle, counts: self.counts })
     }
 }
 

@@ -1,9 +1,9 @@
 //! A die that keeps its plan itself.
 
-use crate::data::{Begun, Job, Name, Op, Outcome, Place, Plan, Reply};
-use crate::die::{must_fit, plain, NOWHERE};
+use crate::data::{Begun, Checkpoint, Job, Name, Op, Outcome, Place, Plan, Reply};
+use crate::die::{checkpoint_by, must_fit, plain, Written, NOWHERE};
 use crate::raw;
-use crate::refusals::{asked, Refusal};
+use crate::refusals::{asked, resumed, Refusal};
 use alloc::vec::Vec;
 
 /// What a task asks for of a die that keeps its plan. All times are in slots; `maulgreen.h` says the ranges.
@@ -46,7 +46,9 @@ pub struct Life {
 /// tasks ask, while slots are carried out and no call of the device fails. It isn't copied.
 pub struct Planned {
     // It is full from `new` to `drop`.
-    handle: raw::Handle,
+    pub(crate) handle: raw::Handle,
+    // What a checkpoint has: logical pages, blocks, tasks.
+    pub(crate) counts: [usize; 3],
 }
 
 // SAFETY: the library knows no thread. A die shares nothing with another but the heap, and what takes it by `&` only reads it.
@@ -61,6 +63,7 @@ impl Planned {
     /// `ShortLife`; `NoMemory`, which may come before these.
     pub fn new(plan: &Plan, terms: &[Terms], longest: u32) -> Result<Planned, Refusal> {
         must_fit();
+        let counts = [plan.logical as usize, plan.blocks as usize, plan.caps.len()];
         let (plan, tasks) = plan.raw();
         if terms.len() != tasks.len() {
             return Err(Refusal::BadTerms);
@@ -72,7 +75,55 @@ impl Planned {
             raw::mg_planned_new(&mut handle, &plan, tasks.as_ptr(), terms.as_ptr(), tasks.len(), longest, &mut why)
         };
         asked(code, &why)?;
-        Ok(Planned { handle })
+        Ok(Planned { handle, counts })
+    }
+
+    /// A die that goes on from a checkpoint, at slot 0 of the longest life of at most `longest` slots; its promises go on. Terms and
+    /// `longest` may be others than before. The chip has to be as the checkpoint says. What a task lacks to its cap beyond alpha pages
+    /// counts as asked to write in slot 0.
+    ///
+    /// Refused with the first that stands: `NoMemory`, which may come at any time; as [`Die::resume`](crate::Die::resume); `BadTerms`,
+    /// `TooMuchDemand`, `TooFewPages`, `NoLife`, `NotStocked`, `ShortLife`.
+    pub fn resume(plan: &Plan, terms: &[Terms], longest: u32, checkpoint: &Checkpoint) -> Result<Planned, Refusal> {
+        must_fit();
+        let counts = [plan.logical as usize, plan.blocks as usize, plan.caps.len()];
+        let (plan, tasks) = plan.raw();
+        if terms.len() != tasks.len() {
+            return Err(Refusal::BadTerms);
+        }
+        let terms: Vec<raw::Terms> = terms.iter().map(Terms::raw).collect();
+        let Written { places, names, blocks, balances, spare } = Written::of(checkpoint);
+        let (mut handle, mut why) = (raw::Handle::EMPTY, raw::Unresumed::default());
+        // SAFETY: the handle is empty, and stays so where this is refused; each count is its slice's.
+        let code = unsafe {
+            raw::mg_planned_resume(
+                &mut handle, &plan, tasks.as_ptr(), terms.as_ptr(), tasks.len(), longest, places.as_ptr(), places.len(), names.as_ptr(),
+                names.len(), blocks.as_ptr(), blocks.len(), balances.as_ptr(), balances.len(), spare, &mut why,
+            )
+        };
+        resumed(code, &why)?;
+        Ok(Planned { handle, counts })
+    }
+
+    /// What stands between two slots where nothing that was accepted is left, with the names of the pages. The die stays as it is.
+    /// Refused with the first that stands: `Begun`, `DieStopped`, `NotQuiet`, `WornOut`, `AskWaits`; `NoMemory`, which may come before
+    /// `AskWaits`.
+    pub fn checkpoint(&mut self) -> Result<Checkpoint, Refusal> {
+        // SAFETY: the handle is full.
+        unsafe { checkpoint_by(raw::mg_planned_checkpoint, &mut self.handle, self.counts) }
+    }
+
+    /// What the label of the next program bears. It rises over all lives.
+    pub fn serial(&self) -> u64 {
+        unsafe { raw::mg_planned_serial(&self.handle) }
+    }
+
+    /// The number that the part gives a block of the die.
+    pub fn part_block(&self, block: u32) -> u32 {
+        let mut said = 0;
+        // It refuses nothing but what can't be here, an empty handle and a null pointer.
+        unsafe { raw::mg_planned_part_block(&self.handle, block, &mut said) };
+        said
     }
 
     fn asked(&mut self, ask: Ask, caller: u32, task: u32, ops: &[Op]) -> Result<Taken, Refusal> {
@@ -166,7 +217,7 @@ impl Drop for Planned {
 }
 
 impl Terms {
-    fn raw(&self) -> raw::Terms {
+    pub(crate) fn raw(&self) -> raw::Terms {
         let Terms { period, deadline, held, work, writes, collect_period, collect_deadline } = *self;
         raw::Terms { period, deadline, held, work, writes, collect_period, collect_deadline }
     }

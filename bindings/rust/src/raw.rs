@@ -45,6 +45,7 @@ structs! {
     Taken { release: u64, due: u64, waits: u32, first: u32, jobs: u32 }
     Unasked { next: u64, number: u32 }
     Life { first: u64, slots: u32, now: u32 }
+    Unresumed { first: u32, second: u32, third: u32 }
     Step { serial: u64, kind: u32, block: u32, page: u32, logical: u32, last: u32 }
 }
 
@@ -125,6 +126,21 @@ extern "C" {
     pub fn mg_planned_job(die: *const Handle, number: u32, job: *mut Job) -> u32;
     pub fn mg_planned_outcome(die: *const Handle, job: u32, outcome: *mut Outcome, reads: *mut Name, count: usize) -> u32;
     pub fn mg_planned_place(die: *const Handle, page: u32, place: *mut Place) -> u32;
+    pub fn mg_planned_checkpoint(
+        die: *mut Handle, places: *mut Place, place_count: usize, names: *mut Name, name_count: usize, blocks: *mut Block,
+        block_count: usize, balances: *mut u32, balance_count: usize, spare: *mut u32, why: *mut Why,
+    ) -> u32;
+    pub fn mg_planned_resume(
+        die: *mut Handle, plan: *const Plan, tasks: *const Task, terms: *const Terms, count: usize, longest: u32, places: *const Place,
+        place_count: usize, names: *const Name, name_count: usize, blocks: *const Block, block_count: usize, balances: *const u32,
+        balance_count: usize, spare: u32, why: *mut Unresumed,
+    ) -> u32;
+    pub fn mg_mount_end_planned(
+        mount: *mut Handle, terms: *const Terms, count: usize, longest: u32, names: *const Name, name_count: usize, die: *mut Handle,
+        why: *mut Unresumed,
+    ) -> u32;
+    pub fn mg_planned_serial(die: *const Handle) -> u64;
+    pub fn mg_planned_part_block(die: *const Handle, block: u32, part_block: *mut u32) -> u32;
     pub fn mg_check(
         rows: *const Row, row_count: usize, certificate: *const Certificate, jobs: *const u32, count: usize,
     ) -> u32;

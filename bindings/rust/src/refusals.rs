@@ -81,6 +81,11 @@ pub enum Refusal {
     TooMuchDemand,
     /// A task's collections give less than it writes, or its cap doesn't cover it.
     TooFewPages,
+    /// An ask of this task waits for the next life, and would be lost: of the first such task.
+    AskWaits { task: u32 },
+    /// A task lacks more to its cap than alpha pages and what it may write in a period: the first such task, how many pages it has, and
+    /// how many it needs.
+    NotStocked { task: u32, have: u32, need: u32 },
     /// A number that maulgreen.h doesn't have.
     Other(u32),
 }
@@ -181,6 +186,8 @@ impl Refusal {
             BadTerms => 407,
             TooMuchDemand => 408,
             TooFewPages => 409,
+            AskWaits { .. } => 410,
+            NotStocked { .. } => 411,
             Other(number) => number,
         }
     }
@@ -201,6 +208,16 @@ pub(crate) fn asked(code: u32, why: &raw::Unasked) -> Result<(), Refusal> {
         409 => TooFewPages,
         _ => return answer(code, &raw::Why { first: why.number, second: 0 }),
     })
+}
+
+/// Why no die that keeps its plan goes on from a checkpoint, or where a mount ended.
+pub(crate) fn resumed(code: u32, why: &raw::Unresumed) -> Result<(), Refusal> {
+    match code {
+        406 => Err(Refusal::ShortLife { task: why.first }),
+        411 => Err(Refusal::NotStocked { task: why.first, have: why.second, need: why.third }),
+        405..=409 => asked(code, &raw::Unasked::default()),
+        _ => answer(code, &raw::Why { first: why.first, second: why.second }),
+    }
 }
 
 /// What a call answered, by its number.
@@ -248,6 +265,7 @@ pub(crate) fn answer(code: u32, why: &raw::Why) -> Result<(), Refusal> {
         305 => Checkpoint(Misfit::AboveCap { task: why.first }),
         306 => Checkpoint(Misfit::OtherSum { accounts: why.first, free: why.second }),
         307 => Checkpoint(Misfit::SharedCell { page: why.first }),
+        410 => AskWaits { task: why.first },
         other => Other(other),
     })
 }

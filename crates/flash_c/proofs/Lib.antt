@@ -4,6 +4,9 @@ pub mod MountHandleSteps
 pub mod PlannedHandleSteps
 pub mod Mounting
 pub mod Faults
+pub mod Unresumed
+pub mod KeptMounts
+pub mod KeptResuming
 pub mod Filling
 pub mod Verdicts
 pub mod Rooms

@@ -12,3 +12,4 @@ pub mod Texts
 pub mod Checkpoints
 pub mod Answers
 pub mod Planned
+pub mod PlannedResuming

@@ -35,8 +35,7 @@ use Rattle.stepped_plan.specs.declared.refusals.PlanAskStop.{PlanAskStop}
 use Rattle.stepped_plan.specs.declared.refusals.PlanAskStop.TheVariants as ask_stops
 use Rattle.stepped_plan.specs.declared.refusals.PlanSlotStop.{PlanSlotStop}
 use Rattle.stepped_plan.specs.declared.refusals.PlanSlotStop.TheVariants as slot_stops
-use Rattle.stepped_plan.specs.declared.stage.Stage.{Stage}
-use Rattle.stepped_plan.specs.Stages.{begun_in}
+use Rattle.stepped_plan.specs.Stages.{Stepping, begun_in}
 use Rattle.stepped_plan.specs.Calls.{IsNewPlan, IsPlanAsk, IsBeginning, IsEnd}
 use Rattle.flash_c.specs.declared.kept.KeptDie.{KeptDie}
 use Rattle.flash_c.specs.declared.shapes.FlashCall.{FlashCall}
@@ -161,13 +160,13 @@ taken_of (taken.Enters release due first jobs) = record { release = release; due
 taken_of (taken.Waits release due) = record { release = release; due = due; waits = 1; first = 0; jobs = 0 }
 
 -- an ask is taken, and this is reported of it
-pub record SaysTaken (kind : AskKind) (caller task : ℕ) (ops : List Op) (before after : Option Stage) (said : FlashTaken) : Type 0 where
+pub record SaysTaken (kind : AskKind) (caller task : ℕ) (ops : List Op) (before after : Stepping) (said : FlashTaken) : Type 0 where
   pub taken : Taken
   pub asked : IsPlanAsk kind caller task ops (Ok taken) before after
   pub said_is : said ≡ taken_of taken
 
 -- it is refused, with this number and these numbers
-pub record SaysUnasked (kind : AskKind) (caller task : ℕ) (ops : List Op) (before after : Option Stage) (code : ℕ) (why : FlashUnasked) : Type 0 where
+pub record SaysUnasked (kind : AskKind) (caller task : ℕ) (ops : List Op) (before after : Stepping) (code : ℕ) (why : FlashUnasked) : Type 0 where
   pub stop : PlanAskStop
   pub refused : IsPlanAsk kind caller task ops (Err stop) before after
   pub code_is : code ≡ ask_code stop
@@ -183,19 +182,19 @@ pub record SaysNoKept (plan : DiePlan) (terms : Terms) (longest code : ℕ) (why
 -- Slots
 
 -- a slot has begun, with this call
-pub record SaysBegun (caller : ℕ) (before after : Option Stage) (call : FlashCall) : Type 0 where
+pub record SaysBegun (caller : ℕ) (before after : Stepping) (call : FlashCall) : Type 0 where
   pub begun : Begun
   pub begins : IsBeginning caller (Ok begun) before after
   pub call_is : call ≡ call_of begun
 
 -- none begins, for this
-pub record SaysUnbegun (caller : ℕ) (before after : Option Stage) (code : ℕ) : Type 0 where
+pub record SaysUnbegun (caller : ℕ) (before after : Stepping) (code : ℕ) : Type 0 where
   pub stop : PlanSlotStop
   pub refused : IsBeginning caller (Err stop) before after
   pub code_is : code ≡ slot_code stop
 
 -- a slot has ended with a reply, which is reported with who began it and the collections that were waived
-pub record SaysEnd (ok : Bool) (bytes : PageData) (before after : Option Stage) (said : FlashReply) (room waived : List FlashWaived) : Type 0 where
+pub record SaysEnd (ok : Bool) (bytes : PageData) (before after : Stepping) (said : FlashReply) (room waived : List FlashWaived) : Type 0 where
   pub reply : SlotReply
   pub ended : IsEnd ok bytes (Ok reply) before after
   pub caller : ℕ
@@ -204,7 +203,7 @@ pub record SaysEnd (ok : Bool) (bytes : PageData) (before after : Option Stage) 
   pub waived_is : waived ≡ array_with waived_of room reply.waived
 
 -- none has ended, for this
-pub record SaysUnended (ok : Bool) (bytes : PageData) (before after : Option Stage) (code : ℕ) : Type 0 where
+pub record SaysUnended (ok : Bool) (bytes : PageData) (before after : Stepping) (code : ℕ) : Type 0 where
   pub stop : PlanSlotStop
   pub refused : IsEnd ok bytes (Err stop) before after
   pub code_is : code ≡ slot_code stop

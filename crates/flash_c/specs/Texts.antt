@@ -79,6 +79,8 @@ plan_names =
     ∷ code_name 407 (codes "BadTerms")
     ∷ code_name 408 (codes "TooMuchDemand")
     ∷ code_name 409 (codes "TooFewPages")
+    ∷ code_name 410 (codes "AskWaits")
+    ∷ code_name 411 (codes "NotStocked")
     ∷ []
 
 abbrev pub name_among : List CodeName → ℕ → List ℕ

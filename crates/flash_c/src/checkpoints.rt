@@ -78,7 +78,7 @@ fn counts_in(block: &FlashBlock) -> BlockCounts
     }
 }
 
-fn put_places(room: &mut [FlashPlace], places: &[Option<Place>])
+pub(crate) fn put_places(room: &mut [FlashPlace], places: &[Option<Place>])
     ensures { room.new ≡ array_with place_of room.old places.now }
 {
     for i in 0..room.len().min(places.len()) {
@@ -86,7 +86,7 @@ fn put_places(room: &mut [FlashPlace], places: &[Option<Place>])
     }
 }
 
-fn put_blocks(room: &mut [FlashBlock], blocks: &[BlockCounts])
+pub(crate) fn put_blocks(room: &mut [FlashBlock], blocks: &[BlockCounts])
     ensures { room.new ≡ array_with counts_of room.old blocks.now }
 {
     for i in 0..room.len().min(blocks.len()) {
@@ -94,7 +94,7 @@ fn put_blocks(room: &mut [FlashBlock], blocks: &[BlockCounts])
     }
 }
 
-fn put_numbers(room: &mut [u32], numbers: &[u32])
+pub(crate) fn put_numbers(room: &mut [u32], numbers: &[u32])
     ensures { room.new ≡ array_with number_in room.old numbers.now }
 {
     for i in 0..room.len().min(numbers.len()) {
@@ -136,7 +136,7 @@ pub(crate) fn pages_in(alloc: Global, names: &[FlashName]) -> Result<Items<PageD
 }
 
 /// The checkpoint that these arrays stand for.
-fn checkpoint_in(
+pub(crate) fn checkpoint_in(
     alloc: Global,
     places: &[FlashPlace],
     blocks: &[FlashBlock],

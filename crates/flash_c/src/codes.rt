@@ -109,6 +109,12 @@ pub const TOO_MUCH_DEMAND: u32 = 408;
 /// A task's collections or its cap don't cover what it writes.
 pub const TOO_FEW_PAGES: u32 = 409;
 
+/// An ask waits for the next life, and would be lost.
+pub const ASK_WAITS: u32 = 410;
+
+/// A task has too few pages to go on with.
+pub const NOT_STOCKED: u32 = 411;
+
 /// The number of a refusal of the store.
 pub(crate) fn of_refusal(refusal: Refusal) -> u32
     ensures { result ≡ code_of (StepRefusal.Die refusal) }

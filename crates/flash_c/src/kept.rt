@@ -1,18 +1,30 @@
 //! A die that keeps its plan, as a handle of C has it.
 
-ghost use Rattle.std.specs.Prelude.{◌≡◌, ◌≤◌, length, map, take, vec_capacity, IfOk, IfErr};
+ghost use Rattle.std.specs.Prelude.{◌≡◌, ◌≢◌, ◌⊎◌, ◌≤◌, length, map, take, vec_capacity, IfOk, IfErr};
 ghost use Rattle.ongoing_die.specs.OngoingPlans.{RefusesOngoing};
+ghost use Rattle.ongoing_die.specs.Resuming.{RefusesOngoingResume, out_of_memory};
+ghost use Rattle.planned_die.specs.declared.lacks.Shortage.{Shortage};
+ghost use Rattle.planned_die.specs.declared.resumptions.PlanResumeRefusal.TheVariants as plans;
+ghost use Rattle.ongoing_die.specs.declared.refusals.OngoingResumeRefusal.TheVariants as refuses;
+ghost use Rattle.stepped_die.specs.Parts.{fresh_part};
 ghost use Rattle.stepped_plan.specs.Calls.{IsNewPlan, IsPlanAsk};
+ghost use Rattle.stepped_plan.specs.Resuming.{GoesOnPlanned};
 ghost use Rattle.flash_c.specs.Names.{op_in};
 ghost use Rattle.flash_c.specs.Planned.{HasRoom};
 
 use crate::names::{MOST_OPS, op_in};
 use crate::shapes::FlashOp;
 use demand_rules::Terms;
+use die_checkpoint::{Checkpoint, CheckpointFault};
+use die_mount::Mounted;
 use planned_die::PlanRefusal;
-use slot_types::{DiePlan, Op, Refusal, TaskNo};
+use slot_core::ResumeRefusal;
+use slot_types::{DiePlan, Op, PageData, Refusal, TaskNo};
 use std::alloc::Global;
-use stepped_plan::{AskKind, OngoingRefusal, PlanAskStop, SteppedPlan, Taken};
+use stepped_plan::{
+    AskKind, OngoingRefusal, OngoingResumeRefusal, PlanAskStop, PlanResumeRefusal, SteppedPlan,
+    Taken,
+};
 
 /// A die that keeps its plan, and places for the operations of an ask.
 #[derive(Drop)]
@@ -54,6 +66,61 @@ impl KeptDie {
         }
     }
 
+    /// A die that goes on from a checkpoint, and places for the operations of each ask that a task may make.
+    pub(crate) fn resume(
+        alloc: Global,
+        plan: DiePlan,
+        terms: Terms,
+        longest: u32,
+        checkpoint: &Checkpoint,
+        names: &[PageData],
+    ) -> Result<KeptDie, OngoingResumeRefusal>
+        ensures goes_on { IfOk result (λ kept.
+            GoesOnPlanned plan terms longest checkpoint.now names.now kept.plan) }
+        ensures part { IfOk result (λ kept. kept.plan.part ≡ fresh_part plan) }
+        ensures room { IfOk result (λ kept. HasRoom terms (vec_capacity kept.ops)) }
+        ensures refused { IfErr result (λ refusal. refusal ≢ out_of_memory
+            → RefusesOngoingResume plan terms longest checkpoint.now plan.shape refusal) }
+    {
+        let ops = match Vec::with_capacity(alloc, most_ops(&terms)) {
+            Ok(ops) => ops,
+            Err(_) => return Err(no_memory()),
+        };
+        match SteppedPlan::resume(alloc, plan, terms, longest, checkpoint, names) {
+            Ok(plan) => Ok(KeptDie { plan, ops }),
+            Err(refusal) => Err(refusal),
+        }
+    }
+
+    /// A die that begins where a mount ended, and places for the operations of each ask that a task may make.
+    pub(crate) fn mounted(
+        alloc: Global,
+        plan: DiePlan,
+        terms: Terms,
+        longest: u32,
+        end: &Mounted,
+        names: &[PageData],
+    ) -> Result<KeptDie, OngoingResumeRefusal>
+        ensures goes_on { IfOk result (λ kept.
+            GoesOnPlanned plan terms longest end.now.checkpoint names.now kept.plan) }
+        ensures part { IfOk result (λ kept.
+            kept.plan.part ≡ record { aside = end.now.aside; serial = end.now.next }) }
+        ensures room { IfOk result (λ kept. HasRoom terms (vec_capacity kept.ops)) }
+        ensures refused { IfErr result (λ refusal. refusal ≢ out_of_memory
+            → RefusesOngoingResume plan terms longest end.now.checkpoint plan.shape refusal) }
+        ensures stocked { end.now.checkpoint.balances ≡ plan.caps → IfErr result (λ refusal.
+            (shortage : Shortage) → refusal ≢ refuses.Plan (plans.NotStocked shortage)) }
+    {
+        let ops = match Vec::with_capacity(alloc, most_ops(&terms)) {
+            Ok(ops) => ops,
+            Err(_) => return Err(no_memory()),
+        };
+        match SteppedPlan::mounted(alloc, plan, terms, longest, end, names) {
+            Ok(plan) => Ok(KeptDie { plan, ops }),
+            Err(refusal) => Err(refusal),
+        }
+    }
+
     /// As many operations of an ask as there are places for.
     pub(crate) fn seen<'a>(&self, ops: &'a [FlashOp]) -> &'a [FlashOp]
         ensures seen { result.now ≡ take (vec_capacity self.now.ops) ops.now }
@@ -80,6 +147,32 @@ impl KeptDie {
         self.plan
             .ask_as(alloc, caller, kind, TaskNo(task), self.ops.as_slice())
     }
+}
+
+/// A die in a box. It takes the answer of the step before, so that a die is given up in one place.
+pub(crate) fn boxed(
+    alloc: Global,
+    made: Result<KeptDie, OngoingResumeRefusal>,
+) -> Result<Box<KeptDie>, OngoingResumeRefusal>
+    ensures ok { IfOk result (λ boxed. made ≡ Ok boxed.value) }
+    ensures refused { IfErr result (λ refusal. (refusal ≡ out_of_memory) ⊎ (made ≡ Err refusal)) }
+{
+    match made {
+        Ok(kept) => match Box::new(alloc, kept) {
+            Ok(boxed) => Ok(boxed),
+            Err(_) => Err(no_memory()),
+        },
+        Err(refusal) => Err(refusal),
+    }
+}
+
+/// Memory was asked for and not had.
+pub(crate) fn no_memory() -> OngoingResumeRefusal
+    ensures { result ≡ out_of_memory }
+{
+    OngoingResumeRefusal::Plan(PlanResumeRefusal::Die(ResumeRefusal::Unfit {
+        fault: CheckpointFault::NoMemory,
+    }))
 }
 
 /// Puts operations into their places.

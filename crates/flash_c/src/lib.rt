@@ -18,6 +18,7 @@ mod names;
 pub mod planned;
 mod planned_codes;
 mod planned_handles;
+pub mod planned_resumptions;
 mod planned_said;
 mod plans;
 pub mod queries;

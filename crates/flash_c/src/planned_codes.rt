@@ -2,17 +2,22 @@
 
 ghost use Rattle.std.specs.Prelude.{◌≡◌};
 ghost use Rattle.flash_c.specs.Planned.{ask_code, ask_why, life_code, plan_code, plan_why, slot_code, task_code, terms_code, unasked};
+ghost use Rattle.flash_c.specs.PlannedResuming.{three, unresumed_code, unresumed_why, unwritten_code, unwritten_why};
 
 use crate::codes::{
-    BAD_TERMS, BEGUN, LIFE_END, NO_LIFE, NOT_BEGUN, SHORT_LIFE, TOO_FEW_PAGES, TOO_MANY_WRITES,
-    TOO_MUCH_DEMAND, TOO_SOON, WAITS_ALREADY, WORN_OUT, of_refusal,
+    ASK_WAITS, BAD_TERMS, BEGUN, LIFE_END, NO_LIFE, NO_MEMORY, NOT_BEGUN, NOT_STOCKED, OTHER_SHAPE,
+    SHORT_LIFE, TOO_FEW_PAGES, TOO_MANY_WRITES, TOO_MUCH_DEMAND, TOO_SOON, WAITS_ALREADY, WORN_OUT,
+    fault_why, no_numbers, of_fault, of_refusal, of_renewal, renewal_why,
 };
-use crate::shapes::FlashUnasked;
+use crate::shapes::{FlashUnasked, FlashUnresumed, FlashWhy};
 use demand_rules::{DemandFault, TermsFault};
 use planned_die::PlanRefusal;
+use slot_core::{CheckpointRefusal, ResumeRefusal};
 use slot_types::Refusal;
+use stepped_die::StepRenewalRefusal;
 use stepped_plan::{
-    AskRefusal, AskStop, LifeStop, OngoingRefusal, PlanAskStop, PlanSlotStop, SlotStop,
+    AskRefusal, AskStop, LifeStop, OngoingCheckpointRefusal, OngoingRefusal, OngoingResumeRefusal,
+    PlanAskStop, PlanCheckpointRefusal, PlanResumeRefusal, PlanSlotStop, SlotStop,
 };
 
 /// The number of a fault of terms.
@@ -116,5 +121,82 @@ pub(crate) fn of_slot(stop: PlanSlotStop) -> u32
         PlanSlotStop::NotBegun => NOT_BEGUN,
         PlanSlotStop::Slot(SlotStop::DeviceFault) => of_refusal(Refusal::DeviceFault),
         PlanSlotStop::Slot(SlotStop::Ended(stop)) => of_life(stop),
+    }
+}
+
+/// The number of why no checkpoint is taken.
+pub(crate) fn of_unwritten(refusal: PlanCheckpointRefusal) -> u32
+    ensures { result ≡ unwritten_code refusal }
+{
+    match refusal {
+        PlanCheckpointRefusal::Begun => BEGUN,
+        PlanCheckpointRefusal::Die(OngoingCheckpointRefusal::AskWaits { .. }) => ASK_WAITS,
+        PlanCheckpointRefusal::Die(OngoingCheckpointRefusal::Die(CheckpointRefusal::NoMemory)) => {
+            NO_MEMORY
+        }
+        PlanCheckpointRefusal::Die(
+            OngoingCheckpointRefusal::Die(CheckpointRefusal::NotRenewable { why }),
+        ) => of_renewal(StepRenewalRefusal::Die(why)),
+    }
+}
+
+/// The job, block or task that it has.
+pub(crate) fn unwritten_why(refusal: PlanCheckpointRefusal) -> FlashWhy
+    ensures { result ≡ unwritten_why refusal }
+{
+    match refusal {
+        PlanCheckpointRefusal::Die(OngoingCheckpointRefusal::AskWaits { task }) => FlashWhy {
+            first: task,
+            second: 0,
+        },
+        PlanCheckpointRefusal::Die(
+            OngoingCheckpointRefusal::Die(CheckpointRefusal::NotRenewable { why }),
+        ) => renewal_why(StepRenewalRefusal::Die(why)),
+        _ => no_numbers(),
+    }
+}
+
+pub(crate) fn three(first: u32, second: u32, third: u32) -> FlashUnresumed
+    ensures { result ≡ three first second third }
+{
+    FlashUnresumed {
+        first,
+        second,
+        third,
+    }
+}
+
+/// The number of why no die goes on from a checkpoint, or where a mount ended.
+pub(crate) fn of_unresumed(refusal: OngoingResumeRefusal) -> u32
+    ensures { result ≡ unresumed_code refusal }
+{
+    match refusal {
+        OngoingResumeRefusal::Plan(PlanResumeRefusal::Die(ResumeRefusal::OtherDevice)) => {
+            OTHER_SHAPE
+        }
+        OngoingResumeRefusal::Plan(PlanResumeRefusal::Die(ResumeRefusal::Unfit { fault })) => {
+            of_fault(fault)
+        }
+        OngoingResumeRefusal::Plan(PlanResumeRefusal::Terms(fault)) => of_terms(fault),
+        OngoingResumeRefusal::Plan(PlanResumeRefusal::NoLife) => NO_LIFE,
+        OngoingResumeRefusal::Plan(PlanResumeRefusal::NotStocked(_)) => NOT_STOCKED,
+        OngoingResumeRefusal::ShortLife { .. } => SHORT_LIFE,
+    }
+}
+
+/// What it names.
+pub(crate) fn unresumed_why(refusal: OngoingResumeRefusal) -> FlashUnresumed
+    ensures { result ≡ unresumed_why refusal }
+{
+    match refusal {
+        OngoingResumeRefusal::Plan(PlanResumeRefusal::Die(ResumeRefusal::Unfit { fault })) => {
+            let why = fault_why(fault);
+            three(why.first, why.second, 0)
+        }
+        OngoingResumeRefusal::Plan(PlanResumeRefusal::NotStocked(short)) => {
+            three(short.task, short.have, short.need)
+        }
+        OngoingResumeRefusal::ShortLife { task } => three(task, 0, 0),
+        _ => three(0, 0, 0),
     }
 }

@@ -272,3 +272,15 @@ pub struct FlashLife {
     /// Its present slot.
     pub now: u32,
 }
+
+/// The numbers of why no die that keeps its plan goes on, 0 where it has none.
+#[repr(C)]
+#[derive(Clone, Copy, Drop)]
+pub struct FlashUnresumed {
+    /// The block, page or task; or what the accounts share out.
+    pub first: u32,
+    /// How many pages are free, or how many the task has.
+    pub second: u32,
+    /// How many pages the task needs.
+    pub third: u32,
+}

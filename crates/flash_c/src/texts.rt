@@ -96,6 +96,8 @@ fn plan_name_of(refusal: u32) -> &'static str
         407 => "BadTerms",
         408 => "TooMuchDemand",
         409 => "TooFewPages",
+        410 => "AskWaits",
+        411 => "NotStocked",
         _ => "Unknown",
     }
 }

@@ -122,7 +122,7 @@ next_cell blocks block pages places names n h quiet few =
 abbrev pub erases_of : List BlockCounts → List ℕ
 erases_of blocks = map (λ (block : BlockCounts). block.erases) blocks
 
--- a block of which so many pages are programmed and blank, that was erased so often
+-- a block of which as many pages as `filled` says are programmed and blank, that was erased as often as `erases` says
 abbrev pub left_block : List ℕ → List ℕ → ℕ → Block
 left_block filled erases block = record {
   pages = replicate (slice_index filled block) blank;
@@ -186,7 +186,7 @@ block_unfilled counts k h =
     B : List PageData → ℕ → Block
     B pages erases = record { pages = pages; erasing = 0; erases = erases }
 
--- so many blocks are filled, and the others are not
+-- the first `k` blocks are filled, and the others are not
 abbrev pub filled_up_to : Checkpoint → List PageData → ℕ → List Block
 filled_up_to c names k = up_to k (all_left c names) (unfilled c.blocks)
 

@@ -46,7 +46,7 @@ erase_none : (t : Bool) (l : Labels) (blocks : Shown) → l.next ≡ (cond t (re
 erase_none true l blocks = refl
 erase_none false l blocks = refl
 
-by_act : (device : Memory) (start : Start) (past : Log) (l : Labels) → l.next + 1 < 2 ^ 64 → (ran : Carried)
+pub by_act : (device : Memory) (start : Start) (past : Log) (l : Labels) → l.next + 1 < 2 ^ 64 → (ran : Carried)
     → serial_after (reported_by device (next_by start past ran)) l.next
     ≡ (labels_after start.plan (cells start past) (contents start past) ran l).next
 by_act device start past l room None = refl
@@ -78,7 +78,7 @@ module _ (first : Labels) (before after : Stepped) (s : IsStepped before) where
       ∙ ap (λ (x : Start). (labels x first after.core.log).next) (sym h.start_stays))))))
 
 -- a fresh die
-first_labelled : (plan : DiePlan) → IsLabelled (fresh plan) (first_labels plan)
+pub first_labelled : (plan : DiePlan) → IsLabelled (fresh plan) (first_labels plan)
 first_labelled plan =
     let f = fresh_labelled plan in record {
       labelled = record {

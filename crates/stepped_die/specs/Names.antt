@@ -41,7 +41,7 @@ pages_named places names = map (page_named places names) (range_with_len 0 (leng
 abbrev pub name_in : List (Option Place) → List PageData → ℕ → ℕ → PageData
 name_in places names block page = name_of names (owner_of places (record { block = block; page = page }))
 
--- the first so many cells of a block
+-- the first `count` cells of a block
 abbrev pub names_in : List (Option Place) → List PageData → ℕ → ℕ → List PageData
 names_in places names block count = map (name_in places names block) (range_with_len 0 count)
 

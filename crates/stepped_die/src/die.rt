@@ -261,7 +261,7 @@ impl SteppedDie {
         self.core.reserve(slots)
     }
 
-    /// Takes the memory for this many later jobs and collections with so many operations in all, as
+    /// Takes the memory for `arrivals` later jobs and collections with `operations` operations in all, as
     /// [`DieCore::reserve_arrivals`].
     pub fn reserve_arrivals(&mut self, arrivals: u32, operations: u32) -> Result<(), Refusal>
         ensures ok { OnOk result (self.new

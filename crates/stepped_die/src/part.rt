@@ -18,7 +18,7 @@ pub struct Part {
 
 impl Part {
     /// The part beneath a die that wasn't mounted.
-    pub(crate) fn fresh(plan: &DiePlan) -> Part
+    pub fn fresh(plan: &DiePlan) -> Part
         ensures { result ≡ fresh_part plan.now }
     {
         Part {
@@ -29,7 +29,7 @@ impl Part {
 }
 
 /// The serial once a call was done that ends a slot: one more after a program.
-pub(crate) fn serial_after(call: Option<Call>, serial: u64) -> u64
+pub fn serial_after(call: Option<Call>, serial: u64) -> u64
     ensures { result ≡ serial_after call serial }
 {
     match call {
@@ -39,7 +39,7 @@ pub(crate) fn serial_after(call: Option<Call>, serial: u64) -> u64
 }
 
 /// The number that the part gives a block of the die: the last one's where a block stands aside in its place.
-pub(crate) fn on_part(last: u32, aside: u32, block: u32) -> u32
+pub fn on_part(last: u32, aside: u32, block: u32) -> u32
     ensures { result ≡ on_part last aside block }
 {
     if block == aside { last } else { block }

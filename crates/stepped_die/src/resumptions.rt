@@ -30,8 +30,8 @@ pub struct NamedCheckpoint {
     pub names: Items<PageData>,
 }
 
-/// By logical page the name of what its cell was programmed with; blank where it lies nowhere.
-fn names_of(
+/// By logical page the name of what its cell was programmed with; blank where it lies nowhere. Refused with `NoMemory` alone.
+pub fn names_of(
     alloc: Global,
     device: &MirrorNand,
     places: &[Option<Place>],

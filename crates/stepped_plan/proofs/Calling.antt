@@ -31,7 +31,7 @@ use Rattle.stepped_plan.specs.declared.refusals.PlanSlotStop.{PlanSlotStop}
 use Rattle.stepped_plan.specs.declared.stage.Stage.{Stage}
 use Rattle.stepped_plan.specs.declared.stage.Stage.TheVariants as stages
 use Rattle.stepped_plan.specs.Stages.{IsAsked, IsSteppedPlan, cells_of}
-use Rattle.stepped_plan.specs.Calls.{mirror_ends, mirror_failures, IsBeginning, HasCarriedOut, IsEnd}
+use Rattle.stepped_plan.specs.Calls.{mirror_ends, mirror_failures, BeginsAt, EndsAt, HasCarriedOut}
 
 -- the one call that was needed, as it is reported
 called : (d e : MirrorNand) (needed : Option NandCall) → IsOnlyCall mirror_ends needed true d e
@@ -56,7 +56,7 @@ changed start log (Some (n, does.Erase block)) d e is = called d e (call_of star
 pub has_begun : (caller : ℕ) (before : OngoingParts MirrorNand) (opened within : BegunParts MirrorNand) (asked said : Begun)
     → ((first : Start) (d : Ongoing) → StandsAs first d before → HasBegunSlot caller first d before opened.parts)
     → opened.caller ≡ caller → within ≡ opened → IsAsked within asked → said ≡ asked
-    → IsBeginning caller (Ok said) (Some (stages.Between before)) (Some (stages.Within within asked))
+    → BeginsAt caller (Ok said) (Some (stages.Between before)) (Some (stages.Within within asked))
 has_begun caller before opened within asked said begins by same is copied = (
   sym copied,
   record {
@@ -87,10 +87,11 @@ module _ (ok : Bool) (bytes : PageData) (within : BegunParts MirrorNand) (begun 
 
   -- a slot that was carried out has ended
   pub has_ended : (said : Result SlotReply PlanSlotStop) (stage : Stage) → HasCarriedOut within said stage
-      → IsEnd ok bytes said (Some (stages.Within within begun)) (Some stage)
+      → EndsAt ok bytes said (Some (stages.Within within begun)) (Some stage)
   has_ended (Ok reply) (stages.Between after) h = record {
     done = done;
     slot = h.0;
+    carried = h.1;
     called = subst (λ (call : Option Call). Changes (cells_of within.parts) call (cells_of after)) (sym asked.call_is)
         (changed core.start core.log (ran_by (answer core.start core.log events.Slot)) core.device after.die.core.device h.1.device.made);
   }

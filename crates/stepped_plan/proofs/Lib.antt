@@ -1,1 +1,5 @@
 pub mod Calling
+pub mod Writing
+pub mod GoingOn
+pub mod Numbering
+pub mod Mounted

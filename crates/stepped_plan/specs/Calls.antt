@@ -24,14 +24,16 @@ use Rattle.ongoing_die.specs.OngoingCalls.{IsOngoingAsk, IsOngoingSlot, HasStopp
 use Rattle.ongoing_die.specs.BegunSlots.{BegunParts, HasBegunSlot, stopped_in}
 use Rattle.stepped_die.specs.declared.calls.Begun.{Begun}
 use Rattle.stepped_die.specs.declared.mirror.MirrorNand.{MirrorNand}
+use Rattle.stepped_die.specs.declared.part.Part.{Part}
 use Rattle.stepped_die.specs.DeviceCalls.{DoesWell, IsDone, Changes}
+use Rattle.stepped_die.specs.Parts.{fresh_part, serial_after}
 use Rattle.stepped_plan.specs.declared.refusals.PlanAskStop.{PlanAskStop}
 use Rattle.stepped_plan.specs.declared.refusals.PlanAskStop.TheVariants as asks
 use Rattle.stepped_plan.specs.declared.refusals.PlanSlotStop.{PlanSlotStop}
 use Rattle.stepped_plan.specs.declared.refusals.PlanSlotStop.TheVariants as stops
 use Rattle.stepped_plan.specs.declared.stage.Stage.{Stage}
 use Rattle.stepped_plan.specs.declared.stage.Stage.TheVariants as stages
-use Rattle.stepped_plan.specs.Stages.{IsAsked, cells_of}
+use Rattle.stepped_plan.specs.Stages.{Stepping, IsAsked, begun_at, cells_of}
 
 -- A new die
 
@@ -50,20 +52,30 @@ pub record IsNewDie (plan : DiePlan) (terms : Terms) (longest : ℕ) (die : Ongo
   pub life : IsLongestLife plan terms longest die.die.life
   pub stands : StandsAs (fresh plan) (new_ongoing plan) die
 
-abbrev pub IsNewPlan : DiePlan → Terms → ℕ → Option Stage → Type 0
-IsNewPlan plan terms longest (Some (stages.Between die)) = IsNewDie plan terms longest die
-IsNewPlan plan terms longest _ = ⊥
+abbrev pub StandsNew : DiePlan → Terms → ℕ → Option Stage → Type 0
+StandsNew plan terms longest (Some (stages.Between die)) = IsNewDie plan terms longest die
+StandsNew plan terms longest _ = ⊥
+
+-- and its part's last block stands aside, if it has one block more
+pub record IsNewPlan (plan : DiePlan) (terms : Terms) (longest : ℕ) (p : Stepping) : Type 0 where
+  pub stands : StandsNew plan terms longest p.stage
+  pub part_is : p.part ≡ fresh_part plan
 
 -- Asks
 
 -- between two slots it is an ask of a die that goes on by itself; within one it is refused, and nothing changes
-abbrev pub IsPlanAsk : AskKind → ℕ → ℕ → List Op → Result Taken PlanAskStop → Option Stage → Option Stage → Type 0
-IsPlanAsk kind caller task ops (Ok taken) (Some (stages.Between before)) (Some (stages.Between after)) =
+abbrev pub AsksAt : AskKind → ℕ → ℕ → List Op → Result Taken PlanAskStop → Option Stage → Option Stage → Type 0
+AsksAt kind caller task ops (Ok taken) (Some (stages.Between before)) (Some (stages.Between after)) =
     (first : Start) (d : Ongoing) → StandsAs first d before → IsOngoingAsk kind caller task ops first d (Ok taken) before after
-IsPlanAsk kind caller task ops (Err (asks.Ask stop)) (Some (stages.Between before)) (Some (stages.Between after)) =
+AsksAt kind caller task ops (Err (asks.Ask stop)) (Some (stages.Between before)) (Some (stages.Between after)) =
     (first : Start) (d : Ongoing) → StandsAs first d before → IsOngoingAsk kind caller task ops first d (Err stop) before after
-IsPlanAsk kind caller task ops (Err asks.Begun) (Some (stages.Within die begun)) after = after ≡ Some (stages.Within die begun)
-IsPlanAsk kind caller task ops _ _ _ = ⊥
+AsksAt kind caller task ops (Err asks.Begun) (Some (stages.Within die begun)) after = after ≡ Some (stages.Within die begun)
+AsksAt kind caller task ops _ _ _ = ⊥
+
+-- and the part stays as it is
+pub record IsPlanAsk (kind : AskKind) (caller task : ℕ) (ops : List Op) (result : Result Taken PlanAskStop) (before after : Stepping) : Type 0 where
+  pub asks_at : AsksAt kind caller task ops result before.stage after.stage
+  pub part_stays : after.part ≡ before.part
 
 -- Slots
 
@@ -74,13 +86,18 @@ pub record HasBegunIn (caller : ℕ) (begun : Begun) (before : OngoingParts Mirr
   pub asked : IsAsked within begun
 
 -- Why none begins: one has; or the whole die carries out none. Nothing changes.
-abbrev pub IsBeginning : ℕ → Result Begun PlanSlotStop → Option Stage → Option Stage → Type 0
-IsBeginning caller (Ok begun) (Some (stages.Between before)) (Some (stages.Within within asked)) =
+abbrev pub BeginsAt : ℕ → Result Begun PlanSlotStop → Option Stage → Option Stage → Type 0
+BeginsAt caller (Ok begun) (Some (stages.Between before)) (Some (stages.Within within asked)) =
     (asked ≡ begun) × HasBegunIn caller begun before within
-IsBeginning caller (Err stops.Begun) (Some (stages.Within die begun)) after = after ≡ Some (stages.Within die begun)
-IsBeginning caller (Err (stops.Slot (slots.Ended stop))) (Some (stages.Between before)) after =
+BeginsAt caller (Err stops.Begun) (Some (stages.Within die begun)) after = after ≡ Some (stages.Within die begun)
+BeginsAt caller (Err (stops.Slot (slots.Ended stop))) (Some (stages.Between before)) after =
     HasStopped before stop × (after ≡ Some (stages.Between before))
-IsBeginning caller _ _ _ = ⊥
+BeginsAt caller _ _ _ = ⊥
+
+-- and the part stays as it is
+pub record IsBeginning (caller : ℕ) (result : Result Begun PlanSlotStop) (before after : Stepping) : Type 0 where
+  pub begins_at : BeginsAt caller result before.stage after.stage
+  pub part_stays : after.part ≡ before.part
 
 -- what a mirror's calls do, none of which fails
 abbrev pub mirror_ends : MirrorNand → NandCall → Bool → MirrorNand → Type 0
@@ -102,12 +119,13 @@ HasCarriedOut within (Ok reply) (stages.Between after) =
     × IsCall mirror_ends mirror_failures true within.caller events.Slot (Ok (replies.Slot reply)) within.parts.die.core after.die.core
 HasCarriedOut within _ _ = ⊥
 
--- A slot has ended: the driver did what it was asked, and with its beginning it is just a slot. The mirror has had that call,
--- and no other.
+-- A slot has ended: the driver did what it was asked, and with its beginning it is just a slot, one of the die below. The mirror
+-- has had that call, and no other.
 pub record HasEndedIn (ok : Bool) (bytes : PageData) (reply : SlotReply) (within : BegunParts MirrorNand) (begun : Begun)
     (after : OngoingParts MirrorNand) : Type 0 where
   pub done : IsDone begun.call ok bytes
   pub slot : EndsAsSlot within reply after
+  pub carried : IsCall mirror_ends mirror_failures true within.caller events.Slot (Ok (replies.Slot reply)) within.parts.die.core after.die.core
   pub called : Changes (cells_of within.parts) begun.call (cells_of after)
 
 -- A slot has failed: the driver didn't do what it was asked, or a read gave other bytes than its cell was programmed with. The
@@ -119,13 +137,22 @@ pub record HasFailedIn (ok : Bool) (bytes : PageData) (within : BegunParts Mirro
       → StandsAs first d after
 
 -- Why none ends: a fault had stopped the die, or none has begun, and nothing changes; or it has failed.
-abbrev pub IsEnd : Bool → PageData → Result SlotReply PlanSlotStop → Option Stage → Option Stage → Type 0
-IsEnd ok bytes (Ok reply) (Some (stages.Within within begun)) (Some (stages.Between after)) =
+abbrev pub EndsAt : Bool → PageData → Result SlotReply PlanSlotStop → Option Stage → Option Stage → Type 0
+EndsAt ok bytes (Ok reply) (Some (stages.Within within begun)) (Some (stages.Between after)) =
     HasEndedIn ok bytes reply within begun after
-IsEnd ok bytes (Err (stops.Slot slots.DeviceFault)) (Some (stages.Within within begun)) (Some (stages.Between after)) =
+EndsAt ok bytes (Err (stops.Slot slots.DeviceFault)) (Some (stages.Within within begun)) (Some (stages.Between after)) =
     HasFailedIn ok bytes within begun after
-IsEnd ok bytes (Err (stops.Slot (slots.Ended lives.DieStopped))) (Some (stages.Between die)) after =
+EndsAt ok bytes (Err (stops.Slot (slots.Ended lives.DieStopped))) (Some (stages.Between die)) after =
     (die.die.core.stopped ≡ true) × (after ≡ Some (stages.Between die))
-IsEnd ok bytes (Err stops.NotBegun) (Some (stages.Between die)) after =
+EndsAt ok bytes (Err stops.NotBegun) (Some (stages.Between die)) after =
     (die.die.core.stopped ≡ false) × (after ≡ Some (stages.Between die))
-IsEnd ok bytes _ _ _ = ⊥
+EndsAt ok bytes _ _ _ = ⊥
+
+-- after a slot that has ended the serial is that after its call; one that failed, or that hadn't begun, leaves it
+abbrev pub part_after : Result SlotReply PlanSlotStop → Option Begun → Part → Part
+part_after (Ok reply) (Some begun) part = record part { serial = serial_after begun.call part.serial }
+part_after _ begun part = part
+
+pub record IsEnd (ok : Bool) (bytes : PageData) (result : Result SlotReply PlanSlotStop) (before after : Stepping) : Type 0 where
+  pub ends_at : EndsAt ok bytes result before.stage after.stage
+  pub part_is : after.part ≡ part_after result (begun_at before.stage) before.part

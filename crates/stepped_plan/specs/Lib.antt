@@ -1,2 +1,4 @@
 pub mod Stages
 pub mod Calls
+pub mod Resuming
+pub mod Numbered

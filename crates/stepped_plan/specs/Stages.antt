@@ -7,10 +7,16 @@ use Rattle.ongoing_die.specs.Standing.{OngoingParts}
 use Rattle.ongoing_die.specs.BegunSlots.{BegunParts}
 use Rattle.stepped_die.specs.declared.calls.Begun.{Begun}
 use Rattle.stepped_die.specs.declared.mirror.MirrorNand.{MirrorNand}
+use Rattle.stepped_die.specs.declared.part.Part.{Part}
 use Rattle.stepped_die.specs.Stepped.{mirror_of}
 use Rattle.stepped_die.specs.DeviceCalls.{reported_by}
 use Rattle.stepped_plan.specs.declared.stage.Stage.{Stage}
 use Rattle.stepped_plan.specs.declared.stage.Stage.TheVariants as stages
+
+-- where it stands, and what is known of the part beneath it
+pub record Stepping : Type 0 where
+  pub stage : Option Stage
+  pub part : Part
 
 -- the cells of the mirror
 abbrev pub cells_of : OngoingParts MirrorNand → Memory
@@ -30,12 +36,18 @@ IsSteppedPlan (Some (stages.Within die begun)) = IsAsked die begun
 IsSteppedPlan None = ⊥
 
 -- the die of the present life and what waits, whether a slot has begun or not
-abbrev pub AreParts : Option Stage → OngoingParts MirrorNand → Type 0
-AreParts (Some (stages.Between die)) parts = parts ≡ die
-AreParts (Some (stages.Within die begun)) parts = parts ≡ die.parts
-AreParts None parts = ⊥
+abbrev pub StandsWith : Option Stage → OngoingParts MirrorNand → Type 0
+StandsWith (Some (stages.Between die)) parts = parts ≡ die
+StandsWith (Some (stages.Within die begun)) parts = parts ≡ die.parts
+StandsWith None parts = ⊥
+
+abbrev pub AreParts : Stepping → OngoingParts MirrorNand → Type 0
+AreParts p parts = StandsWith p.stage parts
 
 -- the slot that has begun, if one has
-abbrev pub begun_in : Option Stage → Option Begun
-begun_in (Some (stages.Within die begun)) = Some begun
-begun_in _ = None
+abbrev pub begun_at : Option Stage → Option Begun
+begun_at (Some (stages.Within die begun)) = Some begun
+begun_at _ = None
+
+abbrev pub begun_in : Stepping → Option Begun
+begun_in p = begun_at p.stage

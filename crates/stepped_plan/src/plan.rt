@@ -12,27 +12,26 @@ use planned_die::PlanRefusal;
 use slot_types::DiePlan;
 use std::alloc::Global;
 use std::marker::Model;
-use stepped_die::MirrorNand;
+use stepped_die::{MirrorNand, Part};
 
 /// A die that keeps its plan itself and goes on by itself, for a driver that makes the device's calls: tasks ask between two
 /// slots; a slot begins, with the one call that it needs, and ends. It keeps a mirror of the names of its pages, as a
 /// [`SteppedDie`](stepped_die::SteppedDie) does.
 ///
-/// Contracts see where it stands: between two slots with an [`OngoingDie`], or within one. It always stands somewhere; there
-/// is no stage only while a call is under way.
+/// Contracts see where it stands, between two slots with an [`OngoingDie`], or within one; and what is known of the part beneath
+/// it. It always stands somewhere; there is no stage only while a call is under way.
 #[derive(Drop)]
 pub struct SteppedPlan {
     pub(crate) stage: Option<Stage>,
+    pub(crate) part: Part,
 }
 
 impl Model for SteppedPlan {
-    ghost use Rattle.std.specs.Prelude.{Option};
-    ghost use Rattle.stepped_plan.specs.declared.stage.Stage.{Stage};
-    ghost use Rattle.stepped_plan.specs.Stages.{IsSteppedPlan};
+    ghost use Rattle.stepped_plan.specs.Stages.{IsSteppedPlan, Stepping};
 
-    ghost Value = { Option Stage };
+    ghost Value = { Stepping };
 
-    ghost view = { λ p. p.stage };
+    ghost view = { λ p. record { stage = p.stage; part = p.part } };
 
     ghost invariant = { λ p. IsSteppedPlan p.stage };
 }
@@ -60,9 +59,11 @@ impl SteppedPlan {
             Ok(mirror) => mirror,
             Err(refusal) => return Err(OngoingRefusal::Plan(PlanRefusal::Die(refusal))),
         };
+        let part = Part::fresh(&plan);
         match OngoingDie::new(alloc, plan, terms, longest, mirror) {
             Ok(die) => Ok(SteppedPlan {
                 stage: Some(Stage::Between { die }),
+                part,
             }),
             Err(refusal) => Err(refusal),
         }

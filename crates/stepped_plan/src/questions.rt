@@ -3,6 +3,7 @@
 ghost use Rattle.std.specs.Prelude.{◌≡◌, ◌+◌, slice_index_or, option_map, None};
 ghost use Rattle.die_log.specs.Model.Log.{now};
 ghost use Rattle.ongoing_log.specs.Ongoing.{ops_of};
+ghost use Rattle.power_loss.specs.Aside.{on_part};
 ghost use Rattle.ongoing_die.specs.Standing.{OngoingParts};
 ghost use Rattle.stepped_die.specs.declared.mirror.MirrorNand.{MirrorNand};
 ghost use Rattle.stepped_plan.specs.Stages.{AreParts, begun_in};
@@ -11,7 +12,7 @@ use crate::plan::SteppedPlan;
 use crate::stage::Stage;
 use planned_die::PlannedDie;
 use slot_types::{Op, TaskNo};
-use stepped_die::{Begun, MirrorNand};
+use stepped_die::{Begun, MirrorNand, Part, on_part};
 
 impl SteppedPlan {
     /// The die below, in the life of its log, to be asked what became of its jobs. A slot that has begun isn't in the log, or that
@@ -58,5 +59,25 @@ impl SteppedPlan {
             Some(Stage::Within { die, .. }) => die.waiting(task),
             None => unreachable!(),
         }
+    }
+
+    /// What is known of the part: the block that stands aside, and the serial of the next program, within a slot that has begun, too.
+    /// It rises by one with each program that is ended, up to 2^64 - 1, whichever lives pass. A fresh die begins with 1.
+    pub fn part(&self) -> Part
+        ensures { result ≡ self.now.part }
+    {
+        self.part
+    }
+
+    /// The number that the part gives a block of the die. A die that wasn't mounted has the part's own numbers.
+    pub fn part_block(&self, block: u32) -> u32
+        ensures { (parts : OngoingParts MirrorNand) → AreParts self.now parts
+            → result ≡ on_part parts.die.core.start.plan.shape.blocks self.now.part.aside block }
+    {
+        on_part(
+            self.die().core().plan().shape.blocks,
+            self.part.aside,
+            block,
+        )
     }
 }

@@ -1,6 +1,6 @@
 //! Why a call is refused.
 
-use ongoing_die::{AskStop, SlotStop};
+use ongoing_die::{AskStop, OngoingCheckpointRefusal, SlotStop};
 
 /// Why an ask is refused.
 #[derive(Clone, Copy, PartialEq, Eq, Debug, Drop)]
@@ -20,4 +20,13 @@ pub enum PlanSlotStop {
     NotBegun,
     /// As a die that goes on by itself refuses it.
     Slot(SlotStop),
+}
+
+/// Why no checkpoint is taken.
+#[derive(Clone, Copy, PartialEq, Eq, Debug, Drop)]
+pub enum PlanCheckpointRefusal {
+    /// As of a die that goes on by itself.
+    Die(OngoingCheckpointRefusal),
+    /// A slot has begun and is to be ended first.
+    Begun,
 }

@@ -2,7 +2,7 @@
 
 ghost use Rattle.std.specs.Prelude.{◌≡◌, Some};
 ghost use Rattle.stepped_plan.specs.Stages.{IsAsked, IsSteppedPlan};
-ghost use Rattle.stepped_plan.specs.Calls.{HasCarriedOut, IsBeginning, IsEnd};
+ghost use Rattle.stepped_plan.specs.Calls.{BeginsAt, EndsAt, HasCarriedOut, IsBeginning, IsEnd, part_after};
 
 use crate::plan::SteppedPlan;
 use crate::refusals::PlanSlotStop;
@@ -10,7 +10,7 @@ use crate::stage::Stage;
 use ongoing_die::{BegunDie, CarriedSlot, LifeStop, NotBegun, SlotStop};
 use slot_types::{PageData, SlotReply};
 use std::alloc::Global;
-use stepped_die::{Begun, MirrorNand, is_done, reported_by};
+use stepped_die::{Begun, MirrorNand, Part, is_done, reported_by, serial_after};
 
 /// What the driver is to do in a slot that has begun.
 fn asked(die: &mut BegunDie<MirrorNand>, alloc: Global) -> Begun
@@ -43,7 +43,7 @@ fn copy_of(begun: &Begun) -> Begun
 /// The stage once the slot is begun, and what was answered.
 fn begun(stage: Stage, alloc: Global, caller: u32) -> (Stage, Result<Begun, PlanSlotStop>)
     requires asked { IsSteppedPlan (Some stage) }
-    ensures begun { IsBeginning caller result.1 (Some stage) (Some result.0) }
+    ensures begun { BeginsAt caller result.1 (Some stage) (Some result.0) }
     ensures asked { IsSteppedPlan (Some result.0) }
 {
     match stage {
@@ -82,7 +82,7 @@ fn ended(
     bytes: PageData,
 ) -> (Stage, Result<SlotReply, PlanSlotStop>)
     requires asked { IsSteppedPlan (Some stage) }
-    ensures ended { IsEnd ok bytes result.1 (Some stage) (Some result.0) }
+    ensures ended { EndsAt ok bytes result.1 (Some stage) (Some result.0) }
     ensures asked { IsSteppedPlan (Some result.0) }
 {
     match stage {
@@ -104,6 +104,22 @@ fn ended(
                 )
             }
         }
+    }
+}
+
+/// What is known of the part once the slot is ended that had begun so, or isn't.
+fn part_after(said: &Result<SlotReply, PlanSlotStop>, begun: Option<Begun>, part: Part) -> Part
+    ensures { result ≡ part_after said.now begun part }
+{
+    match said {
+        Ok(_) => match begun {
+            Some(begun) => Part {
+                aside: part.aside,
+                serial: serial_after(begun.call, part.serial),
+            },
+            None => part,
+        },
+        Err(_) => part,
     }
 }
 
@@ -142,10 +158,12 @@ impl SteppedPlan {
     ) -> Result<SlotReply, PlanSlotStop>
         ensures ended { IsEnd ok bytes result self.old self.new }
     {
+        let begun = self.begun();
         match self.stage.take() {
             Some(stage) => {
                 let (stage, said) = ended(stage, alloc, ok, bytes);
                 self.stage = Some(stage);
+                self.part = part_after(&said, begun, self.part);
                 said
             }
             None => unreachable!(),
