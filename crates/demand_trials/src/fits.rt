@@ -8,8 +8,9 @@ ghost use Rattle.plan_rules.specs.Bound.{MeetsBound};
 ghost use Rattle.demand_rules.specs.Demand.{FitsAllSlots, HasTerms};
 
 use crate::amounts::total_demand;
+use crate::repeats::enough;
 use demand_rules::Terms;
-use slot_types::{DiePlan, MAX_SLOT};
+use slot_types::DiePlan;
 
 /// Whether each interval that a life has, has room for what may be asked of it.
 pub(crate) fn fits(plan: &DiePlan, terms: &Terms) -> bool
@@ -18,7 +19,7 @@ pub(crate) fn fits(plan: &DiePlan, terms: &Terms) -> bool
     ensures { IsTrue result ↔ FitsAllSlots plan.now terms.now }
 {
     let tasks = terms.tasks.as_slice();
-    let mut end = MAX_SLOT + 1;
+    let mut end = enough(plan, terms);
     while end > 0 {
         let slots = end - 1;
         let demand = total_demand(plan, tasks, slots);

@@ -4,6 +4,7 @@
 
 mod amounts;
 mod fits;
+mod repeats;
 mod trials;
 
 pub use trials::passing_load;

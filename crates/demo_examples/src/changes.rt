@@ -8,7 +8,7 @@ pub(crate) fn meant(alloc: Global, text: &str) -> Result<String, AllocError> {
     lines.as_str().replace(alloc, "^", "\r")
 }
 
-/// A text so many times.
+/// A text, `times` times.
 fn repeated(alloc: Global, text: &str, times: u32) -> Result<String, AllocError> {
     let mut made = String::new(alloc);
     for _ in 0..times {
@@ -17,7 +17,7 @@ fn repeated(alloc: Global, text: &str, times: u32) -> Result<String, AllocError>
     Ok(made)
 }
 
-/// What is put in the place of an old text: `COUNT*TEXT` is TEXT so many times.
+/// What is put in the place of an old text: `COUNT*TEXT` is TEXT, COUNT times.
 fn put(alloc: Global, new: &str) -> Result<String, AllocError> {
     if let Some((count, text)) = new.split_once('*') {
         if let Ok(times) = count.parse::<u32>() {

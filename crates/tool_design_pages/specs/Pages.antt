@@ -28,7 +28,7 @@ escape byte = if byte == 38 then codes "&amp;"
 abbrev pub escaped : List ℕ → List ℕ
 escaped text = flat_map escape text
 
--- the script is one of so many slots for the dies of a plan's text, and its rows keep that plan, which passes its test
+-- the script is one of `slots` slots for the dies of a plan's text, and its rows keep that plan, which passes its test
 pub record AsksOfTimes (plan : List ℕ) (store : List DiePlan) (slots : ℕ) (script : List ℕ) : Type 0 where
   pub numbers : PlanNumbers
   pub said : plan_of plan ≡ Ok numbers
@@ -44,7 +44,7 @@ pub record AsksOfTerms (plan : List ℕ) (store : List DiePlan) (slots : ℕ) (s
   pub plans : store ≡ plans_in dies
   pub kept : IsKeptScript dies slots script
 
--- the figures, as CSV, of fresh dies of these plans that ran the script and so many slots, on devices that fail nowhere
+-- the figures, as CSV, of fresh dies of these plans that ran the script and `slots` slots, on devices that fail nowhere
 pub record AreFiguresOf (store : List DiePlan) (script : List ℕ) (slots : ℕ) (figures : List ℕ) : Type 0 where
   pub said : Reported
   pub life : Life

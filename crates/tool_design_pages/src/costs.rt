@@ -58,7 +58,7 @@ pub(crate) fn put_memory(text: &mut Vec<u8>, design: &Design<'_>) -> io::Result<
     put_table_end(text)
 }
 
-/// Adds the row of so many of something, each of so many microseconds.
+/// Adds the row of `count` of something, each of `each_us` microseconds.
 fn put_cost(text: &mut Vec<u8>, name: &str, count: u64, each_us: u64) -> io::Result<u64> {
     let all = count.saturating_mul(each_us);
     put_name(text, name)?;

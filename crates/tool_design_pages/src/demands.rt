@@ -1,4 +1,4 @@
-//! The demand: what may be asked of the slots, beside those that there are.
+//! The demand: what may be asked of the slots, compared with those that there are.
 
 use crate::design_plans::{Design, Load};
 use crate::facts::{put, put_heading};

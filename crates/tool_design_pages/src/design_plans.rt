@@ -14,7 +14,7 @@ use tool_plan_fit::{Fitted, Part, Sheet};
 /// What is asked of the slots of a plan.
 #[derive(Clone, Copy, Drop)]
 pub(crate) enum Load {
-    /// Of each `common` slots all tasks take at most so many.
+    /// Of each `common` slots all tasks take at most `demand`.
     Times { demand: u64, common: u32 },
     Terms(DemandLoad),
 }

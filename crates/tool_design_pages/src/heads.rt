@@ -80,7 +80,7 @@ fn put_title(text: &mut Vec<u8>, tasks: Count, blocks: Count, pages: Count) -> i
     put(text, "</title>\n")
 }
 
-/// Adds all that is before the first heading: a page of so many tasks, blocks, and pages of a block.
+/// Adds all that is before the first heading: a page of `tasks` tasks, `blocks` blocks, and `pages` pages of a block.
 pub(crate) fn put_begin(text: &mut Vec<u8>, tasks: u64, blocks: u32, pages: u32) -> io::Result<()> {
     put(text, BEGIN)?;
     put_title(

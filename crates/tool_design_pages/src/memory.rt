@@ -57,7 +57,7 @@ fn doubled(items: u64, first: u64) -> u64 {
     room
 }
 
-/// So many items of so many bytes.
+/// The bytes of `items` items, each of `each` bytes.
 fn bytes(items: u64, each: u64) -> u64 {
     items.saturating_mul(each)
 }
@@ -190,8 +190,8 @@ fn when_resumed(shape: &MemoryShape) -> u64 {
     ])
 }
 
-/// How many bytes a die asks of the heap at most, in all blocks that it has at once, where a life, or a part of one, has so much
-/// work. What the heap itself takes for a block isn't counted.
+/// How many bytes a die asks of the heap at most, in all blocks that it has at once, where a life, or a part of one,
+/// has as much work as `work` says. What the heap itself takes for a block isn't counted.
 pub fn memory_of(shape: &MemoryShape, work: &LifeWork) -> DieMemory {
     let (birth, tasks) = (at_birth(shape), u64::from(shape.tasks));
     DieMemory {

@@ -8,7 +8,7 @@ ghost use Rattle.die_mount.specs.Mounting.{most_calls};
 use plan_rules::figures;
 use slot_types::DiePlan;
 
-/// What a mount does at most, beside looking at the label of each cell.
+/// What a mount does at most, in addition to looking at the label of each cell.
 #[derive(Clone, Copy, PartialEq, Eq, Debug, Drop)]
 pub struct MountCost {
     /// Blocks that it erases: the first one, and each that it empties.
@@ -27,9 +27,9 @@ fn rounds_of(plan: &DiePlan) -> u32
     figures(plan).fmax / plan.alpha
 }
 
-/// What a mount of a die's part does at most, wherever the power went: with N free pages for full accounts it empties at most
-/// N / alpha blocks, rounded up, each by at most pages - alpha copies and an erase, beside the block that it erases first. The
-/// part has one block more than the plan.
+/// What a mount of a die's part does at most, wherever the power went. With N free pages for full accounts it empties
+/// at most N / alpha blocks, rounded up, in addition to the block that it erases first. Each takes at most pages -
+/// alpha copies and an erase. The part has one block more than the plan.
 pub fn mount_cost(plan: &DiePlan) -> MountCost
     requires { MeetsBound plan.now }
     ensures erases { result.erases ≡ 1 + most_rounds_beside plan.now }

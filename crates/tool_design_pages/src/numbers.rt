@@ -35,7 +35,7 @@ impl Display for Count {
     }
 }
 
-/// So many thousandths, with no more digits after the point than they have.
+/// A number in thousandths, with no more digits after the point than it has.
 #[derive(Clone, Copy, Drop)]
 pub struct Thousandths(pub u64);
 
@@ -58,7 +58,7 @@ impl Display for Thousandths {
 /// Below this many microseconds a time is said in milliseconds, and from there in seconds.
 const IN_SECONDS: u64 = 10_000_000;
 
-/// So many microseconds.
+/// A time in microseconds.
 #[derive(Clone, Copy, Drop)]
 pub struct Time(pub u64);
 
@@ -74,7 +74,7 @@ impl Display for Time {
     }
 }
 
-/// So many slots, and how long they take.
+/// A number of slots, and how long they take.
 #[derive(Clone, Copy, Drop)]
 pub struct Span {
     pub slots: u64,
@@ -94,7 +94,7 @@ impl Display for Span {
     }
 }
 
-/// So many hundredths of a slot after a deadline, or before it where there are fewer than none; and how long they take.
+/// Hundredths of a slot after a deadline, or before it where they are negative; and how long they take.
 #[derive(Clone, Copy, Drop)]
 pub struct Lateness {
     pub hundredths: i64,

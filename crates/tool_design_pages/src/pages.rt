@@ -177,11 +177,12 @@ fn page_of(alloc: Global, fitted: &Fitted) -> Result<Vec<u8>, Refusal>
     )
 }
 
-/// A page of a datasheet: the plan that [`fit`](tool_plan_fit::fit) finds for it, its text whole; its test by task, what may be
-/// asked of the slots beside those that there are, and a run of the heaviest use that it allows, of 100,000 slots at least if
-/// a life has so many, with its figures and a picture of its first slots; how long a life lasts, how often blocks are erased,
-/// how many bytes a die takes, and what a mount would do at most after a loss of power. It is an HTML text, which is XML, too,
-/// names no other file, and has no scripts. Refused as `fit` is, where it finds none; or with NoMemory.
+/// A page of a datasheet. It has the plan that [`fit`](tool_plan_fit::fit) finds for it, its text whole, and its test
+/// by task. It shows what may be asked of the slots, compared with those that there are. It has a run of the heaviest
+/// use that the plan allows, of 100,000 slots at least if a life has as many, with its figures and a picture of its
+/// first slots. It says how long a life lasts, how often blocks are erased, how many bytes a die takes, and what a
+/// mount would do at most after a loss of power. It is an HTML text, which is XML, too, names no other file, and has no
+/// scripts. Refused as `fit` is, where it finds none; or with NoMemory.
 pub fn design(alloc: Global, sheet: &[u8]) -> Result<Vec<u8>, FitFault>
     ensures { IfOk result (λ page. IsPageFor sheet.now page.items) }
 {

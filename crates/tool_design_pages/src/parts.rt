@@ -8,7 +8,7 @@ use std::fmt::{Display, Formatter};
 use std::{fmt, io};
 use tool_plan_fit::{Part, Suspends};
 
-/// So many microseconds.
+/// A number of microseconds.
 #[derive(Clone, Copy, Drop)]
 struct Micros(u32);
 
@@ -19,7 +19,7 @@ impl Display for Micros {
     }
 }
 
-/// What a slot holds of a command: so much with its transfer and the margin.
+/// What a slot holds of a command: `us` microseconds with its transfer and the margin.
 #[derive(Clone, Copy, Drop)]
 struct PartOfSlot {
     us: u32,

@@ -15,7 +15,7 @@ const HEAVIEST: &str =
 it may. The die was empty when it began, so that few collections have to copy; the test reckons with a full one, on which each \
 copies as much as it may. With the plan above in plan.toml the same is printed by</p>\n<pre>";
 
-/// Adds a command on the plan and the script of its arrivals, for so many slots.
+/// Adds a command on the plan and the script of its arrivals, for `slots` slots.
 fn put_command(text: &mut Vec<u8>, words: &str, slots: u32) -> io::Result<()> {
     write!(text, "flashplan {words} --slots {slots}")
 }

@@ -24,10 +24,10 @@ use tool_watched_runs::{Reported, Shown, draw, report};
 /// What draws the operations and their pages.
 pub(crate) const SEED: u32 = 0;
 
-/// A run has so many slots at least, if a life has.
+/// The fewest slots of a run, if a life has as many.
 const FEWEST: u32 = 100_000;
 
-/// A picture has so many slots at least, and at most.
+/// The fewest slots of a picture, and the most.
 const LEAST_DRAWN: u32 = 40;
 
 const MOST_DRAWN: u32 = 200;
@@ -40,8 +40,8 @@ pub(crate) struct RunSlots {
 }
 
 impl RunSlots {
-    /// Of tasks with these terms: twice the longest period, 100,000 slots at least and a life at most; and of these so many
-    /// are drawn as a length of interval has, 40 at least and 200 at most.
+    /// Of tasks with these terms: twice the longest period, 100,000 slots at least and a life at most. Of these
+    /// `interval` are drawn, as many as a length of interval has, but 40 at least and 200 at most.
     pub(crate) fn of(tasks: &[TaskTerms], interval: u32) -> RunSlots
         ensures few { result.slots ≤ 1048576 }
     {

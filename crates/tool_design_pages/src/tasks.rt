@@ -123,7 +123,7 @@ fn put_all_tokens(text: &mut Vec<u8>, design: &Design<'_>) -> io::Result<()> {
     put_table_end(text)
 }
 
-/// By so many slots the load of a task is counted: by a million, or by a hyperperiod.
+/// The slots by which the load of a task is counted: a million, or a hyperperiod.
 fn base_of(load: Load) -> u64 {
     match load {
         Load::Times { common, .. } => u64::from(common),
@@ -131,7 +131,7 @@ fn base_of(load: Load) -> u64 {
     }
 }
 
-/// Of so many slots how many something takes that comes once a period.
+/// How many of `base` slots something takes that comes once a period, with `work` slots each time.
 fn taken(base: u64, work: u32, period: u32) -> u64 {
     let all = base.saturating_mul(u64::from(work));
     all.checked_div(u64::from(period)).unwrap_or(0)

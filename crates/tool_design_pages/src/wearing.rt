@@ -13,7 +13,7 @@ use std::{fmt, io};
 /// Thousandths of a day's microseconds.
 const DAY: u64 = 86_400_000_000_000;
 
-/// A thousand thousandths of a year of 365.25 days have so many days.
+/// A year of 365.25 days, in thousandths of a day.
 const YEAR: u64 = 365_250;
 
 /// What is programmed and erased in a day.
@@ -25,7 +25,7 @@ pub struct Wear {
     pub erases: u64,
 }
 
-/// How much comes in a day, in thousandths, where so many come once a period.
+/// How much comes in a day, in thousandths, where `count` come once a period.
 fn a_day(count: u32, period: u32, slot_us: u32) -> u64 {
     let slots = DAY.checked_div(u64::from(slot_us)).unwrap_or(0);
     let all = slots.saturating_mul(u64::from(count));
@@ -54,7 +54,7 @@ pub fn worn_by(plan: &DiePlan, tasks: &[TaskTerms], slot_us: u32) -> (Wear, Wear
     (least, most)
 }
 
-/// What a run of so many slots wore, by the day.
+/// What a run of `slots` slots wore, by the day.
 fn worn_in(records: &Records<'_>, slots: u32, slot_us: u32) -> Wear {
     let (written, copied) = (records.of_die("written"), records.of_die("copied"));
     let all = written.saturating_add(copied).saturating_mul(1000);
@@ -81,7 +81,8 @@ impl Display for OrNone {
     }
 }
 
-/// For how many thousandths of a year blocks last that are erased so often, in thousandths a day; none where they aren't.
+/// For how many thousandths of a year blocks last, where `erases` thousandths of an erase come a day; none where none
+/// come.
 fn years_of(endurance: u32, blocks: u32, erases: u64) -> Option<u64> {
     let all = u64::from(endurance).saturating_mul(u64::from(blocks));
     // Of at most 10^8 erases of 1,024 blocks, by thousandths of erases and of years.
@@ -89,7 +90,7 @@ fn years_of(endurance: u32, blocks: u32, erases: u64) -> Option<u64> {
     Some(days.saturating_mul(1000) / YEAR)
 }
 
-/// So many thousandths, without the digits after the point where there are many before it.
+/// A number of thousandths, without the digits after the point where there are many before it.
 fn rounded(parts: u64) -> Thousandths {
     if parts >= 100_000 {
         Thousandths(parts / 1000 * 1000)

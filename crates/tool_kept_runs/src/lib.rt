@@ -16,7 +16,7 @@ mod store_runs;
 pub use fresh_dies::fresh_die;
 pub use memory_dies::MemoryDie;
 pub use plans::{kept_plans, terms_of_times};
-pub use refusals::{KeptFault, RowRefusal};
+pub use refusals::{KeptFault, KeptReason, RowReason, RowRefusal};
 pub use row_counts::{KIND_COUNT, KindCount, RowCounts};
 pub use script_dies::KeptScriptDie;
 pub use script_runs::run_dies;

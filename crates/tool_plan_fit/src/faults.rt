@@ -1,10 +1,14 @@
 //! Why a datasheet has no plan.
 
+ghost use Rattle.std.specs.Prelude.{Some};
+ghost use Rattle.tool_plan_fit.specs.Texts.{lack_text, over_text, reason_text};
+
 use crate::decimals::Decimal;
 use crate::sheet_faults::SheetFault;
 use slot_types::Refusal;
 use std::fmt;
 use std::fmt::{Display, Formatter, Write};
+use tool_slot_times::Slots;
 
 /// Why no plan was found: what stood against the closest that was tried.
 #[derive(Clone, Copy, Drop)]
@@ -109,7 +113,59 @@ impl From<Refusal> for FitFault {
     }
 }
 
+/// So many slots that are taken of each so many.
+#[derive(Clone, Copy, Drop)]
+struct Over {
+    demand: u64,
+    common: u32,
+    slot_us: Option<u32>,
+}
+
+impl Display for Over {
+    ghost output = { λ over. Some (over_text over.slot_us over.demand over.common) };
+
+    fn fmt<W: Write>(&self, f: &mut Formatter<W>) -> fmt::Result {
+        let slot_us = self.slot_us;
+        let demand = Slots {
+            count: self.demand,
+            slot_us,
+        };
+        let all = Slots {
+            count: u64::from(self.common),
+            slot_us,
+        };
+        write!(f, "{demand} of each {all} slots")
+    }
+}
+
+/// So many slots that an interval of so many lacks.
+#[derive(Clone, Copy, Drop)]
+struct Lacking {
+    slots: u32,
+    excess: u64,
+    slot_us: Option<u32>,
+}
+
+impl Display for Lacking {
+    ghost output = { λ lacking. Some (lack_text lacking.slot_us lacking.slots lacking.excess) };
+
+    fn fmt<W: Write>(&self, f: &mut Formatter<W>) -> fmt::Result {
+        let slot_us = self.slot_us;
+        let slots = Slots {
+            count: u64::from(self.slots),
+            slot_us,
+        };
+        let excess = Slots {
+            count: self.excess,
+            slot_us,
+        };
+        write!(f, "an interval of {slots} slots lacks {excess}")
+    }
+}
+
 impl Display for Reason {
+    ghost output = { λ reason. Some (reason_text reason) };
+
     fn fmt<W: Write>(&self, f: &mut Formatter<W>) -> fmt::Result {
         match *self {
             Reason::Erase { slots } => {
@@ -130,10 +186,17 @@ impl Display for Reason {
                 demand,
                 common,
                 slot_us,
-            } => write!(
-                f,
-                "the tasks need too much: with slots of {slot_us} us {demand} of each {common} slots"
-            ),
+            } => {
+                let over = Over {
+                    demand,
+                    common,
+                    slot_us: Some(slot_us),
+                };
+                write!(
+                    f,
+                    "the tasks need too much: with slots of {slot_us} us {over}"
+                )
+            }
             Reason::Load { load, slot_us } => write!(
                 f,
                 "the tasks need too much: with slots of {slot_us} us {load} of each 1000000 slots"
@@ -142,10 +205,17 @@ impl Display for Reason {
                 slots,
                 excess,
                 slot_us,
-            } => write!(
-                f,
-                "the tasks need too much at once: with slots of {slot_us} us an interval of {slots} slots lacks {excess}"
-            ),
+            } => {
+                let lacking = Lacking {
+                    slots,
+                    excess,
+                    slot_us: Some(slot_us),
+                };
+                write!(
+                    f,
+                    "the tasks need too much at once: with slots of {slot_us} us {lacking}"
+                )
+            }
             Reason::Writes { slot_us } => write!(
                 f,
                 "a task writes too much: with slots of {slot_us} us a collection in each slot gives back less"

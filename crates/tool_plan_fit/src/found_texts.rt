@@ -2,6 +2,8 @@
 
 ghost use Rattle.std.specs.Prelude.{◌≡◌, ◌++◌, ℕ, List, IfOk, OnOk};
 ghost use Rattle.tool_plan_fit.specs.Fits.{slot_line};
+ghost use Rattle.tool_plan_fit.specs.Texts.{asked_text, common_text, demand_text, end_text, interval_text, life_text, load_text};
+ghost use Rattle.tool_plan_fit.specs.Texts.{long_run_text, no_end_text, share_text, spare_text, taken_text, tight_text, tightest_text};
 
 use crate::datasheets::Part;
 use crate::lives::Life;
@@ -13,6 +15,7 @@ use std::alloc::Global;
 use std::io;
 use std::io::Write;
 use terms_texts::{DieTerms, TaskList, TaskNumbers, TermsNumbers, TopNumbers, write_terms};
+use tool_slot_times::Slots;
 
 /// Adds how long a slot is.
 fn put_slot(text: &mut Vec<u8>, slot_us: u32) -> io::Result<()>
@@ -41,27 +44,99 @@ fn put_numbers(text: &mut Vec<u8>, numbers: &[(&str, u32)]) -> io::Result<()> {
     Ok(())
 }
 
-/// Adds how much the tasks take, and where no life is long enough for its periods to end.
-fn put_share(text: &mut Vec<u8>, share: Share, life: Life) -> io::Result<()> {
+/// Adds of how many slots something is said.
+fn put_common(text: &mut Vec<u8>, common: u32, slot_us: Option<u32>) -> io::Result<()>
+    ensures { OnOk result (text.new.items ≡ text.old.items ++ common_text slot_us common) }
+{
+    let slots = Slots {
+        count: u64::from(common),
+        slot_us,
+    };
+    write!(text, "of each {slots} slots")
+}
+
+/// Adds how many of them all tasks take.
+fn put_taken(text: &mut Vec<u8>, demand: u64, slot_us: Option<u32>) -> io::Result<()>
+    ensures { OnOk result (text.new.items ≡ text.old.items ++ taken_text slot_us demand) }
+{
+    let slots = Slots {
+        count: demand,
+        slot_us,
+    };
+    write!(text, " all tasks take at most {slots}")
+}
+
+/// Adds both.
+fn put_demand(text: &mut Vec<u8>, share: Share, slot_us: Option<u32>) -> io::Result<()>
+    ensures { OnOk result (text.new.items ≡ text.old.items ++ demand_text slot_us share) }
+{
+    put_common(text, share.common, slot_us)?;
+    put_taken(text, share.demand, slot_us)
+}
+
+/// Adds how many are to spare.
+fn put_spare(text: &mut Vec<u8>, spare: u64, slot_us: Option<u32>) -> io::Result<()>
+    ensures { OnOk result (text.new.items ≡ text.old.items ++ spare_text slot_us spare) }
+{
+    let slots = Slots {
+        count: spare,
+        slot_us,
+    };
+    writeln!(text, ": {slots} to spare")
+}
+
+/// Adds how much the tasks take.
+fn put_share(text: &mut Vec<u8>, share: Share, slot_us: Option<u32>) -> io::Result<()>
+    ensures { OnOk result (text.new.items ≡ text.old.items ++ share_text slot_us share) }
+{
     let Share { demand, common } = share;
-    let spare = u64::from(common).saturating_sub(demand);
-    writeln!(
+    put_demand(text, share, slot_us)?;
+    put_spare(text, u64::from(common).saturating_sub(demand), slot_us)
+}
+
+/// Adds that periods end in no life, which has so many slots.
+fn put_no_end(text: &mut Vec<u8>, life: u32, slot_us: Option<u32>) -> io::Result<()>
+    ensures { OnOk result (text.new.items ≡ text.old.items ++ no_end_text slot_us life) }
+{
+    let slots = Slots {
+        count: u64::from(life),
+        slot_us,
+    };
+    write!(
         text,
-        "of each {common} slots all tasks take at most {demand}: {spare} to spare"
-    )?;
+        "# its periods end in no life, which has {slots} slots"
+    )
+}
+
+/// Adds where they would end, if that is known.
+fn put_end(text: &mut Vec<u8>, end: Option<u32>, slot_us: Option<u32>) -> io::Result<()>
+    ensures { OnOk result (text.new.items ≡ text.old.items ++ end_text slot_us end) }
+{
+    match end {
+        None => writeln!(text),
+        Some(end) => {
+            let slots = Slots {
+                count: u64::from(end),
+                slot_us,
+            };
+            writeln!(
+                text,
+                ": the least multiple of each collect_period is {slots}"
+            )
+        }
+    }
+}
+
+/// Adds that no life is long enough for the periods to end, where none is.
+fn put_life(text: &mut Vec<u8>, life: Life, slot_us: Option<u32>) -> io::Result<()>
+    ensures { OnOk result (text.new.items ≡ text.old.items ++ life_text slot_us life) }
+{
     match life {
         Life::Ends => Ok(()),
-        Life::EndsNowhere {
-            life,
-            end: Some(end),
-        } => writeln!(
-            text,
-            "# its periods end in no life, which has {life} slots: the least multiple of each collect_period is {end}"
-        ),
-        Life::EndsNowhere { life, end: None } => writeln!(
-            text,
-            "# its periods end in no life, which has {life} slots"
-        ),
+        Life::EndsNowhere { life, end } => {
+            put_no_end(text, life, slot_us)?;
+            put_end(text, end, slot_us)
+        }
     }
 }
 
@@ -119,7 +194,9 @@ fn put_rest(text: &mut Vec<u8>, part: &Part, found: &Found) -> io::Result<()> {
     let Some(times) = &plan.times else {
         return Ok(());
     };
-    put_share(text, found.share, found.life)?;
+    let slot_us = Some(found.slot_us);
+    put_share(text, found.share, slot_us)?;
+    put_life(text, found.life, slot_us)?;
     put_typical(text, part)?;
     put_top(text, plan, times.common)?;
     put_tasks(text, plan, times)
@@ -137,22 +214,60 @@ pub fn text_of(alloc: Global, part: &Part, found: &Found) -> Result<Vec<u8>, Ref
     with_slot(alloc, found.slot_us, rest.as_slice())
 }
 
-/// Adds what is asked of the slots of a plan with terms.
-fn put_load(text: &mut Vec<u8>, load: &DemandLoad) -> io::Result<()> {
-    let DemandLoad {
-        load,
-        tightest,
-        slack,
-    } = *load;
-    let demand = tightest.saturating_sub(slack);
+/// Adds what is asked for in the long run.
+fn put_long_run(text: &mut Vec<u8>, load: u32) -> io::Result<()>
+    ensures { OnOk result (text.new.items ≡ text.old.items ++ long_run_text load) }
+{
     writeln!(
         text,
         "in the long run {load} of each 1000000 slots are asked for"
-    )?;
-    writeln!(
-        text,
-        "# the tightest interval has {tightest} slots, of which {demand} may be asked for: {slack} to spare"
     )
+}
+
+/// Adds how long the tightest interval is.
+fn put_interval(text: &mut Vec<u8>, tightest: u32, slot_us: Option<u32>) -> io::Result<()>
+    ensures { OnOk result (text.new.items ≡ text.old.items ++ interval_text slot_us tightest) }
+{
+    let slots = Slots {
+        count: u64::from(tightest),
+        slot_us,
+    };
+    write!(text, "# the tightest interval has {slots} slots")
+}
+
+/// Adds how much may be asked of it.
+fn put_asked(text: &mut Vec<u8>, demand: u32, slot_us: Option<u32>) -> io::Result<()>
+    ensures { OnOk result (text.new.items ≡ text.old.items ++ asked_text slot_us demand) }
+{
+    let slots = Slots {
+        count: u64::from(demand),
+        slot_us,
+    };
+    write!(text, ", of which {slots} may be asked for")
+}
+
+/// Adds how much may be asked of the tightest interval.
+fn put_tightest(text: &mut Vec<u8>, load: &DemandLoad, slot_us: Option<u32>) -> io::Result<()>
+    ensures { OnOk result (text.new.items ≡ text.old.items ++ tightest_text slot_us load.now) }
+{
+    put_interval(text, load.tightest, slot_us)?;
+    put_asked(text, load.tightest.saturating_sub(load.slack), slot_us)
+}
+
+/// Adds what is to spare of it, too.
+fn put_tight(text: &mut Vec<u8>, load: &DemandLoad, slot_us: Option<u32>) -> io::Result<()>
+    ensures { OnOk result (text.new.items ≡ text.old.items ++ tight_text slot_us load.now) }
+{
+    put_tightest(text, load, slot_us)?;
+    put_spare(text, u64::from(load.slack), slot_us)
+}
+
+/// Adds what is asked of the slots of a plan with terms.
+fn put_load(text: &mut Vec<u8>, load: &DemandLoad, slot_us: Option<u32>) -> io::Result<()>
+    ensures { OnOk result (text.new.items ≡ text.old.items ++ load_text slot_us load.now) }
+{
+    put_long_run(text, load.load)?;
+    put_tight(text, load, slot_us)
 }
 
 /// The numbers of a plan with terms.
@@ -185,7 +300,9 @@ pub fn terms_text_of(alloc: Global, part: &Part, found: &FoundTerms) -> Result<V
         (text.items ≡ slot_line found.now.slot_us ++ rest)) }
 {
     let mut rest = Vec::new(alloc);
-    if put_load(&mut rest, &found.load).is_err() || put_typical(&mut rest, part).is_err() {
+    if put_load(&mut rest, &found.load, Some(found.slot_us)).is_err()
+        || put_typical(&mut rest, part).is_err()
+    {
         return Err(Refusal::NoMemory);
     }
     let numbers = numbers_of(alloc, &found.die)?;

@@ -1,5 +1,5 @@
 -- Dies of the store that run.
-use Rattle.std.specs.Prelude.{ℕ, List, Option, box_value, map}
+use Rattle.std.specs.Prelude.{◌≡◌, ℕ, All, false, List, Option, box_value, map}
 use Rattle.std.specs.Global.{Box}
 use Rattle.flash_die.specs.Memory.{Memory}
 use Rattle.slot_core.specs.Core.{Core}
@@ -20,9 +20,10 @@ abbrev pub begun : Box (Core Memory) → RunningDie
 begun core = running_of (box_value core)
 
 -- dies that started so ran a script, where its text is known, and so many slots: the store's rows are of these. So many of the
--- script's rows were refused.
+-- script's rows were refused. No device failed, so all rows came, and all slots were carried out.
 pub record HasStoreRun (starts : List Start) (script : Option (List ℕ)) (slots : ℕ) (counts : RefusedRows) : Type 0 where
   pub dies : List RunningDie
   pub refused : List RefusedRow
   pub ran : IsRunOf starts script slots refused dies
   pub counted : CountsRows refused counts
+  pub none_stopped : All (λ (die : RunningDie). die.stopped ≡ false) dies

@@ -1,6 +1,6 @@
 //! A script on the store and on plain layers.
 
-ghost use Rattle.std.specs.Prelude.{◌≡◌, ◌≤◌, ◌++◌, ◌∷◌, [], All, length, map, IfOk, OnOk};
+ghost use Rattle.std.specs.Prelude.{◌≡◌, ◌≤◌, ◌++◌, ◌∷◌, [], false, All, length, map, IfOk, OnOk};
 ghost use Rattle.std.specs.Box.{box_value};
 ghost use Rattle.slot_types.specs.Refusal.{FailsForMemory};
 ghost use Rattle.die_log.specs.Model.Start.{fresh};
@@ -135,9 +135,11 @@ fn run_lent<R: Read + Drop>(
     requires slots { slots_of script.old ≡ measure.slots }
     requires dies { dies_of script.old ≡ length started.items }
     requires empty { All HasEmptyLog (map begun started.items) }
+    requires run { All (λ die. die.stopped ≡ false) (map begun started.items) }
     ensures starts { IfOk result (λ ran. starts_of (map running ran.dies.items) ≡ starts_of (map begun started.items)) }
     ensures ran { IfOk result (λ ran. RanScript (script_left R.remaining script.old) measure.slots
         ran.refused.items (map running ran.dies.items)) }
+    ensures none_stopped { IfOk result (λ ran. All (λ die. die.stopped ≡ false) (map running ran.dies.items)) }
 {
     let mut dies = compared_dies(alloc, started, planned, measure.from)?;
     let refused = run_dies(alloc, script, &mut dies, measure.slots)?;
@@ -156,8 +158,10 @@ fn run_store<R: Read + Drop>(
     requires slots { measure.slots ≤ MAX_SLOT }
     requires dies { length started.items ≡ length plan.now }
     requires empty { All HasEmptyLog (map begun started.items) }
-    ensures { IfOk result (λ ran. IsRunOf (starts_of (map begun started.items)) (R.remaining script) measure.slots
+    requires run { All (λ die. die.stopped ≡ false) (map begun started.items) }
+    ensures ran { IfOk result (λ ran. IsRunOf (starts_of (map begun started.items)) (R.remaining script) measure.slots
         ran.refused.items (map running ran.dies.items)) }
+    ensures none_stopped { IfOk result (λ ran. All (λ die. die.stopped ≡ false) (map running ran.dies.items)) }
 {
     let mut script = ScriptReader::new(alloc, script, plan, measure.slots)?;
     run_lent(alloc, &mut script, started, planned, measure)
@@ -411,7 +415,8 @@ fn wanted_dies(
 
 /// Runs a script on a store of dies in memory, as `flashrec run` does, on dies that keep these plans, if there are some,
 /// and its jobs once more by each plain policy; and tells how late they were, as a table or records by policy, die and
-/// task, or as a picture: what the store did is that of dies that started so, and ran the script and so many slots. A plain
+/// task, or as a picture: what the store did is that of dies that started so, and ran the script and so many slots. None
+/// of them stopped, since no device in memory fails. A plain
 /// layer begins with the pages that lie in cells of its die of the store, one after the other, so that no cell of it is
 /// stale. A die that keeps its plan begins fresh: there should be plans to keep only where the store does. Counted are the
 /// jobs that are released from the first measured slot on and due within the slots of the run, and that the store takes or
@@ -431,6 +436,7 @@ pub fn compare_started<R: Read + Drop>(
     requires slots { measure.slots ≤ MAX_SLOT }
     requires dies { length started.items ≡ length plan.now }
     requires empty { All HasEmptyLog (map begun started.items) }
+    requires run { All (λ die. die.stopped ≡ false) (map begun started.items) }
     ensures { IfOk result (λ compared.
         HasStoreRun (starts_of (map begun started.items)) (R.remaining script) measure.slots compared.refused) }
 {

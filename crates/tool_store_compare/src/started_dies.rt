@@ -1,6 +1,6 @@
 //! Dies of a store in memory that are started.
 
-ghost use Rattle.std.specs.Prelude.{◌≡◌, ◌++◌, ◌∷◌, [], All, IfOk, OnOk, map};
+ghost use Rattle.std.specs.Prelude.{◌≡◌, ◌++◌, ◌∷◌, [], false, All, IfOk, OnOk, map};
 ghost use Rattle.std.specs.Box.{box_value};
 ghost use Rattle.slot_types.specs.Refusal.{FailsForMemory};
 ghost use Rattle.die_log.specs.Model.Start.{fresh};
@@ -24,6 +24,7 @@ pub type StartedDies = Vec<StartedDie>;
 fn fresh_die(alloc: Global, plan: DiePlan) -> Result<StartedDie, Refusal>
     ensures start { IfOk result (λ core. (box_value core).start ≡ fresh plan) }
     ensures log { IfOk result (λ core. (box_value core).log ≡ []) }
+    ensures runs { IfOk result (λ core. (box_value core).stopped ≡ false) }
 {
     bound(&plan)?;
     let nand = match MemoryNand::new(alloc, plan.shape) {
@@ -49,6 +50,7 @@ fn push_started(dies: &mut StartedDies, die: StartedDie) -> Result<(), Refusal>
 pub(crate) fn fresh_dies(alloc: Global, plans: &StorePlan) -> Result<StartedDies, Refusal>
     ensures starts { IfOk result (λ dies. starts_of (map begun dies.items) ≡ map fresh plans.now) }
     ensures empty { IfOk result (λ dies. All HasEmptyLog (map begun dies.items)) }
+    ensures run { IfOk result (λ dies. All (λ die. die.stopped ≡ false) (map begun dies.items)) }
 {
     let mut dies = Vec::new(alloc);
     for plan in plans.as_slice() {

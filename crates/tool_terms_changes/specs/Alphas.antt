@@ -26,7 +26,7 @@ slowed alpha t = record t { collect_period = longest alpha t; collect_deadline =
 abbrev pub least_cap : ℕ → TaskTerms → ℕ
 least_cap alpha t = (t.writes * (t.period + t.held) + 2 * alpha * t.period + (t.period - 1)) / t.period
 
--- that, but for one that would be greater than the greatest number of a plan
+-- that, except for one that would be greater than the greatest number of a plan
 abbrev pub cap_with : ℕ → TaskTerms → ℕ
 cap_with alpha t = min (least_cap alpha t) 4294967295
 
@@ -37,7 +37,7 @@ with_alpha made alpha = record {
   terms = record { tasks = map (slowed alpha) made.terms.tasks };
 }
 
--- a die that holds so many logical pages
+-- a die that holds `logical` logical pages
 abbrev pub holding : DieTerms → ℕ → DieTerms
 holding made logical = record made { plan = with_logical made.plan logical }
 
@@ -86,13 +86,13 @@ abbrev pub SaysRow : Option ℕ → TermsNumbers → (alpha die : ℕ) → List 
 SaysRow us plan alpha die said =
     (found : Option AlphaRow) × FindsRow (with_alpha (die_of plan die) alpha) found × (said ≡ row_text us die found)
 
--- and of the first so many dies
+-- and of the first `dies` dies
 abbrev pub SaysDies : Option ℕ → TermsNumbers → (alpha dies : ℕ) → List ℕ → Type 0
 SaysDies us plan alpha zero said = said ≡ []
 SaysDies us plan alpha (suc die) said =
     (first last : List ℕ) × SaysDies us plan alpha die first × SaysRow us plan alpha die last × (said ≡ first ++ last)
 
--- and of all dies with the first so many alphas, from 1 on
+-- and of all dies with each alpha from 1 up to this one
 abbrev pub SaysAlphas : Option ℕ → TermsNumbers → ℕ → List ℕ → Type 0
 SaysAlphas us plan zero said = said ≡ []
 SaysAlphas us plan (suc before) said =

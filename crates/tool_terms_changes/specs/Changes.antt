@@ -101,7 +101,7 @@ pub record Does (plan : TermsNumbers) (of : Option TaskName) (which : PlanNumber
   pub own : OwnDo plan of which n
   pub others : OthersDo plan of
 
--- the number after so many steps from one to another
+-- the number after `steps` steps from one to another
 abbrev pub step : (from to steps : ℕ) → ℕ
 step from to steps = if nat_le from to then from + steps else from - steps
 
@@ -196,8 +196,9 @@ pub record AreChanges (plan : TermsNumbers) (changes : List Change) : Type 0 whe
   pub found : AreFound plan (asked_of plan) others
   pub is : changes ≡ change_of (shared_asked number.Alpha) plan.top.alpha alpha ++ others
 
--- what a change of such a number costs beside how great it is: those of one number of collections, which a designer chooses,
--- come first, then that of the alpha with all that goes with it, and then those of the part and of what its tasks need
+-- what a change of such a number costs in addition to how great it is: those of one number of collections, which a
+-- designer chooses, come first, then that of the alpha with all that goes with it, and then those of the part and of
+-- what its tasks need
 abbrev pub basic_price : PlanNumber → ℕ
 basic_price number.Alpha = 5000000000000000
 basic_price number.Logical = 10000000000000000

@@ -17,7 +17,7 @@ use tool_plan_design::greatest_logical;
 #[derive(Drop)]
 pub struct AlphaRow {
     pub made: DieTerms,
-    /// Of a million slots, so many are asked for in the long run, 0 to 1,000,000.
+    /// How many of a million slots are asked for in the long run, 0 to 1,000,000.
     pub load: u32,
     /// The greatest number of logical pages that its bound allows.
     pub logical: u32,

@@ -92,7 +92,7 @@ fn put_tasks(asked: &mut Vec<Asked>, tasks: &[TaskNumbers]) -> Result<(), Refusa
     Ok(())
 }
 
-/// Adds the numbers of all dies that are sought, but for the alpha. The only refusal is NoMemory.
+/// Adds the numbers of all dies that are sought, except for the alpha. The only refusal is NoMemory.
 fn put_shared(asked: &mut Vec<Asked>) -> Result<(), Refusal>
     ensures put { OnOk result (asked.new.items
         ≡ asked.old.items ++ shared_asked PlanNumber.Logical ∷ shared_asked PlanNumber.Blocks ∷ []) }
@@ -103,8 +103,8 @@ fn put_shared(asked: &mut Vec<Asked>) -> Result<(), Refusal>
     Ok(())
 }
 
-/// The numbers of a plan that are sought, but for its alpha: those of all dies, and then those of each task, in the order of
-/// the text. The only refusal is NoMemory.
+/// The numbers of a plan that are sought, except for its alpha: those of all dies, and then those of each task, in the
+/// order of the text. The only refusal is NoMemory.
 pub fn asked_of(alloc: Global, numbers: &TermsNumbers) -> Result<Vec<Asked>, Refusal>
     ensures asked { IfOk result (λ asked. asked.items ≡ asked_of numbers.now) }
     ensures refused { FailsForMemory result }

@@ -25,10 +25,11 @@ pub struct Change {
     pub to: u32,
 }
 
-/// What the change of the alpha costs beside how great it is: more than any change of one number of collections.
+/// What the change of the alpha costs in addition to how great it is: more than any change of one number of
+/// collections.
 const OF_ALPHA: u64 = 5_000_000_000_000_000;
 
-/// What a change of such a number costs beside how great it is: more than any change of the alpha.
+/// What a change of such a number costs in addition to how great it is: more than any change of the alpha.
 const OF_NEEDS: u64 = 10_000_000_000_000_000;
 
 impl Change {

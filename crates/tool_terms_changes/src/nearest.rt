@@ -109,7 +109,7 @@ fn others_do(alloc: Global, numbers: &TermsNumbers, of: Option<TaskName>) -> Res
     }
 }
 
-/// The number after so many steps from one to another.
+/// The number after `steps` steps from one to another.
 fn step(from: u32, to: u32, steps: u32) -> u32
     requires { steps ≤ max from to - min from to }
     ensures { result ≡ step from to steps }

@@ -93,7 +93,7 @@ collection_line us die plan =
 abbrev pub least_cap : DiePlan → TaskTerms → ℕ
 least_cap plan t = least_cap_with plan.alpha t
 
--- what its collections give, beside what its jobs write
+-- what its collections give, compared with what its jobs write
 abbrev pub gain_text : (gained written spare : ℕ) → List ℕ
 gain_text gained written spare = codes "alpha * period is " ++ decimal gained ++ codes ", and writes * collect_period is " ++ decimal written
     ++ codes ": " ++ decimal spare ++ codes " to spare" ++ full_stop
@@ -102,7 +102,7 @@ abbrev pub gain_line : DiePlan → TaskTerms → List ℕ
 gain_line plan t =
     gain_text (plan.alpha * t.period) (t.writes * t.collect_period) (plan.alpha * t.period - t.writes * t.collect_period)
 
--- its cap, beside what that has to cover
+-- its cap, compared with what that has to cover
 abbrev pub stock_text : (cap least spare : ℕ) → List ℕ
 stock_text cap least spare = codes "cap is " ++ decimal cap ++ codes ", and has to be at least " ++ decimal least ++ codes ": " ++ decimal spare
     ++ codes " to spare" ++ full_stop

@@ -43,7 +43,7 @@ pub record SaysChanges (us : Option ℕ) (made : DieTerms) (die : ℕ) (said : L
   pub margins : SaysMargins us made die 0 made.terms.tasks tasks
   pub is : said ≡ room_line die logical blocks ++ caps ++ tasks
 
--- so it is of a die of a plan; and of the first so many
+-- so it is of a die of a plan; and of a number of its first dies
 abbrev pub SaysDieMargins : Option ℕ → TermsNumbers → ℕ → List ℕ → Type 0
 SaysDieMargins us plan die said = SaysChanges us (die_of plan die) die said
 
@@ -107,7 +107,8 @@ pub record ExplainsRefused (us : Option ℕ) (read : Result TermsNumbers TermsRe
   pub why : ExplainsRefusal us read refusal said
   pub is : text ≡ (codes "The plan is refused: " ++ refusal_text (refusal_of refusal) ++ full_stop) ++ said
 
--- what is said of a plan's text, where a slot takes so many us if that is known: whether it makes a store whose dies pass their tests
+-- what is said of a plan's text, where a slot takes `us` us if that is known: whether it makes a store whose dies pass
+-- their tests
 abbrev pub ExplainsTerms : Option ℕ → List ℕ → Bool → List ℕ → Type 0
 ExplainsTerms us plan true text = (numbers : TermsNumbers) × (read_numbers plan ≡ Ok numbers) × ExplainsStore us numbers text
 ExplainsTerms us plan false text = ExplainsRefused us (read_numbers plan) text

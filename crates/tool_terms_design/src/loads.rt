@@ -153,7 +153,7 @@ fn put_gain_text(text: &mut Vec<u8>, gained: u64, written: u64, spare: u64) -> i
     )
 }
 
-/// Adds what a task's collections give, beside what its jobs write.
+/// Adds what a task's collections give, compared with what its jobs write.
 fn put_gain(text: &mut Vec<u8>, plan: &DiePlan, task: &TaskTerms) -> io::Result<()>
     requires bound { MeetsBound plan.now }
     requires limits { IsTaskTerms task.now }
@@ -174,7 +174,7 @@ fn put_stock_text(text: &mut Vec<u8>, cap: u32, least: u64, spare: u64) -> io::R
     )
 }
 
-/// Adds a task's cap, beside what it has to cover.
+/// Adds a task's cap, compared with what it has to cover.
 fn put_stock(text: &mut Vec<u8>, plan: &DiePlan, cap: u32, task: &TaskTerms) -> io::Result<()>
     requires bound { MeetsBound plan.now }
     requires limits { IsTaskTerms task.now }

@@ -82,7 +82,7 @@ impl Display for Collections {
     }
 }
 
-/// How many slots may be asked of an interval that is overfull: so many as it has, and more.
+/// How many slots may be asked of an interval that is overfull: its `slots` slots, and `excess` more.
 #[derive(Clone, Copy, Drop)]
 pub struct AskedSlots {
     pub slots: u32,

@@ -8,8 +8,8 @@ use Rattle.tool_store_compare.specs.Runs.{begun, running}
 use Rattle.tool_store_compare.specs.declared.compares.Ran.{Ran}
 use Rattle.tool_store_compare.proofs.compares.run_store.Goals as goal
 
-pub returns : goal.returns
-returns g c =
+pub returns-clause-ran : goal.returns-clause-ran
+returns-clause-ran g c =
     let left = script_left g.R.Read.remaining c.in_ok-script.script in
     let dies = map begun c.args.started.items in
     both_ok c.run_lent.result

@@ -1,14 +1,15 @@
-use Rattle.std.proofs.Common.{rules, ◌≡◌, ◌+◌, ◌<◌, ◌++◌, ◌∷◌, List, ap, sym, subst, ◌∙◌, arith, drop, get_or, length, map}
+use Rattle.std.proofs.Common.{rules, ◌≡◌, ◌+◌, ◌<◌, ◌++◌, ◌∷◌, List, ap, false, sym, subst, ◌∙◌, arith, drop, get_or, length, map}
 use Rattle.std.specs.Global.{Box}
 use Rattle.std.specs.Prelude.{All}
 use Rattle.slot_types.specs.declared.plans.DiePlan.{DiePlan}
 use Rattle.die_log.specs.Model.Start.{fresh}
-use Rattle.tool_script_runs.specs.RunningDies.{HasEmptyLog, starts_of}
+use Rattle.tool_script_runs.specs.RunningDies.{HasEmptyLog, RunningDie, starts_of}
 use Rattle.tool_script_runs.proofs.TextRuns.{empty_more, starts_more}
 use Rattle.tool_store_compare.specs.Runs.{begun}
 use Rattle.flash_die.specs.Memory.{Memory}
 use Rattle.slot_core.specs.Core.{Core}
 use Rattle.tool_store_compare.proofs.PlansLeft.{first_left}
+use Rattle.tool_store_compare.proofs.UnstoppedDies.{one_more_runs}
 use Rattle.tool_store_compare.proofs.started_dies.fresh_dies.Goals as goal
 
 pub loop-plan-preserved : goal.loop-plan-preserved
@@ -31,4 +32,6 @@ loop-plan-preserved c =
           (ap (λ (l : List DiePlan). starts_of (map begun dies) ++ map fresh l) (sym here) ∙ c.loop-plan.invariant.starts);
       empty = subst (λ (l : List (Box (Core Memory))). All HasEmptyLog (map begun l)) (sym pushed)
           (empty_more begun dies c.in_ok-die.die c.loop-plan.invariant.empty c.in_ok-die.ensures.log);
+      run = subst (λ (l : List (Box (Core Memory))). All (λ (die : RunningDie). die.stopped ≡ false) (map begun l)) (sym pushed)
+          (one_more_runs begun dies c.in_ok-die.die c.loop-plan.invariant.run c.in_ok-die.ensures.runs);
     }

@@ -1,0 +1,2 @@
+mod Multiples
+mod Repeating
