@@ -2,15 +2,17 @@
 Python. It reads nothing of the program, and looks at each slot of a life. `.ci/second_reading/plays` and
 `.ci/second_reading/kept-runs` use it."""
 
+import re
 from bisect import bisect_right
 from functools import lru_cache
 
 from second_reading import plain_texts
-from second_reading.plain_terms import Fault, is_terms_text
+from second_reading.plain_terms import Fault, is_terms_text, time_text
 from second_reading.plain_texts import LAST_SLOT, Die, Refused, read_plan, read_script
 from second_reading.plain_uses import dies_of, refused as refused_plan
 
 MOST_ARRIVALS = 65_536
+SLOT_LINE = re.compile(rb"# a slot is ([1-9][0-9]*) us; ")
 WANTED = "--keep wants a plan that is accepted, with times (version 2) or terms: flashplan explain says more\n"
 OTHER = "its release isn't its slot, or its deadline isn't as many slots later as the plan gives its task"
 ORDER = ["OtherTimes", "DieStopped", "UnknownTask", "EmptyJob", "TooManyOps", "BadPage", "TooManyWrites", "TooSoon", "LifeEnd"]
@@ -66,7 +68,12 @@ def has_room(asked, task, slot, ops, writes):
             and sum(ask[2] for ask in counted) + writes <= task["writes"])
 
 
-def refusal_of(die, life, asked, now, row):
+def timed(count, slot_us):
+    """A number of slots, and its time where it is known how long one is."""
+    return f"{count} ({time_text(count * slot_us)})" if slot_us else f"{count}"
+
+
+def refusal_of(die, life, asked, now, row, slot_us):
     """Why a job's row is refused in slot `now`: its name and what is told of it; None where it is taken."""
     _, _, _, number, release, due, ops = row
     if number >= len(die["tasks"]):
@@ -89,13 +96,14 @@ def refusal_of(die, life, asked, now, row):
         slot = now
         while not has_room(own, task, slot, len(ops), writes_in(ops)):
             slot += 1
-        return "TooSoon", f"with what its task asked for in the last period it is too much; it would be taken in slot {slot}"
+        return "TooSoon", ("with what its task asked for in the last period it is too much; "
+                           f"it would be taken in slot {timed(slot, slot_us)}")
     if now + task["deadline"] > life:
         return "LifeEnd", "it would be due after the last slot of its die's life"
     return None
 
 
-def run_die(plan, life, rows, slots):
+def run_die(plan, life, rows, slots, slot_us=None):
     """A die after a run; its refused rows, as (line, name, told); and how many rows of collections it passed over."""
     die, refused, passed, feed = Die(plan), [], 0, list(rows)
     asked = [[] for _ in plan["tasks"]]
@@ -106,7 +114,7 @@ def run_die(plan, life, rows, slots):
             if ops is None:
                 passed += 1
                 continue
-            why = refusal_of(plan, life, asked, clock, row)
+            why = refusal_of(plan, life, asked, clock, row, slot_us)
             if why is not None:
                 refused.append((line, *why))
                 continue
@@ -156,20 +164,22 @@ def report_of(dies):
 def run(plan_text, script_text, slots):
     """The status of `flashplan run --keep`, its report, and what it tells."""
     plans = terms_in(plan_text)
+    said = SLOT_LINE.match(plan_text)
+    slot_us = int(said[1]) if said else None
     lives = [life_of(plan) for plan in plans]
     for at, life in enumerate(lives):
         if life is None:
             return 1, "", f"error: the plan of die {at} has no life: no number of slots is one\n"
     for at, life in enumerate(lives):
         if life < slots:
-            return 1, "", f"error: a life of die {at} has {life} slots: --slots may be that at most\n"
+            return 1, "", f"error: a life of die {at} has {timed(life, slot_us)} slots: --slots may be that at most\n"
     try:
         rows = read_script(script_text, len(plans), slots)
     except Refused as fault:
         return 1, "", fault.told()
     dies, refused, passed = [], [], 0
     for at, (plan, life) in enumerate(zip(plans, lives)):
-        die, lines, skipped = run_die(plan, life, [row for row in rows if row[2] == at], slots)
+        die, lines, skipped = run_die(plan, life, [row for row in rows if row[2] == at], slots, slot_us)
         dies.append(die)
         refused += lines
         passed += skipped

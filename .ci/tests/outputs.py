@@ -120,6 +120,21 @@ class Planned(Case):
         self.in_parts("quiet.csv", report)
         self.assertEqual(self.on_terminal("audit quiet.csv --quiet", "xterm"), "")
 
+    def test_cuts_of_each_call_tell_how_far_they_are(self):
+        for name in ("tight.toml", "tight.csv"):
+            (self.at / name).write_bytes((DATA / name).read_bytes())
+        script = (self.at / "tight.csv").read_bytes()
+        self.in_parts("slow.csv", script)
+        said = self.on_terminal("cut tight.toml slow.csv --slots 200 --every", "xterm")
+        # After the first part of the pipe 512 bytes are read at once, and the rows in these are run.
+        lines = script[:40 + 512].split(b"\n")
+        slot = [line.split(b",")[0].decode() for line in lines if b"," in line][-1]
+        self.assertTrue(said.startswith(f"\x1b[Kslot {slot} of 200, {len(lines) - 1} rows, about 0 s left\r"), said)
+        self.in_parts("quiet.csv", script)
+        # Of its rows seven are refused, which is said all the same.
+        said = self.on_terminal("cut tight.toml quiet.csv --slots 200 --every --quiet", "xterm")
+        self.assertTrue(said.startswith("\x1b[Krefused 7 first line 10 with 12\r\n"), said)
+
     def setUp(self):
         super().setUp()
         self.said = self.text("explain one_die.toml")
@@ -408,6 +423,14 @@ writes = 1
         self.assertEqual((status, err.splitlines()), (1, [
             "bad.csv: error 20 ReportText 3",
             "bad.csv, line 3 (record 3): `job` is 2, and has to be 1: the rows of a die are numbered from 0, one after the other"]))
+
+    def test_a_run_too_short_for_a_rate_says_how_long_it_was(self):
+        """5 slots of 250 us are 1,250 us, and of 1 s 5 s, which are told in ms below 10 s. No block is erased there ten times."""
+        words = "report one_die.toml one_die.csv --slots 5 --endurance 100"
+        for more, slots in ((" --slot-us 250", "5 (1.25 ms)"), (" --slot-us 1000000", "5 (5000 ms)")):
+            status, out, _ = self.run_words(words + more)
+            sentence = f" times in {slots} slots, and 10 at least make a rate: run more slots, or go on from a checkpoint\n"
+            self.assertEqual((status, out.count(sentence.encode())), (0, 1), (words + more, out.decode()))
 
     def test_refused_rows_are_named_by_kind_and_by_place(self):
         (self.at / "rows.csv").write_text((self.at / "refused_rows.csv").read_text().replace("ops\n", "ops\n\n\n", 1))

@@ -1,4 +1,4 @@
--- A checkpoint's text is read in one way, but for memory and its reader.
+-- A checkpoint's text is read in one way, except for memory and its reader.
 use Rattle.std.proofs.Common.{◌≡◌, ◌⊎◌, Result, Ok, Err, Some, refl, sym, ◌∙◌, inl, inr}
 use Rattle.checkpoint_texts.specs.Readings.{Says}
 use Rattle.checkpoint_texts.specs.OutsideFaults.{EndsOutside}

@@ -1,4 +1,4 @@
--- What a call that reads a checkpoint gave, beside what its text says.
+-- What a call that reads a checkpoint gave, apart from what its text says.
 use Rattle.std.specs.Prelude.{◌≡◌, ◌≢◌, ◌⊎◌, ⊤, ℕ, Bool, true, Option, Some, None, Result, Ok, Err}
 use Rattle.checkpoint_texts.specs.declared.fault.RecordFault.{RecordFault}
 use Rattle.checkpoint_texts.specs.declared.fault.TextFault.{TextFault}

@@ -18,11 +18,11 @@ use Rattle.checkpoint_texts.specs.declared.items.Item.TheVariants.{Page, Block, 
 abbrev pub OrFault : Type 0 → Type 0
 OrFault A = Result A TextFault
 
--- a record has so many fields, or the first that is missing or too many is at fault
+-- a record has `count` fields, or the first that is missing or too many is at fault
 abbrev pub check_count : ℕ → Fields → ℕ → OrFault ⊤
 check_count n fields count = if length fields == count then Ok tt else broken_field n (min (length fields) count + 1) fault.Fields
 
--- the number in the field after so many
+-- the number in the field after `i` others
 abbrev pub number_at : ℕ → Fields → ℕ → OrFault ℕ
 number_at n fields i = or_broken n (i + 1) fault.Number (option_and_then number_of (field_at fields i))
 

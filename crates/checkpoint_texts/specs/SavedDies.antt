@@ -9,6 +9,6 @@ use Rattle.checkpoint_texts.specs.declared.saved.SavedPage.{SavedPage}
 abbrev pub places_of : List SavedPage → List (Option Place)
 places_of pages = map (λ (page : SavedPage). page.place) pages
 
--- what stands on a die, but for the bytes of its pages
+-- what stands on a die, without the bytes of its pages
 abbrev pub checkpoint_of : SavedDie → Checkpoint
 checkpoint_of die = record { places = places_of die.pages; blocks = die.blocks; spare = die.spare; balances = die.balances }

@@ -13,7 +13,7 @@ use die_checkpoint::BlockCounts;
 use slot_types::{PageData, Place};
 use text_base::{field_in, is_named, number, page};
 
-/// The number in the field after so many.
+/// The number in the field after `place` others.
 fn number_in(line: u32, fields: &ByteRecord, place: usize) -> Result<u32, TextFault>
     requires { place ≤ 3 }
     ensures { result ≡ number_at line (fields_of fields.now) place }
@@ -74,7 +74,7 @@ fn bytes_in(
     }
 }
 
-/// Refuses a record that doesn't have so many fields.
+/// Refuses a record that doesn't have `count` fields.
 pub fn check_count(line: u32, fields: &ByteRecord, count: usize) -> Result<(), TextFault>
     requires { count ≤ 4 }
     ensures { result ≡ check_count line (fields_of fields.now) count }

@@ -35,7 +35,7 @@ pub type SavedStore = Items<SavedDie>;
 impl SavedDie {
     ghost use Rattle.checkpoint_texts.specs.SavedDies.{checkpoint_of};
 
-    /// What stands on the die but for the bytes of its pages. Refused out of memory alone.
+    /// What stands on the die, without the bytes of its pages. Refused out of memory alone.
     pub fn checkpoint(&self, alloc: Global) -> Result<Checkpoint, Refusal>
         ensures refused { FailsForMemory result }
         ensures ok { IfOk result (λ made. made ≡ checkpoint_of self.now) }

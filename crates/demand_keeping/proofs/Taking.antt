@@ -39,7 +39,7 @@ module _ (events : List Event) (i : ℕ) (event : Event) (is : event ≡ get_or 
       joined [] h = own
       joined (x ∷ xs) h = (h.0, joined xs h.1)
 
--- so many slots at most
+-- the first events have at most as many slots as all of them
 pub slots_first : (events : List Event) (i : ℕ) → slots (take i events) ≤ slots events
 slots_first events i = omega (
   arith,

@@ -10,7 +10,7 @@ use Rattle.demand_keeping.specs.Windows.{is_in, window}
 pub record CountsNothing (c : Count) (task : ℕ) (came : List TaskArrival) : Type 0 where
   pub inside : (start end : ℕ) → window c task start end came ≡ 0
 
--- there is one, and so much is counted of it, in this slot
+-- there is one, and `amount` is counted of it, in this slot
 pub record CountsOne (c : Count) (task : ℕ) (came : List TaskArrival) (slot amount : ℕ) : Type 0 where
   pub inside : (start end : ℕ) → window c task start end came ≡ (if is_in start end slot then amount else 0)
 
@@ -28,7 +28,7 @@ counted seen jobs = sum_by (own seen) jobs
 abbrev pub counted_in : (seen start end : ℕ) → List Counted → ℕ
 counted_in seen start end jobs = sum_by (own_in seen start end) jobs
 
--- so much is counted of the first events in each window, however many these are
+-- in each window what is counted of the first `seen` events is what they have there, however many they are
 abbrev pub AreCounted : Count → ℕ → List Event → List Counted → Type 0
 AreCounted c task all jobs = (seen start end : ℕ) → counted_in seen start end jobs ≡ window c task start end (arrivals 0 (take seen all))
 

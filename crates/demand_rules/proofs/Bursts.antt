@@ -65,7 +65,7 @@ module _ {X : Type 0} (release due : X → ℕ) (chosen : X → Bool) (weight : 
       none true start release weight = grind (arith, nat_tests)
       none false start release weight = refl
 
-  -- in so many periods, so often the limit
+  -- in `n` periods, `n` times the limit
   pub released_in_periods : (period limit : ℕ) (xs : List X)
       → ((start : ℕ) → weight_of (is_released_in start (start + period)) xs ≤ limit)
       → (n start : ℕ) → weight_of (is_released_in start (start + n * period)) xs ≤ limit * n
@@ -124,7 +124,7 @@ module _ {X : Type 0} (release due : X → ℕ) (chosen : X → Bool) (weight : 
           and_from (chosen x) (nat_le start (release x) && nat_lt (release x) until) p.0
           (and_from (nat_le start (release x)) (nat_lt (release x) until) q.0 (le-leb (suc (release x)) until early))
 
-  -- so many are released in a window and due in it
+  -- what is released in a window and due in it: at most the limit, for each of the window's `periods_within`
   pub inside_fit : (period deadline limit : ℕ) → 1 ≤ period → (xs : List X) → AllByRecursion (HasSlots deadline) xs
       → ((start : ℕ) → weight_of (is_released_in start (start + period)) xs ≤ limit)
       → (start end : ℕ) → start ≤ end → weight_of (is_inside start end) xs

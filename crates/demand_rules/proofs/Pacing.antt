@@ -11,7 +11,7 @@ use Rattle.plan_rules.specs.Keeping.{TaskArrival, is_collection_at}
 use Rattle.plan_rules.proofs.Pacing.{is_collection_of, collections_in, IsBefore, one_if}
 
 -- By slot `now` the collections of the task came at the multiples of its period, one at each: all that there are up to
--- `now`, but for one at `now` itself, and those that would be due beyond the last slot.
+-- `now`, except for one at `now` itself, and those that would be due beyond the last slot.
 pub record ArePaced (period deadline task : ℕ) (came : List TaskArrival) (now : ℕ) : Type 0 where
   pub few : period * collections_in task came ≤ now + period
   pub many : (now ≤ period * collections_in task came) ⊎ (MAX_SLOT < period * collections_in task came + deadline)

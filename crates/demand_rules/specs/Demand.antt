@@ -13,8 +13,8 @@ no_terms = record { period = 0; deadline = 0; held = 0; work = 0; writes = 0; co
 abbrev pub terms_of : Terms → ℕ → TaskTerms
 terms_of terms task = slice_index_or terms.tasks task no_terms
 
--- the work of how many periods may be released in an interval of so many slots and be due by its end, where each job has
--- `deadline` slots
+-- the number of periods whose work may be released in an interval of `slots` slots and be due by its end, where each
+-- job has `deadline` slots
 abbrev pub periods_within : (period deadline slots : ℕ) → ℕ
 periods_within period deadline slots = if nat_le deadline slots then (slots - deadline) / period + 1 else 0
 
@@ -55,7 +55,7 @@ task_load plan t = (t.work * 1000000) / t.period + (collection_work plan * 10000
 abbrev pub load : DiePlan → Terms → ℕ
 load plan terms = sum_by (task_load plan) terms.tasks
 
--- whatever is asked of so many slots fits into them; no interval of a life is longer than the last slot that there may
+-- whatever is asked of `slots` slots fits into them; no interval of a life is longer than the last slot that there may
 -- be, so the periods need no common multiple
 abbrev pub FitsAllSlots : DiePlan → Terms → Type 0
 FitsAllSlots plan terms = (slots : ℕ) → slots ≤ MAX_SLOT → demand_in plan terms slots ≤ slots

@@ -39,7 +39,7 @@ abbrev pub IsLimitFault : DiePlan → Terms → LimitFault → Type 0
 IsLimitFault plan terms (limit.Tasks have) = (have ≡ length terms.tasks) × (length terms.tasks ≢ length plan.caps)
 IsLimitFault plan terms (limit.Number task number) = IsFirstOut terms.tasks task number
 
--- each number of slots up to so many, of which anything is asked, has at least so many more than are asked of it
+-- each number of slots up to `limit` of which anything is asked has at least `slack` slots more than are asked of it
 abbrev pub HasSlack : DiePlan → Terms → (limit slack : ℕ) → Type 0
 HasSlack plan terms limit slack = (slots : ℕ) → slots ≤ limit → 1 ≤ demand_in plan terms slots → demand_in plan terms slots + slack ≤ slots
 

@@ -14,8 +14,8 @@ use slot_types::{DiePlan, MAX_SLOT};
 /// What a plan that passes the test asks of its die.
 #[derive(Clone, Copy, PartialEq, Eq, Debug, Drop)]
 pub struct DemandLoad {
-    /// Of a million slots, so many are asked for in the long run, 0 to 1,000,000: the sum over all tasks of what their jobs
-    /// ask for, and their collections, each rounded down.
+    /// How many of a million slots are asked for in the long run, 0 to 1,000,000: the sum over all tasks of what their
+    /// jobs ask for and what their collections ask for, each rounded down.
     pub load: u32,
     /// Of all intervals of which anything may be asked, one that then has the fewest slots left, by its length in slots.
     pub tightest: u32,
@@ -27,7 +27,7 @@ pub struct DemandLoad {
 #[derive(Clone, Copy, PartialEq, Eq, Debug, Drop)]
 pub enum DemandFault {
     Limits(LimitFault),
-    /// In the long run more is asked than there are slots: of a million slots, so many.
+    /// In the long run more is asked than there are slots. The number is what is asked of a million slots.
     Load(u64),
     /// The shortest interval of which more may be asked than it has slots, by its length, and how many slots more.
     Overfull { slots: u32, excess: u64 },

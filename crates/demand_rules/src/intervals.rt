@@ -1,8 +1,8 @@
 //! Which intervals have room for what may be asked of them.
 //!
-//! What may be asked of so many slots grows with their number, and only where a deadline is reached. So it is looked at
-//! from above, at deadlines alone: where less is asked of so many slots than these, any fewer slots down to what is asked
-//! have room for it (Zhang and Burns 2009).
+//! What may be asked of `n` slots grows with `n`, and only where a deadline is reached. So it is looked at from above,
+//! at deadlines alone: where less than `n` is asked of `n` slots, any fewer slots down to what is asked have room for
+//! it (Zhang and Burns 2009).
 
 ghost use Rattle.std.specs.Prelude.{◌≡◌, ℕ, ◌+◌, ◌<◌, ◌≤◌, length, All, IfSome, IsNone};
 ghost use Rattle.slot_types.specs.declared.limits.TheConstants.{MAX_SLOT};
@@ -67,7 +67,8 @@ pub(crate) fn first_overfull(plan: &DiePlan, terms: &Terms, known: u32) -> u32
     over
 }
 
-/// An interval up to so many slots, of which something is asked and that then has less than this slack, if there is one.
+/// An interval of at most `limit` slots of which something is asked and that then has less than `slack` left, if there
+/// is one.
 pub(crate) fn short_of(plan: &DiePlan, terms: &Terms, limit: u32, slack: u32) -> Option<u32>
     requires bound { MeetsBound plan.now }
     requires has { HasTerms plan.now terms.now }
@@ -94,8 +95,8 @@ pub(crate) fn short_of(plan: &DiePlan, terms: &Terms, limit: u32, slack: u32) ->
     None
 }
 
-// The greatest deadline below so many slots, counted from an interval's start, of jobs and collections that come back to
-// back from there on; 0 where there is none.
+// The greatest deadline below `end`, counted from an interval's start, of jobs and collections that come back to back
+// from there on; 0 where there is none.
 fn last_deadline(tasks: &[TaskTerms], end: u32) -> u32
     requires some { 1 ≤ end }
     requires limits { All IsTaskTerms tasks.now }

@@ -22,7 +22,7 @@ pub enum TermsNumber {
 /// Why terms are none of a plan.
 #[derive(Clone, Copy, PartialEq, Eq, Debug, Drop)]
 pub enum LimitFault {
-    /// So many tasks have terms, and the plan has another number of tasks.
+    /// `have` tasks have terms, and the plan has another number of tasks.
     Tasks { have: usize },
     /// A number is out of its limits. The tasks before this one, counted from 0, are within theirs.
     Number { task: usize, number: TermsNumber },

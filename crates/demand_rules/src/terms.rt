@@ -9,12 +9,12 @@ use slot_types::Items;
 /// accepted, however far ahead its release lies.
 #[derive(Clone, Copy, PartialEq, Eq, Debug, Drop)]
 pub struct TaskTerms {
-    /// In any so many slots, 1 to 4,294,967,295, jobs of the task are released that have `work` operations in all at most,
-    /// and jobs come that have `writes` writes in all at most. It may be longer than a life.
+    /// The period in slots, 1 to 4,294,967,295. In any period, the task's jobs that are released have at most `work`
+    /// operations in all, and its jobs that come have at most `writes` writes in all. It may be longer than a life.
     pub period: u32,
-    /// A job is due so many slots after its release, or later: 1 to `held`.
+    /// The fewest slots from a job's release to its deadline: 1 to `held`.
     pub deadline: u32,
-    /// A job is due so many slots after it comes, or sooner: `deadline` to 1,048,576. So long it may hold the tokens for
+    /// The most slots from a job's arrival to its deadline: `deadline` to 1,048,576. So long it may hold the tokens for
     /// what it writes. With `held` equal to `deadline` each job comes at its release.
     pub held: u32,
     /// The most operations that jobs released in a period have in all, 1 to 1,048,576, in any number of jobs of at most 64
@@ -24,8 +24,8 @@ pub struct TaskTerms {
     pub writes: u32,
     /// A collection comes at each multiple of this, 1 to 1,048,576.
     pub collect_period: u32,
-    /// A collection is due so many slots after it comes: 1 to `collect_period`. Where it is less than `collect_period`, a
-    /// life may end in each slot by which all that came is due.
+    /// The slots from a collection's arrival to its deadline: 1 to `collect_period`. Where they are fewer than
+    /// `collect_period`, a life may end in each slot by which all that came is due.
     pub collect_deadline: u32,
 }
 

@@ -37,7 +37,7 @@ struct Diaries {
 }
 
 impl Diaries {
-    /// Empty ones, with room for all jobs of a task, for a die whose lives have so many slots.
+    /// Empty ones, with room for all jobs of a task, for a die whose lives have `life` slots.
     fn new(alloc: Global, life: u32) -> Result<Diaries, Stop> {
         Ok(Diaries {
             ticked: Ticked::new(alloc, life),

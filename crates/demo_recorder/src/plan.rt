@@ -105,7 +105,7 @@ fn device(alloc: Global, endurance: u32) -> Result<Device, Refusal>
     Ok(WearNand::new(alloc, chip, endurance)?)
 }
 
-/// A new die, whose blocks last for so many erases.
+/// A new die, whose blocks last for `endurance` erases.
 pub(crate) fn new_die(alloc: Global, endurance: u32) -> Result<Box<OngoingDie<Device>>, Stop> {
     let device = device(alloc, endurance)?;
     boxed(alloc, die_on(alloc, device)?)

@@ -17,7 +17,7 @@ use std::time::{Clock, Duration};
 /// How far apart a task's looks at the clock are at least, in microseconds.
 const LOOK: u64 = 50;
 
-/// What a task asks for: so many jobs, each of which reads a page of its own and writes it anew.
+/// What a task asks for: `jobs` jobs, each of which reads a page of its own and writes it anew.
 #[derive(Clone, Copy, Drop)]
 pub(crate) struct Task {
     pub(crate) terms: TaskTerms,
@@ -27,7 +27,7 @@ pub(crate) struct Task {
     pub(crate) pages: u32,
 }
 
-/// The control, with so many jobs that they take more than a hundred lives.
+/// The control, with enough jobs to take more than a hundred lives.
 pub(crate) const CONTROL_TASK: Task = Task {
     terms: CONTROL,
     jobs: 812,

@@ -1,4 +1,4 @@
--- A checkpoint has one first fault, but for the lack of memory.
+-- A checkpoint has one first fault, except for the lack of memory.
 use Rattle.std.proofs.Common.{◌≡◌, ◌≢◌, ℕ, zero, suc, ◌+◌, ◌<◌, ◌≤◌, Some, refl, sym, ap, ◌∙◌, subst, arith, inl, inr}
 use Rattle.std.specs.Prelude.{position}
 use borrow.Author.Count.{below_more}

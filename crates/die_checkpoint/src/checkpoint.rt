@@ -5,7 +5,7 @@ use slot_types::{Items, Place};
 /// What a checkpoint says of a block.
 #[derive(Clone, Copy, PartialEq, Eq, Debug, Drop)]
 pub struct BlockCounts {
-    /// How many of its pages are programmed since its last erase: the first so many.
+    /// How many of its pages are programmed since its last erase: the first `filled`.
     pub filled: u32,
     /// How often it was erased.
     pub erases: u32,

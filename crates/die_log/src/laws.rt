@@ -97,7 +97,7 @@ pub fn exact_is_certified()
 {}
 
 /// In an exact log that starts at an opening a collection copies at most the pages that its collector
-/// keeps in reserve, and takes at most two slots for each of these beside those of its erase.
+/// keeps in reserve, and takes at most two slots for each of these in addition to those of its erase.
 pub fn collections_are_bounded()
     ensures copies { ForEveryExactLog (λ start log.
         (j : Job) → Contains (jobs log) j → j.collects ≡ true

@@ -54,7 +54,7 @@ pub fn lives_report_the_last_write()
 
 /// No schedule of all lives together has a smaller greatest lateness, at no moment: put one life after the other, each
 /// slot carried a least key, and each done job has a certificate over all slots. A job's release, deadline and
-/// completion are those of its life, so many slots later as there were in the lives before (`rows`).
+/// completion are those of its life, later by the slots of the lives before (`rows`).
 pub fn lives_are_least_late()
     ensures keys { ForAllLives (λ first lives.
         CarriesLeastKeys (rows_of_all first.plan lives) (numbers_of_all lives)) }

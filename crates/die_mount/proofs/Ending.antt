@@ -94,7 +94,7 @@ module _ (plan : DiePlan) (aside : ℕ) (p : Cells) (s : AreSoundCells (part_of 
       by_case (inl lt) = omega (arith, ap (λ (t : Block). t.erases) (without_at last aside free_block p.blocks b s.blocks lt), h (on_part last aside b))
       by_case (inr past) = omega (arith, ap (λ (t : Block). t.erases) (without_past last aside free_block p.blocks b s.blocks past))
 
-  -- so many pages are spare
+  -- the pages that are free beyond the goal are spare
   pub spare_is : (free goal : ℕ) → free ≡ sum_by (free_in plan) p.blocks → goal ≡ enough_of plan + plan.shape.pages
       → free - goal ≡ (checkpoint_beside plan aside p).spare
   spare_is free goal all is = omega (arith, all, is, die_free plan aside p s.blocks free_aside)

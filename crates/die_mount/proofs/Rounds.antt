@@ -288,7 +288,7 @@ pub record IsBetween (m : Mounting) : Type 0 where
 abbrev pub chosen_mount : Mounting → ℕ → Stage → Mounting
 chosen_mount m left after = record { plan = m.plan; cells = m.cells; next = m.next; rounds = left; stage = after }
 
--- so many pages are free, of a part with so many in a block
+-- the state of the mount's part, with the number of its free pages
 abbrev pub state_of : Mounting → (last : ℕ) → PartState
 state_of m last = record { shape = (part_of m.plan).shape; cells = m.cells; last = last; free = free_of m }
 

@@ -34,7 +34,7 @@ pub record Mounting : Type 0 where
 abbrev pub free_of : Mounting → ℕ
 free_of m = sum_by (free_in m.plan) m.cells.blocks
 
--- so many that full accounts and a block aside have theirs
+-- as many free pages as full accounts and a block aside take
 abbrev pub goal_of : DiePlan → ℕ
 goal_of plan = enough_of plan + plan.shape.pages
 
@@ -90,17 +90,17 @@ calls_left_at plan c rounds (stage.Program page from to) = 2 * valid c from.bloc
 calls_left_at plan c rounds (stage.Erase block slots) = plan.shape.erase_slots - slots + rounds * round_calls plan
 calls_left_at plan c rounds stage.Done = 0
 
--- so many calls may come yet
+-- how many calls may come yet
 abbrev pub calls_left : Mounting → ℕ
 calls_left m = calls_left_at m.plan m.cells m.rounds m.stage
 
--- and so many in all
+-- and how many in all
 abbrev pub most_calls : DiePlan → ℕ
 most_calls plan = plan.shape.erase_slots + most_rounds_beside plan * round_calls plan
 
 -- Where it stands
 
--- with so many rounds more, each of which gives alpha pages, enough are free
+-- with `rounds` rounds more, each of which gives alpha pages, enough are free
 abbrev pub ReachesGoal : DiePlan → (free rounds : ℕ) → Type 0
 ReachesGoal plan free rounds = goal_of plan ≤ free + rounds * plan.alpha
 
@@ -116,8 +116,8 @@ pub record IsAtFirst (m : Mounting) (block slots : ℕ) : Type 0 where
   pub reaches : ReachesGoal m.plan (free_of m) m.rounds
   pub erased : (b : ℕ) → (block_at m.cells b).erases + m.rounds ≤ most_rounds_beside m.plan
 
--- the page lies in this cell of a closed block, and none does in a cell before it; there is room for all that lie there,
--- and once they are copied and the block is erased, enough pages are free or come with so many rounds more
+-- the page lies in this cell of a closed block, and none does in a cell before it; there is room for all that lie
+-- there, and once they are copied and the block is erased, enough pages are free or come with the rounds that are left
 pub record IsAtPage (m : Mounting) (page : ℕ) (from : Place) : Type 0 where
   pub idle : AreIdle m.cells
   pub closed : IsClosed (part_of m.plan) m.cells from.block
@@ -189,7 +189,7 @@ acts_after (stage.Program page from to) acts = does.CopyProgram page ∷ acts
 acts_after (stage.Erase block slots) acts = does.Erase block ∷ acts
 acts_after stage.Done acts = acts
 
--- how many copies may come yet, and how many slots of erases beside those of its first block
+-- how many copies may come yet, and how many slots of erases apart from those of its first block
 abbrev pub copies_left_at : DiePlan → Cells → ℕ → Stage → ℕ
 copies_left_at plan c rounds (stage.First block slots) = rounds * (plan.shape.pages - plan.alpha)
 copies_left_at plan c rounds (stage.Read page from) = valid c from.block + rounds * (plan.shape.pages - plan.alpha)
@@ -204,7 +204,7 @@ slots_left_at plan rounds (stage.Program page from to) = plan.shape.erase_slots 
 slots_left_at plan rounds (stage.Erase block slots) = plan.shape.erase_slots - slots + rounds * plan.shape.erase_slots
 slots_left_at plan rounds stage.Done = 0
 
--- with those that may come yet the copies and the slots of erases are not more than so many rounds have
+-- with those that may come yet the copies and the slots of erases are not more than all rounds have
 pub record FitsRounds (m : Mounting) (acts : List Act) : Type 0 where
   pub copies : count_by is_copy_program acts + copies_left_at m.plan m.cells m.rounds m.stage
       ≤ most_rounds_beside m.plan * (m.plan.shape.pages - m.plan.alpha)

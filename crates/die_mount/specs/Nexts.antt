@@ -26,7 +26,7 @@ IsPastFirst (stage.Program page from to) = ⊥
 IsPastFirst (stage.Erase block slots) = Unit {0}
 IsPastFirst stage.Done = Unit {0}
 
--- where an erase takes so many slots: the first block has them one after the other, and a page that was read is
+-- where an erase takes `all` slots: the first block has them one after the other, and a page that was read is
 -- programmed
 abbrev pub IsNextStage : (all : ℕ) → (before after : Stage) → Type 0
 IsNextStage all (stage.First block slots) after =

@@ -38,7 +38,7 @@ IsGreatest seen None = (q : Place) (x : Stands) → label_at seen q ≡ Some x �
 IsGreatest seen (Some n) = ((q : Place) × (x : Stands) × (label_at seen q ≡ Some x) × (q.block ≡ n.block) × (x.serial ≡ n.serial))
     × ((q : Place) (x : Stands) → label_at seen q ≡ Some x → x.serial ≤ n.serial)
 
--- so many blocks of a part of this plan show this: by page the scan has the newest label, whatever is known of trims
+-- `told` blocks of a part of this plan show this: by page the scan has the newest label, whatever is known of trims
 pub record IsScanOf (plan : DiePlan) (s : Scanned) (seen : Shown) : Type 0 where
   pub shape : s.shape ≡ plan.shape
   pub logical : length s.places ≡ plan.logical

@@ -15,7 +15,7 @@ told_cells shown = map (option_map told_label) shown
 abbrev pub told_at : List (Option Label) → ℕ → Option Label
 told_at cells k = slice_index_or cells k None
 
--- a page of so many, and a serial in its range
+-- a page of `logical` pages, and a serial in its range
 abbrev pub IsFitLabel : ℕ → Label → Type 0
 IsFitLabel logical x = (x.page < logical) × (x.serial < 2 ^ 63)
 

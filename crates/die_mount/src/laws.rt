@@ -52,8 +52,8 @@ pub fn a_mount_that_ends_leaves_a_die()
         × (first.next ≡ m.next) }
 {}
 
-/// At its start no more calls may come than the plan says; and a mount does no more copies, and no more slots of
-/// erases beside those of its first block, than the most rounds have: N free pages for full accounts take N / alpha
+/// At its start no more calls may come than the plan says. A mount does no more copies, and no more slots of erases
+/// apart from those of its first block, than the most rounds have: N free pages for full accounts take N / alpha
 /// rounds, rounded up.
 pub fn a_mount_is_short()
     ensures calls { (plan : DiePlan) (before : Shown) (m : Mounting) → BeginsWith plan before m

@@ -43,10 +43,10 @@ pub struct Mount {
     part: Part,
     /// Of the next program.
     serial: u64,
-    /// How many blocks may have to be emptied beside the one that is at work.
+    /// How many blocks may have to be emptied in addition to the one that is at work.
     rounds: u32,
     stage: Stage,
-    /// With so many free pages it ends.
+    /// It ends with `goal` free pages.
     goal: u32,
 }
 
@@ -200,10 +200,10 @@ impl Mount {
     /// Where no call comes any longer, the block that stands aside from then on, the die on the others, and the serial
     /// of its first program. The mount stays as it is.
     ///
-    /// The checkpoint fits the plan: each balance is its cap, pages lie where the mount left them, and of each block so
-    /// many cells count as programmed. A block's erases are those of this mount, without its first one, before which the
-    /// counting begins: no label tells of others. It takes memory for 12 bytes by page and 8 by block. Refused with
-    /// `NoMemory` alone, and may be called again then.
+    /// The checkpoint fits the plan: each balance is its cap, pages lie where the mount left them, and of each block as
+    /// many cells count as programmed as the mount left programmed. A block's erases are those of this mount, without
+    /// its first one, before which the counting begins: no label tells of others. It takes memory for 12 bytes by page
+    /// and 8 by block. Refused with `NoMemory` alone, and may be called again then.
     pub fn finish(&self, alloc: Global) -> Result<Mounted, Refusal>
         requires { self.now.stage ≡ Stage.Done }
         ensures end { IfOk result (IsEndOf self.now) }
@@ -337,7 +337,7 @@ fn begin(
 }
 
 /// What comes next where no block is in erase: the end, or a round with the closed block that has the fewest pages; and
-/// how many rounds are left beside it.
+/// how many rounds are left after it.
 fn chosen(part: &Part, goal: u32, rounds: u32) -> (Stage, u32)
     requires closed { part.now.free < goal → HasClosed part.now.shape.pages part.now }
     requires rounds { part.now.free < goal → 0 < rounds }

@@ -6,13 +6,13 @@ use slot_types::Place;
 /// How far a mount is.
 #[derive(Clone, Copy, PartialEq, Eq, Debug, Drop)]
 pub enum Stage {
-    /// The block that it erases first has had so many slots of its erase.
+    /// The block that it erases first has had `slots` slots of its erase.
     First { block: u32, slots: u32 },
     /// The page of this cell is read next. Its block is the one that is emptied.
     Read { page: u32, from: Place },
     /// The page of this cell was read, and is programmed next.
     Program { page: u32, from: Place, to: Place },
-    /// All pages of this block were copied, and it has had so many slots of its erase.
+    /// All pages of this block were copied, and it has had `slots` slots of its erase.
     Erase { block: u32, slots: u32 },
     /// As many pages are free as full accounts and a block come to.
     Done,

@@ -11,7 +11,7 @@ use Rattle.turn_lock.specs.Views.{IsLive}
 use Rattle.die_service.proofs.Joining.{live_after}
 use Rattle.die_service.proofs.Driving.{asks_joins, slots_more, stop_more}
 
--- So many slots were carried out; whatever the slots that are left come to, all come to
+-- `done` slots were carried out; whatever the slots that are left come to, with these it is in the clock's order
 pub record IsOnTime (never : Bool) (slots from done clock : ℕ) (s t : WorkerState) : Type 0 where
   pub saids : List AskedEvent
   pub asks : Asks never s.pass s.course saids t.pass t.course

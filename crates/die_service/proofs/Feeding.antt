@@ -130,7 +130,7 @@ writes_after first [] n before at = absurd (none-some before at)
 writes_after first (r ∷ rows) zero before at = ap (λ (x : FeedRow). x.writes_end) (same_Some r before at)
 writes_after first (r ∷ rows) (suc n) before at = writes_after r.writes_end rows n before at
 
--- so many operations before those of a row write
+-- how many operations before those of a row write
 pub counted_before : (ops : List Op) (first written : ℕ) (rows : List FeedRow) (n : ℕ) (row : FeedRow) → slice_get rows n ≡ Some row
     → AreRowsOf ops first rows → written ≡ writes (take first ops)
     → writes_before written rows n ≡ writes (take (begins_at first rows n) ops)

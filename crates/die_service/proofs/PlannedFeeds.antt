@@ -50,7 +50,7 @@ use Rattle.die_log.specs.Model.Opening.{IsOpening}
 abbrev asked : List AskedEvent → List Event
 asked heard = map (λ (s : AskedEvent). s.event) heard
 
--- What was said, but for a slot that was refused
+-- What was said, except for a slot that was refused
 
 -- a call that was accepted, or one of the feed's events
 abbrev IsHeard : Event → Result Reply RefusedAt → Type 0

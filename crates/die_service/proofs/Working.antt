@@ -157,7 +157,7 @@ module _ {W : Type 0} (does : W → WorkCall → W → Type 0) (never : Bool) (c
 
 -- The slots of a batch
 
--- so many slots were carried out
+-- `done` slots were carried out
 pub record IsWorking {W : Type 0} (never : Bool) (does : W → WorkCall → W → Type 0) (die slots from done clock : ℕ) (s : WorkerState) (u : W)
     (t : WorkerState) (v : W) : Type 0 where
   pub time : IsOnTime never slots from done clock s t

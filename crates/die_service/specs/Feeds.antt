@@ -25,7 +25,7 @@ ops_if (Some arrival) = ops_in arrival.event
 abbrev pub ops_at : List Arrival → ℕ → List Op
 ops_at feed place = ops_if (slice_get feed place)
 
--- of so many events that came, those of the last
+-- the operations of the last of a number of events that came
 abbrev pub last_ops : ℕ → List Arrival → List Op
 last_ops zero feed = []
 last_ops (suc place) feed = ops_at feed place
@@ -68,7 +68,7 @@ abbrev pub last_end : ℕ → List FeedRow → ℕ
 last_end first [] = first
 last_end first (row ∷ rows) = last_end row.ops_end rows
 
--- no row's operations end before they begin, and of those before their end so many write
+-- no row's operations end before they begin, and `writes_end` counts the writes before their end
 abbrev pub AreRowsOf : List Op → ℕ → List FeedRow → Type 0
 AreRowsOf ops first [] = ⊤
 AreRowsOf ops first (row ∷ rows) =

@@ -26,18 +26,18 @@ use Rattle.die_log.specs.Results.Supply.{AreStocked}
 abbrev pub events_in : List Arrival → List Event
 events_in feed = map (λ (arrival : Arrival). arrival.event) feed
 
--- The events that a run asks for where its clock is at a slot and so many slots are left: those of the feed that come
--- by the clock; and then, where a slot is left, that slot, and what is asked for with the clock after it
+-- The events that a run asks for where its clock is at slot `clock` and `left` slots are left: those of the feed that
+-- come by the clock; and then, where a slot is left, that slot, and what is asked for with the clock after it
 abbrev pub events_from : ℕ → ℕ → List Arrival → List Event
 events_from zero clock feed = events_in (arrivals_by comes_at clock feed)
 events_from (suc left) clock feed =
     events_in (arrivals_by comes_at clock feed) ++ events.Slot ∷ events_from left (clock + 1) (arrivals_after comes_at clock feed)
 
--- the events of a run of so many slots with this feed, in their order
+-- the events of a run of `slots` slots with this feed, in their order
 abbrev pub events_of_feed : ℕ → List Arrival → List Event
 events_of_feed slots feed = events_from slots 0 feed
 
--- the feed of a die keeps its plan in so many slots, with times that pass their test and for which its tasks have the
+-- the feed of a die keeps its plan in `slots` slots, with times that pass their test and for which its tasks have the
 -- tokens
 pub record FeedKeepsPlan (start : Start) (slots : ℕ) (feed : List Arrival) : Type 0 where
   pub times : Times

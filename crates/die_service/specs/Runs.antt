@@ -39,7 +39,7 @@ AllArrive feed = All (λ arrival. IsArrival arrival.event) feed
 abbrev pub comes_at : Arrival → ℕ
 comes_at arrival = arrival.at
 
--- all that comes to a die in a run of so many slots from slot 0 on
+-- all that comes to a die in a run of `slots` slots from slot 0 on
 abbrev pub whole_batch : ℕ → List Arrival → Batch
 whole_batch slots feed = record { from = 0; slots = slots; feed = feed }
 
@@ -47,9 +47,9 @@ whole_batch slots feed = record { from = 0; slots = slots; feed = feed }
 abbrev pub AreAsked : List Arrival → List AskedEvent → Type 0
 AreAsked feed saids = map (λ (s : AskedEvent). s.event) saids ≡ map (λ (arrival : Arrival). arrival.event) feed
 
--- Where a worker's clock is at a slot and so many slots are left: it asks for the events of the feed that come by the
--- clock; and then, where a slot is left, for that, and goes on with the clock after the slot that was carried out. A
--- refused slot is the last that it asks for.
+-- Where a worker's clock is at slot `clock` and `left` slots are left: it asks for the events of the feed that come by
+-- the clock; and then, where a slot is left, for that, and goes on with the clock after the slot that was carried out.
+-- A refused slot is the last that it asks for.
 abbrev pub InClockOrder : ℕ → ℕ → List Arrival → List AskedEvent → Type 0
 InClockOrder zero clock feed saids = AreAsked (arrivals_by comes_at clock feed) saids
 InClockOrder (suc left) clock feed saids = (fed : List AskedEvent) × (rest : List AskedEvent) × (saids ≡ fed ++ rest)
@@ -102,8 +102,8 @@ stop_of (s ∷ saids) = stop_or s.event s.reply (stop_of saids)
 abbrev pub end_of : List AskedEvent → DieEnd
 end_of saids = record { slots = slots_in saids; refused = refused_from 0 saids; stop = stop_of saids }
 
--- A call was refused after so many entries of those that the pass `w` has seen: a die with these may refuse it so, and
--- of the pass's own entries they are the ones from before the call.
+-- A call was refused after the first `refused.entries` entries of those that the pass `w` has seen: a die with these
+-- may refuse it so, and of the pass's own entries they are the ones from before the call.
 pub record IsReasoned (never_fails : Bool) (start : Start) (v : DieView) (before : List AskedEvent) (event : Event) (refused : RefusedAt)
     (w : DieView) : Type 0 where
   pub within : refused.entries ≤ length w.seen

@@ -54,7 +54,7 @@ IsFirstNotRenewable (die ∷ dies) zero refusal = RefusesRenewal die refusal
 IsFirstNotRenewable (die ∷ dies) (suc place) refusal = MayBeRenewed die × IsFirstNotRenewable dies place refusal
 IsFirstNotRenewable _ _ _ = ⊥
 
--- a store may have so many dies
+-- a store may have `dies` dies
 abbrev pub IsDieCount : ℕ → Type 0
 IsDieCount dies = (1 ≤ dies) × (dies ≤ 8)
 
@@ -62,7 +62,7 @@ IsDieCount dies = (1 ≤ dies) × (dies ≤ 8)
 abbrev pub DiePass : Type 0
 DiePass = PassView Event (Result Reply RefusedAt) Start
 
--- the pass was answered that so many passes are out
+-- the pass was answered that `out` passes are out
 abbrev pub IsReported : DiePass → ℕ → DiePass → Type 0
 IsReported p out q = IsSamePass p q × IsOut HasExactLog p.view out q.view
 
@@ -73,7 +73,8 @@ AreReported [] out [] = out ≡ 0
 AreReported (p ∷ ps) out (q ∷ qs) = (IsReported p 0 q × AreReported ps out qs) ⊎ ((0 < out) × IsReported p out q × (qs ≡ ps))
 AreReported _ _ _ = ⊥
 
--- the store stays open: on the first die that has passes out there are so many, or none has and memory is refused
+-- the store stays open: the refusal has the number of passes out on the first die that has any; or no die has, and
+-- memory is refused
 abbrev pub StayOpen : List DiePass → Refusal → List DiePass → Type 0
 StayOpen ps refusal qs = ((out : ℕ) × (0 < out) × (refusal ≡ PassesOut out) × AreReported ps out qs) ⊎ ((refusal ≡ NoMemory) × AreReported ps 0 qs)
 

@@ -146,7 +146,7 @@ impl FeedItem<'_> {
         self.at
     }
 
-    /// The event but for a job's operations.
+    /// The event, without a job's operations.
     pub fn head(&self) -> EventHead
         ensures { with_ops result (ops_in self.now.event) ≡ self.now.event }
     {
@@ -296,7 +296,7 @@ impl Feed {
         self.rows[place].at
     }
 
-    /// The event of a place but for its operations.
+    /// The event of a place, without its operations.
     pub(crate) fn head(&self, place: usize) -> EventHead
         requires { place < length self.now }
         ensures { option_map (λ arrival. arrival.event) (slice_get self.now place)

@@ -23,7 +23,7 @@ use std::sync::Wait;
 use std::thread::Threads;
 use std::{mem, thread};
 
-/// A batch of each feed that begins at slot 0, of so many slots. The only refusal is out of memory.
+/// A batch of each feed that begins at slot 0, of `slots` slots. The only refusal is out of memory.
 fn whole_batches(alloc: Global, feeds: Vec<Feed>, slots: u32) -> Result<Vec<Batch>, Refusal>
     ensures whole { IfOk result (λ batches. batches.items ≡ map (whole_batch slots) feeds.items) }
     ensures refused { FailsForMemory result }
@@ -176,7 +176,7 @@ pub fn run_batches<N: Nand + Send, G: Gate + Sync, R: Threads + Wait + Sync>(
     Ok(into_ends(drivers, ends, passes))
 }
 
-/// Runs each die of a store, with its pass and its feed, for so many slots, by workers that are threads: each die's
+/// Runs each die of a store, with its pass and its feed, for `slots` slots, by workers that are threads: each die's
 /// clock begins at 0. The rest is said of [`run_batches`].
 pub fn run_slots<N: Nand + Send, G: Gate + Sync, R: Threads + Wait + Sync>(
     rt: &R,

@@ -54,7 +54,7 @@ impl<N: Nand> StillClosed<N> {
     }
 }
 
-/// Whether a store may have so many dies.
+/// Whether a store may have `count` dies.
 fn may_have_dies(count: usize) -> bool
     ensures { IsTrue result ↔ IsDieCount count }
 {

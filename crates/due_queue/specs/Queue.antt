@@ -31,7 +31,7 @@ abbrev pub rest_of : {K : Type 0} → List K → List K
 rest_of [] = []
 rest_of (k ∷ ks) = ks
 
--- all but so many of the first
+-- all except the first `n`
 abbrev pub beyond : {K : Type 0} → ℕ → List K → List K
 beyond zero ks = ks
 beyond (suc n) ks = beyond n (rest_of ks)

@@ -88,7 +88,7 @@ impl<K: JobKey> JobQueue<K> {
         }
     }
 
-    /// The first key after `count` others. It takes the time of so many removals and insertions. The queue is as
+    /// The first key after `count` others. It takes the time of `count` removals and insertions. The queue is as
     /// before.
     pub fn first_after(&mut self, count: usize) -> Option<K>
         ensures first { result ≡ first_of (beyond count self.old.keys) }

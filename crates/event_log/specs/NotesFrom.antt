@@ -23,7 +23,7 @@ pub record IsSoundRest (place : ℕ) (deeds : List Deed) (callers : List ℕ) (w
 
 -- Items of runs
 
--- the items of runs, of the first of which so many are left
+-- the items of runs, of the first of which `left` are left
 abbrev pub items_left : {T : Type 0} → ℕ → List (Run T) → List T
 items_left left [] = []
 items_left left (r ∷ rs) = replicate left r.item ++ spread rs

@@ -172,9 +172,9 @@ impl EventLog {
         )
     }
 
-    /// Makes room for at least so many more events, and for so many more waivers with them, and never less than there
-    /// was. Where there is that room already, this isn't refused. As long as the log keeps its memory it has room for so
-    /// many from each [`clear`](EventLog::clear) on. Refused with `NoMemory`, nothing changes.
+    /// Makes room for at least `events` more events, and for `waivers` more waivers with them, and never less than
+    /// there was. Where there is that room already, this isn't refused. As long as the log keeps its memory it has room
+    /// for as many from each [`clear`](EventLog::clear) on. Refused with `NoMemory`, nothing changes.
     #[inline(always)]
     pub fn reserve(&mut self, events: usize, waivers: usize) -> Result<(), Refusal>
         ensures room { OnOk result (events ≤ self.new.room) }

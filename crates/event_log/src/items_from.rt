@@ -28,7 +28,7 @@ impl<'a, T> Model for ItemsFrom<'a, T> {
 }
 
 impl<'a, T> ItemsFrom<'a, T> {
-    /// The items of these runs but so many of the first. It takes a step for each run that it passes over.
+    /// The items of these runs after the first `passed`. It takes a step for each run that it passes over.
     pub(crate) fn new(runs: &'a [Run<T>], passed: u32) -> ItemsFrom<'a, T>
         requires { AreSome runs.now }
         ensures { result ≡ drop passed (spread runs.now) }

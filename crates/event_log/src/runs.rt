@@ -10,7 +10,7 @@ use slot_types::Refusal;
 use std::alloc::Global;
 use std::marker::Model;
 
-/// One item, so many times.
+/// One item, `count` times.
 #[derive(Clone, Copy, Debug, Drop)]
 pub(crate) struct Run<T> {
     pub(crate) item: T,

@@ -10,7 +10,7 @@ use crate::runs::Run;
 use slot_types::JobNo;
 use std::marker::Model;
 
-/// So many slots one after the other that carried the same: the job or collection that had them, or nothing.
+/// `count` slots one after the other that carried the same: the job or collection that had them, or nothing.
 #[derive(Clone, Copy, PartialEq, Eq, Debug, Drop)]
 pub struct SlotRun {
     pub number: Option<JobNo>,

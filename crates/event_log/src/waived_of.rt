@@ -37,7 +37,7 @@ impl<'a> WaivedOf<'a> {
         self.waivers.len()
     }
 
-    /// The one at this place from 0, if there are so many.
+    /// The one at this place from 0, if there is one.
     pub fn get(&self, place: usize) -> Option<Waived>
         ensures { result ≡ slice_get self.now place }
     {

@@ -23,7 +23,7 @@ block_of pages cells filled erasing erases block = record {
   erases = slice_index erases block;
 }
 
--- the cells up to so many, of which those that are not laid down yet are free
+-- the cells up to `count`, of which those that are not laid down yet are free
 abbrev pub cells_up_to : ℕ → List PageData → List PageData
 cells_up_to count cells = cells ++ replicate (count - length cells) blank
 
@@ -38,8 +38,8 @@ left_memory shape cells filled erases = record {
   blocks = blocks_of shape.pages (cells_up_to (shape.blocks * shape.pages) cells) filled (replicate shape.blocks 0) erases;
 }
 
--- the blocks of a device that was left so are as was said: so many pages, no erase that runs, so many erases, and in each programmed cell
--- what was given for it
+-- the blocks of a device that was left so are as was said: as many programmed pages as `filled` says, no erase that
+-- runs, as many erases as `erases` says, and in each programmed cell what was given for it
 pub record AreLeftSo (shape : Shape) (cells : List PageData) (filled erases : List ℕ) (blocks : List Block) : Type 0 where
   pub count : length blocks ≡ length filled
   pub counts : (block : ℕ) → block < length filled → length (block_at blocks block).pages ≡ slice_index filled block

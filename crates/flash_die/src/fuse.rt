@@ -7,8 +7,8 @@ use crate::nand::Nand;
 use slot_types::{PageData, Place, Refusal, Shape};
 use std::marker::Model;
 
-/// A device that passes so many calls on to another one, those of `shape` not counted, and fails
-/// every later one. Contracts see the other device, the calls left and the calls failed here.
+/// A device that passes `left` calls on to another one, those of `shape` not counted, and fails every later one.
+/// Contracts see the other device, the calls left and the calls failed here.
 #[derive(Drop)]
 pub struct FuseNand<N: Nand> {
     inner: N,

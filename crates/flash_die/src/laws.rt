@@ -8,8 +8,8 @@ ghost use Rattle.slot_types.specs.declared.pages.PageData.{PageData};
 ghost use Rattle.slot_types.specs.declared.plans.Shape.{Shape};
 ghost use Rattle.flash_die.specs.Memory.{AreLeftSo, left_memory};
 
-/// A device as it was left has what was said of it: by block so many programmed pages, no erase that runs and so many
-/// erases, and in each programmed cell the bytes that were given for it.
+/// A device as it was left has what was said of it: each block has as many programmed pages as `filled` says and as
+/// many erases as `erases` says, no erase runs, and each programmed cell has the bytes that were given for it.
 pub fn a_left_device_is_as_it_was()
     ensures { (shape : Shape) (cells : List PageData) (filled erases : List ℕ)
         → length cells ≤ shape.blocks * shape.pages

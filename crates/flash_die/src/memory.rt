@@ -14,8 +14,8 @@ use std::marker::Model;
 /// A device in memory, which never fails. Contracts see its shape and its blocks.
 ///
 /// `new` reserves the memory of all cells, and a cell is laid down as it is first programmed, or one after it: what is
-/// never used is never touched. Each call takes constant time, but for the programs that lay down cells: together they
-/// lay down each cell once, and one cell each where blocks are first filled in rising order.
+/// never used is never touched. Each call takes constant time, except for the programs that lay down cells: together
+/// they lay down each cell once, and one cell each where blocks are first filled in rising order.
 #[derive(Drop)]
 pub struct MemoryNand {
     shape: Shape,
@@ -63,9 +63,10 @@ impl MemoryNand {
         })
     }
 
-    /// A device as it was left: of each block so many pages are programmed, it was erased so often, and none is in erase. The
-    /// cells are in `cells`, those of one block after those of another, and each one beyond them is blank; what is there of a
-    /// free cell says nothing. Refused as [`new`](MemoryNand::new) refuses the shape.
+    /// A device as it was left. Of each block as many pages are programmed as `filled` says, it was erased as often as
+    /// `erases` says, and none is in erase. The cells are in `cells`, those of one block after those of another, and
+    /// each one beyond them is blank; what is there of a free cell has no meaning. Refused as [`new`](MemoryNand::new)
+    /// refuses the shape.
     pub fn left(
         alloc: Global,
         shape: Shape,
@@ -183,7 +184,7 @@ fn read_cell(cells: &[PageData], at: usize) -> PageData
     }
 }
 
-/// Lays down free cells up to so many, for which there is room.
+/// Lays down free cells up to `count`, for which there is room.
 fn lay_down(cells: &mut Vec<PageData>, count: usize)
     requires room { count ≤ vec_capacity cells.old }
     ensures cells { cells.new.items ≡ cells_up_to count cells.old.items }

@@ -1,4 +1,4 @@
--- Where no block was erased more often than so many times, none was.
+-- Where no block is found that was erased more than `most` times, none was.
 use Rattle.std.proofs.Common.{◌≡◌, ℕ, ◌≤◌, false, List, length, get_or, None, ap, arith, inl, inr}
 use Rattle.std.proofs.lemmas.Bool.{cases_lt}
 use Rattle.std.proofs.lemmas.Bool.Decides.{nat_tests}

@@ -17,7 +17,7 @@ fills_of blocks = map filled_of blocks
 abbrev pub erases_in : List Block → List ℕ
 erases_in blocks = map (λ block. block.erases) blocks
 
--- a block of so many pages is open if so many of them are programmed
+-- a block of `pages` pages is open where at least one of them, and not all, are programmed: `filled` of them
 abbrev pub is_open_with : ℕ → ℕ → Bool
 is_open_with pages filled = nat_lt 0 filled && nat_lt filled pages
 
@@ -42,11 +42,11 @@ next_cell pages blocks =
     let block = unwrap_or (open_in pages blocks) 0 in
     record { block = block; page = filled_of (block_at blocks block) }
 
--- more erases than so many
+-- more erases than `most`
 abbrev pub is_worn_beyond : ℕ → ℕ → Bool
 is_worn_beyond most erases = nat_lt most erases
 
--- the first block that was erased more often than so many times
+-- the first block that was erased more than `most` times
 abbrev pub first_worn : ℕ → List Block → Option ℕ
 first_worn most blocks = position (is_worn_beyond most) (erases_in blocks)
 

@@ -22,7 +22,7 @@ counts_of block = record { filled = filled_of block; erases = block.erases }
 abbrev pub IsIdle : List Block → Type 0
 IsIdle blocks = (block : ℕ) → (block_at blocks block).erasing ≡ 0
 
--- A device is as a checkpoint says: so many pages of each block are programmed and it was erased so often, no block is
+-- A device is as a checkpoint says: each block has as many programmed pages and was erased as often, no block is
 -- in erase, and no call has failed. What its pages hold may be anything.
 pub record IsAsLeft (c : Checkpoint) (blocks : List Block) (failures : ℕ) : Type 0 where
   pub counts : map counts_of blocks ≡ c.blocks

@@ -6,7 +6,7 @@ use Rattle.std.specs.Int.{bit_at, div_ceil}
 abbrev pub bit_of : List ℕ → ℕ → ℕ
 bit_of words block = bit_at (slice_index words (block / 64)) (block % 64)
 
--- how many words so many blocks take
+-- how many words `blocks` blocks take
 abbrev pub words_for : ℕ → ℕ
 words_for blocks = div_ceil blocks 64
 

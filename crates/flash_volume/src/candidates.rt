@@ -22,8 +22,8 @@ pub(crate) fn leave(victims: &mut Victims, before: Option<Place>)
     }
 }
 
-/// A block whose last cell is programmed is closed: it becomes a candidate, with so many pages that lie in it and so
-/// many erases.
+/// A block whose last cell is programmed is closed: it becomes a candidate, with `valid` pages that lie in it and
+/// `erases` erases.
 pub(crate) fn close_when_filled(
     victims: &mut Victims,
     block: u32,

@@ -61,7 +61,7 @@ impl Fills {
         self.counts[block as usize]
     }
 
-    /// So many cells of a block are programmed now.
+    /// `filled` cells of a block are programmed now.
     pub(crate) fn set(&mut self, block: u32, filled: u32)
         requires { block < length self.old }
         ensures { self.new ≡ slice_set self.old block filled }

@@ -34,7 +34,7 @@ impl Model for FreeBlocks {
 }
 
 impl FreeBlocks {
-    /// None of so many blocks. Refused with `NoMemory` alone.
+    /// None of `blocks` blocks. Refused with `NoMemory` alone.
     pub(crate) fn new(alloc: Global, blocks: usize) -> Result<Self, Refusal>
         requires few { blocks ≤ 4096 }
         ensures ok { IfOk result (λ set. set ≡ replicate (words_for blocks) 0) }

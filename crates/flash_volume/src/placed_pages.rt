@@ -35,7 +35,7 @@ impl Model for PlacedPages {
 }
 
 impl PlacedPages {
-    /// Of a die of fewer than 2^32 cells, with so many pages that lie nowhere. Refused with `NoMemory` alone.
+    /// Of a die of fewer than 2^32 cells, with `logical` pages that lie nowhere. Refused with `NoMemory` alone.
     pub(crate) fn new(alloc: Global, shape: Shape, logical: u32) -> Result<Self, Refusal>
         requires { shape.blocks * shape.pages < 2 ^ 32 }
         ensures ok { IfOk result (λ placed. placed ≡ blank_map shape logical) }

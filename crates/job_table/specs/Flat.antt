@@ -40,12 +40,12 @@ place_count row = if row.reads_done == 0 then 0 else row.read_count
 abbrev pub places_lacking : Row → ℕ
 places_lacking row = if row.reads_done == 0 then row.read_count else 0
 
--- where its places begin, if so many were given away before those that it lacks
+-- where its places begin, if `placed` places were given away before those that it lacks
 abbrev pub place_from : ℕ → Row → ℕ
 place_from placed row = if row.reads_done == 0 then placed else row.first_place
 
--- its operations are there, as many as 8 bits count, with so many reads among them and so many writes before them, and
--- it carried so many reads and writes as its work shows
+-- its operations are there, at most as many as 8 bits count; its counts are those of the reads among them, of the
+-- writes before them, and of the reads and writes that it carried, its first `work` operations
 pub record IsRowOf (ops : List Op) (row : Row) : Type 0 where
   pub ops_there : row.first_op + row.op_count ≤ length ops
   pub ops_few : row.op_count < 2 ^ 8
@@ -68,7 +68,7 @@ pub record AreLaid (rows : List Row) (ops : List Op) (reads : List PageData) (pl
   pub places_apart : (n m : ℕ) (row other : Row) → slice_get rows n ≡ Some row → slice_get rows m ≡ Some other → n ≢ m
       → (row.first_place + place_count row ≤ other.first_place) ⊎ (other.first_place + place_count other ≤ row.first_place)
 
--- so many reads the jobs have in all: for each of them a place was given away, or one is lacking, and there is room
+-- the jobs have `all` reads in all: for each of them a place was given away, or one is lacking, and there is room
 pub record HaveRoom (rows : List Row) (ops : List Op) (reads : List PageData) (all placed capacity : ℕ) : Type 0 where
   pub all_is : all ≡ count_by is_read ops
   pub places : placed + sum_by places_lacking rows ≡ all

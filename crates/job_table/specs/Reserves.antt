@@ -10,7 +10,7 @@ pub record Reserve : Type 0 where
 abbrev pub no_reserve : Reserve
 no_reserve = record { arrivals = 0; operations = 0 }
 
--- one that has so many operations is covered
+-- an arrival that has `count` operations is covered
 pub record Covers (reserve : Reserve) (count : ℕ) : Type 0 where
   pub arrival : 0 < reserve.arrivals
   pub operations : count ≤ reserve.operations
@@ -19,12 +19,12 @@ pub record Covers (reserve : Reserve) (count : ℕ) : Type 0 where
 abbrev pub reserve_after : ℕ → Reserve → Reserve
 reserve_after count reserve = record { arrivals = reserve.arrivals - 1; operations = reserve.operations - count }
 
--- at least so much of either
+-- at least these arrivals and operations
 abbrev pub reserve_with : ℕ → ℕ → Reserve → Reserve
 reserve_with arrivals operations reserve =
     record { arrivals = max reserve.arrivals arrivals; operations = max reserve.operations operations }
 
--- jobs by number, in memory of which so much is reserved, and so much once all are taken away
+-- jobs by number; the memory that is reserved beyond them, and what is reserved once all are taken away
 pub record KeptJobs : Type 0 where
   pub jobs : List JobRecord
   pub reserve : Reserve

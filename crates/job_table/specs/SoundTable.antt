@@ -34,8 +34,8 @@ pub record IsSoundTable (jobs : List JobRecord) (clock : ℕ) (ended : Bool) (co
     pub running : ended ≡ false → QueuesAgree jobs clock collecting lines.waiting lines.ready
     pub worst_is : MatchOption worst (NothingDone jobs) (IsWorst jobs)
 
--- the queues have room for so many jobs more, and memory for so many where none stands in them, and no more wait than a
--- table has
+-- the queues have room for `arrivals` jobs more, and memory for `lasting` where none stands in them, and no more wait
+-- than a table has
 pub record HasQueueRoom (arrivals lasting : ℕ) (lines : Lines) : Type 0 where
   pub room : arrivals ≤ lines.room
   pub lasts : lasting ≤ lines.memory

@@ -40,7 +40,7 @@ impl<'a> CountedOps<'a> {
         }
     }
 
-    /// Looks at operations on so many pages, once each. Refused with the first page that isn't there.
+    /// Looks at operations on `pages` pages, once each. Refused with the first page that isn't there.
     pub fn count(ops: &LentOps<'a>, pages: u32) -> Result<CountedOps<'a>, u32>
         ensures ok { IfOk result (λ counted. counted ≡ ops.now) }
         ensures all_there { IfOk result (λ counted.

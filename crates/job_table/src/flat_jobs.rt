@@ -61,7 +61,7 @@ impl Model for FlatJobs {
         (vec_len j.rows) (vec_capacity j.rows) j.all_reads (vec_capacity j.reads) };
 }
 
-/// Fills so many places, in room that was made.
+/// Fills `count` places, in room that was made.
 fn fill_places(reads: &mut Vec<PageData>, count: usize)
     requires room { vec_len reads.old + count ≤ vec_capacity reads.old }
     ensures places { reads.new.items ≡ reads.old.items ++ replicate count blank }
@@ -205,8 +205,8 @@ impl FlatJobs {
         }
     }
 
-    /// Reserves memory for so many more jobs with so many operations in all, if it isn't for as many already. Then this
-    /// isn't refused. Refused with `NoMemory`, nothing changes.
+    /// Reserves memory for `arrivals` more jobs with `operations` operations in all. Where it is reserved for as many
+    /// already, this isn't refused. Refused with `NoMemory`, nothing changes.
     pub(crate) fn reserve(&mut self, arrivals: u32, operations: u32) -> Result<(), Refusal>
         ensures ok { OnOk result (self.new ≡ record self.old {
           reserve = reserve_with arrivals operations self.old.reserve;

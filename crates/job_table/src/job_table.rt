@@ -61,7 +61,7 @@ impl Model for JobTable {
 }
 
 impl JobTable {
-    /// A table of a die with so many tasks, without jobs, at slot 0. It may be refused with `NoMemory`.
+    /// A table of a die with `tasks` tasks, without jobs, at slot 0. It may be refused with `NoMemory`.
     pub fn new(alloc: Global, tasks: u32) -> Result<JobTable, Refusal>
         ensures ok { IfOk result (λ table. table ≡ empty_table tasks) }
         ensures refused { FailsForMemory result }
@@ -178,9 +178,9 @@ impl JobTable {
         }
     }
 
-    /// Reserves memory for so many more jobs and collections with so many operations in all, if it isn't for as many
-    /// already. Then this isn't refused. It lasts: each [`clear`](JobTable::clear) reserves as much again. Refused with
-    /// `NoMemory`, nothing changes.
+    /// Reserves memory for `arrivals` more jobs and collections with `operations` operations in all. Where it is
+    /// reserved for as many already, this isn't refused. It lasts: each [`clear`](JobTable::clear) reserves as much
+    /// again. Refused with `NoMemory`, nothing changes.
     pub fn reserve(&mut self, arrivals: u32, operations: u32) -> Result<(), Refusal>
         ensures ok { OnOk result (self.new ≡ record self.old {
           reserve = reserve_with arrivals operations self.old.reserve;
@@ -258,7 +258,7 @@ impl JobTable {
     }
 
     /// The job or collection that would have slot `now` if these were waived, each of which would be the head once
-    /// those before it were: the head after so many others. Nothing is waived.
+    /// those before it were. It is the head after as many others as `waived` has. Nothing is waived.
     pub fn head_after(&mut self, now: u32, waived: &[Waived]) -> Option<JobNo>
         requires running { self.old.ended ≡ false }
         requires forward { self.old.clock ≤ now }
@@ -334,7 +334,7 @@ impl JobTable {
         self.worst = Some(worse_of(&self.jobs, self.worst, number.0));
     }
 
-    /// The head is a collection that is waived, and gave its task so many pages.
+    /// The head is a collection that is waived, and gave its task `given` pages.
     pub fn waive(&mut self, number: JobNo, given: u32)
         requires running { self.old.ended ≡ false }
         requires head { IsHead self.old number }

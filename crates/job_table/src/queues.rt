@@ -58,7 +58,7 @@ impl Queues {
         self.ready.clear();
     }
 
-    /// Makes room for so many more jobs, and never less than there was. Where there is that room already, this isn't
+    /// Makes room for `count` more jobs, and never less than there was. Where there is that room already, this isn't
     /// refused.
     pub(crate) fn reserve(&mut self, count: u32) -> Result<(), Refusal>
         requires { length self.old.waiting < 2 ^ 32 }

@@ -8,6 +8,6 @@ pub enum Stage {
     /// It is done: `completion` is 1 + its last slot, and `given` counts the pages that a collection gave its task. A
     /// job gives none.
     Done { completion: u32, given: u32 },
-    /// It is a collection that was waived, and gave its task so many pages.
+    /// It is a collection that was waived, and gave its task `given` pages.
     Waived { given: u32 },
 }

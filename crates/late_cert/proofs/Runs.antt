@@ -66,7 +66,7 @@ prefix-whole (q ∷ qs) =
     ∙ ap (λ (n : ℕ). length (replicate q.length q.number) + n) (prefix-whole qs)
     ∙ sym (length-append (replicate q.length q.number) (slots_of qs))
 
--- a slot is in the first run, or so much further on in the rest
+-- a slot is in the first run, of `n` slots, or at place `t - n` of the rest
 pub get-first : (n : ℕ) (o : Option ℕ) (rest : Slots) (t : ℕ) → t < n → slice_get (replicate n o ++ rest) t ≡ Some o
 get-first zero o rest t h = absurd (omega arith)
 get-first (suc n) o rest zero h = refl

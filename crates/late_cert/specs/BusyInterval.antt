@@ -26,8 +26,8 @@ pub record IsBusyInterval (rows : List JobRow) (carried : Slots) (j start comple
   pub listed : (k : ℕ) → (is_listed jobs k ≡ true) ↔ ((t : ℕ) × (start ≤ t) × (t < completion) × (slot_at carried t ≡ Some k))
 
 -- the slots carried the jobs of the rows: what is carried has a row and was released, the rows say how often
--- it was carried and where a done job ended, and no slot passed over a released job that was not done, with a
--- key below that of what it carried, or idled beside it
+-- it was carried and where a done job ended, and while a released job was not done, no slot was idle or carried a
+-- greater key than the job's
 pub record CarriesLeastKeys (rows : List JobRow) (carried : Slots) : Type 0 where
   pub rising : RowsRise rows
   pub known : (t j : ℕ) → slot_at carried t ≡ Some j → is_known rows j ≡ true

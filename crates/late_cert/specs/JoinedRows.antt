@@ -4,7 +4,7 @@ use Rattle.late_cert.specs.declared.rows.JobRow.{JobRow}
 use Rattle.late_cert.specs.Schedule.{Slots}
 use Rattle.late_cert.specs.Rows.{is_known, is_done}
 
--- the row of a job that comes so many numbers and slots later
+-- the row of a job that comes `numbers` numbers and `slots` slots later
 abbrev pub row_after : ℕ → ℕ → JobRow → JobRow
 row_after numbers slots row = record {
   number = numbers + row.number;
@@ -14,7 +14,7 @@ row_after numbers slots row = record {
   completion = option_map (λ t. slots + t) row.completion;
 }
 
--- what a slot carries, so many numbers later
+-- what a slot carries, `numbers` numbers later
 abbrev pub slot_after : ℕ → Option ℕ → Option ℕ
 slot_after numbers slot = option_map (λ j. numbers + j) slot
 

@@ -70,7 +70,7 @@ impl Carried {
         if length == 0 {
             return Ok(());
         }
-        // So many slots can't be counted.
+        // More slots than a number can count.
         if length as usize > usize::MAX - self.len {
             return Err(Refusal::NoMemory);
         }

@@ -19,7 +19,7 @@ pub record AreTables (shape : Shape) (places : List (Option Place)) (owners : Li
   pub valid_len : length valid ≡ shape.blocks
   pub valid_are : (block : ℕ) → block < shape.blocks → slice_index valid block ≡ count_by (is_in block) places
 
--- the entries up to so many, of which those that are not laid down yet have nothing
+-- the entries up to `count`, of which those that are not laid down yet have nothing
 abbrev pub entries_up_to : {X : Type 0} → ℕ → List (Option X) → List (Option X)
 entries_up_to count entries = entries ++ replicate (count - length entries) None
 

@@ -20,7 +20,7 @@ pub enum PlacesFault {
 
 impl PageMap {
     /// The map, of fewer than 2^32 cells, in which each page lies where `places` has it. It takes time for each page
-    /// once, beside the memory of a map.
+    /// once, and the memory of a map.
     ///
     /// `NoMemory` where there is no memory for a map, of which nothing else is known then; else `SharedCell` exactly
     /// where two pages lie in one cell.

@@ -8,14 +8,14 @@ use Rattle.die_mount.specs.declared.stage.MountCall.TheVariants as calls
 use Rattle.labelled_nand.specs.Calls.{labels_after_call}
 use Rattle.power_loss.specs.Labels.{Labels}
 
--- a device with these blocks, of so many pages each, may do the call
+-- a device with these blocks, of `pages` pages each, may do the call
 abbrev pub CanCarryOut : List Block → (pages : ℕ) → MountCall → Type 0
 CanCarryOut blocks pages (calls.EraseSlot block) = IsErasable blocks pages block
 CanCarryOut blocks pages (calls.Read place) = IsProgrammed blocks place
 CanCarryOut blocks pages (calls.Program place label) = IsNextCell blocks pages place
 
--- where an erase takes so many slots: the blocks after the call, if it ends well. A program has the bytes that were read
--- last
+-- where an erase takes `slots` slots: the blocks after the call, if it ends well. A program has the bytes that were
+-- read last
 abbrev pub blocks_by : (slots : ℕ) → PageData → MountCall → List Block → List Block
 blocks_by slots held (calls.EraseSlot block) blocks = blocks_after_erase_slot blocks slots block
 blocks_by slots held (calls.Read place) blocks = blocks

@@ -34,7 +34,7 @@ erased_more s = record s { erases = s.erases + 1 }
 abbrev pub once_erased : (erased : ℕ) → Cells → Cells
 once_erased erased c = record c { blocks = slice_set c.blocks erased (erased_more (block_at c erased)) }
 
--- each block is closed, but for this one, which is like that
+-- each block is closed, except for this one, which is like that
 abbrev pub closed_beside : DiePlan → ℕ → Block → List Block
 closed_beside plan block own = slice_set (replicate (plan.shape.blocks + 1) (closed_block plan.shape.pages)) block own
 
@@ -42,7 +42,7 @@ closed_beside plan block own = slice_set (replicate (plan.shape.blocks + 1) (clo
 abbrev pub in_erase : DiePlan → (slots : ℕ) → Block
 in_erase plan slots = record (closed_block plan.shape.pages) { erasing = slots }
 
--- so many slots of its erase has the block that is erased first; after them the blocks are the mount's
+-- the block that is erased first has had `slots` slots of its erase; after that the blocks are the mount's
 abbrev pub StandsAt : (plan : DiePlan) → (erased : ℕ) → Cells → List device.Block → Stage → Type 0
 StandsAt plan erased c blocks (stage.First block slots) = (block ≡ erased) × (c.blocks ≡ closed_beside plan erased free_block)
     × (map counts_of blocks ≡ closed_beside plan erased (in_erase plan slots))

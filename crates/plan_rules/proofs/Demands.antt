@@ -17,7 +17,7 @@ whole common period h = omega (arith, h, div-add-mod' common period, turned (com
     turned : (a b : ℕ) → a * b ≡ b * a
     turned a b = grind arith
 
--- so many jobs, of which each takes `work` slots at most and each has a period of its own in the window
+-- `jobs` jobs, of which each takes `work` slots at most and each has a period of its own in the window
 one_kind : (work jobs period window common : ℕ) → common % period ≡ 0 → jobs * period ≤ window
     → (work * jobs) * common ≤ window * (work * (common / period))
 one_kind work jobs period window common divides few =
@@ -32,7 +32,7 @@ one_kind work jobs period window common divides few =
     turned : (a b : ℕ) → a * b ≡ b * a
     turned a b = grind arith
 
--- the slots that the first `n` tasks take at most for so many jobs and collections of each
+-- the slots that the first `n` tasks take at most, where task `i` has `jobs i` jobs and `collections i` collections
 abbrev pub taken_by : DiePlan → Times → (ℕ → ℕ) → (ℕ → ℕ) → ℕ → ℕ
 taken_by plan times jobs collections zero = 0
 taken_by plan times jobs collections (suc n) =

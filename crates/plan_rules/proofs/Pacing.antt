@@ -21,7 +21,7 @@ abbrev pub IsBefore : ℕ → ℕ → ℕ → TaskArrival → Type 0
 IsBefore task period next a = is_collection_of task a ≡ true → (a.at + period ≤ next) × (a.due ≤ next)
 
 -- By slot `now` the collections of the task came at the multiples of its period, one at each: all that there are up to
--- `now`, but for one at `now` itself, and those that would be due beyond the last slot.
+-- `now`, except for one at `now` itself, and those that would be due beyond the last slot.
 pub record ArePaced (period task : ℕ) (came : List TaskArrival) (now : ℕ) : Type 0 where
   pub few : period * collections_in task came ≤ now + period
   pub many : (now ≤ period * collections_in task came) ⊎ (MAX_SLOT < period * collections_in task came + period)

@@ -45,7 +45,7 @@ opening_accounts plan = record {
   reserves = replicate (length plan.caps) (plan.shape.pages - plan.alpha);
 }
 
--- after a job of the task with so many writes is accepted
+-- after a job of the task with `writes` writes is accepted
 abbrev pub accounts_after_admit : Accounts → ℕ → ℕ → Accounts
 accounts_after_admit accounts task writes = record accounts {
   balances = slice_set accounts.balances task (slice_index accounts.balances task - writes);
@@ -64,7 +64,7 @@ accounts_after_copy accounts task = record accounts {
   reserves = slice_set accounts.reserves task (slice_index accounts.reserves task - 1);
 }
 
--- after the last erase slot of the task's collection, which copied so many pages
+-- after the last erase slot of the task's collection, which copied `copied` pages
 abbrev pub accounts_after_collection : Accounts → ℕ → ℕ → Accounts
 accounts_after_collection accounts task copied = record accounts {
   spare = accounts.spare + (accounts.plan.shape.pages - copied - given_of accounts task);

@@ -14,7 +14,7 @@ times_of times task = slice_index_or times.tasks task (record { period = 0; coll
 abbrev pub collection_work : DiePlan → ℕ
 collection_work plan = 2 * (plan.shape.pages - plan.alpha) + plan.shape.erase_slots
 
--- the slots that the jobs and collections of a task take at most of so many
+-- the slots that the jobs and collections of a task take at most in `common` slots
 abbrev pub task_demand : DiePlan → ℕ → TaskTimes → ℕ
 task_demand plan common t = t.work * (common / t.period) + collection_work plan * (common / t.collect_period)
 

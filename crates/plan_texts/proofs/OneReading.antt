@@ -1,4 +1,4 @@
--- A plan's text is read in one way, but for memory.
+-- A plan's text is read in one way, except for memory.
 use Rattle.std.proofs.Common.{◌≡◌, List, [], Result, Ok, Err, sym, ◌∙◌, inl, inr}
 use Rattle.slot_types.specs.declared.plans.DiePlan.{DiePlan}
 use Rattle.slot_types.specs.declared.refusals.Refusal.{Refusal}

@@ -36,7 +36,7 @@ fault_by_flag left (Ok x) h = (λ is. absurd (cc is), λ set. absurd (no_flag le
 fault_by_flag left (Err e) (inl h) = (λ is. h.1, λ set. ap Err h.0)
 fault_by_flag left (Err e) (inr h) = (λ is. absurd (h.0 (cc is)), λ set. absurd (no_flag left h.1 set))
 
--- and answers that leave the same flag are the same, but for memory
+-- and answers that leave the same flag are the same, except for memory
 pub one_by_flag : {X : Type 0} (left right : Option Bool) (one other : Result X Refusal) → FlagsReadFault one (Some false) left
     → FlagsReadFault other (Some false) right → (one ≡ other) ⊎ IsErrAnd one IsOutside ⊎ IsErrAnd other IsOutside → left ≡ right
     → (one ≡ other) ⊎ (one ≡ Err NoMemory) ⊎ (other ≡ Err NoMemory)

@@ -10,7 +10,7 @@ use Rattle.text_base.specs.Flags.{KeepsFlag, SetsFlag}
 use Rattle.plan_texts.specs.Stores.{IsStore, RefusesPlan}
 use Rattle.plan_texts.specs.declared.numbers.PlanNumbers.{PlanNumbers}
 
--- so many bytes of what was left stand after the text; there are none at the end alone
+-- `n` bytes of what was left stand after the text; there are none at the end alone
 abbrev pub TakesMore : Option (List ℕ) → Option (List ℕ) → List ℕ → List ℕ → ℕ → Type 0
 TakesMore left rest old new n = (more : List ℕ) × (new ≡ old ++ more) × (length more ≡ n) × Consumes left rest more × (n ≡ 0 → IsAtEnd rest)
 

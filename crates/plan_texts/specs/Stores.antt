@@ -40,7 +40,7 @@ die_of plan die = record {
   times = times_of plan die;
 }
 
--- the plans of the dies, all alike but for the caps and the times
+-- the plans of the dies, all alike except for the caps and the times
 abbrev pub dies_of : PlanNumbers → List DiePlan
 dies_of plan = map (die_of plan) (range_with_len 0 plan.top.dies)
 

@@ -10,8 +10,8 @@ ghost use Rattle.plan_texts.specs.PlanReading.{IsStoreOf, RefusesPlanOf, FlagsRe
 use slot_types::Refusal;
 
 /// Reading a plan from a reader (`read_plan_from`) has one answer, where its text is known, unless memory or its reader
-/// fails. Where the reader's flag is known, and wasn't set, two answers that leave the same flag are the same, but for
-/// memory: ReadFault comes exactly where it was set.
+/// fails. Where the reader's flag is known, and wasn't set, two answers that leave the same flag are the same, except
+/// for memory: ReadFault comes exactly where it was set.
 pub fn reading_a_plan_from_a_reader_has_one_answer()
     ensures plan { (known : List ℕ) (one other : Result (List DiePlan) Refused) →
         IfOk one (IsStoreOf (Some known)) → IfOk other (IsStoreOf (Some known)) →

@@ -226,7 +226,7 @@ fn table(alloc: Global, text: &[u8]) -> Result<Table, Refusal>
     }
 }
 
-/// The numbers of a plan's text, which aren't judged beside others: a text that is read may still make no store.
+/// The numbers of a plan's text, which aren't judged together: a text that is read may still make no store.
 /// Refused as PlanText with the first fault of the text, as [`read_plan`](crate::read_plan) says, or as NoMemory.
 pub fn plan_numbers(alloc: Global, text: &[u8]) -> Result<PlanNumbers, Refusal>
     ensures { GivesReading result (plan_of text.now) }

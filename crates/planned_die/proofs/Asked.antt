@@ -30,7 +30,7 @@ use Rattle.planned_die.proofs.Counting.{refused_alike}
 use Rattle.planned_die.proofs.Cores.{ask_entered, ask_keeps, ask_stands, ask_reserved}
 use Rattle.planned_die.proofs.Lived.{ask_lived}
 
--- the answer by what is remembered is the one by the lives, to an ask or a burst of at most so many operations
+-- the answer by what is remembered is the one by the lives, to an ask or a burst of at most `most` operations
 pub refusal_above : {N : Type 0} (most : ℕ) (die : Planned N) (earlier : Lives) → HasLived die earlier → (plan : DiePlan) (slot : ℕ)
     (jobs : List (List AskedJob)) (task : ℕ) (ops : List Op) (o : Option AskRefusal)
     → o ≡ first_refusal (refusals_above most plan die.terms die.life die.first slot (own_asks task jobs) task ops)
@@ -60,7 +60,8 @@ refusal_is die earlier h plan slot jobs task ops o = refusal_above (most_operati
 pub asked_same : {N : Type 0} (die : Planned N) (asked : List (List AskedJob)) → asked ≡ die.asked → record die { asked = asked } ≡ die
 asked_same die asked is = ap (λ (l : List (List AskedJob)). record die { asked = l }) is
 
--- The plan doesn't refuse the ask, which comes in this slot and is due so many slots later, whatever the die has had for lives.
+-- The plan doesn't refuse the ask, which comes in this slot and is due `deadline` slots later, whatever lives the die
+-- has had.
 pub record IsUnrefused {N : Type 0} (die : Planned N) (task slot deadline : ℕ) (ops : List Op) : Type 0 where
   pub runs : die.core.stopped ≡ false
   pub none : (earlier : Lives) → HasLived die earlier → refusal_in die earlier task ops ≡ None

@@ -65,7 +65,7 @@ module _ (amount : Asked → ℕ) where
           let second : is_asked_in middle end a ≡ true = and_from (nat_le middle a.at) (nat_lt a.at end) later p.1 in
           rw second (omega arith)
 
-  -- in so many periods no more than so many times what is asked for in one
+  -- in `n` periods no more than `n` times the limit of one
   in_periods : (period limit : ℕ) (xs : List Asked) → ((s : ℕ) → amount_in amount s (s + period) xs ≤ limit) → (n start : ℕ)
       → amount_in amount start (start + n * period) xs ≤ n * limit
   in_periods period limit xs few zero start = none xs
@@ -101,8 +101,8 @@ module _ (amount : Asked → ℕ) where
 by_q : (p q w alpha cap bal : ℕ) → 1 ≤ q → q * cap ≤ q * (bal + w + alpha) → cap ≤ bal + w + alpha
 by_q p q w alpha cap bal some le = le_of_mul-le-mul_left le (omega (arith, some))
 
--- What collections gave back: where so much is owed for the jobs of so many periods, and these had the gap's slots, no more is
--- lacked than alpha and what one period writes.
+-- What collections gave back: where no more is owed than the writes of `n` periods, and these had the gap's slots, no
+-- more is lacked than alpha and what one period writes.
 covers : (p q w alpha cap bal gap owed n : ℕ) → 1 ≤ p → 1 ≤ q → w * q ≤ alpha * p → q * cap + alpha * gap ≤ q * (bal + owed) + alpha * q
     → owed ≤ n * w → (n ≡ 0) ⊎ ((k : ℕ) × (n ≡ k + 1) × (k * p ≤ gap)) → cap ≤ bal + w + alpha
 covers p q w alpha cap bal gap owed n has_p has_q regained stocked few (inl none) = by_q p q w alpha cap bal has_q (omega (
@@ -236,7 +236,7 @@ module _ (start : Start) (terms : Terms) (earlier : Lives) (life entered : ℕ) 
         later [] h = tt
         later (a ∷ ys) h = ((λ job own. omega (arith, h.0 job own, clock, ended)), later ys h.1)
 
-    -- the jobs of so many slots came in as many periods
+    -- the jobs of `gap` slots came in `n` periods
     module _ (gap n : ℕ) (holds : gap ≤ n * t.period) where
       abbrev from : ℕ
       from = all_slots lives + 1 - (gap + t.held)

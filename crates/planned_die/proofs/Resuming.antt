@@ -55,7 +55,7 @@ all_write (suc n) = omega (arith, sum_by-cons (λ op. cond (is_write op) 1 0) (a
 as_many : (n : ℕ) → length (to_write n) ≡ n
 as_many n = length-replicate n (asks.Write 0 blank_page)
 
--- what a task asked for that lacks so much
+-- what a task asked for that lacks as many pages
 abbrev for_lack : ℕ → List Asked
 for_lack zero = []
 for_lack (suc n) = record { at = 0; operations = length (to_write (suc n)); writes = writes (to_write (suc n)) } ∷ []

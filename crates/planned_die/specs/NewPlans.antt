@@ -22,13 +22,13 @@ RefusesDie plan shape because.BadPlan = IsShape plan.shape × (shape ≡ plan.sh
 RefusesDie plan shape because.NoMemory = ⊤
 RefusesDie plan shape _ = ⊥
 
--- a life of some slots, at most so many
+-- a life of some slots, at most `longest`
 pub record IsSomeLife (plan : DiePlan) (terms : Terms) (longest life : ℕ) : Type 0 where
   pub some : 0 < life
   pub within : life ≤ longest
   pub is_life : IsLife plan terms life
 
--- else the terms don't pass their tests; else there is no life of at most so many slots
+-- else the terms don't pass their tests; else there is no life of at most `longest` slots
 abbrev pub RefusesPlan : DiePlan → Terms → ℕ → Shape → PlanRefusal → Type 0
 RefusesPlan plan terms longest shape (refuses.Die refusal) = RefusesDie plan shape refusal
 RefusesPlan plan terms longest shape (refuses.Terms fault) = MeetsBound plan × IsTermsFault plan terms fault

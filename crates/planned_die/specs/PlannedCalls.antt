@@ -88,7 +88,7 @@ IsBurst caller task ops earlier (Err refusal) before after = (after ≡ before) 
 abbrev pub own_calls : ℕ → Terms → ℕ → ℕ → ℕ → List (ℕ × Event)
 own_calls caller terms from to slot = map (λ event. (caller, event)) (collections_at (drop from (take to terms.tasks)) from slot)
 
--- the die below after so many collections, which use up what was reserved for them
+-- the die below after these calls, all collections, which use up what was reserved for them
 abbrev pub with_collections : {N : Type 0} → Core N → List (ℕ × Event) → Core N
 with_collections core calls = record core {
   reserved = record core.reserved { arrivals = core.reserved.arrivals - length calls };
@@ -126,7 +126,7 @@ IsSlot ends failures never caller (Err refusal) before after = RefusesSlot ends 
 
 -- Lives
 
--- why the next life doesn't begin: a fault has stopped the die; or the life ends in so many slots; or it has ended, and
+-- why the next life doesn't begin: a fault has stopped the die; or the life ends in `left` slots; or it has ended, and
 -- the clock of all lives is too far on; or it isn't, and this block is worn out
 abbrev pub RefusesLife : {N : Type 0} → Planned N → LifeRefusal → Type 0
 RefusesLife die lives.DieStopped = die.core.stopped ≡ true

@@ -35,7 +35,7 @@ abbrev pub next_room : TaskTerms → (first clock : ℕ) → List Asked → (ope
 next_room t first clock asked ops written =
     if has_room t clock asked ops written then None else Some (room_at t (counting t.period clock asked) ops written - first)
 
--- each collection of the task that comes in a life of so many slots is due by its end: the life ends where the task's
+-- each collection of the task that comes in a life of `life` slots is due by its end: the life ends where the task's
 -- collections come again, or no sooner after the last one than that is due
 abbrev pub ends_well : ℕ → TaskTerms → Bool
 ends_well life t = (life % t.collect_period == 0) || nat_le t.collect_deadline (life % t.collect_period)
@@ -84,6 +84,6 @@ HaveMemory terms asked = (task : ℕ) (d : TaskAsks) → task < length asked →
 abbrev pub HasRoomForOne : TaskAsks → Type 0
 HasRoomForOne t = length (drop t.passed t.jobs.items) < deque_capacity t.jobs
 
--- with so much more the sums are numbers still
+-- with these operations and writes more the sums still have 32 bits
 abbrev pub HasRoomFor : TaskAsks → (operations writes : ℕ) → Type 0
 HasRoomFor t ops written = (t.operations + ops ≤ 4294967295) × (t.writes + written ≤ 4294967295)

@@ -27,7 +27,7 @@ use Rattle.planned_die.specs.NewPlans.{IsSomeLife}
 abbrev pub needs : DiePlan → Terms → ℕ → ℕ
 needs plan terms task = slice_index plan.caps task - (plan.alpha + (terms_of terms task).writes)
 
--- each task's balance has so many
+-- each task's balance has as many pages as it needs
 abbrev pub HaveEnough : DiePlan → Terms → List ℕ → Type 0
 HaveEnough plan terms balances = (task : ℕ) → task < length plan.caps → needs plan terms task ≤ slice_index balances task
 
@@ -46,11 +46,12 @@ AreDueAsHeld terms life = (task : ℕ) → task < length terms.tasks → let t =
 
 -- What was asked for before
 
--- what a task lacks to its cap beyond alpha pages: so much it asked to write, not long ago
+-- what a task lacks to its cap beyond alpha pages: that is what it asked to write, not long ago
 abbrev pub lack : DiePlan → List ℕ → ℕ → ℕ
 lack plan balances task = slice_index plan.caps task - (slice_index balances task + plan.alpha)
 
--- a log with a job of so many writes more, for which the task asked in slot 0
+-- a log with one more job, for which the task asked in slot 0: it writes all pages that the task lacks; where it lacks
+-- none, the log alone
 abbrev pub with_lack : ℕ → ℕ → Log → Log
 with_lack task zero log = log
 with_lack task (suc n) log = record {
@@ -59,7 +60,7 @@ with_lack task (suc n) log = record {
   reply = replies.Taken 0;
 } ∷ log
 
--- so it is of the first so many tasks
+-- the log of what the first `n` tasks lack
 abbrev pub lacked_by : DiePlan → List ℕ → ℕ → Log
 lacked_by plan balances zero = []
 lacked_by plan balances (suc n) = with_lack n (lack plan balances n) (lacked_by plan balances n)
@@ -79,8 +80,8 @@ lacks_of plan balances (suc n) = lacks_of plan balances n ++ lack_jobs (lack pla
 
 -- Refusals
 
--- Why a die that may go on doesn't keep its plan: the terms don't pass their tests; else there is no life of at most so
--- many slots; else this task has too few pages; or there was no memory.
+-- Why a die that may go on doesn't keep its plan: the terms don't pass their tests; else there is no life of at most
+-- `longest` slots; else this task has too few pages; or there was no memory.
 abbrev pub RefusesPlanned : DiePlan → Terms → ℕ → List ℕ → PlanResumeRefusal → Type 0
 RefusesPlanned plan terms longest balances (refuses.Die why) = why ≡ no_memory
 RefusesPlanned plan terms longest balances (refuses.Terms fault) = IsTermsFault plan terms fault

@@ -12,7 +12,7 @@ use crate::terms::terms_at;
 use demand_rules::{TaskTerms, Terms};
 use std::alloc::{AllocError, Global};
 
-/// Of so many tasks, none of which has asked for anything, with memory for all that may count of each.
+/// Of `tasks` tasks, none of which has asked for anything, with memory for all that may count of each.
 pub(crate) fn new_asks(
     alloc: Global,
     own: &Terms,

@@ -13,7 +13,7 @@ use planned_log::{AskKind, AskRefusal};
 use slot_types::{JobNo, Op, TaskNo};
 use std::alloc::Global;
 
-/// What became of a burst: so many jobs, of which each next one has the next number.
+/// What became of a burst: `jobs` jobs, numbered one after the other.
 #[derive(Clone, Copy, PartialEq, Eq, Debug, Drop)]
 pub struct Burst {
     /// The number of the first one.
@@ -49,10 +49,10 @@ impl<N: Nand> PlannedDie<N> {
         )
     }
 
-    /// Accepts a burst of the task: as many jobs as its operations take, in order, of 64 operations each but for the last
-    /// one, which may have fewer. All are released in the present slot, due as many slots later as the task's terms say
-    /// (`deadline`), and done by then, whatever the other tasks ask. Either all are accepted, or none is. A burst of at
-    /// most 64 operations is what [`ask`](PlannedDie::ask) accepts as one job.
+    /// Accepts a burst of the task: as many jobs as its operations take, in order, of 64 operations each except for the
+    /// last one, which may have fewer. All are released in the present slot, due as many slots later as the task's
+    /// terms say (`deadline`), and done by then, whatever the other tasks ask. Either all are accepted, or none is. A
+    /// burst of at most 64 operations is what [`ask`](PlannedDie::ask) accepts as one job.
     ///
     /// The refusals, of which the first that stands is answered and nothing is changed: `DieStopped`; `UnknownTask`;
     /// `EmptyJob`; `TooManyOps`, above the task's `work`; `BadPage`, with the first page that the die doesn't have;

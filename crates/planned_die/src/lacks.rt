@@ -57,8 +57,8 @@ pub fn first_shortage(plan: &DiePlan, terms: &Terms, balances: &[u32]) -> Option
     None
 }
 
-/// That a task of these terms asked in slot 0 of the clock for a job of so many writes, with memory for all that may count of
-/// it.
+/// That a task of these terms asked in slot 0 of the clock for a job of `lack` writes, with memory for all that may
+/// count of it.
 fn asks_of_lack(alloc: Global, own: &TaskTerms, lack: u32) -> Result<TaskAsks, AllocError>
     requires few { lack ≤ own.now.work }
     ensures jobs { IfOk result (λ t. t.jobs.items ≡ lack_jobs lack) }

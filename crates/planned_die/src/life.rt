@@ -33,7 +33,7 @@ fn one_count(task: &TaskTerms, slots: u32) -> u64
         + u64::from(periods(task.collect_period, task.collect_deadline, slots))
 }
 
-/// How many jobs and collections may come in so many slots.
+/// How many jobs and collections may come in `slots` slots.
 fn count(tasks: &[TaskTerms], slots: u32) -> u64
     requires few { length tasks.now ≤ 16 }
     requires slots { slots ≤ 1048576 }
@@ -47,7 +47,7 @@ fn count(tasks: &[TaskTerms], slots: u32) -> u64
     total
 }
 
-/// Whether each collection of the task that comes in a life of so many slots is due by its end.
+/// Whether each collection of the task that comes in a life of `slots` slots is due by its end.
 fn is_well(task: &TaskTerms, slots: u32) -> bool
     ensures { result ≡ ends_well slots task.now }
 {
@@ -75,7 +75,7 @@ fn are_well(tasks: &[TaskTerms], slots: u32) -> bool
     tasks.iter().all(|task| is_well(task, slots))
 }
 
-/// Whether so many slots are a life.
+/// Whether `slots` slots are a life.
 fn is_life(plan: &DiePlan, terms: &Terms, slots: u32) -> bool
     requires has { HasTerms plan.now terms.now }
     requires few { length plan.now.caps ≤ 16 }
@@ -87,8 +87,8 @@ fn is_life(plan: &DiePlan, terms: &Terms, slots: u32) -> bool
         && count(terms.tasks.as_slice(), slots) <= u64::from(MAX_JOBS)
 }
 
-/// The longest life of a die with this plan that has at most so many slots, if there is one. It tries each number of
-/// slots from the longest down.
+/// The longest life of a die with this plan that has at most `longest` slots, if there is one. It tries each number of
+/// slots from `longest` down.
 pub(crate) fn life_of(plan: &DiePlan, terms: &Terms, longest: u32) -> Option<u32>
     requires has { HasTerms plan.now terms.now }
     requires few { length plan.now.caps ≤ 16 }

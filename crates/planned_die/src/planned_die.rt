@@ -75,7 +75,7 @@ impl<N: Nand> Model for PlannedDie<N> {
     }) × AreKept d.terms (d.first + now d.core.log) d.asked.items × HaveMemory d.terms d.asked.items };
 }
 
-/// Takes the memory for so many slots, and for so many jobs and collections with as many operations in all.
+/// Takes the memory for `slots` slots, and for `most` jobs and collections with as many operations in all.
 fn reserve_life<N: Nand>(core: &mut DieCore<N>, slots: u32, most: u32) -> Result<(), Refusal>
     ensures ok { OnOk result (core.new ≡ with_slots slots (with_arrivals most most core.old)) }
     ensures refused { FailsForMemory result }
@@ -85,9 +85,9 @@ fn reserve_life<N: Nand>(core: &mut DieCore<N>, slots: u32, most: u32) -> Result
 }
 
 impl<N: Nand> PlannedDie<N> {
-    /// A die on which nothing was done, at slot 0, with lives of at most so many slots: of the longest such life. It takes
-    /// all memory that it ever needs: for the slots of a life, for as many jobs, collections and operations as may come in
-    /// it, and for as many jobs of each task as may count at once. Shorter lives take less.
+    /// A die on which nothing was done, at slot 0. Its lives are the longest that have at most `longest` slots. It
+    /// takes all memory that it ever needs: for the slots of a life, for as many jobs, collections and operations as
+    /// may come in it, and for as many jobs of each task as may count at once. Shorter lives take less.
     ///
     /// Refused as [`DieCore::new`] refuses it; else `Terms`, where the terms aren't the plan's, are out of their limits, or
     /// don't pass a test, with what [`terms_test`](demand_rules::terms_test) says; else `NoLife`, where no number of slots

@@ -20,7 +20,7 @@ pub enum PlanRefusal {
 pub enum LifeRefusal {
     /// A fault of the device has stopped the die.
     DieStopped,
-    /// The present slot isn't the end of the life, which comes in so many slots.
+    /// The present slot isn't the end of the life, which comes in `left` slots.
     NotEnded { left: u32 },
     /// The clock of all lives would go beyond slot 2 to the power of 61.
     ClockEnd,

@@ -37,7 +37,7 @@ fn no_memory() -> PlanResumeRefusal
     })
 }
 
-/// Takes the memory for so many slots, and for so many jobs and collections with as many operations in all.
+/// Takes the memory for `slots` slots, and for `most` jobs and collections with as many operations in all.
 fn reserve_for<N: Nand>(core: &mut DieCore<N>, slots: u32, most: u32) -> Result<(), Refusal>
     ensures ok { OnOk result (core.new ≡ with_slots slots (with_arrivals most most core.old)) }
     ensures device { core.new.device ≡ core.old.device }

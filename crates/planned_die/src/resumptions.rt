@@ -81,13 +81,14 @@ impl<N: Nand> PlannedDie<N> {
         self.core.into_device()
     }
 
-    /// A die that goes on from a checkpoint, over a device as it was left: at slot 0 of a life of at most so many slots, of
-    /// the longest such life, and with all memory that it ever needs, as [`new`](PlannedDie::new) makes one. The clock of all
-    /// lives is at 0.
+    /// A die that goes on from a checkpoint, over a device as it was left. It is at slot 0 of a life, the longest that
+    /// has at most `longest` slots, and has all memory that it ever needs, as one that [`new`](PlannedDie::new) makes.
+    /// The clock of all lives is at 0.
     ///
-    /// A checkpoint doesn't say what tasks asked for before. What a task lacks to its cap beyond alpha pages counts as asked
-    /// for in slot 0, as a job of so many writes: until its period is over the task may ask for so much less. So where no
-    /// task lacks more than alpha, as after a mount, each may ask for all of its period at once.
+    /// A checkpoint doesn't say what tasks asked for before. What a task lacks to its cap beyond alpha pages counts as
+    /// a job that it asked for in slot 0 and that writes these pages: until its period is over the task may ask for
+    /// that much less. So where no task lacks more than alpha, as after a mount, each may ask for all of its period at
+    /// once.
     ///
     /// That the device is as a checkpoint that fits says is the caller's to know, as [`DieCore::resume`](slot_core::DieCore::resume)
     /// has it. Refused with the first cause that stands, as [`PlanResumeRefusal`] lists them; `NoMemory` may also come before

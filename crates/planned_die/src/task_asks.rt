@@ -37,7 +37,7 @@ fn amount(job: &AskedJob, of_writes: bool) -> u32
 }
 
 impl TaskAsks {
-    /// Nothing asked for, and memory for the jobs of a task that may ask for so many operations in a period.
+    /// Nothing asked for, and memory for the jobs of a task that may ask for `work` operations in a period.
     pub(crate) fn new(alloc: Global, work: u32) -> Result<TaskAsks, AllocError>
         ensures jobs { IfOk result (λ t. t.jobs.items ≡ []) }
         ensures passed { IfOk result (λ t. t.passed ≡ 0) }
@@ -84,8 +84,8 @@ impl TaskAsks {
         }
     }
 
-    /// The first slot of the clock in which what counts leaves room below the limit for so much more; 0 where it leaves it
-    /// now. It goes over the oldest jobs that count, up to the one that has to count no more.
+    /// The first slot of the clock in which what counts leaves room below the limit for `more` more; 0 where it leaves
+    /// it now. It goes over the oldest jobs that count, up to the one that has to count no more.
     pub(crate) fn free_slot(
         &self,
         period: u32,
@@ -111,7 +111,7 @@ impl TaskAsks {
         slot
     }
 
-    /// Whether with what wasn't passed by there is room for so much more.
+    /// Whether with what wasn't passed by there is room for `ops` operations and `writes` writes more.
     fn has_room(&self, own: &TaskTerms, ops: u32, writes: u32) -> bool
         ensures room { result ≡ (nat_le (self.now.operations + ops) own.now.work
             && nat_le (self.now.writes + writes) own.now.writes) }

@@ -32,7 +32,7 @@ module _ {A : Type 0} where
   first_of d [] = d
   first_of d (x ∷ xs) = x
 
-  -- of two lists that are one but for their last items, and yet are equal, these are equal
+  -- of two lists that are the same except for their last items, and yet are equal, these are equal
   pub last_same : (xs : List A) (x y : A) → xs ++ x ∷ [] ≡ xs ++ y ∷ [] → x ≡ y
   last_same [] x y e = ap (first_of x) e
   last_same (z ∷ xs) x y e = last_same xs x y (ap rest_of e)

@@ -6,8 +6,8 @@ ghost use Rattle.std.specs.Borrow.{ftrue};
 use std::marker::{Model, PhantomData};
 
 /// What was opened, as it was then. It takes no memory.
-// It is std's `Snapshot`, but for this: of a struct that has one, the kit doesn't prove where it is declared that it may be
-// sent to a thread (README.md, "To a thread").
+// It is std's `Snapshot`, except for this: of a struct that has one, the kit doesn't prove where it is declared that it
+// may be sent to a thread (README.md, "To a thread").
 pub(crate) struct AsOpened<T> {
     marker: PhantomData<T>,
     pub(crate) ghost value: { T },

@@ -325,13 +325,13 @@ erases_out plan first c b (suc k) bound r others closed none left =
 
 -- A block that is worth it
 
--- where a block is wholly free, so many pages are
+-- where a block is wholly free, as many pages are free as a block has, or more
 pub free_pages : (plan : DiePlan) (c : Cells) → AreIdle c → IsWhollyFree c → plan.shape.pages ≤ free_of plan c
 free_pages plan c idle f =
     let one : free_in plan (block_at c f.b) ≡ plan.shape.pages = free_idle plan (block_at c f.b) (idle f.b) ∙ omega (arith, f.none) in
     omega (arith, one, get_or-le-sum_by (free_in plan) c.blocks f.b free_block f.stands)
 
--- so many acts empty a block and erase it, at most
+-- how many acts it takes at most to empty a block and erase it
 abbrev round_of : DiePlan → ℕ
 round_of plan = plan.shape.pages - plan.alpha + plan.shape.erase_slots
 

@@ -130,7 +130,7 @@ pub record StartsBeside (plan : DiePlan) (from : ℕ → ℕ) (c : Cells) (pages
 abbrev pub most_rounds_beside : DiePlan → ℕ
 most_rounds_beside plan = (enough_of plan + plan.alpha - 1) / plan.alpha
 
--- how many acts it takes at most, by so many copies out of each of these blocks, and the slots of its erase
+-- how many acts it takes at most: for each of these blocks, copies of its pages less alpha, and the slots of its erase
 abbrev pub most_acts_beside : DiePlan → ℕ
 most_acts_beside plan = most_rounds_beside plan * (plan.shape.pages - plan.alpha + plan.shape.erase_slots)
 

@@ -174,7 +174,7 @@ AreSafe plan c (act ∷ earlier) = AreSafe plan c earlier × IsSafe plan c (act 
 abbrev pub mounted_start : DiePlan → Cells → List PageData → Accounts → Start
 mounted_start plan c pages accounts = record { plan = plan; contents = pages; cells = c; accounts = accounts }
 
--- each balance is its cap, each reserve is whole, and the rest of so many free pages is spare
+-- each balance is its cap, each reserve is whole, and the rest of `free` free pages is spare
 abbrev pub full_accounts : DiePlan → ℕ → Accounts
 full_accounts plan free =
     record (opening_accounts plan) { spare = free - sum plan.caps - length plan.caps * (plan.shape.pages - plan.alpha) }
@@ -189,15 +189,15 @@ pub record IsWorthIt (plan : DiePlan) (c : Cells) (b : ℕ) : Type 0 where
 abbrev pub enough_of : DiePlan → ℕ
 enough_of plan = sum plan.caps + length plan.caps * (plan.shape.pages - plan.alpha)
 
--- how many blocks a mount has to empty at most, until so many pages are free: one is wholly free, and each gives alpha
+-- how many blocks a mount has to empty at most, until enough pages are free: one is wholly free, and each gives alpha
 abbrev pub most_rounds : DiePlan → ℕ
 most_rounds plan = (enough_of plan - plan.shape.pages + plan.alpha - 1) / plan.alpha
 
--- how many acts it takes at most: so many copies out of each of these blocks, and the slots of its erase
+-- how many acts it takes at most: for each of these blocks, copies of its pages less alpha, and the slots of its erase
 abbrev pub most_acts : DiePlan → ℕ
 most_acts plan = most_rounds plan * (plan.shape.pages - plan.alpha + plan.shape.erase_slots)
 
--- so many rounds do for these acts, each of so many copies and the slots of one erase
+-- `rounds` rounds do for these acts, each with copies of a block's pages less alpha, and the slots of one erase
 pub record FitRounds (plan : DiePlan) (rounds : ℕ) (acts : List Act) : Type 0 where
   pub copies : count_by is_copy_program acts ≤ rounds * (plan.shape.pages - plan.alpha)
   pub slots : count_by is_erase acts ≤ rounds * plan.shape.erase_slots
@@ -229,7 +229,7 @@ pub record CanStart (plan : DiePlan) (c : Cells) (pages : List PageData) (l : La
 
 -- Where the power goes during a mount
 
--- Looks don't change by themselves: what a mount saw, the next one sees again, but for what the first one did. Where
+-- Looks don't change by themselves: what a mount saw, the next one sees again, except for what the first one did. Where
 -- the power goes in the erase of its first block, that one isn't whole
 abbrev pub MaySeeInErase : (erased : ℕ) → (before seen : Shown) → Type 0
 MaySeeInErase erased before seen = MaySee (λ b. not (b == erased)) before seen

@@ -139,7 +139,7 @@ pub fn renewals_are_lives()
 /// A die loses no finished write, however often the power goes: over all its lives a read tells what the last finished
 /// write or trim of its page left, in whichever life that was. But where that was a trim, the power was lost since, and
 /// the mount wasn't told of it, it may tell what was written on the page before: some write of it, maybe not the last
-/// one. So it is of what pages hold; and what one mount found stays: a life begins with what the pages held, but for
+/// one. So it is of what pages hold; and what one mount found stays: a life begins with what the pages held, except for
 /// those that were trimmed since the loss before, of which the mount wasn't told. Where nothing was trimmed in the
 /// lives before, it is the last write always. And wherever the power goes in the last life, and however many mounts are
 /// cut then, whatever is seen, a next life begins: with full accounts, so that planned work goes on. A mount may know

@@ -1,4 +1,4 @@
--- A report's text is read in one way, but for memory and its reader.
+-- A report's text is read in one way, except for memory and its reader.
 use Rattle.std.proofs.Common.{◌≡◌, ◌⊎◌, Ok, Err, Some, refl, sym, ◌∙◌, inl, inr}
 use Rattle.report_texts.specs.OutsideFaults.{EndsOutside}
 use Rattle.report_texts.specs.ReportOf.{Reading, Says}

@@ -23,7 +23,7 @@ use Rattle.report_texts.specs.declared.reports.RowKind.TheVariants as kind
 use Rattle.report_texts.specs.declared.row_numbers.RowNumbers.{RowNumbers}
 use Rattle.report_texts.proofs.NumberLaws.{numbers-rise}
 
--- a row, but for its reads
+-- a row, without its reads
 abbrev pub bare : DieRow → ReportRow
 bare x = (kept_row (λ _. []) x).row
 

@@ -6,7 +6,7 @@ use Rattle.report_texts.specs.declared.reports.ReportRow.{ReportRow}
 use Rattle.report_texts.specs.declared.reports.RowKind.{RowKind}
 use Rattle.report_texts.specs.declared.reports.RowKind.TheVariants as kind
 
--- a row's job row, but for a collection that was waived
+-- a row's job row, except for a collection that was waived
 abbrev pub job_row_if : ReportRow → RowKind → Option JobRow
 job_row_if row kind.Waived = None
 job_row_if row kind.Job = Some (record {

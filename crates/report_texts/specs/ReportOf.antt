@@ -51,8 +51,8 @@ all_dies g = with_last g.done (length g.rows) (report_on g.die g.rows)
 abbrev pub no_rows : Gathered
 no_rows = record { done = []; die = 0; rows = [] }
 
--- whether a row may come next where the last die has so many rows: the next number of that die, or number 0 of a later
--- one
+-- whether a row may come next where the last die is `die` and has `rows` rows: the next number of that die, or number 0
+-- of a later one
 abbrev pub comes_next : ℕ → ℕ → DieRow → Bool
 comes_next die rows x = if x.die == die then x.row.job == rows else nat_lt die x.die && (x.row.job == 0)
 

@@ -57,7 +57,7 @@ is_empty fields i = length (field_or fields i) == 0
 abbrev pub is_cert : List (List ℕ) → Bool
 is_cert fields = has_text (field_at fields 0) (codes "cert")
 
--- whether the fields of a certificate but for its start and its jobs are those of a die's worst job
+-- whether the fields of a certificate, except its start and its jobs, are those of a die's worst job
 abbrev pub is_of : ℕ → Finish → List (List ℕ) → Bool
 is_of die worst fields = is_cert fields && (says fields 1 die && (says fields 2 worst.job && (is_empty fields 3 && (says fields 5 worst.due
     && (is_empty fields 6 && (says fields 7 worst.completion

@@ -14,7 +14,7 @@ use slot_types::{Items, Refusal};
 use std::alloc::Global;
 use std::mem;
 
-/// What is kept of the dies so far: of those that are done with, and of the last, which has so many rows.
+/// What is kept of the dies so far: of those that are done with, and of the last, which has `rows` rows.
 #[derive(Drop)]
 pub struct KeptSoFar<K> {
     pub done: Items<K>,

@@ -108,7 +108,7 @@ fn is_blank(fields: &ByteRecord, place: usize) -> bool
     field_in(fields, place).is_empty()
 }
 
-/// Whether a record is a certificate of this job, but for its start and its jobs.
+/// Whether a record is a certificate of this job, except for its start and its jobs.
 fn certifies(fields: &ByteRecord, die: u32, worst: &Finish) -> bool
     ensures { result ≡ is_of die worst.now (fields_of fields.now) }
 {

@@ -107,7 +107,7 @@ fn row_line(row: &RowNumbers) -> Line
     line
 }
 
-/// Adds the fields of a row but for its pages.
+/// Adds the fields of a row, without its pages.
 fn put_row_start(text: &mut Vec<u8>, row: &RowNumbers) -> io::Result<()>
     ensures { OnOk result (text.new.items ≡ text.old.items ++ (kind_word row.now.row
         ++ after_commas (row_start row.now.die (row_with row.now [])))) }

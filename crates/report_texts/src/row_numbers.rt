@@ -138,7 +138,7 @@ fn agrees(row: &RowNumbers, completion: u32) -> bool
     completion <= MAX_SLOT && 1 <= row.work && row.lateness == Some(lateness(completion, row.due))
 }
 
-/// Whether a row whose reads gave so many pages fills the fields that it should, and no others.
+/// Whether a row whose reads gave `pages` pages fills the fields that it should, and no others.
 fn fills(row: &RowNumbers, pages: usize) -> bool
     ensures { (reads : List PageData) → length reads ≡ pages →
         result ≡ has_outcome (row_with row.now reads) row.now.row row.now.completion }
@@ -173,7 +173,7 @@ fn has_times(row: &RowNumbers) -> bool
     row.release < row.due && row.due <= MAX_SLOT
 }
 
-/// Whether the numbers of a row are within their limits, and it fills its fields, where its reads gave so many pages.
+/// Whether the numbers of a row are within their limits, and it fills its fields, where its reads gave `pages` pages.
 pub fn stands(row: &RowNumbers, pages: usize) -> bool
     ensures sound { (reads : List PageData) → length reads ≡ pages
         → result ≡ is_sound (die_row row.now reads) }

@@ -25,7 +25,8 @@ pub record ReadsNext {R : Type 0} (remaining : R → Option (List ℕ)) (old new
   pub again : Recalls old new result
   pub failed : FailsAtReadFault (reader_failed old) (reader_failed new) result
 
--- the next row is read as it stands, or that there is none, or the first fault but for those of operations, which is answered again
+-- the next row is read as it stands, or that there is none, or the first fault, except those of operations, which is
+-- answered again
 pub record ReadsRow {R : Type 0} (remaining : R → Option (List ℕ)) (old new : ScriptReader R) (result : Result (Option RowHead) Refusal)
     : Type 0 where
   pub gives : Gives (script_rows_left remaining old) (script_rows_left remaining new) (row_with_text result (ops_text new))

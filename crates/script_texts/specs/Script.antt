@@ -61,11 +61,11 @@ items_from (row ∷ rows) fault = then_rest (λ x. items_from rows fault) (item_
 abbrev pub items_in : Reading RowText → Reading ScriptItem
 items_in rows = items_from rows.items rows.fault
 
--- the rows of a text for so many dies and slots
+-- the rows of a text for `dies` dies and `slots` slots
 abbrev pub rows_in : ℕ → ℕ → List ℕ → Reading RowText
 rows_in dies slots text = script_from slots (replicate dies 0) (rows_of text)
 
--- what a text means for so many dies and slots
+-- what a text means for `dies` dies and `slots` slots
 abbrev pub reading_of : ℕ → ℕ → List ℕ → Reading ScriptItem
 reading_of dies slots text = items_in (rows_in dies slots text)
 
@@ -82,7 +82,7 @@ items_or items (Some e) = Err e
 abbrev pub whole : Reading ScriptItem → Script
 whole reading = items_or reading.items reading.fault
 
--- the items of a text for so many dies and slots, or its first fault
+-- the items of a text for `dies` dies and `slots` slots, or its first fault
 abbrev pub script_of : ℕ → ℕ → List ℕ → Script
 script_of dies slots text = whole (reading_of dies slots text)
 

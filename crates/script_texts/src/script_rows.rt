@@ -25,7 +25,7 @@ pub struct ScriptItem {
     pub event: Event,
 }
 
-/// What a row of a script asks, but for its operations.
+/// What a row of a script asks, without its operations.
 #[derive(Clone, Copy, PartialEq, Eq, Debug, Drop)]
 pub struct RowHead {
     /// The number of its record, the header being 1.

@@ -48,7 +48,7 @@ impl<R: Read> ScriptReader<R> {
     ghost use Rattle.script_texts.specs.ScriptLeft.{dies_of, line_of, ops_text, reader_failed, reading_left, script_fits, script_left, script_rows_left, slots_of};
     ghost use Rattle.text_base.specs.Marks.{is_within};
 
-    /// A reader of a script for the dies of a store and so many slots. The only refusal is NoMemory.
+    /// A reader of a script for the dies of a store and `slots` slots. The only refusal is NoMemory.
     pub fn new(
         alloc: Global,
         reader: R,

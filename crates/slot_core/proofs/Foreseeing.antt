@@ -112,7 +112,7 @@ abbrev pub IsOpenOne : Start → Log → Waived → Type 0
 IsOpenOne start log w = (i : Job) × (job_at log w.number ≡ Some i) × (i.number ≡ w.number)
     × (is_pending start.plan (λ n. acts n log) (is_waived log) i ≡ true)
 
--- so far these would be waived, and so many pages be spare
+-- so far these would be waived, and `spare` pages be spare
 pub record Foresees (start : Start) {N : Type 0} (blocks_of : N → List device.Block) (log : Log) (present : ℕ) (ws : List Waived) (t : Table)
     (v : State N) (spare : ℕ) : Type 0 where
   pub within : InSlot (over v.accounts.plan start) log present ws (with_waived t ws) (flash_of blocks_of (waived_state log v ws))

@@ -99,7 +99,7 @@ marks_chosen start plan same log jobs later ws m plan_is jobs_are were pending m
 
 -- One is done
 
--- the mark after it: where it is the worst, so many slots as it was done with
+-- the mark after it: where it is the worst, its completion
 marks_done : (jobs : List JobRecord) (n : ℕ) (change : JobRecord → JobRecord) (m : ℕ) (b : Bool)
     → ((job : JobRecord) → slice_get jobs n ≡ Some job → is_done job.stage ≡ false) → IsDoneAt (changed_at jobs n change) n
     → (b ≡ true → IsWorst (changed_at jobs n change) n) → (IsWorst (changed_at jobs n change) n → b ≡ true) → MarksWorst jobs m

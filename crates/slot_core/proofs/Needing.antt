@@ -91,7 +91,7 @@ some_is (Some b) h = (b, refl)
 
 -- The act of a job or collection
 
--- the act is known but for its bytes, and so is the call that it needs
+-- the act is known except for its bytes, and so is the call that it needs
 pub record ActsSo (start : Start) (log : Log) (j : Job) (kind : NextAct) (call : Option NandCall) : Type 0 where
   pub act : Act
   pub act_is : act_for start log j ≡ Some act

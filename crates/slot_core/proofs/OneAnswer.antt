@@ -1,4 +1,4 @@
--- A call of a die has one answer, and leaves one die but for the device; so has a run.
+-- A call of a die has one answer, and leaves one die except for the device; so has a run.
 use Rattle.std.proofs.Common.{◌≡◌, ◌⊎◌, inl, inr, ℕ, Bool, true, false, List, [], ◌∷◌, All, Ok, Err, refl, ap, sym, ◌∙◌}
 use Rattle.std.specs.declared.result.Result.{Result}
 use Rattle.std.specs.List.{AllByRecursion}

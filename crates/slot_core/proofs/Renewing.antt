@@ -38,7 +38,7 @@ renewed_flash start log f bound exact quiet k = record {
   };
 }
 
--- an empty table of as many tasks, with memory for so much
+-- an empty table of as many tasks, with memory for what is kept
 abbrev pub emptied : Table → Reserve → Table
 emptied t kept = record (empty_table t.tasks) { reserve = kept; lasting = kept }
 

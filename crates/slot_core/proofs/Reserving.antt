@@ -167,7 +167,7 @@ pub reserved_jobs : {A : Type 0} (r : Result A Refusal) (t u : Table) (x y : Res
 reserved_jobs (Ok a) t u x y made stays = ap (λ (v : Table). v.jobs) made
 reserved_jobs (Err e) t u x y made stays = ap (λ (v : Table). v.jobs) stays
 
--- the table with so much more reserved
+-- the table with at least these arrivals and operations reserved
 abbrev pub reserved_table : ℕ → ℕ → Table → Table
 reserved_table arrivals operations t =
     record t { reserve = reserve_with arrivals operations t.reserve; lasting = reserve_with arrivals operations t.lasting }
@@ -210,8 +210,8 @@ arrivals_room r t u slots arrivals operations room waiver_room before made stays
     by_waivers false e (inl is) = omega (arith, is, had, more, not_lt_of t.reserve.arrivals arrivals e)
     by_waivers b e (inr is) = omega (arith, is, had, more)
 
--- Of slots or arrivals so many more are reserved, beside those of the other kind: so there is room for both, and memory
--- for both from the beginning of a log on
+-- Of slots or arrivals `wanted` are reserved, with those of the other kind: so there is room for both, and memory for
+-- both from the beginning of a log on
 pub room_ahead : (before lasting wanted other beside room after memory memory_after : ℕ) → before + other ≤ room → room ≤ after
     → cond (nat_lt before wanted) (wanted + beside) 0 ≤ after → before ≤ lasting → other ≤ beside → lasting + beside ≤ memory
     → memory ≤ memory_after → after ≤ memory_after

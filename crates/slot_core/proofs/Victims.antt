@@ -31,7 +31,7 @@ use Rattle.die_log.specs.Model.Start.{Start}
 
 -- The least of a rising list
 
--- each is above the one before, and the first at least so much
+-- each is above the one before, and the first is at least `low`
 abbrev RisesFrom : ℕ → List ℕ → Type 0
 RisesFrom low [] = Unit {0}
 RisesFrom low (x ∷ xs) = (low ≤ x) × RisesFrom (x + 1) xs

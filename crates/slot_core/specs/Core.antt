@@ -40,11 +40,12 @@ arrivals_with arrivals operations reserved = record reserved {
   operations = max reserved.operations operations;
 }
 
--- so many slots are reserved, or as many as were before, and so many last
+-- `slots` slots are reserved, or as many as were before, if these are more; it is the same with those that last
 abbrev pub with_slots : {N : Type 0} → ℕ → Core N → Core N
 with_slots slots core = record core { reserved = slots_with slots core.reserved; lasting = slots_with slots core.lasting }
 
--- so many arrivals with so many operations in all are reserved, or as many of either as were before, and so many last
+-- `arrivals` arrivals with `operations` operations in all are reserved, or as many of either as were before, if these
+-- are more; it is the same with those that last
 abbrev pub with_arrivals : {N : Type 0} → ℕ → ℕ → Core N → Core N
 with_arrivals arrivals operations core = record core {
   reserved = arrivals_with arrivals operations core.reserved;

@@ -27,7 +27,7 @@ use Rattle.slot_core.specs.OpEffects.{act_by, flash_after_op}
 abbrev pub is_fresh : JobRecord → Bool
 is_fresh job = job.collects && (job.work == 0)
 
--- it is waived and gives so many pages, or takes its victim
+-- it is waived and gives `given` pages, or takes its victim
 abbrev pub BeginsFresh : {N : Type 0} → (N → List Block) → State N → ℕ → Option ℕ → State N → Type 0
 BeginsFresh blocks old task (Some given) new = Waives old task given new
 BeginsFresh blocks old task None new = (victim : ℕ) × Begins blocks old task victim new

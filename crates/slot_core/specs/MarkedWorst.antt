@@ -11,7 +11,7 @@ completion_of (Some job) = completion_in job.stage
 abbrev pub completion_at : List JobRecord → ℕ → ℕ
 completion_at jobs number = completion_of (slice_get jobs number)
 
--- nothing is done, or the worst was done with so many slots
+-- nothing is done, or `marked` is the completion of the worst
 pub record MarksWorst (jobs : List JobRecord) (marked : ℕ) : Type 0 where
   pub worst : Option ℕ
   pub is : MatchOption worst (NothingDone jobs) (IsWorst jobs)

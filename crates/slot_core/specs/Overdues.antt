@@ -7,7 +7,7 @@ use Rattle.die_log.specs.Model.Log.{Log, Job, now}
 use Rattle.die_log.specs.Results.Overdue.{overdue}
 use Rattle.slot_core.specs.declared.overdues.Overdue.{Overdue}
 
--- done in this slot, it is so late
+-- how late it is if it is done in the present slot
 abbrev pub overdue_as : ℕ → ℕ → ℕ → Overdue
 overdue_as present number due = record { job = number; due = due; late_by = present + 1 - due }
 

@@ -41,8 +41,8 @@ fn waivers_with(collects: bool, table: &JobTable) -> usize
     if collects { table.tasks() } else { 0 }
 }
 
-/// Enters an accepted job or collection into the table and the log, or finds no memory and changes neither. There stays
-/// room in the log for so many slots, and for what else is reserved.
+/// Enters an accepted job or collection into the table and the log, or finds no memory and changes neither. The log
+/// keeps room for `slots` slots, and for what else is reserved.
 fn enter(
     table: &mut JobTable,
     events: &mut EventLog,

@@ -36,11 +36,11 @@ pub struct DieCore<N: Nand> {
     pub(crate) events: EventLog,
     /// The present slot.
     pub(crate) present: u32,
-    /// For how many slots there is room in the log, beside that for jobs and collections: for how many of these memory is
-    /// reserved, the table knows.
+    /// For how many slots there is room in the log, in addition to that for jobs and collections. The table knows for
+    /// how many of these memory is reserved.
     pub(crate) reserved: u32,
-    /// For how many slots there is room from the beginning of a log on, beside that for jobs and collections: for as many
-    /// as were ever reserved.
+    /// For how many slots there is room from the beginning of a log on, in addition to that for jobs and collections:
+    /// for as many as were ever reserved.
     pub(crate) lasting: u32,
     /// Where its log started, which only clauses read.
     pub(crate) start: LogStart,
@@ -83,8 +83,8 @@ impl<N: Nand> Model for DieCore<N> {
         c.events.memory c.events.waiver_memory };
 }
 
-/// For how many entries there has to be room so that so many more slots or arrivals are reserved, if they aren't, beside as
-/// many of the other kind as last.
+/// For how many entries there has to be room so that `wanted` slots or arrivals are reserved, if they aren't, with
+/// `beside` of the other kind, as many as last.
 fn entries_ahead(reserved: u32, wanted: u32, beside: u32) -> usize
     ensures { result ≡ (if nat_lt reserved wanted then wanted + beside else 0) }
 {
@@ -95,7 +95,7 @@ fn entries_ahead(reserved: u32, wanted: u32, beside: u32) -> usize
     }
 }
 
-/// For how many waivers there has to be room so that so many more arrivals are reserved, if they aren't: each may be a
+/// For how many waivers there has to be room so that `arrivals` arrivals are reserved, if they aren't: each may be a
 /// collection, and a task has one at most that is neither done nor waived.
 fn waivers_ahead(table: &JobTable, arrivals: u32) -> usize
     requires few { table.now.tasks ≤ 16 }
@@ -180,11 +180,11 @@ impl<N: Nand> DieCore<N> {
         }
     }
 
-    /// Takes the memory for this many later slots, beside that which jobs and collections take when they come: so many
-    /// slots, and those that were reserved before, are never refused with `NoMemory`. Each slot that is answered uses
-    /// one of them up, and nothing else does. Each [renewal](DieCore::renew) reserves as many again.
+    /// Takes the memory for `slots` later slots; what jobs and collections take when they come is apart. These slots,
+    /// and those that were reserved before, are never refused with `NoMemory`. Each slot that is answered uses one of
+    /// them up, and nothing else does. Each [renewal](DieCore::renew) reserves as many again.
     ///
-    /// The only refusal is `NoMemory`, where nothing changes; so many as are reserved already are never refused.
+    /// The only refusal is `NoMemory`, where nothing changes. It never comes where `slots` slots are reserved already.
     pub fn reserve(&mut self, slots: u32) -> Result<(), Refusal>
         ensures ok { OnOk result (self.new ≡ with_slots slots self.old) }
         ensures refused { FailsForMemory result }
@@ -200,12 +200,13 @@ impl<N: Nand> DieCore<N> {
         Ok(())
     }
 
-    /// Takes the memory for this many later jobs and collections, with so many operations in all: as long as that
+    /// Takes the memory for `arrivals` later jobs and collections, with `operations` operations in all: as long as that
     /// suffices, none of them is refused with `NoMemory`, and none takes memory. Each one that is accepted uses one of
-    /// them up, with as many operations as it has, and nothing else does. Each [renewal](DieCore::renew) reserves as many
-    /// again. Slots are [reserved](DieCore::reserve) apart.
+    /// them up, with as many operations as it has, and nothing else does. Each [renewal](DieCore::renew) reserves as
+    /// many again. Slots are [reserved](DieCore::reserve) apart.
     ///
-    /// The only refusal is `NoMemory`, where nothing changes; so many of both as are reserved already are never refused.
+    /// The only refusal is `NoMemory`, where nothing changes. It never comes where as many of both are reserved
+    /// already.
     pub fn reserve_arrivals(&mut self, arrivals: u32, operations: u32) -> Result<(), Refusal>
         ensures ok { OnOk result (self.new ≡ with_arrivals arrivals operations self.old) }
         ensures refused { FailsForMemory result }

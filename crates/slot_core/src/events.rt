@@ -10,7 +10,7 @@ use flash_die::Nand;
 use slot_types::{Event, JobHead, JobNo, LentOps, Refusal, Reply};
 use std::alloc::Global;
 
-/// An event but for a job's operations, which lie beside it.
+/// An event without a job's operations, which lie next to it.
 #[derive(Clone, Copy, PartialEq, Eq, Debug, Drop)]
 pub enum EventHead {
     /// A job or a collection arrives.

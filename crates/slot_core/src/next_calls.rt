@@ -220,8 +220,8 @@ fn look_ahead<N: Nand>(
 
 impl<N: Nand> DieCore<N> {
     /// What the next slot will carry, and the one call of the device that it will make, if it makes one. It takes no
-    /// memory, and changes nothing. Where the head is a job it takes constant time but for what is released by then;
-    /// each collection that is waived before the head costs some steps more.
+    /// memory, and changes nothing. Where the head is a job it takes constant time, except for what is released by
+    /// then; each collection that is waived before the head costs some steps more.
     ///
     /// The refusals, in this order: `DieStopped`, where a fault has stopped the die; `ClockEnd`, where the present slot
     /// is 1,048,576.

@@ -26,7 +26,7 @@ pub enum Outcome {
         given: u32,
         reads: Reads,
     },
-    /// It is a collection that was waived, and gave its task so many pages.
+    /// It is a collection that was waived, and gave its task `given` pages.
     Waived {
         given: u32,
     },

@@ -14,7 +14,7 @@ pub struct Overdue {
     pub job: JobNo,
     /// Its deadline.
     pub due: u32,
-    /// By how many slots it will be late at least: so many if the present slot is its last one.
+    /// By how many slots it will be late at least, that is, if the present slot is its last one.
     pub late_by: u64,
 }
 

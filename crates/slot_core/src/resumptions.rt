@@ -111,10 +111,10 @@ impl<N: Nand> DieCore<N> {
     /// what the device holds where the checkpoint has them; a page that lies nowhere is blank. No call of the device is
     /// made.
     ///
-    /// That the device is of the plan's shape is tested, and so is all of the checkpoint. That the device is as a
-    /// checkpoint that fits says is the caller's to know, since a device can't be asked: so many pages of each block
-    /// are programmed, it was erased so often, no block is in erase, and no call has failed. What the pages hold may be
-    /// anything.
+    /// That the device is of the plan's shape is tested, and so is all of the checkpoint. The caller has to know that
+    /// the device is as a checkpoint that fits says, since a device can't be asked: each block has as many programmed
+    /// pages and was erased as often as the checkpoint says, no block is in erase, and no call has failed. What the
+    /// pages hold may be anything.
     ///
     /// Refused with the first cause that stands, as [`ResumeRefusal`] lists them; the device is handed back then, and
     /// the plan is given up.

@@ -8,7 +8,7 @@ pub record Arena : Type 0 where
   pub room : ℕ
   pub lasting : ℕ
 
--- a list of this length and capacity takes so many items more, and so many, which are no fewer, once it is empty
+-- a list of this length and capacity takes `room` more items, and `lasting`, which are no fewer, once it is empty
 pub record HasRoom (room lasting len capacity : ℕ) : Type 0 where
   pub for_more : len + room ≤ capacity
   pub for_all : lasting ≤ capacity

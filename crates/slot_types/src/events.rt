@@ -39,7 +39,7 @@ pub enum Event {
     Slot,
 }
 
-/// What a job or a collection asks, but for a job's operations, which lie beside it.
+/// What a job or a collection asks, without a job's operations, which lie next to it.
 #[derive(Clone, Copy, PartialEq, Eq, Debug, Drop)]
 pub struct JobHead {
     /// Whether it is a collection.

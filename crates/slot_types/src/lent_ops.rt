@@ -39,7 +39,7 @@ pub struct OpCounts {
     pub writes: usize,
 }
 
-/// Counts the reads and writes of a list on so many pages. Refused with the first page that isn't there.
+/// Counts the reads and writes of a list. Refused with the first page that isn't below `pages`.
 fn count_list(ops: &[Op], pages: u32) -> Result<OpCounts, u32>
     ensures reads { IfOk result (λ counts. counts.reads ≡ count_by is_read ops.now) }
     ensures writes { IfOk result (λ counts. counts.writes ≡ writes ops.now) }
@@ -64,7 +64,7 @@ fn count_list(ops: &[Op], pages: u32) -> Result<OpCounts, u32>
     Ok(OpCounts { reads, writes })
 }
 
-/// The first of some pages that isn't below so many.
+/// The first page of a list that isn't below `pages`.
 fn first_beyond(list: &[u32], pages: u32) -> Option<u32>
     ensures { result ≡ find (nat_le pages) list.now }
 {
@@ -131,8 +131,7 @@ impl<'a> LentOps<'a> {
         count_writes(self.list) + self.bytes.len()
     }
 
-    /// Counts those that read and those that write, where all are on the first so many pages. Refused with the page of
-    /// the first that isn't.
+    /// Counts those that read and those that write. Refused with the page of the first that isn't below `pages`.
     pub fn count(&self, pages: u32) -> Result<OpCounts, u32>
         ensures reads { IfOk result (λ counts. counts.reads ≡ count_by is_read self.now) }
         ensures writes { IfOk result (λ counts. counts.writes ≡ writes self.now) }

@@ -71,8 +71,8 @@ impl OpArena {
         self.room = self.lasting;
     }
 
-    /// Reserves memory for so many more operations, if it isn't for as many already. Then this isn't refused. Refused
-    /// with `NoMemory`, nothing changes.
+    /// Reserves memory for `count` more operations. Where it is reserved for as many already, this isn't refused.
+    /// Refused with `NoMemory`, nothing changes.
     pub fn reserve(&mut self, count: usize) -> Result<(), Refusal>
         ensures ok { OnOk result (self.new ≡ record self.old {
           room = max self.old.room count;
@@ -123,7 +123,7 @@ impl OpArena {
         self.bytes.len()
     }
 
-    /// The operation at a place, which has so many writes before it.
+    /// The operation at a place with `before` writes before it.
     pub fn get(&self, place: usize, before: usize) -> Op
         requires there { place < length self.now.ops }
         requires writes { before ≡ writes (take place self.now.ops) }
@@ -154,7 +154,8 @@ impl OpArena {
         count_writes_in(&self.kinds[from..to])
     }
 
-    /// The operations from one place to before another, which have so many writes before them.
+    /// The operations from one place to before another: `writes_from` writes are before `from`, `writes_to` before
+    /// `to`.
     pub fn slice(&self, from: usize, to: usize, writes_from: usize, writes_to: usize) -> LentOps<'_>
         requires rise { from ≤ to }
         requires there { to ≤ length self.now.ops }
@@ -170,7 +171,7 @@ impl OpArena {
         }
     }
 
-    /// Adds operations, so many of which write, and uses up as much of what is reserved, as far as it goes: where that is
+    /// Adds operations, of which `write_count` write. They use up what is reserved, as far as it goes: where that is
     /// enough, this isn't refused. Refused with `NoMemory`, nothing changes.
     pub fn push_all(&mut self, ops: &LentOps, write_count: usize) -> Result<(), Refusal>
         requires { write_count ≡ writes ops.now }

@@ -138,7 +138,7 @@ impl PackedOps {
         self.bytes.len()
     }
 
-    /// The operation at a place, which has so many writes before it.
+    /// The operation at a place with `before` writes before it.
     pub fn get(&self, place: usize, before: usize) -> Op
         requires there { place < length self.now }
         requires writes { before ≡ writes (take place self.now) }
@@ -169,7 +169,8 @@ impl PackedOps {
         count_writes_in(&self.kinds[from..to])
     }
 
-    /// The operations from one place to before another, which have so many writes before them.
+    /// The operations from one place to before another: `writes_from` writes are before `from`, `writes_to` before
+    /// `to`.
     pub fn slice(&self, from: usize, to: usize, writes_from: usize, writes_to: usize) -> LentOps<'_>
         requires rise { from ≤ to }
         requires there { to ≤ length self.now }
@@ -211,7 +212,7 @@ impl PackedOps {
         Ok(())
     }
 
-    /// Adds operations, so many of which write. Refused with `NoMemory`, none is added.
+    /// Adds operations, of which `write_count` write. Refused with `NoMemory`, none is added.
     pub fn push_all(&mut self, ops: &LentOps, write_count: usize) -> Result<(), Refusal>
         requires { write_count ≡ writes ops.now }
         ensures ok { OnOk result (self.new ≡ self.old ++ ops.now) }

@@ -37,7 +37,7 @@ pub type Caps = Items<u32>;
 /// What a task asks for. All times are in slots.
 #[derive(Clone, Copy, PartialEq, Eq, Debug, Drop)]
 pub struct TaskTimes {
-    /// A job of the task comes at most once in so many slots, 1 to 1,048,576, and has as long to be done.
+    /// The period in slots, 1 to 1,048,576: a job of the task comes at most once in it, and has as long to be done.
     pub period: u32,
     /// A collection comes at each multiple of this, 1 to 1,048,576, and has as long to be done.
     pub collect_period: u32,
@@ -53,8 +53,8 @@ pub type TimesList = Items<TaskTimes>;
 /// What the tasks of a die ask for.
 #[derive(Clone, PartialEq, Eq, Debug, Drop)]
 pub struct Times {
-    /// The hyperperiod: a multiple of all periods, 1 to 1,048,576. The demand is what all tasks ask for in so many
-    /// slots.
+    /// The hyperperiod in slots: a multiple of all periods, 1 to 1,048,576. The demand is what all tasks ask for in a
+    /// hyperperiod.
     pub common: u32,
     pub tasks: TimesList,
 }
@@ -72,5 +72,5 @@ pub struct DiePlan {
     pub times: Option<Times>,
 }
 
-/// The plans of a store's dies, by die: all alike but for the caps and the times.
+/// The plans of a store's dies, by die: all alike except for the caps and the times.
 pub type StorePlan = Items<DiePlan>;

@@ -86,7 +86,7 @@ pub enum Refusal {
     WriteFault,
     /// 65,536 passes were made.
     PassesFull,
-    /// So many passes are neither this one nor joined into it.
+    /// `out` passes are neither this one nor joined into it.
     PassesOut { out: u32 },
 }
 

@@ -51,7 +51,7 @@ sound_if x h outcome =
     (le-leb x.row.due 1048576 h.due))
     outcome)
 
--- a job of this number on this die, which took so many slots
+-- a job of this number on this die, which took `took` slots
 record IsPlaced (die n task release due took : ℕ) : Type 0 where
   on_die : die < 8
   numbered : n < 65536

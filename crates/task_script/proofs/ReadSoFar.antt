@@ -24,7 +24,7 @@ IsReadTo (Some all) (Some more) items = all ≡ with_items items more
 abbrev pub FailsIn : Option Script → Refusal → Type 0
 FailsIn old refusal = IsOutside refusal ⊎ IfSome old (λ left. left ≡ Err refusal)
 
--- the rows of so many dies, by die
+-- the rows of `dies` dies, by die
 pub record IsDealt (dies slots : ℕ) (items : List ScriptItem) (feeds : List (List ScriptItem)) : Type 0 where
   pub all : length feeds ≡ dies
   pub rows : (die : ℕ) → die < dies → get_or feeds die [] ≡ feed_of items die

@@ -104,7 +104,7 @@ until_more [] batch none = omega arith
 until_more (first ∷ before) batch none =
     let rest = until_more before batch (omega (arith, none)) in omega (arith, none, rest)
 
--- so many batches were sent, none of which is the last
+-- at most `count` batches were sent, none of which is the last
 abbrev pub GoOn : ℕ → List RowBatch → Type 0
 GoOn count batches = (length batches ≤ count) × (until_of batches ≡ 0)
 
@@ -264,7 +264,7 @@ module _ (until : ℕ) where
 
 -- A script
 
--- these senders have sent what was read of a script, in so many batches at most, none of which is the last
+-- these senders have sent what was read of a script, each in at most `count` batches, none of which is the last
 pub record HasSent (old now : Option (Reading RowText)) (dies slots from line count : ℕ) (firsts senders : List BatchSender) : Type 0 where
   pub read : HasReadTexts old now dies slots from line (rows_sent senders) More
   pub counts : AllByRecursion (λ (sender : BatchSender). GoOn count (sent_by sender)) senders

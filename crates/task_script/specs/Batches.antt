@@ -120,7 +120,7 @@ joined_after count (at ∷ progress) = joined_after (sum_of_counts count at.coun
 abbrev pub joined_counts : List Progress → RunCount
 joined_counts progress = joined_after (count_of []) progress
 
--- the dies were closed with these passes, these are the parts of their report, and so many rows were counted
+-- the dies were closed with these passes, these are the parts of their report, and `count` counts the rows
 pub record Closes (ps : List DiePass) (progress : List Progress) (parts : List TextSoFar) (count : RunCount) : Type 0 where
   pub dies : List (Core Memory)
   pub closed : AllZip IsClosedWith ps dies

@@ -24,7 +24,7 @@ pub data ScriptCall : Type 0 where
 abbrev pub row_slot : ScriptItem → ℕ
 row_slot item = item.at
 
--- the calls of so many slots from a slot on: before each slot the rows that come by then, and after the last one those
+-- the calls of `left` slots from a slot on: before each slot the rows that come by then, and after the last one those
 -- that are left
 abbrev pub calls_from : ℕ → ℕ → List ScriptItem → List ScriptCall
 calls_from slot zero items = map Row items

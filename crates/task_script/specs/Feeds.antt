@@ -7,7 +7,7 @@ use Rattle.text_base.specs.Readings.{IsOutside}
 use Rattle.script_texts.specs.Script.{script_of}
 use Rattle.script_texts.specs.declared.script_rows.ScriptItem.{ScriptItem}
 
--- so do all of these rows: each asks for any event but a slot, by the end of so many slots
+-- so do all of these rows: each asks for any event except a slot, by the end of `slots` slots
 abbrev pub AllArrive : ℕ → List ScriptItem → Type 0
 AllArrive slots items = All (Arrives slots) items
 
@@ -27,7 +27,7 @@ rows_dealt {A = A} feeds = sum_by (λ (rows : List A). length rows) feeds
 abbrev pub RefusesScript : Option (List ℕ) → ℕ → ℕ → Refusal → Type 0
 RefusesScript text dies slots refusal = IsOutside refusal ⊎ IfSome text (λ bytes. script_of dies slots bytes ≡ Err refusal)
 
--- the rows of each of so many dies arrive by the end of so many slots, and what they write are pages
+-- the rows of each of `dies` dies arrive by the end of `slots` slots, and what they write are pages
 pub record AreInTime (dies slots : ℕ) (items : List ScriptItem) : Type 0 where
   pub arrive : (die : ℕ) → die < dies → AllArrive slots (feed_of items die)
   pub pages : (die : ℕ) → die < dies → RowsHavePages (feed_of items die)

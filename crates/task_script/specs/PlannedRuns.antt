@@ -23,7 +23,7 @@ abbrev pub event_of : ScriptCall → Event
 event_of (Row item) = item.event
 event_of Slot = events.Slot
 
--- the events of a run of so many slots with these rows, in their order
+-- the events of a run of `slots` slots with these rows, in their order
 abbrev pub events_of_rows : ℕ → List ScriptItem → List Event
 events_of_rows slots items = map event_of (calls_of slots items)
 

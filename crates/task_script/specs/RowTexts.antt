@@ -32,7 +32,7 @@ abbrev pub Ascend : ℕ → List RowText → ℕ → Type 0
 Ascend from [] behind = from ≤ behind
 Ascend from (row ∷ rows) behind = (from ≤ row.head.line) × Ascend (row.head.line + 1) rows behind
 
--- rows for so many dies and slots, whose records are numbered from `from` on and below `behind`, by die
+-- rows for `dies` dies and `slots` slots, whose records are numbered from `from` on and below `behind`, by die
 pub record AreDealt (dies slots from behind : ℕ) (rows : List RowText) (texts : List (List RowText)) : Type 0 where
   pub all : length texts ≡ dies
   pub own : (die : ℕ) → die < dies → get_or texts die [] ≡ texts_of rows die

@@ -48,7 +48,7 @@ pub record RunsText (text : Option (List ℕ)) (plans : List DiePlan) (slots : �
 
 -- While the dies run
 
--- these dies ran, these are their reports, and so many of their rows were accepted and refused
+-- these dies ran, these are their reports, and `count` counts their rows that were accepted and refused
 pub record DiesHaveRun (slots : ℕ) (feed : ℕ → List ScriptItem) (plans : List DiePlan) (report : List DieReport) (count : RunCount) : Type 0
   where
     pub runs : List DieRun

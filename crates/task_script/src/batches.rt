@@ -42,7 +42,7 @@ pub struct KeptRows {
     pub lines: Lines,
 }
 
-/// So many dies that have done nothing.
+/// `dies` dies that have done nothing.
 pub fn no_progress(alloc: Global, dies: usize) -> Result<Vec<Progress>, Refusal>
     ensures ok { IfOk result (λ progress. progress.items ≡ replicate dies fresh_progress) }
     ensures refused { FailsForMemory result }
@@ -158,8 +158,8 @@ fn go_on(
     Ok(made)
 }
 
-/// Runs these rows on their dies, by so many workers, each die up to its last row, but not less than up to slot
-/// `until`; no row comes after the last slot that a die reaches. All rows so far are few enough to be counted. No other
+/// Runs these rows on their dies, by `workers` workers, each die up to its last row, and at least up to slot
+/// `until`. No row comes after the last slot that a die reaches. All rows so far are few enough to be counted. No other
 /// pass may call these dies.
 ///
 /// The only refusal is NoMemory, after which the dies are given up: a slot of a device in memory is refused for that, or

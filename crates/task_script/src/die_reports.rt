@@ -34,7 +34,7 @@ fn given_by(collects: bool, given: u32) -> Option<u32>
     if collects { Some(given) } else { None }
 }
 
-/// What the row of a job says, but for what its reads gave.
+/// What the row of a job says, without what its reads gave.
 fn numbers_of(die: u32, number: JobNo, job: &Job) -> RowNumbers
     ensures { result ≡ numbers_of (on_die die (row_as number (summary_in job.now))) }
 {

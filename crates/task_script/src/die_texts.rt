@@ -58,7 +58,7 @@ fn unmade(alloc: Global, dies: Vec<DieCore<MemoryNand>>) -> Result<Vec<DieText>,
     Ok(texts)
 }
 
-/// Makes the lines of dies, whose numbers are from 0, by at most so many threads.
+/// Makes the lines of dies, whose numbers are from 0, by at most `threads` threads.
 fn make_all<R: Threads + Sync>(rt: &R, alloc: Global, texts: &mut [DieText], threads: u32)
     requires few { length texts.old ≤ 8 }
     requires threads { 1 ≤ threads }
@@ -91,7 +91,7 @@ fn parts_in(alloc: Global, texts: &mut [DieText]) -> Result<Vec<ReportText>, Ref
 }
 
 /// The parts of the report of dies, whose numbers are from 0: the header, and the lines of each. They are made by at
-/// most so many threads, the lines of one die after those of another where there are more dies than threads, and each
+/// most `threads` threads, the lines of one die after those of another where there are more dies than threads, and each
 /// die is given up once its lines are made. A thread that can't be started is done without. The only refusal is
 /// NoMemory.
 pub fn parts_of<R: Threads + Sync>(

@@ -19,7 +19,7 @@ pub const LISTS_BACK: usize = 4;
 #[derive(Drop)]
 pub struct RowBatch {
     pub rows: RowTexts,
-    /// The die then runs up to its last row, but not less than up to this slot: it is 0 but for the last batch.
+    /// The die then runs up to its last row, and at least up to this slot, which is 0 except in the last batch.
     pub until: u32,
 }
 

@@ -113,7 +113,7 @@ fn send_all<R: Threads + Wait + Sync, S: Read + Drop>(
             return Ok(read.end);
         };
     }
-    // No script has so many batches: each but the last has a row, and no row has a number above 1,000,001.
+    // No script has 4,294,967,295 batches: each except the last has a row, and no row has a number above 1,000,001.
     unreachable!()
 }
 
@@ -168,8 +168,8 @@ fn send_by<'s, 'e: 's, R: Threads + Wait + Sync, S: Read + Drop>(
     })
 }
 
-/// Reads a script, sends its rows to fresh dies of these plans, and runs them, by so many workers, or by this thread where
-/// there is but one. The only refusal of this call is NoMemory.
+/// Reads a script, sends its rows to fresh dies of these plans, and runs them, by `workers` workers, or by this thread
+/// where there is only one. The only refusal of this call is NoMemory.
 pub fn send_script<R: Threads + Wait + Sync, S: Read + Drop>(
     rt: &R,
     alloc: Global,

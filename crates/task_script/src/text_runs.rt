@@ -86,7 +86,7 @@ fn joined(progress: &[Progress]) -> RunCount
     count
 }
 
-/// Closes dies that have carried out their slots, and makes their report by so many threads. The only refusal is
+/// Closes dies that have carried out their slots, and makes their report by `workers` threads. The only refusal is
 /// NoMemory.
 fn finish<R: Threads + Wait + Sync>(
     rt: &R,
@@ -120,8 +120,8 @@ fn finish<R: Threads + Wait + Sync>(
 
 /// Runs a script on fresh dies in memory.
 ///
-/// Refused as the first fault of the script, as NoMemory, or as ReadFault: that comes only together with the script's
-/// reader, whose csv reader has failed.
+/// Refused as the first fault of the script, as NoMemory, or as ReadFault. A ReadFault comes with the script's reader,
+/// in which csv's reader has failed.
 fn run_script<R: Threads + Wait + Sync, S: Read + Drop>(
     rt: &R,
     alloc: Global,
@@ -163,7 +163,7 @@ fn run_script<R: Threads + Wait + Sync, S: Read + Drop>(
 }
 
 /// Runs a script on a store of 1 to 8 dies in memory by 1 to 16 workers, and writes the report of what became of it.
-/// Each die carries out so many slots, from 0 to 1,048,576. A row comes before the slot of its `at`, those of one die
+/// Each die carries out `slots` slots, from 0 to 1,048,576. A row comes before the slot of its `at`, those of one die
 /// in their order, and those whose `at` is the number of slots come after the last one. A row that its die refuses is
 /// no event, and doesn't stop the run; it is counted.
 ///
@@ -171,20 +171,20 @@ fn run_script<R: Threads + Wait + Sync, S: Read + Drop>(
 /// number of workers. By one worker no thread is started. By more, each that has dies is a thread for the whole run: it
 /// reads the operations of their rows and runs these, while this thread takes further rows off the script and sends
 /// them. It alone reads the script, within the bounds of [`ScriptReader`](crate::ScriptReader) on bytes and on calls,
-/// which so are the same by any workers. At the end so many make the lines of the report. A thread that can't be started
-/// is done without: its work is done by this one. May wait for the workers.
+/// which are the same by any number of workers. At the end as many threads make the lines of the report. A thread that
+/// can't be started is done without: its work is done by this one. May wait for the workers.
 ///
-/// So is this: on a die whose rows keep its plan, with times that pass their test, no lateness in the report is above
-/// 0, and no row is refused but out of memory, or after one that was.
+/// This is proved, too: on a die whose rows keep its plan, with times that pass their test, no lateness in the report
+/// is above 0, and no row is refused except out of memory, or after one that was.
 ///
 /// Rows are read and run batch by batch, so that the script is never kept whole: what is kept of it are the rows of
 /// four batches, in four lists of each die, which keep the memory of the die's largest batch. A die is given up once its
 /// lines are made.
 ///
 /// It ends with the first fault of the script, as [`ScriptReader`](crate::ScriptReader) says it; with `ReadFault`,
-/// where reading the script fails, and only together with the script's reader, whose csv reader has failed; or with
-/// `NoMemory`. Nothing is written before the whole script was read and run, and nothing with these. `WriteFault` comes
-/// exactly where the writer fails: a front of the report was then written that isn't the whole.
+/// where reading the script fails; or with `NoMemory`. A `ReadFault` comes with the script's reader, in which csv's
+/// reader has failed. Nothing is written before the whole script was read and run, and nothing where it ends so.
+/// `WriteFault` comes exactly where the writer fails: a front of the report was then written that isn't the whole.
 pub fn run_text<R: Threads + Wait + Sync, S: Read + Drop, W: Output>(
     rt: &R,
     alloc: Global,

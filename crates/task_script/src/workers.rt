@@ -42,7 +42,7 @@ impl Signal {
     }
 }
 
-/// A signal for each of so many workers. The only refusal is NoMemory.
+/// A signal for each of `workers` workers. The only refusal is NoMemory.
 pub fn signals(alloc: Global, workers: u32) -> Result<Vec<Signal>, Refusal>
     ensures { FailsForMemory result }
 {

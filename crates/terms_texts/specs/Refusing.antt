@@ -1,4 +1,4 @@
--- Why a call that reads a text is refused, beside what the text says.
+-- Why a call that reads a text is refused, apart from what the text says.
 use Rattle.std.specs.Prelude.{◌≡◌, ◌⊎◌, Result, Ok, Err}
 use Rattle.slot_types.specs.declared.refusals.Refusal.{Refusal}
 use Rattle.slot_types.specs.declared.refusals.Refusal.TheVariants.{NoMemory, BadPlan, PlanText}

@@ -44,7 +44,7 @@ die_of plan die = record {
   terms = record { tasks = terms_of_tasks plan.tasks die };
 }
 
--- those of the dies, all alike but for the caps and the terms
+-- those of the dies, all alike except for the caps and the terms
 abbrev pub dies_of : TermsNumbers → List DieTerms
 dies_of plan = map (die_of plan) (range_with_len 0 plan.top.dies)
 

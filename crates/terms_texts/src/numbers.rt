@@ -227,7 +227,7 @@ fn table(alloc: Global, text: &[u8]) -> Result<Table, TermsRefusal>
     }
 }
 
-/// The numbers of a plan's text, which aren't judged beside others: a text that is read may still make no plan. Refused
+/// The numbers of a plan's text, which aren't judged together: a text that is read may still make no plan. Refused
 /// as Text with the first fault of the text, as [`read_terms`](crate::read_terms) says, or as NoMemory.
 pub fn terms_numbers(alloc: Global, text: &[u8]) -> Result<TermsNumbers, TermsRefusal>
     ensures { GivesReading result (read_numbers text.now) }

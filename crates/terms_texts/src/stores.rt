@@ -25,7 +25,7 @@ pub struct DieTerms {
     pub terms: Terms,
 }
 
-/// The plans of a store's dies with their terms, by die: all alike but for the caps and the terms.
+/// The plans of a store's dies with their terms, by die: all alike except for the caps and the terms.
 pub type StoreTerms = Items<DieTerms>;
 
 /// The shape of the dies.

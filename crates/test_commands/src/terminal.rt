@@ -54,7 +54,7 @@ const READS: [(u64, u32); 8] = [
     (350, 3),
 ];
 
-/// Whether a reader of these shows so many texts, or none where nothing is to be shown.
+/// Whether a reader of these shows as many texts as `READS` says, or none where nothing is to be shown.
 fn shows_in_turn(shown: Shown, shows: bool) -> io::Result<bool> {
     let terminal = Terminal {
         millis: Cell::new(0),

@@ -18,7 +18,7 @@ pub(crate) enum End {
     IsInterrupted,
 }
 
-/// Takes at most so many bytes at a call, for so many calls.
+/// Takes at most `most` bytes at a call, for `calls_left` calls.
 #[derive(Drop)]
 pub(crate) struct Slow {
     pub(crate) text: Vec<u8>,
@@ -93,7 +93,7 @@ fn slowly<R: Threads + Wait + Sync>(
     }
 }
 
-/// Whether this is reported, and the output is so many bytes of a text that has more.
+/// Whether this is reported, and the output is `bytes` bytes of a text that has more.
 fn is_cut(printed: &Printed, whole: &[u8], bytes: usize) -> bool {
     let said = printed.err.as_slice() == b"error 22 WriteFault\n".as_slice();
     let taken = printed.out.as_slice();
@@ -124,7 +124,7 @@ fn cuts<R: Threads + Wait + Sync>(
     None
 }
 
-/// How many calls of so many bytes a command's output takes.
+/// How many calls of `most` bytes a command's output takes.
 fn calls_for<R: Threads + Wait + Sync>(
     rt: &R,
     alloc: Global,

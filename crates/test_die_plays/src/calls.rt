@@ -41,7 +41,7 @@ fn arrive<N: Nand>(
     said.number(i64::from(number.0))
 }
 
-/// So many equal jobs arrive: task, release, due, operations, count. The last one's number is reported.
+/// `count` equal jobs arrive. The fields are task, release, due, operations, count. The last job's number is reported.
 fn jobs<N: Nand>(
     die: &mut DieCore<N>,
     alloc: Global,
@@ -88,7 +88,7 @@ fn at_once<N: Nand>(
     put_slot(said, &reply)
 }
 
-/// So many slots are carried out, and the number that each carried is reported.
+/// `count` slots are carried out, and the number that each carried is reported.
 fn slots<N: Nand>(
     die: &mut DieCore<N>,
     alloc: Global,
@@ -102,7 +102,7 @@ fn slots<N: Nand>(
     Ok(())
 }
 
-/// So many slots are carried out, whatever they do.
+/// `count` slots are carried out, whatever they do.
 fn pass<N: Nand>(
     die: &mut DieCore<N>,
     alloc: Global,
@@ -216,7 +216,7 @@ fn ask<N: Nand>(
     }
 }
 
-/// Memory for so many slots is reserved.
+/// Memory for `slots` slots is reserved.
 fn reserve<N: Nand>(die: &mut DieCore<N>, slots: u32, said: &mut Reported) -> Result<(), Refusal> {
     die.reserve(slots)?;
     said.words("ok")

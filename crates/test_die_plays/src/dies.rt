@@ -66,7 +66,8 @@ fn die_of(alloc: Global, plan: DiePlan, calls: u64) -> Result<Box<Die>, Refusal>
     DieCore::boxed(alloc, plan, device)
 }
 
-/// A new die: of a line `fused` the device fails after so many calls, and a line `timed` has the times of the plan.
+/// A new die. Of a line `fused` the device fails after as many calls as its first number says, and a line `timed` has
+/// the times of the plan.
 pub(crate) fn die_in(alloc: Global, fields: &Fields) -> Result<Box<Die>, Refusal> {
     match fields.name {
         "fused" => {

@@ -126,7 +126,7 @@ fn agree(table: &JobTable, jobs: &[Plain], number: u32) -> bool {
     }
 }
 
-/// Plays so many steps. Answers whether both agreed at each, and how many slots carried a job.
+/// Plays `steps` steps. Answers whether both agreed at each, and how many slots carried a job.
 fn play(
     alloc: Global,
     table: &mut JobTable,
@@ -150,7 +150,7 @@ fn play(
     Ok((same && table.len() as usize == jobs.len(), carried))
 }
 
-/// Plays so many steps on a new table. Answers whether both agreed at each, how many jobs there are, and how many slots
+/// Plays `steps` steps on a new table. Answers whether both agreed at each, how many jobs there are, and how many slots
 /// carried one.
 fn plays(alloc: Global, steps: u32) -> Result<(bool, usize, u32), Refusal> {
     let mut table = JobTable::new(alloc, 1)?;

@@ -106,7 +106,7 @@ enum Step<'a> {
     Carries(u32, &'a [u32]),
     /// The reads of the job of this number gave the pages of these slots.
     Gave(u32, &'a [u32]),
-    /// Memory is reserved for so many more jobs and collections, and for so many operations of these in all.
+    /// Memory is reserved for a number of jobs and collections more, and for a number of operations of these in all.
     Reserved(u32, u64),
     /// All jobs are taken away.
     Clears,
@@ -157,7 +157,8 @@ fn play(table: &mut JobTable, steps: &[Step]) -> Option<usize> {
     None
 }
 
-/// A new table of two tasks with memory reserved for so many jobs and collections, and so many operations of these.
+/// A new table of two tasks with memory reserved for `arrivals` jobs and collections, with `operations` operations in
+/// all.
 fn reserved_once(alloc: Global, arrivals: u32, operations: u32) -> Result<JobTable, Refusal> {
     let mut table = JobTable::new(alloc, 2)?;
     table.reserve(arrivals, operations)?;

@@ -43,7 +43,7 @@ const ONE: Waivers = &[(2, 4)];
 
 const TWO: Waivers = &[(3, 1), (4, 2)];
 
-/// What came, each so many times.
+/// What came, and how many times.
 #[rattlefmt::skip]
 const CAME: [(u32, Noted); 11] = [
     (1, (7, SUBMIT, &[])),

@@ -226,7 +226,7 @@ fn is_scarce<R: Env>(rt: &R) -> bool {
     rt.var("REFUSE", &mut number).is_ok()
 }
 
-// Applies a number that is added to a book of so many entries. Where memory is scarce and refused for it, it adds
+// Applies a number that is added to a book of `entries` entries. Where memory is scarce and refused for it, it adds
 // nothing and is applied again. Says whether it was added.
 fn gets_added<R: Wait + Env>(
     rt: &R,

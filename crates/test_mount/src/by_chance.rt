@@ -73,8 +73,8 @@ fn first_erase(labels: &[Seen]) -> Option<FirstErase> {
     None
 }
 
-/// A part by chance, with at most one cell without a label in so many: what a scan says of it, and what a plain look
-/// does. Answers whether they agree, and whether no block was idle.
+/// A part by chance, of whose cells one in `holes` has no label on average: what a scan says of it, and what a plain
+/// look does. Answers whether they agree, and whether no block was idle.
 fn agrees(alloc: Global, words: &mut Pcg32, holes: u32) -> Result<(bool, bool), Fail> {
     let plan = plan(alloc)?;
     let Ok(mut scan) = Scan::new(alloc, &plan) else {

@@ -49,7 +49,7 @@ pub struct Chip {
 }
 
 impl Chip {
-    /// A part of so many blocks, whose cells look blank.
+    /// A part of `blocks` blocks, whose cells look blank.
     pub fn new(alloc: Global, blocks: u32, pages: u32, slots: u32) -> Result<Chip, Wrong> {
         let cells = (blocks as usize).saturating_mul(pages as usize);
         Ok(Chip {

@@ -211,7 +211,8 @@ pub fn mounts(
     Ok((calls, undoes))
 }
 
-/// A mount whose power goes during the call after so many, of which this is left. Answers whether that call came.
+/// A mount whose power goes during the call after `calls` others, of which this is left. Answers whether that call
+/// came.
 pub fn mounts_until(
     alloc: Global,
     sizes: Sizes,

@@ -122,7 +122,7 @@ fn loose(
     Ok(())
 }
 
-/// How many pages lie in the first so many of the blocks: they are spread evenly.
+/// How many pages lie in the first `blocks` blocks: they are spread evenly.
 fn spread(sizes: Sizes, blocks: u32) -> u32 {
     sizes.logical.saturating_mul(blocks) / sizes.blocks.max(1)
 }
@@ -187,7 +187,7 @@ fn tight(
     Ok(())
 }
 
-/// A block of a tight part, up to whose end so many pages lie.
+/// A block of a tight part, up to whose end `live` pages lie.
 fn tight_block(
     sizes: Sizes,
     words: &mut Pcg32,

@@ -24,7 +24,7 @@ fn within(words: &mut Pcg32, most: u32) -> u32 {
 }
 
 impl Sizes {
-    /// A small plan. So many blocks are closed where the fewest are; and one page more would be too many.
+    /// A small plan. Where the fewest blocks are closed, they are `closed`; and one page more would be too many.
     pub fn by_chance(words: &mut Pcg32) -> Sizes {
         let pages = within(words, 5).saturating_add(1);
         let alpha = within(words, pages);
@@ -47,7 +47,7 @@ impl Sizes {
         sizes
     }
 
-    /// As many free pages as full accounts have: all caps, and by task the rest of a block beside alpha.
+    /// As many free pages as full accounts have: all caps, and by task the rest of a block without alpha.
     pub fn accounts(self) -> u32 {
         let own = self
             .cap

@@ -12,7 +12,7 @@ use std::alloc::Global;
 /// What came up in mounts.
 #[derive(Clone, Copy, PartialEq, Eq, Debug, Drop)]
 struct Met {
-    /// How many whole mounts had a call beside those of the first erase.
+    /// How many whole mounts had a call after those of the first erase.
     rounds: u32,
     /// How many undid a block.
     undone: u32,
@@ -27,8 +27,9 @@ const NONE: Met = Met {
 };
 
 impl Met {
-    /// Whether so many mounts were whole, and had a round each: after the first erase a block is free, and full accounts
-    /// need a page more at least. And whether it came up often enough that a block was undone, and that all calls came.
+    /// Whether `mounts` mounts were whole, and had a round each: after the first erase a block is free, and full
+    /// accounts need a page more at least. And whether it came up often enough that a block was undone, and that all
+    /// calls came.
     fn is_enough(self, mounts: u32, undone: u32, longest: u32) -> bool {
         self.rounds >= mounts && self.undone >= undone && self.longest >= longest
     }
@@ -72,7 +73,7 @@ fn mounts_twice(
     Ok(())
 }
 
-/// Mounts so many parts by chance. Answers what came up.
+/// Mounts `parts` parts by chance. Answers what came up.
 fn mount_parts(alloc: Global, parts: u32, words: &mut Pcg32) -> Result<Met, Wrong> {
     let mut met = NONE;
     for _ in 0..parts {

@@ -42,7 +42,7 @@ fn plays_on<N: Nand>(
     Ok(())
 }
 
-/// Plays it on a device that fails after so many calls, if it does.
+/// Plays it on a device that fails after `calls` calls, if it does.
 fn plays_once(
     rt: &(impl Abort + Env),
     alloc: Global,
@@ -85,7 +85,7 @@ pub(crate) fn goes_on(
     plays_again(rt, alloc, plan, None, turns)
 }
 
-/// Plays a table on a new die whose device fails after so many calls.
+/// Plays a table on a new die whose device fails after `calls` calls.
 pub(crate) fn goes_on_fused(
     rt: &(impl Abort + Env),
     alloc: Global,

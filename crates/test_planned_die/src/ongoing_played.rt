@@ -1,4 +1,4 @@
-//! Plays a table on a die that goes on by itself: what each step asks, and the answer beside what the step wants.
+//! Plays a table on a die that goes on by itself: what each step asks, and the answer with what the step wants.
 
 use crate::memory::Memory;
 use crate::ongoing_steps::{Answer, Turn};
@@ -74,7 +74,7 @@ fn carries<N: Nand, R: Abort>(
     }
 }
 
-/// So many slots are carried out.
+/// `count` slots are carried out.
 fn slots<N: Nand, R: Abort>(
     said: &Reported<R>,
     die: &mut OngoingDie<N>,
@@ -172,8 +172,8 @@ fn asks_in_time<N: Nand, R: Abort>(said: &Reported<R>, die: &mut OngoingDie<N>, 
     said.fits(right, &got, &"a job of the first task")
 }
 
-/// In each of so many slots the second task asks for too much, and for as much as it may in a period; the first one asks
-/// for a read each 10 slots.
+/// In each of `count` slots the second task asks for too much, and for as much as it may in a period; the first one
+/// asks for a read each 10 slots.
 fn babbles<N: Nand, R: Abort>(
     said: &Reported<R>,
     die: &mut OngoingDie<N>,

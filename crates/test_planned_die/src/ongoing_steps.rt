@@ -44,13 +44,13 @@ pub(crate) enum Turn<'a> {
     Carries {
         jobs: &'a [Option<u32>],
     },
-    /// So many slots are carried out.
+    /// `count` slots are carried out.
     Slots {
         count: u32,
     },
-    /// In each of so many slots the second task asks for more than it ever may, and for as much as it may at once,
-    /// whatever it is answered. The first task asks for a read each 10 slots, from the fifth on: it is taken, and is done
-    /// by its deadline.
+    /// In each of `slots` slots the second task asks for more than it ever may, and for as much as it may at once,
+    /// whatever it is answered. The first task asks for a read each 10 slots, from the fifth on: it is taken, and is
+    /// done by its deadline.
     Babbles {
         slots: u32,
     },
@@ -58,7 +58,7 @@ pub(crate) enum Turn<'a> {
     NoSlot {
         want: SlotStop,
     },
-    /// The task's ask that waits has so many operations; 0 where none waits.
+    /// The task's ask that waits has `ops` operations; 0 where none waits.
     Waiting {
         task: u32,
         ops: usize,

@@ -1,4 +1,4 @@
-//! Plays a table on a die: what each step asks, and the answer beside what the step wants.
+//! Plays a table on a die: what each step asks, and the answer with what the step wants.
 
 use crate::again::{ask, ask_all, carry, outcome_of};
 use crate::memory::Memory;
@@ -54,7 +54,7 @@ fn carries<N: Nand, R: Abort>(
     }
 }
 
-/// So many slots are carried out.
+/// `count` slots are carried out.
 fn slots<N: Nand, R: Abort>(
     said: &Reported<R>,
     die: &mut PlannedDie<N>,
@@ -73,7 +73,7 @@ const MORE_THAN_ALL: &[Op] = &[Op::Read(0); 71];
 /// As much as it may.
 const ALL_AT_ONCE: &[Op] = &[Op::Read(0); 70];
 
-/// In each of so many slots the second task asks for a burst that is too much, and for all that it may in a period.
+/// In each of `count` slots the second task asks for a burst that is too much, and for all that it may in a period.
 fn bursts<N: Nand, R: Abort>(
     said: &Reported<R>,
     die: &mut PlannedDie<N>,

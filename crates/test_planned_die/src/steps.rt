@@ -40,12 +40,12 @@ pub(crate) enum Step<'a> {
     Carries {
         jobs: &'a [Option<u32>],
     },
-    /// So many slots are carried out.
+    /// `count` slots are carried out.
     Slots {
         count: u32,
     },
-    /// In each of so many slots the second task asks for a burst of one operation more than it ever may, and for one of as
-    /// many as it may in a period, whatever it is answered; then the slot is carried out.
+    /// In each of `slots` slots the second task asks for a burst of one operation more than it ever may, and for one of
+    /// as many as it may in a period, whatever it is answered; then the slot is carried out.
     Bursts {
         slots: u32,
     },

@@ -50,7 +50,7 @@ fn ask_at<N: Nand, R: Wait>(
     }
 }
 
-/// Asks for so many slots, each of which is carried out between two arrivals at the gate. It notes what it hears.
+/// Asks during `slots` slots, each of which is carried out between two arrivals at the gate. It notes what it hears.
 pub(crate) fn ask_in_turn<N: Nand, R: Wait>(
     rt: &R,
     die: &SharedPlannedDie<N>,

@@ -7,7 +7,7 @@ use planned_ports::{ClockPort, SharedPlannedDie};
 use std::sync::atomic::{AtomicBool, Ordering};
 use std::sync::{Barrier, Wait};
 
-/// Carries so many slots out, each between two arrivals at the gate. It answers how many were.
+/// Carries `slots` slots out, each between two arrivals at the gate. It answers how many were.
 pub(crate) fn tick<N: Nand, R: Wait>(
     rt: &R,
     die: &SharedPlannedDie<N>,
@@ -29,7 +29,7 @@ pub(crate) fn tick<N: Nand, R: Wait>(
     (clock, carried)
 }
 
-/// Carries so many slots out, at once. It answers how many were.
+/// Carries `slots` slots out, at once. It answers how many were.
 pub(crate) fn carry<N: Nand, R: Wait>(
     rt: &R,
     die: &SharedPlannedDie<N>,

@@ -11,7 +11,7 @@ use slot_types::Op;
 use std::sync::Wait;
 use std::thread;
 
-/// What such a task may ask for, and does: in each period once, so often.
+/// What such a task may ask for, and does: once in each period, `asks` times.
 #[derive(Clone, Copy, Drop)]
 pub(crate) struct Eager {
     pub(crate) terms: TaskTerms,
@@ -32,8 +32,8 @@ const NOTHING: Answered = Answered {
     otherwise: 0,
 };
 
-/// When a job was released that was asked for in this slot or later, and is due so many slots after its release, as the
-/// rules say: at once, where that is in the life, or else in the first slot of the next one.
+/// When a job was released that was asked for in this slot or later, and is due `deadline` slots after its release, as
+/// the rules say: at once, where that is in the life, or else in the first slot of the next one.
 fn release_of(
     answer: Result<Taken, AskRefused>,
     slot: u64,

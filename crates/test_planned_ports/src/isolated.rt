@@ -12,7 +12,7 @@ use std::alloc::Global;
 use std::sync::Wait;
 use std::thread::Threads;
 
-/// What threads tell of a new die that is shared over so many lives.
+/// What threads tell of a new die that is shared over `lives` lives.
 fn told_of<R: Threads + Wait + Sync>(
     rt: &R,
     alloc: Global,
@@ -95,7 +95,7 @@ fn lives_once<R: Threads + Wait + Sync>(
     Ok(die)
 }
 
-/// Opens and closes a die for so many lives. It answers the clock then.
+/// Opens and closes a die for `lives` lives. It answers the clock then.
 fn lives_on<R: Threads + Wait + Sync>(rt: &R, alloc: Global, lives: u32) -> Result<u64, Wrong> {
     let mut die = a_die(alloc, &PLAN)?;
     for life in 0..lives {

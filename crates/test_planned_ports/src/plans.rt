@@ -22,9 +22,9 @@ pub(crate) struct Plan {
     pub(crate) shape: Shape,
     pub(crate) caps: &'static [u32],
     pub(crate) tasks: &'static [TaskTerms],
-    /// At most so many slots a life.
+    /// The most slots of a life.
     pub(crate) longest: u32,
-    /// So many slots a life: the longest one within these in which the periods of all collections end.
+    /// The slots of a life: the longest one within `longest` in which the periods of all collections end.
     pub(crate) life: u32,
     /// All that the last task may ask for in a period.
     pub(crate) all: &'static [Op],

@@ -24,7 +24,7 @@ pub(crate) struct Run {
     pub(crate) slots: u32,
     /// Beside a babbler.
     pub(crate) is_loud: bool,
-    /// So many slots are carried out once the threads have ended.
+    /// How many slots are carried out once the threads have ended.
     pub(crate) rest: u32,
     /// The babbler asks at the end, where no slot is carried out any longer, so that it was refused something.
     pub(crate) at_end: bool,

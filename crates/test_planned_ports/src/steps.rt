@@ -35,7 +35,7 @@ pub(crate) enum Step {
         ops: &'static [Op],
         want: Heard,
     },
-    /// So many slots are carried out.
+    /// `count` slots are carried out.
     Slots {
         count: u32,
     },

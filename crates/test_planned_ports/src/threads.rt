@@ -25,7 +25,7 @@ pub(crate) struct Told {
     pub(crate) babble: Babble,
 }
 
-/// A thread for the clock, and this one for the careful task: it asks in so many slots, before each is carried out.
+/// A thread for the clock, and this one for the careful task: it asks in `slots` slots, before each is carried out.
 fn in_step<N: Nand + Send, R: Threads + Wait + Sync>(
     rt: &R,
     die: &SharedPlannedDie<N>,

@@ -18,7 +18,7 @@ use std::sync::Wait;
 /// What becomes of a store that is to be closed.
 #[derive(PartialEq, Debug, Drop)]
 pub(crate) enum End {
-    /// It is closed: so many dies, and how many entries the first has, and its present slot.
+    /// It is closed. It has `dies` dies, the first one has `entries` entries, and its present slot is `slot`.
     Closed {
         dies: usize,
         entries: u64,

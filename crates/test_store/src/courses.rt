@@ -16,7 +16,7 @@ use std::process::Abort;
 use std::sync::Wait;
 use std::thread::Threads;
 
-/// What a die is fed, and how its run has to end: with so many slots, these refused events, and this refusal that stops
+/// What a die is fed, and how its run has to end: with `slots` slots, these refused events, and this refusal that stops
 /// it.
 pub(crate) struct Course<'a> {
     pub(crate) jobs: &'a [Job],
@@ -101,7 +101,7 @@ pub(crate) fn run_courses<N: Nand + Send, G: Gate + Sync, R: Threads + Wait + Sy
     Ok(())
 }
 
-/// Runs a part of two dies' run: so many slots from this one on, with the events of these courses. Fails the test where
+/// Runs a part of two dies' run: `slots` slots from `from` on, with the events of these courses. Fails the test where
 /// one doesn't end as it has to.
 pub(crate) fn run_part<N: Nand + Send, R: Threads + Wait + Sync + Abort>(
     rt: &R,

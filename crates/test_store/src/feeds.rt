@@ -33,7 +33,7 @@ fn feed(alloc: Global, jobs: &[Job]) -> Result<Feed, Refusal>
     Ok(feed)
 }
 
-// So many slots from this one on, with these jobs.
+// `slots` slots from `from` on, with these jobs.
 fn batch(alloc: Global, from: u32, slots: u32, jobs: &[Job]) -> Result<Batch, Refusal>
     ensures { IfOk result (λ batch. AllArrive batch.feed) }
 {
@@ -80,7 +80,7 @@ pub(crate) fn both(alloc: Global, first: &[Job], second: &[Job]) -> Result<Vec<F
     Ok(feeds)
 }
 
-/// A batch of each of two dies: so many slots from this one on.
+/// A batch of each of two dies: `slots` slots from `from` on.
 pub(crate) fn both_batches(
     alloc: Global,
     from: u32,

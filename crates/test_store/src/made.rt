@@ -22,7 +22,7 @@ pub(crate) fn memory(alloc: Global) -> Result<MemoryNand, Refusal>
     MemoryNand::new(alloc, ROOMY.shape)
 }
 
-// A device in memory that fails after so many calls.
+// A device in memory that fails after `calls` calls.
 fn fused(alloc: Global, calls: u64) -> Result<FuseNand<MemoryNand>, Refusal>
     ensures { IfOk result (λ nand. IsFresh (⟦<FuseNand<MemoryNand> as Nand>⟧.shape_of nand)
         (⟦<FuseNand<MemoryNand> as Nand>⟧.blocks nand)
@@ -62,7 +62,7 @@ pub(crate) fn faulty_dies(
     store_of(alloc, fused(alloc, 1)?, fused(alloc, 1000)?)
 }
 
-/// A store of three dies, the devices of which fail after so many calls.
+/// A store of three dies, the devices of which fail after these numbers of calls.
 pub(crate) fn fused_dies(
     alloc: Global,
     calls: [u64; 3],

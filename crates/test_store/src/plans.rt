@@ -35,7 +35,7 @@ impl Plan {
         })
     }
 
-    /// The plan of a store of so many dies.
+    /// The plan of a store of `dies` dies.
     pub(crate) fn of_store(&self, alloc: Global, dies: u32) -> Result<StorePlan, Refusal> {
         let mut plan = StorePlan::new(alloc);
         for _ in 0..dies {

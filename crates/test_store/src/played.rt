@@ -1,4 +1,4 @@
-//! Plays a table with a pass on its die: what each step asks, and the answer beside what the step wants.
+//! Plays a table with a pass on its die: what each step asks, and the answer with what the step wants.
 
 ghost use Rattle.std.specs.Prelude.{◌≡◌};
 

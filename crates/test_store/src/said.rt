@@ -12,7 +12,7 @@ pub(crate) struct Reported<'a, R: Abort> {
 }
 
 impl<'a, R: Abort> Reported<'a, R> {
-    /// Fails the test where an answer isn't right, and shows it beside what was wanted.
+    /// Fails the test where an answer isn't right, and shows it with what was wanted.
     pub(crate) fn fits<G: Debug, W: Debug>(&self, right: bool, got: &G, want: &W) {
         let (table, step) = (self.table, self.step);
         assert!(self.rt;

@@ -47,8 +47,8 @@ fn read_and_slot<N: Nand, R: Wait + Env>(
     Some(made_entries(read, scarce)?.saturating_add(made_entries(slot, scarce)?))
 }
 
-/// Submits eight reads and carries out eight slots, and says whether each made an entry, but for one that was refused
-/// for lack of memory where that is scarce, and made none.
+/// Submits eight reads and carries out eight slots, and says whether each made an entry, except for one that was
+/// refused for lack of memory where that is scarce, and made none.
 pub(crate) fn grows_or_stays<N: Nand, R: Wait + Env>(
     rt: &R,
     alloc: Global,
@@ -90,7 +90,7 @@ fn a_refused_allocation_changes_nothing(rt: HostRuntime) {
     assert_eq!(rt; ended, Ok(true));
 }
 
-// How many calls a die refused out of memory in a run of two slots, which it carried out but for a refused one.
+// How many calls a die refused out of memory in a run of two slots, which it carried out except for a refused one.
 // Nothing, if it ended otherwise.
 fn refusals_of(end: &DieEnd) -> Option<usize> {
     let refused = end.refused.as_slice();
@@ -106,7 +106,7 @@ fn refusals_of(end: &DieEnd) -> Option<usize> {
     }
 }
 
-// Whether two dies did all that they were asked for, but for one call where memory is scarce.
+// Whether two dies did all that they were asked for, except for one call where memory is scarce.
 fn are_right(ends: &[DieEnd], scarce: bool) -> bool {
     let [zero, one] = ends else {
         return false;
@@ -118,7 +118,7 @@ fn are_right(ends: &[DieEnd], scarce: bool) -> bool {
     }
 }
 
-// Runs a store by so many workers.
+// Runs a store by `workers` workers.
 fn run_fed<N: Nand + Send, R: Threads + Wait + Sync>(
     rt: &R,
     alloc: Global,

@@ -74,7 +74,7 @@ pub(crate) enum Fact {
     },
     /// The certificate is of this job alone, which fills the slots from its start to its completion.
     Certified(Bounds),
-    /// The log has so many entries, as the pass has seen it.
+    /// The log has `count` entries, as the pass has seen it.
     Entries {
         count: u64,
     },
@@ -82,7 +82,7 @@ pub(crate) enum Fact {
     Now {
         slot: u32,
     },
-    /// So many passes are out beside this one.
+    /// `passes` passes other than this one are out.
     Out {
         passes: u32,
     },

@@ -59,8 +59,8 @@ pub const KINDS: [ErrorKind; 41] = [
     ErrorKind::Uncategorized,
 ];
 
-/// Gives a text and then line feeds, so many bytes in all and at most so many a call, and then fails or ends. It counts
-/// its calls.
+/// Gives a text and then line feeds, `bytes` bytes in all and at most `a_call` a call, and then fails or ends. It
+/// counts its calls.
 #[derive(Drop)]
 pub struct Counting {
     text: &'static [u8],
@@ -135,7 +135,7 @@ pub struct Ended {
     pub calls: usize,
 }
 
-/// Reads a header and line feeds, so many bytes in all and at most so many a call, after which the reader fails or
+/// Reads a header and line feeds, `bytes` bytes in all and at most `a_call` a call, after which the reader fails or
 /// ends.
 fn read(alloc: Global, kind: Kind, bytes: usize, a_call: usize, fault: Option<ErrorKind>) -> Ended {
     let text = match kind {

@@ -13,7 +13,7 @@ use std::thread::Threads;
 use task_script::{ReportReader, RunCount, read_plan, run_text, write_report};
 use text_base::{Flagged, FlaggedReader};
 
-/// Gives a text so many bytes a call, and is interrupted as often ahead of each.
+/// Gives a text `a_call` bytes a call, and is interrupted `times` times ahead of each.
 #[derive(Drop)]
 struct Interrupted<'a> {
     text: &'a [u8],

@@ -37,7 +37,7 @@ cap = 4
 /// How many rows stand before what is odd, and after it: more than eight batches hold.
 const ROWS: u32 = 70_000;
 
-/// So many times the same bytes.
+/// The same bytes, `times` times.
 fn repeated(alloc: Global, bytes: &[u8], times: u32) -> Result<Vec<u8>, Fail> {
     let mut text = Vec::new(alloc);
     for _ in 0..times {

@@ -19,7 +19,7 @@ const TOO_LONG: Refusal = Refusal::PlanText {
     cause: Cause::TooLong,
 };
 
-/// Reads a plan with line feeds after it, so many bytes in all and at most so many a call, after which the reader
+/// Reads a plan with line feeds after it, `bytes` bytes in all and at most `a_call` a call, after which the reader
 /// fails or ends.
 fn read(alloc: Global, bytes: usize, a_call: usize, fault: Option<ErrorKind>) -> Ended {
     let mut reader = Counting::new(PLAN, bytes, a_call, fault);

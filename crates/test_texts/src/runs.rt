@@ -13,7 +13,7 @@ use std::thread::Threads;
 use task_script::{RefusedRun, RunCount, read_plan, run_text};
 use text_base::Output;
 
-/// What a run answers on the dies of a plan for five slots by so many workers, with its writer.
+/// What a run answers on the dies of a plan for five slots by `workers` workers, with its writer.
 pub fn run_on<R: Threads + Wait + Sync, S: Read + Drop, W: Output>(
     rt: &R,
     alloc: Global,

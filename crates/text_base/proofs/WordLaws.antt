@@ -14,7 +14,7 @@ abbrev pub front_words : {A : Type 0} → List A → Option (List A) → Option 
 front_words xs None = None
 front_words xs (Some more) = Some (xs ++ more)
 
--- so many, and then those that are read
+-- `n`, and then as many as are read
 abbrev pub front_count : {A : Type 0} → ℕ → Option (List A) → Option ℕ
 front_count n None = None
 front_count n (Some more) = Some (n + length more)

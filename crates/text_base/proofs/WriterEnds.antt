@@ -1,4 +1,4 @@
--- Calls that write a text to one writer end in one way, but for memory and for where the writer fails.
+-- Calls that write a text to one writer end in one way, except for memory and for where the writer fails.
 use Rattle.std.proofs.Common.{◌≡◌, ◌⊎◌, inl, inr, ℕ, Bool, false, true, List, Option, Some, None, Result, Ok, Err, refl, sym, ap, ◌∙◌}
 use Rattle.std.specs.Prelude.{◌↔◌, IfErr, OnOk}
 use Rattle.std.specs.Io.KnownBytes.{Appends}
@@ -30,7 +30,7 @@ one_or_fault (Err d) other (inr f) r' = inr (inr (inl (ap Err f)))
 one_or_fault (Ok a) (Err e) r (inl m) = inr (inr (inr (inl (ap Err m))))
 one_or_fault (Ok a) (Err e) r (inr f) = inr (inr (inr (inr (ap Err f))))
 
--- whether the flag was set tells which answer it was, but for memory
+-- whether the flag was set tells which answer it was, except for memory
 
 pub fresh_flag : (old new : Option Bool) → old ≡ Some false → KeepsFlag old new → new ≡ Some false
 fresh_flag None new is h = absurd (cc is)

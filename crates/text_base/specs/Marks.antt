@@ -14,7 +14,7 @@ is_marked text = last_of 0 text == 256
 abbrev pub without_mark : List ℕ → List ℕ
 without_mark text = if is_marked text then take (length text - 1) text else text
 
--- whether a text is of at most so many bytes
+-- whether a text is of at most `bound` bytes
 abbrev pub is_within : ℕ → List ℕ → Bool
 is_within bound text = nat_le (length text) bound && not (is_marked text)
 

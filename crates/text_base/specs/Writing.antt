@@ -47,7 +47,7 @@ pub record EndsWriting {W : Type 0} (contents : W → Option (List ℕ)) (has_fa
   pub failed : result ≡ Err WriteFault → SetsFlag (has_failed old) (has_failed new)
   pub refused : IfErr result (λ refusal. (refusal ≡ NoMemory) ⊎ (refusal ≡ WriteFault))
 
--- two such calls of one writer end in one way, but for memory and for where the writer fails
+-- two such calls of one writer end in one way, except for memory and for where the writer fails
 pub record HaveOneEnd {W : Type 0} (contents : W → Option (List ℕ)) (has_failed : W → Option Bool) (old : W)
     (one other : Result (Unit {0}) Refusal) (left right : W) : Type 0 where
   pub text : (known : List ℕ) → contents old ≡ Some known → OnOk one (OnOk other (contents left ≡ contents right))

@@ -41,7 +41,7 @@ impl<R: Read> Bounded<R> {
         }
     }
 
-    /// A reader that fails where a text goes on past so many bytes, or at a call past one more than that.
+    /// A reader that fails where a text goes on past `most` bytes, or at a call past `most + 1` calls.
     pub fn up_to(inner: R, most: usize) -> Bounded<R>
         requires { most < 2 ^ 32 }
         ensures { bounded_remaining R.remaining result

@@ -7,8 +7,8 @@ ghost use Rattle.std.specs.Io.KnownBytes.{ReadConsumes};
 use std::io;
 use std::io::{ErrorKind, Read};
 
-/// Calls a reader while calls are left of so many: once, and again where it was interrupted. An interrupted call is a
-/// call, too. Where none is left the error is `Other`.
+/// Calls a reader while any of `calls` calls are left: once, and again where it was interrupted. An interrupted call is
+/// a call, too. Where none is left the error is `Other`.
 pub fn read_again<R: Read>(reader: &mut R, calls: &mut usize, buf: &mut [u8]) -> io::Result<usize>
     ensures bound { ReadsAtMost result buf.new }
     ensures bytes { ReadConsumes (R.remaining reader.old) (R.remaining reader.new) result buf.new }

@@ -31,7 +31,7 @@ pub fn rows_in<R: Read>(alloc: Global, reader: R) -> Reader<Bounded<R>>
         .from_reader(alloc, Bounded::new(reader))
 }
 
-/// So it is, within a bound of so many bytes.
+/// A reader of all records, as [`rows_in`] makes one, within a bound of `most` bytes.
 pub fn rows_up_to<R: Read>(alloc: Global, reader: R, most: usize) -> Reader<Bounded<R>>
     requires { most < 2 ^ 32 }
     ensures plain { IsPlain result }

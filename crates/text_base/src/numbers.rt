@@ -22,7 +22,7 @@ pub fn number(field: &[u8]) -> Option<u32>
     u32::try_from(value).ok()
 }
 
-/// The number of so many digits at the front of a text, of this value, and what stands after them.
+/// The number of the first `digits` digits of a text, of this value, and what stands after them.
 fn number_and_rest(text: &[u8], digits: usize, value: u64) -> Option<(u32, &[u8])>
     requires few { digits ≤ 10 }
     requires inside { digits ≤ length text.now }

@@ -10,7 +10,7 @@ ghost use Rattle.script_texts.specs.ScriptLeft.{dies_of, script_left, slots_of};
 ghost use Rattle.tool_script_runs.specs.RunningDies.{HasEmptyLog};
 ghost use Rattle.tool_script_runs.specs.ScriptRuns.{GoesOn, script_in};
 ghost use Rattle.tool_checkpoint_runs.specs.Refusals.{RefusesRun, RefusesStart};
-ghost use Rattle.tool_checkpoint_runs.specs.Runs.{RanAndWentOn, boxed_starts, running, running_in, starts_by, starts_of};
+ghost use Rattle.tool_checkpoint_runs.specs.Runs.{NoneStopped, RanAndWentOn, boxed_starts, running, running_in, starts_by, starts_of};
 
 use crate::dies::{DiesOn, StoreDies, in_box, push_die};
 use crate::faults::RunFault;
@@ -77,6 +77,7 @@ pub fn started_store(
     requires bound { All MeetsBound plan }
     ensures starts { IfOk result (λ dies. boxed_starts dies.items ≡ starts_by plan from) }
     ensures empty { IfOk result (λ dies. All HasEmptyLog (map running_in dies.items)) }
+    ensures run { IfOk result (λ dies. NoneStopped (map running_in dies.items)) }
     ensures count { IfOk result (λ dies. length dies.items ≡ length plan) }
     ensures refused { IfErr result (RefusesStart plan from) }
 {

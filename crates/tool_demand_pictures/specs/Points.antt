@@ -9,6 +9,6 @@ use Rattle.tool_demand_pictures.specs.declared.sampling.Point.{Point}
 abbrev pub point_at : DieTerms → ℕ → Point
 point_at made slots = record { slots = slots; demand = demand_in made.plan made.terms slots }
 
--- so many points, at the multiples of a step
+-- `count` points, at the multiples of `step`
 abbrev pub points_of : DieTerms → (step count : ℕ) → List Point
 points_of made step count = map (λ (n : ℕ). point_at made (n * step)) (range_with_len 0 count)

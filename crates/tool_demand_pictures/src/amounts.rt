@@ -1,4 +1,4 @@
-//! What the tasks of a die may ask of so many slots.
+//! What the tasks of a die may ask of a number of slots.
 
 ghost use Rattle.std.specs.Prelude.{◌≡◌, ◌≤◌, ◌<◌, ◌*◌, All, length, sum_by};
 ghost use Rattle.plan_rules.specs.Bound.{MeetsBound};
@@ -8,7 +8,7 @@ use demand_rules::TaskTerms;
 use slot_types::DiePlan;
 use terms_texts::DieTerms;
 
-/// How many periods' work may be released in so many slots and be due by their end.
+/// The number of periods whose work may be released in `slots` slots and be due by their end.
 fn periods(period: u32, deadline: u32, slots: u32) -> u32
     requires some { 1 ≤ period }
     requires slots { slots ≤ 1048576 }
@@ -51,7 +51,7 @@ fn total_demand(plan: &DiePlan, tasks: &[TaskTerms], slots: u32) -> u64
     total
 }
 
-/// What the tasks of a die may ask of so many slots, 1,048,576 at most.
+/// What the tasks of a die may ask of `slots` slots, 1,048,576 at most.
 pub(crate) fn demand_of(made: &DieTerms, slots: u32) -> u64
     requires bound { MeetsBound made.now.plan }
     requires has { HasTerms made.now.plan made.now.terms }

@@ -27,25 +27,25 @@ impl Display for Tenths {
     }
 }
 
-/// Both axes go from 0 to so many slots.
+/// Both axes go from 0 to `end` slots.
 #[derive(Clone, Copy, Drop)]
 pub(crate) struct Axes {
     pub(crate) end: u32,
 }
 
 impl Axes {
-    /// How far so many slots lie from 0, in tenths of a pixel, where the whole axis has so many; the axis ends there.
+    /// How far `slots` slots lie from 0, in tenths of a pixel, where the axis has `whole` pixels; the axis ends there.
     fn part(&self, slots: u64, whole: u64) -> u64 {
         let end = u64::from(self.end.max(1));
         slots.min(end).saturating_mul(whole).saturating_mul(10) / end
     }
 
-    /// Where an interval of so many slots stands.
+    /// Where an interval of `slots` slots stands.
     pub(crate) fn x(&self, slots: u32) -> Tenths {
         Tenths((LEFT * 10).saturating_add(self.part(u64::from(slots), WIDTH)))
     }
 
-    /// Where so many slots that are asked for stand.
+    /// Where `slots` slots that are asked for stand.
     pub(crate) fn y(&self, slots: u64) -> Tenths {
         Tenths((FLOOR * 10).saturating_sub(self.part(slots, HEIGHT)))
     }

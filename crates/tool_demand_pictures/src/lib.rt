@@ -1,4 +1,4 @@
-//! The picture of what the tasks of a die may ask for, beside the slots that there are, by length of interval.
+//! The picture of what the tasks of a die may ask for, with the slots that there are, by length of interval.
 #![tactic(auto)]
 
 mod amounts;

@@ -148,7 +148,7 @@ fn put_asked(text: &mut Vec<u8>, axes: Axes, points: &[Point]) -> io::Result<()>
     writeln!(text, "H{x}V400\"/>")
 }
 
-/// So many slots, with their time where it is known how long one is.
+/// `count` slots, with their time where it is known how long one is.
 fn timed(count: u64, slot_us: Option<u32>) -> Slots {
     Slots { count, slot_us }
 }

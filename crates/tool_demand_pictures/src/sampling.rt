@@ -31,8 +31,8 @@ pub(crate) fn point_at(made: &DieTerms, slots: u32) -> Point
     }
 }
 
-/// So many points of a die: of the intervals of 0 slots, of `step`, and so on, each so many slots longer, up to 1,048,576 slots.
-/// The only refusal is NoMemory.
+/// `count` points of a die: of the intervals of 0 slots, of `step`, and so on, each `step` slots longer, up to
+/// 1,048,576 slots. The only refusal is NoMemory.
 pub fn points(alloc: Global, made: &DieTerms, step: u32, count: u32) -> Result<Vec<Point>, Refusal>
     requires bound { MeetsBound made.now.plan }
     requires has { HasTerms made.now.plan made.now.terms }

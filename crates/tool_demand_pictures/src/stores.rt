@@ -91,9 +91,9 @@ fn marked_of(made: &DieTerms) -> Option<Marked> {
     }
 }
 
-/// The picture of a die of a plan with terms, as SVG: how many slots may be asked of an interval, by its length, beside
-/// those that it has; and marked the tightest one, or the shortest one that is overfull, with its time where the plan's first line
-/// says how long a slot is.
+/// The picture of a die of a plan with terms, as SVG: how many slots may be asked of an interval, by its length,
+/// compared with those that it has. The tightest interval is marked, or the shortest one that is overfull, with its
+/// time where the plan's first line says how long a slot is.
 pub fn draw_demand(alloc: Global, plan: &[u8], die: u32) -> Result<Vec<u8>, Undrawn> {
     let numbers = terms_numbers(alloc, plan)?;
     let dies = numbers.top.dies;

@@ -37,8 +37,8 @@ held_before (Some dies) = held_of dies
 abbrev pub items_of : Vec (Vec Bool) → List (List Bool)
 items_of held = map (λ (pages : Vec Bool). pages.items) held.items
 
--- One life: dies, fresh or as they were saved before, ran a script that keeps their plans for some slots, of which so many rows
--- were refused, and went on until all was done; and this was saved of them.
+-- One life: dies, fresh or as they were saved before, ran a script that keeps their plans for some slots, of which
+-- `refused` rows were refused, and went on until all was done; and this was saved of them.
 pub record IsLife (plans : List DiePlan) (before : Option (List SavedDie)) (refused : ℕ) (after : List SavedDie) : Type 0 where
   pub slots : ℕ
   pub script : List ℕ
@@ -49,13 +49,14 @@ pub record IsLife (plans : List DiePlan) (before : Option (List SavedDie)) (refu
   pub ran : RanAndWentOn (starts_by plans before) (Some script) slots true counts (running dies)
   pub saved : after ≡ map saved_end dies
 
--- this was saved after so many lives, one after the other, from fresh dies on, and so many rows were refused in all of them
+-- this was saved after a number of lives, one after the other, from fresh dies on, in all of which `refused` rows were
+-- refused
 abbrev pub IsLeftAfter : List DiePlan → ℕ → ℕ → Option (List SavedDie) → Type 0
 IsLeftAfter plans zero refused saved = (refused ≡ 0) × (saved ≡ None)
 IsLeftAfter plans (suc lives) refused saved = (before : Option (List SavedDie)) × ((earlier : ℕ) × (IsLeftAfter plans lives earlier before
     × ((after : List SavedDie) × ((more : ℕ) × ((saved ≡ Some after) × ((refused ≡ earlier + more) × IsLife plans before more after))))))
 
--- full dies, after so many lives at least
+-- full dies, after `least` lives at least
 pub record AreFilled (plans : List DiePlan) (least : ℕ) (filled : Filled) : Type 0 where
   pub left : IsLeftAfter plans filled.lives filled.refused (Some filled.saved)
   pub enough : least ≤ filled.lives

@@ -47,14 +47,15 @@ fn check_asked(plan: &StorePlan, least: u32) -> Result<(), FillFault>
     }
 }
 
-/// Full dies of a plan with times: what stands on them after so many lives, from fresh dies on, that each of their logical
-/// pages lies in a cell, and at least so many; at most [`MOST_LIVES`]. In each the tasks ask for all that the plan allows,
-/// for as many slots as the dies' numbers last; where the periods of a life end by then, it ends there, so that nothing of
-/// the next one is refused or late. The tasks write each page once, in order, before they draw any. The seed chooses what
-/// is drawn.
+/// Full dies of a plan with times: what stands on them once each of their logical pages lies in a cell, after at least
+/// `least` lives from fresh dies on, and at most [`MOST_LIVES`]. In each the tasks ask for all that the plan allows,
+/// for as many slots as the dies' numbers last. Where the periods of a life end by then, it ends there, so that nothing
+/// of the next one is refused or late. The tasks write each page once, in order, before they draw any. The seed chooses
+/// what is drawn.
 ///
-/// Refused where more lives are asked for than are run; with BadPlan where a die has no times that pass their test; where
-/// one has no task that writes: the first such die; where a page isn't written in so many lives; or with NoMemory.
+/// Refused where more lives are asked for than are run; with BadPlan where a die has no times that pass their test;
+/// where one has no task that writes: the first such die; where a page isn't written in [`MOST_LIVES`] lives; or with
+/// NoMemory.
 pub fn fill(alloc: Global, plan: &StorePlan, least: u32, seed: u32) -> Result<Filled, FillFault>
     requires some { 1 ≤ length plan.now }
     requires few { length plan.now ≤ 8 }

@@ -1,4 +1,4 @@
-//! Full dies: the dies of a store after so many lives by their plan that each of their logical pages lies in a cell.
+//! Full dies: the dies of a store after enough lives by their plan for each of their logical pages to lie in a cell.
 #![tactic(auto)]
 
 mod copies;

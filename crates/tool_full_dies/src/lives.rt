@@ -25,8 +25,8 @@ fn shortest_life(plans: &[DiePlan]) -> u32
     least
 }
 
-/// The most slots, but no more than so many, by which the periods of these dies end: a multiple of their hyperperiod, which is
-/// one for all dies of a plan's text. So many, where they end in none.
+/// The most slots up to `slots` by which the periods of these dies end: a multiple of their hyperperiod, which is one
+/// for all dies of a plan's text. They are `slots` where the periods end by none.
 fn ended_by(plans: &[DiePlan], slots: u32) -> u32
     ensures { result ≤ slots }
 {
@@ -50,7 +50,7 @@ pub(crate) fn longest_life(plan: &StorePlan) -> u32
     ended_by(plans, shortest_life(plans))
 }
 
-/// A script for so many slots.
+/// A script for `slots` slots.
 #[derive(Drop)]
 struct LifeScript {
     text: Vec<u8>,
@@ -60,8 +60,8 @@ struct LifeScript {
 /// So often a script that has too many bytes is halved: 1,048,576 slots to one.
 const HALVINGS: u32 = 21;
 
-/// The script of all that the tasks of a plan ask for in a life, which fills the pages of the dies that don't lie in cells
-/// yet: for so many slots, or half of them, and so on, until it has few enough bytes.
+/// The script of all that the tasks of a plan ask for in a life: for `most` slots, or half of them, and so on, until it
+/// has few enough bytes. It fills the pages of the dies that don't lie in cells yet.
 fn script_of(
     alloc: Global,
     plan: &StorePlan,
@@ -95,7 +95,7 @@ fn script_of(
     Err(FillFault::Unplanned(Fault::TooLong))
 }
 
-/// What was saved of dies at the end of a life, which had so many slots, and how many of its rows were refused.
+/// What was saved of dies at the end of a life, which had `slots` slots, and how many of its rows were refused.
 #[derive(Drop)]
 pub(crate) struct Lived {
     pub(crate) saved: SavedStore,
@@ -103,9 +103,9 @@ pub(crate) struct Lived {
     pub(crate) refused: u32,
 }
 
-/// One life of the dies of a plan, fresh ones or from what was saved of them: all that their tasks ask for in at most so many
-/// slots, of which the pages that don't lie in cells yet are written first, and as many slots more as are needed until all
-/// is done.
+/// One life of the dies of a plan, fresh ones or from what was saved of them. It has all that their tasks ask for in at
+/// most `most` slots, and as many slots more as are needed until all is done. The pages that don't lie in cells yet are
+/// written first.
 pub(crate) fn one_life(
     alloc: Global,
     plan: &StorePlan,

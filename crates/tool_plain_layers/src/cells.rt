@@ -28,7 +28,7 @@ pub(crate) struct Cells {
 }
 
 impl Cells {
-    /// Cells of a fresh die, which keeps so many pages.
+    /// Cells of a fresh die, which keeps `logical` pages.
     pub(crate) fn new(alloc: Global, shape: Shape, logical: u32) -> Result<Cells, AllocError> {
         let pages = shape.pages as usize;
         let blocks = shape.blocks as usize;

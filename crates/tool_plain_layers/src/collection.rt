@@ -75,7 +75,7 @@ impl Collection {
         false
     }
 
-    /// Carries out a slot of it, on a die whose blocks have so many pages and whose erase takes so many slots.
+    /// Carries out a slot of it, on a die whose blocks have `pages` pages and whose erase takes `erase_slots` slots.
     pub(crate) fn step(&mut self, cells: &mut Cells, pages: usize, erase_slots: u32) -> Step {
         if self.program(cells) {
             return Step::Copied;

@@ -345,9 +345,9 @@ fn layer_of<'a>(
     })
 }
 
-/// Runs the jobs of a load by a policy for so many slots, on a die of this plan, of which the shape, the number of logical
-/// pages and that of the tasks count alone. It begins with these pages, which lie one after the other in the first blocks,
-/// so that no cell is stale; the die is fresh where there are none. Slots are counted from `from` on.
+/// Runs the jobs of a load by a policy for `slots` slots, on a die of this plan, of which only the shape, the number of
+/// logical pages and that of the tasks count. It begins with these pages, which lie one after the other in the first
+/// blocks, so that no cell is stale; the die is fresh where there are none. Slots are counted from `from` on.
 pub fn play(
     alloc: Global,
     plan: &DiePlan,

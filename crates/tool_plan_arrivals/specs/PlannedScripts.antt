@@ -17,8 +17,8 @@ use Rattle.tool_plan_arrivals.specs.declared.faults.Fault.TheVariants.{Refused}
 abbrev pub HasPassed : DiePlan → Type 0
 HasPassed plan = IsSomeAnd plan.times (Passes plan)
 
--- the text is a script for the dies of a store and so many slots, and the rows of each die keep its plan, with times that
--- pass their test
+-- the text is a script for the dies of a store and `slots` slots, and the rows of each die keep its plan, with times
+-- that pass their test
 pub record IsPlannedScript (plans : List DiePlan) (slots : ℕ) (text : List ℕ) : Type 0 where
   pub items : List ScriptItem
   pub said : script_of (length plans) slots text ≡ Ok items
@@ -36,7 +36,7 @@ abbrev pub IsOwnFault : Fault → Type 0
 IsOwnFault (Refused refusal) = refusal ≡ NoMemory
 IsOwnFault _ = ⊤
 
--- the events of a run of so many slots on a die, by its rows in a script
+-- the events of a run of `slots` slots on a die, by its rows in a script
 abbrev pub AreEventsOf : Option (List ℕ) → ℕ → ℕ → ℕ → List Event → Type 0
 AreEventsOf text dies slots die events = (items : List ScriptItem) × AreItemsOf text dies slots items
     × (events ≡ events_of_rows slots (feed_of items die))

@@ -40,7 +40,7 @@ fn full_share(times: &TaskTimes, writer: u32, writers: u32, logical: u32) -> Sha
     }
 }
 
-/// A task that asks, after so many tasks of its die, of which some write.
+/// A task that asks, after `task` tasks of its die, of which `writer` write.
 fn asker_of<'a>(
     die: u32,
     task: u32,
@@ -113,7 +113,7 @@ pub fn life(plan: &DiePlan) -> u32 {
     }
 }
 
-/// That the numbers of each die last for so many slots; else the die whose numbers last least.
+/// That the numbers of each die last for `slots` slots; else the die whose numbers last least.
 fn check_lives(plan: &StorePlan, slots: u32) -> Result<(), Fault>
     ensures { IfErr result IsOwnFault }
 {
@@ -143,8 +143,8 @@ fn held_on<'a>(held: &'a [Vec<bool>], die: u32) -> &'a [bool] {
     }
 }
 
-/// The tasks of all dies, which ask within so many slots no more often than a die accepts; by die and page, whether the page
-/// lies in a cell already.
+/// The tasks of all dies, which ask within `slots` slots no more often than a die accepts; by die and page, whether the
+/// page lies in a cell already.
 pub fn askers_of<'a>(
     alloc: Global,
     plan: &StorePlan,

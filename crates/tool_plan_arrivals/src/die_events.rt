@@ -27,7 +27,7 @@ fn carry(events: &mut Events, now: u32, to: u32) -> Result<(), Refusal>
     Ok(())
 }
 
-/// Adds the slots before a row of a run of so many, and its event. Answers the slot that is present then.
+/// Adds the slots before a row of a run of `slots` slots, and its event. Answers the slot that is present then.
 fn add(events: &mut Events, now: u32, slots: u32, item: ScriptItem) -> Result<u32, Refusal>
     requires { now ≤ slots }
     ensures within { IfOk result (λ after. after ≤ slots) }
@@ -64,7 +64,7 @@ fn add_own(
     }
 }
 
-/// The events of a run of so many slots on a die: what its rows of a script ask for, and its slots.
+/// The events of a run of `slots` slots on a die: what its rows of a script ask for, and its slots.
 pub fn events_on<R: Read + Drop>(
     alloc: Global,
     reader: R,
@@ -87,6 +87,6 @@ pub fn events_on<R: Read + Drop>(
             Err(refusal) => return Err(refusal),
         }
     }
-    // No script has so many rows.
+    // No script has as many rows as 64 bits count.
     Err(Refusal::ReadFault)
 }

@@ -20,8 +20,8 @@ fn keeps_its_plan(plan: &DiePlan, events: &Events) -> bool
     }
 }
 
-/// Whether the text is a script for a store's dies and so many slots, and the rows of each die keep its plan, with times
-/// that pass their test.
+/// Whether the text is a script for a store's dies and `slots` slots, and the rows of each die keep its plan, with
+/// times that pass their test.
 pub fn keeps_plans(
     alloc: Global,
     text: &[u8],

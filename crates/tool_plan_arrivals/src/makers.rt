@@ -83,7 +83,7 @@ fn put_slot(
     Ok(())
 }
 
-/// The script of what each task of a store asks for in so many slots, slot by slot, of which these pages lie in cells
+/// The script of what each task of a store asks for in `slots` slots, slot by slot, of which these pages lie in cells
 /// already.
 pub fn script(
     alloc: Global,

@@ -9,9 +9,9 @@ pub struct Manner {
     pub fills: bool,
     /// Whether the first job of each task comes in a slot below its period that is drawn; else in slot 0.
     pub phases: bool,
-    /// A job comes up to so many slots later than its period allows; how many is drawn.
+    /// A job comes up to `jitter` slots later than its period allows; how many is drawn.
     pub jitter: u32,
-    /// Of a hundred jobs so many come; which ones is drawn. 100 and more are all.
+    /// Of a hundred jobs `load` come; which ones is drawn. 100 and more are all.
     pub load: u32,
 }
 

@@ -4,7 +4,7 @@ use crate::chances::Chance;
 use std::io;
 use std::io::Write;
 
-/// Of a task that writes, one in so many of the other operations is a trim.
+/// Of a task that writes, one in eight of the other operations is a trim.
 const TRIM_IN: u32 = 8;
 
 /// Adds a write. Its bytes tell where they come from: slot, task, page, and the place among what is asked for then.

@@ -2,7 +2,7 @@
 
 use crate::chances::Chance;
 
-/// The pages of a task: from a first one on, each so many after the one before, as far as the die has pages. Where the
+/// The pages of a task: `first`, and then each `step` after the one before, as far as the die has pages. Where the
 /// first one lies beyond them, it is one page.
 #[derive(Clone, Copy, PartialEq, Eq, Debug, Drop)]
 pub struct Share {

@@ -44,11 +44,12 @@ fn kept(alloc: Global, text: &[u8], plan: &StorePlan, slots: u32) -> Result<(), 
     }
 }
 
-/// The script, as its readers take it, of all that the tasks of a plan ask for in so many slots: a collection of each task
-/// at each multiple of its collect period, and a job at each multiple of its period, as far as their deadlines are at most
-/// 1,048,576. A job has as many operations as the plan lets it have, and of these as many writes; which ones, and their
-/// pages, are drawn by the seed. Where the tasks fill the die, the writing ones share its pages, and each writes its own
-/// once, in order, before it draws any, as the plan allows and no later; [`fillings_of`](crate::fillings_of) says from when on all pages are written.
+/// The script, as its readers take it, of all that the tasks of a plan ask for in `slots` slots. A collection of each
+/// task comes at each multiple of its collect period, and a job at each multiple of its period, as far as their
+/// deadlines are at most 1,048,576. A job has as many operations as the plan lets it have, and of these as many writes;
+/// which ones, and their pages, are drawn by the seed. Where the tasks fill the die, the writing ones share its pages.
+/// Each writes its own once, in order, before it draws any, as the plan allows and no later;
+/// [`fillings_of`](crate::fillings_of) says from when on all pages are written.
 ///
 /// Else the manner may let the tasks begin at drawn slots, ask late, or leave jobs out; two releases of a task are never closer
 /// than its period.

@@ -25,7 +25,7 @@ JobHolds plan times a job.FewOps = length a.ops ≤ (times_of times a.task).work
 JobHolds plan times a job.Pages = All (λ op. page_of op < plan.logical) a.ops
 JobHolds plan times a job.FewWrites = writes a.ops ≤ (times_of times a.task).writes
 
--- a condition holds of a collection, where so many slots are carried out
+-- a condition holds of a collection, where `end` slots are carried out
 abbrev pub CollectionHolds : DiePlan → Times → ℕ → TaskArrival → CollectionRule → Type 0
 CollectionHolds plan times end a collection.Task = a.task < length plan.caps
 CollectionHolds plan times end a collection.Release = a.release ≡ a.at
@@ -61,7 +61,7 @@ pub record BreaksPeriod (times : Times) (all : List TaskArrival) (earlier later 
   pub order : earlier < later
   pub near : IsNearAt times all first later
 
--- in a slot in which the plan has a collection of the task, so many come: none, or two or more
+-- in a slot in which the plan has a collection of the task, `came` come: none, or two or more
 pub record BreaksCount (plan : DiePlan) (times : Times) (end : ℕ) (all : List TaskArrival) (task slot came : ℕ) : Type 0 where
   pub own : task < length plan.caps
   pub planned : IsCollectSlot times end task slot

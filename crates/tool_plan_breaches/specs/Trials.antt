@@ -7,7 +7,7 @@ use Rattle.plan_rules.specs.Keeping.{AreApart, IsPlanned, TaskArrival, IsCollect
 use Rattle.tool_plan_breaches.specs.declared.coming.Arrived.{Arrived}
 use Rattle.tool_plan_breaches.specs.Arrivals.{arrival_of}
 
--- what stands at a place is planned, where so many slots are carried out
+-- what stands at a place is planned, where `end` slots are carried out
 abbrev pub PlannedAt : DiePlan → Times → ℕ → List Arrived → ℕ → Type 0
 PlannedAt plan times end all place = (a : Arrived) → slice_get all place ≡ Some a → IsPlanned plan times end (arrival_of a)
 
@@ -24,7 +24,7 @@ ApartBefore times all later = (earlier : ℕ) → earlier < later → ApartAt ti
 abbrev pub IsCounted : Times → ℕ → List TaskArrival → ℕ → ℕ → Type 0
 IsCounted times end all task slot = IsCollectSlot times end task slot → count_by (is_collection_at task slot) all ≡ 1
 
--- in such a slot so many come, and it isn't one
+-- in such a slot `came` come, and not one
 pub record IsMiscounted (times : Times) (end : ℕ) (all : List TaskArrival) (task slot came : ℕ) : Type 0 where
   pub planned : IsCollectSlot times end task slot
   pub counted : count_by (is_collection_at task slot) all ≡ came

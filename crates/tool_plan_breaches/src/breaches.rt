@@ -120,7 +120,7 @@ pub fn count_at(all: &[Arrived<'_>], task: u32, slot: u32) -> usize
         .count()
 }
 
-/// Whether the plan has a collection of a task in a slot, where so many are carried out.
+/// Whether the plan has a collection of a task in a slot, where `end` slots are carried out.
 pub(crate) fn is_collect_slot(times: &Times, end: u32, task: u32, slot: u32) -> bool
     ensures { IsTrue result ↔ IsCollectSlot times.now end task slot }
 {
@@ -130,7 +130,7 @@ pub(crate) fn is_collect_slot(times: &Times, end: u32, task: u32, slot: u32) -> 
         && u64::from(slot) + u64::from(period) <= u64::from(MAX_SLOT)
 }
 
-/// Whether so many collections come in a slot in which the plan has one, and it isn't one.
+/// Whether `came` collections, and not one, come in a slot in which the plan has one.
 fn breaks_count(
     plan: &DiePlan,
     times: &Times,

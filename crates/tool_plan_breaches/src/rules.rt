@@ -118,7 +118,7 @@ pub fn is_multiple(slot: u32, period: u32) -> bool
     }
 }
 
-/// Whether a condition on a collection holds of one, where so many slots are carried out.
+/// Whether a condition on a collection holds of one, where `end` slots are carried out.
 pub fn collection_holds(
     plan: &DiePlan,
     times: &Times,
@@ -173,7 +173,7 @@ pub fn broken_job_rule(plan: &DiePlan, times: &Times, a: &Arrived<'_>) -> Option
     None
 }
 
-/// The first condition that doesn't hold of a collection, if there is one, where so many slots are carried out.
+/// The first condition that doesn't hold of a collection, if there is one, where `end` slots are carried out.
 pub fn broken_collection_rule(
     plan: &DiePlan,
     times: &Times,

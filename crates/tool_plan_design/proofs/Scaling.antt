@@ -105,7 +105,7 @@ one_scales work collection n m p q whole one other =
     regroup : (w c k x y : ℕ) → w * (k * x) + c * (k * y) ≡ k * (w * x + c * y)
     regroup w c k x y = grind arith
 
--- the demand of a task with collections that take so much
+-- the demand of a task whose collections take `collection` slots each
 abbrev asked : ℕ → ℕ → TaskTimes → ℕ
 asked collection n t = t.work * (n / t.period) + collection * (n / t.collect_period)
 

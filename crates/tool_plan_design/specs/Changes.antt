@@ -82,8 +82,8 @@ changes_of plan (finding.Task t) = time_changes plan t ++ work_changes plan t
 abbrev pub all_changes : PlanNumbers → List Finding → List Change
 all_changes plan findings = flat_map (changes_of plan) findings
 
--- what a change of such a number costs beside how great it is: those of collections, which a designer chooses, come before
--- those of the part and of what its tasks need
+-- what a change of such a number costs in addition to how great it is: those of collections, which a designer chooses,
+-- come before those of the part and of what its tasks need
 abbrev pub basic_price : Number → ℕ
 basic_price number.Alpha = 0
 basic_price number.Common = 0

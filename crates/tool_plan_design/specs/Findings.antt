@@ -19,7 +19,7 @@ use Rattle.tool_plan_design.specs.declared.findings.Taken.{Taken}
 use Rattle.tool_plan_design.specs.declared.findings.TaskFinding.{TaskFinding}
 use Rattle.tool_plan_design.specs.declared.subjects.TaskName.{TaskName}
 
--- with this alpha each die would do, and so much is then asked of this one
+-- with this alpha each die would do, and `taken` is what is then asked of this one
 pub record IsAlpha (plan : PlanNumbers) (a : AlphaFinding) : Type 0 where
   pub does : AllDo number.Alpha plan a.alpha
   pub demand : IsSomeAnd (die_of plan a.die).times (λ times. a.taken.demand ≡ demand (with_number number.Alpha (die_of plan a.die) a.alpha) times)

@@ -75,7 +75,7 @@ FindsGreatest P from to None = NoneDoes P from to
 abbrev pub IsAlike : Number → DiePlan → DiePlan → Type 0
 IsAlike which one other = (n : ℕ) → with_number which one n ≡ with_number which other n
 
--- each number with which the die would do divides so many slots, which are some of a run's
+-- each number with which the die would do divides `common`, which is a number of slots that a run may have
 pub record OnlyDivisorsDo (which : Number) (plan : DiePlan) (common : ℕ) : Type 0 where
   pub some : 1 ≤ common
   pub few : common ≤ MAX_SLOT

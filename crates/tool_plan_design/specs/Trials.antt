@@ -11,12 +11,12 @@ with_blocks plan blocks = record plan { shape = record plan.shape { blocks = blo
 abbrev pub with_logical : DiePlan → ℕ → DiePlan
 with_logical plan logical = record plan { logical = logical }
 
--- with so many blocks it meets its bound, and with fewer it doesn't
+-- with `blocks` blocks it meets its bound, and with fewer it doesn't
 pub record IsLeastBlocks (plan : DiePlan) (blocks : ℕ) : Type 0 where
   pub meets : MeetsBound (with_blocks plan blocks)
   pub least : (fewer : ℕ) → fewer < blocks → ¬ MeetsBound (with_blocks plan fewer)
 
--- with so many logical pages it meets its bound, and with more it doesn't
+-- with `logical` logical pages it meets its bound, and with more it doesn't
 pub record IsGreatestLogical (plan : DiePlan) (logical : ℕ) : Type 0 where
   pub meets : MeetsBound (with_logical plan logical)
   pub greatest : (more : ℕ) → logical < more → ¬ MeetsBound (with_logical plan more)

@@ -24,7 +24,8 @@ pub struct Change {
     pub to: u32,
 }
 
-/// What a change of such a number costs beside how great it is: more than any change of a number of collections.
+/// What a change of such a number costs in addition to how great it is: more than any change of a number of
+/// collections.
 const OF_NEEDS: u64 = 10_000_000_000_000_000;
 
 impl Change {

@@ -99,7 +99,7 @@ fn put_margin(said: &mut Sayings, of: Subject, margin: Margin) -> io::Result<()>
     }
 }
 
-/// What a task's collections give it, beside what its jobs write.
+/// What a task's collections give it, compared with what its jobs write.
 fn gain_of(alpha: u32, task: &TaskTimes) -> Margin {
     Margin {
         has: "alpha * period",
@@ -109,7 +109,7 @@ fn gain_of(alpha: u32, task: &TaskTimes) -> Margin {
     }
 }
 
-/// A task's cap, beside what it has to cover.
+/// A task's cap, compared with what it has to cover.
 fn stock_of(alpha: u32, cap: u32, task: &TaskTimes) -> Margin {
     Margin {
         has: "cap",

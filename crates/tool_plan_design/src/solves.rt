@@ -168,7 +168,7 @@ fn note_alphas(
     Ok(())
 }
 
-/// Adds what each number of each task could be, of each die beside which the others do. The only refusal is NoMemory.
+/// Adds what each number of each task could be, of each die where all others do. The only refusal is NoMemory.
 fn note_tasks(
     alloc: Global,
     findings: &mut Vec<Finding>,

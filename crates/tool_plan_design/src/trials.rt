@@ -7,7 +7,7 @@ ghost use Rattle.tool_plan_design.specs.Trials.{FindsBlocks, FindsLogical, with_
 use plan_rules::{bound, figures};
 use slot_types::{DiePlan, MAX_BLOCKS, MIN_BLOCKS};
 
-/// Whether a plan meets its bound with so many blocks, which it then has.
+/// Whether a plan meets its bound with `blocks` blocks, which it then has.
 fn meets_with_blocks(plan: &mut DiePlan, blocks: u32) -> bool
     ensures meets { IsTrue result ↔ MeetsBound (with_blocks plan.old blocks) }
     ensures plan { plan.new ≡ with_blocks plan.old blocks }

@@ -12,8 +12,8 @@ use Rattle.tool_plan_breaches.specs.declared.breaches.Breach.{Breach}
 use Rattle.tool_plan_keeping.specs.declared.verdicts.Verdict.{Verdict}
 use Rattle.tool_plan_keeping.specs.declared.verdicts.Verdict.TheVariants as verdict
 
--- the text is a script for the dies of a store and so many slots, and a condition of a die's plan doesn't hold of the events
--- that its rows make
+-- the text is a script for the dies of a store and `slots` slots, and a condition of a die's plan doesn't hold of the
+-- events that its rows make
 pub record IsBrokenScript (plans : List DiePlan) (slots : ℕ) (text : List ℕ) (die : ℕ) (breach : Breach) : Type 0 where
   pub items : List ScriptItem
   pub said : script_of (length plans) slots text ≡ Ok items

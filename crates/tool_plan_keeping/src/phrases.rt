@@ -6,7 +6,7 @@ use std::io;
 use std::io::Write;
 use tool_slot_times::Slots;
 
-/// A slot, or so many of them, with the time where it is known how many us one takes.
+/// A slot, or `count` of them, with the time where it is known how many us one takes.
 pub fn slots_in(count: u32, slot_us: Option<u32>) -> Slots {
     Slots {
         count: u64::from(count),
@@ -14,7 +14,7 @@ pub fn slots_in(count: u32, slot_us: Option<u32>) -> Slots {
     }
 }
 
-/// The slot that comes so many slots after another one.
+/// The slot that comes `slots` slots after another one.
 pub fn slot_after(slot: u32, slots: u32, slot_us: Option<u32>) -> Slots {
     Slots {
         count: u64::from(slot).saturating_add(u64::from(slots)),

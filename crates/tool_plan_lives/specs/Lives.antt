@@ -5,12 +5,12 @@ use Rattle.slot_types.specs.declared.limits.TheConstants.{MAX_JOBS, MAX_SLOT}
 use Rattle.slot_types.specs.declared.plans.TaskTimes.{TaskTimes}
 use Rattle.plan_rules.specs.Times.{IsTaskTimes}
 
--- how often something with this period comes in so many slots: at each of its multiples, as long as a period is left to
+-- how often something with this period comes in `slots` slots: at each of its multiples, as long as a period is left to
 -- the last deadline that there may be
 abbrev pub comings : ℕ → ℕ → ℕ
 comings slots period = div_ceil (min slots (MAX_SLOT + 1 - period)) period
 
--- how often a task asks in so many slots, for jobs and for collections
+-- how often a task asks in `slots` slots, for jobs and for collections
 abbrev pub asked_by : ℕ → TaskTimes → ℕ
 asked_by slots task = comings slots task.period + comings slots task.collect_period
 
@@ -23,7 +23,7 @@ pub record AreTasks (tasks : List TaskTimes) : Type 0 where
   pub few : length tasks ≤ 16
   pub each : All IsTaskTimes tasks
 
--- in so many slots the tasks ask for no more than there are numbers, and in one slot more, if there may be one, they do
+-- in `life` slots the tasks ask for no more than there are numbers, and in one slot more, if there may be one, they do
 pub record IsLife (tasks : List TaskTimes) (life : ℕ) : Type 0 where
   pub few_slots : life ≤ MAX_SLOT
   pub lasts : asked_in tasks life ≤ MAX_JOBS

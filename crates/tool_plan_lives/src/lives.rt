@@ -27,7 +27,7 @@ pub fn are_tasks(tasks: &[TaskTimes]) -> bool
     tasks.len() <= MAX_TASKS as usize && tasks.iter().all(|task| is_task_times(task))
 }
 
-/// How often something of this period comes in so many slots.
+/// How often something of this period comes in `slots` slots.
 fn comings(slots: u32, period: u32) -> u32
     requires some { 1 ≤ period }
     requires few { period ≤ 1048576 }
@@ -38,7 +38,7 @@ fn comings(slots: u32, period: u32) -> u32
     slots.min(last).div_ceil(period)
 }
 
-/// How often a task asks in so many slots.
+/// How often a task asks in `slots` slots.
 fn asked_by(slots: u32, task: &TaskTimes) -> u32
     requires { IsTaskTimes task.now }
     ensures times { result ≡ asked_by slots task.now }
@@ -47,7 +47,7 @@ fn asked_by(slots: u32, task: &TaskTimes) -> u32
     comings(slots, task.period) + comings(slots, task.collect_period)
 }
 
-/// How often tasks ask in so many slots, where each asks as often as its plan lets it: a job at each multiple of its
+/// How often tasks ask in `slots` slots, where each asks as often as its plan lets it: a job at each multiple of its
 /// period, and a collection at each of its collect period, as far as their deadlines are at most 1,048,576. The times
 /// are within their limits, and those of at most 16 tasks. It takes no memory.
 pub fn asked_in(tasks: &[TaskTimes], slots: u32) -> u32
@@ -61,7 +61,7 @@ pub fn asked_in(tasks: &[TaskTimes], slots: u32) -> u32
     asked
 }
 
-/// Whether the numbers of a die, 65,536, last for so many slots.
+/// Whether the numbers of a die, 65,536, last for `slots` slots.
 fn lasts(tasks: &[TaskTimes], slots: u32) -> bool
     requires { AreTasks tasks.now }
     ensures { IsTrue result ↔ (asked_in tasks.now slots ≤ MAX_JOBS) }
@@ -69,9 +69,9 @@ fn lasts(tasks: &[TaskTimes], slots: u32) -> bool
     asked_in(tasks, slots) <= MAX_JOBS
 }
 
-/// For how many slots a die lives by its plan: the tasks ask in so many slots for at most 65,536 jobs and collections,
-/// and in one slot more for more, unless it is 1,048,576, where the slots end. A die then goes on by a renewal. The
-/// times are within their limits, and those of at most 16 tasks. It takes no memory.
+/// For how many slots a die lives by its plan. In them the tasks ask for at most 65,536 jobs and collections, and in
+/// one slot more for more, unless the life is 1,048,576 slots, where the slots end. A die then goes on by a renewal.
+/// The times are within their limits, and those of at most 16 tasks. It takes no memory.
 pub fn life_of(tasks: &[TaskTimes]) -> u32
     requires { AreTasks tasks.now }
     ensures { IsLife tasks.now result }

@@ -12,11 +12,13 @@ DAY = 86400000000
 abbrev pub YEAR : ℕ
 YEAR = 31557600000000
 
--- hundredths of an erase of a block a day, where so many blocks were erased so often in all, in so many microseconds
+-- hundredths of an erase of a block a day, where `blocks` blocks were erased `erases` times in all, in `us`
+-- microseconds
 abbrev pub a_day : (erases blocks us : ℕ) → ℕ
 a_day erases blocks us = erases * DAY * 100 / (blocks * us)
 
--- after how many hundredths of so many microseconds a block is worn out that lasts for so many erases, and goes on like that
+-- after how many hundredths of `unit` microseconds a block is worn out that lasts for `endurance` erases, and goes on
+-- like that
 abbrev pub lasts : (unit erases blocks us endurance : ℕ) → ℕ
 lasts unit erases blocks us endurance = endurance * (blocks * us) * 100 / (erases * unit)
 
@@ -33,8 +35,8 @@ IsLife life = (1 ≤ life.endurance) × (1 ≤ life.slot_us)
 abbrev pub time_of : Wearing → Life → ℕ
 time_of wearing life = wearing.slots * life.slot_us
 
--- How long blocks last that go on as in a run, beside its length in hundredths of a second: by the mean of all, and by the one
--- that was erased most; by neither from fewer than ten erases.
+-- How long blocks last that go on as in a run, with its length in hundredths of a second: by the mean of all, and by
+-- the one that was erased most; by neither from fewer than ten erases.
 pub record IsLasting (wearing : Wearing) (life : Life) (lasting : Lasting) : Type 0 where
   pub run_is : lasting.run ≡ pos (time_of wearing life / 10000)
   pub mean_is : IfSome lasting.mean (IsRate wearing.erases wearing.blocks (time_of wearing life) life.endurance)

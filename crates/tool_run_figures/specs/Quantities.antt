@@ -10,7 +10,7 @@ use Rattle.tool_run_figures.specs.declared.quantities.Quantity.{Quantity}
 use Rattle.tool_run_figures.specs.declared.quantities.Unit.{Unit}
 use Rattle.tool_run_figures.specs.declared.quantities.Unit.TheVariants as unit
 
--- so many slots, of so many us each, in brackets as a time; of hundredths of a slot rounded towards 0 to the us
+-- slots in brackets as a time, where a slot takes `us` us; hundredths of a slot are rounded towards 0 to the us
 abbrev pub time_after : ℕ → Figure → List ℕ
 time_after us (figure.Whole (pos n)) = codes " (" ++ time_text (n * us) ++ codes ")"
 time_after us (figure.Whole (negsuc n)) = codes " (-" ++ time_text (suc n * us) ++ codes ")"
@@ -18,7 +18,7 @@ time_after us (figure.Hundredths (pos n)) = codes " (" ++ time_text (n * us / 10
 time_after us (figure.Hundredths (negsuc n)) = codes " (-" ++ time_text (suc n * us / 100) ++ codes ")"
 time_after us _ = []
 
--- so many pages of so many bytes each in so many slots, in brackets as bytes a second; a count of pages has 32 bits
+-- pages of `bytes` bytes each in `slots` slots, in brackets as bytes a second; a count of pages has 32 bits
 abbrev pub rate_after : (slots us bytes : ℕ) → Figure → List ℕ
 rate_after slots us bytes (figure.Whole (pos n)) =
     if nat_lt n 4294967296 then codes " (" ++ rate_text (n * bytes) (slots * us) ++ codes ")" else []
@@ -28,7 +28,7 @@ abbrev pub page_text : (slots us : ℕ) → Option ℕ → Figure → List ℕ
 page_text slots us None f = []
 page_text slots us (Some bytes) f = rate_after slots us bytes f
 
--- what stands behind a number, where a slot takes so many us
+-- what stands behind a number, where a slot takes `us` us
 abbrev pub timed_text : ℕ → Option ℕ → Unit → Figure → List ℕ
 timed_text us bytes unit.One f = []
 timed_text us bytes unit.Slot f = time_after us f

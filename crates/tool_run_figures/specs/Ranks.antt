@@ -12,11 +12,11 @@ pub record IsRising (numbers rising : List ℤ) : Type 0 where
 abbrev pub greatest : List ℤ → Option ℤ
 greatest rising = slice_get rising (length rising - 1)
 
--- the least of rising numbers that so many in a thousand don't exceed, by the nearest rank; none of none
+-- the least of rising numbers that `per_mille` in a thousand don't exceed, by the nearest rank; none of none
 abbrev pub nearest_rank : List ℤ → ℕ → Option ℤ
 nearest_rank rising per_mille = slice_get rising ((length rising * per_mille + 999) / 1000 - 1)
 
--- how late jobs were done that were so late: the mean is some number
+-- how late jobs were done that have these latenesses: the mean is some number
 pub record IsRanked (lateness : List ℤ) (ranked : Lateness) : Type 0 where
   pub rising : List ℤ
   pub is : IsRising lateness rising

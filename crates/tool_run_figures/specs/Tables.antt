@@ -4,6 +4,7 @@ use Rattle.std.specs.Prelude.{List, [], ◌∷◌, ◌++◌, length, map, flat_m
 use Rattle.std.specs.Borrow.{Bor}
 use Rattle.std.specs.List.{enumerate_from}
 use Rattle.tool_slot_times.specs.declared.units.Units.{Units}
+use Rattle.tool_slot_times.specs.Times.{slots_text}
 use Rattle.tool_run_figures.specs.Csv.{end_columns, level_columns, slot_columns, task_text, wear_columns}
 use Rattle.tool_run_figures.specs.FigureTexts.{figure_text}
 use Rattle.tool_run_figures.specs.Quantities.{quantity_text}
@@ -143,20 +144,21 @@ unfoldable pub most_erased : (die erases : ℕ) → List ℕ
 most_erased die erases =
     codes "die " ++ decimal die ++ codes ": the block that was erased most was erased " ++ decimal erases ++ codes " times "
 
-unfoldable pub fewest_of_rate : (slots : ℕ) → List ℕ
-fewest_of_rate slots = codes "in " ++ decimal slots ++ codes " slots, and " ++ decimal 10 ++ codes " at least make a rate: "
+unfoldable pub fewest_of_rate : Units → (slots : ℕ) → List ℕ
+fewest_of_rate units slots =
+    codes "in " ++ slots_text units.slot_us slots ++ codes " slots, and " ++ decimal 10 ++ codes " at least make a rate: "
 
-unfoldable pub too_short_text : ℕ → OwnFigures → List ℕ
-too_short_text die own =
-    most_erased die own.wearing.greatest ++ fewest_of_rate own.wearing.slots ++ codes "run more slots, or go on from a checkpoint\n"
+unfoldable pub too_short_text : Units → ℕ → OwnFigures → List ℕ
+too_short_text units die own =
+    most_erased die own.wearing.greatest ++ fewest_of_rate units own.wearing.slots ++ codes "run more slots, or go on from a checkpoint\n"
 
 -- where one is asked for, and that block was erased fewer than ten times
 abbrev pub is_too_short : OwnFigures → Bool
 is_too_short own = is_some own.lasting && nat_lt own.wearing.greatest 10
 
-unfoldable pub too_short : ℕ → Option OwnFigures → List ℕ
-too_short die None = []
-too_short die (Some own) = if is_too_short own then too_short_text die own else []
+unfoldable pub too_short : Units → ℕ → Option OwnFigures → List ℕ
+too_short units die None = []
+too_short units die (Some own) = if is_too_short own then too_short_text units die own else []
 
 -- The table
 
@@ -188,4 +190,4 @@ abbrev pub table_text : ℕ → Records → Units → List ℕ
 table_text die records units =
     let t = layout_of records units in
     heads_text t die records ++ rows_text t records ++ lasting_rows t records (lasting_of records.die.own)
-    ++ too_short die records.die.own
+    ++ too_short units die records.die.own

@@ -9,7 +9,7 @@ least_of erases = fold min 4294967295 erases
 abbrev pub greatest_of : List ℕ → ℕ
 greatest_of erases = fold max 0 erases
 
--- of so many slots, and blocks that were erased so often
+-- of `slots` slots, and of blocks that were erased as often as `erases` says
 pub record IsWearing (slots : ℕ) (erases : List ℕ) (wearing : Wearing) : Type 0 where
   pub slots_are : wearing.slots ≡ slots
   pub erases_are : wearing.erases ≡ capped (sum erases)

@@ -18,7 +18,7 @@ pub struct DieCounts {
 }
 
 impl DieCounts {
-    /// Of a die with so many tasks, without a slot. The only refusal is NoMemory.
+    /// Of a die with `tasks` tasks, without a slot. The only refusal is NoMemory.
     pub fn new(alloc: Global, tasks: usize) -> Result<DieCounts, Refusal>
         ensures all { IfOk result (λ counts. counts.all ≡ NOTHING) }
         ensures tasks { IfOk result (λ counts. counts.tasks.items ≡ replicate tasks NOTHING) }

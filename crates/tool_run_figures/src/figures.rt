@@ -6,7 +6,7 @@ ghost use Rattle.tool_run_figures.specs.FigureTexts.{amplification, count_of, hu
 use std::fmt;
 use std::fmt::{Display, Formatter, Write};
 
-/// A number of a table: none, a whole one, so many hundredths or thousandths, or the word `refused`.
+/// A number of a table: none, a whole one, a number of hundredths or thousandths, or the word `refused`.
 #[derive(Clone, Copy, PartialEq, Eq, Debug, Drop)]
 pub enum Figure {
     Nothing,

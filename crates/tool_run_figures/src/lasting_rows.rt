@@ -12,6 +12,7 @@ use crate::table_cells::{LABEL, Layout, put_left, put_right};
 use std::alloc::Global;
 use std::io;
 use std::io::Write;
+use tool_slot_times::Units;
 
 /// Adds a row in which the die alone has something.
 #[tactic(auto, unfolding(crate::specs::Tables::own_row))]
@@ -181,9 +182,10 @@ fn put_most(text: &mut Vec<u8>, die: usize, most: u32) -> io::Result<()>
 
 /// Says in how many slots that was, and how many erases make a rate.
 #[tactic(auto, unfolding(crate::specs::Tables::fewest_of_rate))]
-fn put_fewest(text: &mut Vec<u8>, slots: u32) -> io::Result<()>
-    ensures { OnOk result (text.new.items ≡ text.old.items ++ fewest_of_rate slots) }
+fn put_fewest(text: &mut Vec<u8>, slots: u32, units: Units) -> io::Result<()>
+    ensures { OnOk result (text.new.items ≡ text.old.items ++ fewest_of_rate units slots) }
 {
+    let slots = units.slots(u64::from(slots));
     write!(
         text,
         "in {slots} slots, and {FEWEST_ERASES} at least make a rate: "
@@ -192,11 +194,16 @@ fn put_fewest(text: &mut Vec<u8>, slots: u32) -> io::Result<()>
 
 /// Adds why no life is reported by the block that was erased most.
 #[tactic(auto, unfolding(crate::specs::Tables::too_short_text))]
-fn put_too_short_text(text: &mut Vec<u8>, die: usize, own: &OwnFigures) -> io::Result<()>
-    ensures { OnOk result (text.new.items ≡ text.old.items ++ too_short_text die own.now) }
+fn put_too_short_text(
+    text: &mut Vec<u8>,
+    die: usize,
+    own: &OwnFigures,
+    units: Units,
+) -> io::Result<()>
+    ensures { OnOk result (text.new.items ≡ text.old.items ++ too_short_text units die own.now) }
 {
     put_most(text, die, own.wearing.greatest)?;
-    put_fewest(text, own.wearing.slots)?;
+    put_fewest(text, own.wearing.slots, units)?;
     writeln!(text, "run more slots, or go on from a checkpoint")
 }
 
@@ -213,14 +220,15 @@ pub(crate) fn put_too_short(
     text: &mut Vec<u8>,
     die: usize,
     own: Option<OwnFigures>,
+    units: Units,
 ) -> io::Result<()>
-    ensures { OnOk result (text.new.items ≡ text.old.items ++ too_short die own) }
+    ensures { OnOk result (text.new.items ≡ text.old.items ++ too_short units die own) }
 {
     let Some(own) = own else {
         return Ok(());
     };
     if is_too_short(&own) {
-        put_too_short_text(text, die, &own)
+        put_too_short_text(text, die, &own, units)
     } else {
         Ok(())
     }

@@ -59,7 +59,7 @@ pub struct Levels {
 }
 
 impl Levels {
-    /// Of a die of this plan whose tasks have these balances, with so many spare pages.
+    /// Of a die of this plan whose tasks have these balances, with `spare` spare pages.
     pub fn at(
         alloc: Global,
         plan: &DiePlan,
@@ -91,7 +91,7 @@ impl Levels {
         Levels::at(alloc, plan, plan.caps.as_slice(), spare)
     }
 
-    /// A job of a task was accepted in a slot, with so many writes, which its balance pays.
+    /// A job of a task was accepted in a slot, with `writes` writes, which its balance pays.
     pub fn note_job(&mut self, task: u32, writes: u32, slot: u32) {
         if let Some(tokens) = self.tasks.get_mut(task as usize) {
             tokens.balance = tokens.balance.saturating_sub(writes);
@@ -108,7 +108,7 @@ impl Levels {
         }
     }
 
-    /// A collection of a task was waived in a slot, and gave so many spare pages.
+    /// A collection of a task was waived in a slot, and gave `given` spare pages.
     pub fn note_waived(&mut self, task: u32, given: u32, slot: u32) {
         self.spare = self.spare.saturating_sub(given);
         self.least_spare.note(self.spare, slot);
@@ -117,7 +117,7 @@ impl Levels {
         }
     }
 
-    /// A collection of a task was done, and gave it so many pages. What it neither copied nor gave is spare.
+    /// A collection of a task was done, and gave it `given` pages. What it neither copied nor gave is spare.
     pub fn note_collected(&mut self, task: u32, given: u32) {
         if let Some(tokens) = self.tasks.get_mut(task as usize) {
             tokens.balance = tokens.balance.saturating_add(given);

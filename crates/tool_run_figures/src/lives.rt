@@ -13,7 +13,7 @@ pub struct Life {
     pub slot_us: u32,
 }
 
-/// What the blocks of a die wore in so many slots.
+/// What the blocks of a die wore in `slots` slots.
 #[derive(Clone, Copy, PartialEq, Eq, Debug, Drop)]
 pub struct Wearing {
     pub slots: u32,
@@ -32,7 +32,7 @@ const DAY: u128 = 86_400_000_000;
 
 const YEAR: u128 = 31_557_600_000_000;
 
-/// How often a block is erased, and how long one lasts that is erased so often: each in hundredths, rounded down.
+/// How often a block is erased, and how long one lasts that is erased as often: each in hundredths, rounded down.
 #[derive(Clone, Copy, PartialEq, Eq, Debug, Drop)]
 pub struct Rate {
     /// Erases a day.
@@ -49,7 +49,7 @@ pub struct Lasting {
     pub run: i64,
     /// By the mean of the blocks; none where all of them together weren't erased [`FEWEST_ERASES`] times.
     pub mean: Option<Rate>,
-    /// By the block that was erased most; none where that wasn't erased so often.
+    /// By the block that was erased most; none where that wasn't erased [`FEWEST_ERASES`] times.
     pub worst: Option<Rate>,
 }
 
@@ -61,8 +61,8 @@ fn units(all: u128, unit: u128) -> Option<i64>
 }
 
 impl Rate {
-    /// Where so many blocks were erased so often in all, in so many microseconds, and one lasts for so many erases. None
-    /// where they were erased fewer than [`FEWEST_ERASES`] times, or a number has more than 63 bits.
+    /// Where `blocks` blocks were erased `erases` times in all, in `us` microseconds, and one lasts for `endurance`
+    /// erases. None where they were erased fewer than [`FEWEST_ERASES`] times, or a number has more than 63 bits.
     fn of(erases: u32, blocks: u32, us: u64, endurance: u32) -> Option<Rate>
         ensures rate { IfSome result (IsRate erases blocks us endurance) }
         ensures few { erases < 10 → result ≡ None }
@@ -82,7 +82,7 @@ impl Rate {
 }
 
 impl Wearing {
-    /// Of blocks that were erased so often in so many slots.
+    /// Of blocks that were erased in `slots` slots, as often as `erases` says.
     pub fn of(slots: u32, erases: &[u32]) -> Wearing
         ensures { IsWearing slots erases.now result }
     {

@@ -19,12 +19,12 @@ pub enum Unit {
     One,
     /// Slots: how many, which one, or how many after a deadline.
     Slot,
-    /// Pages that were carried in so many slots.
+    /// Pages that were carried in `slots` slots.
     Page { slots: u32 },
 }
 
-/// The time of so many slots, in brackets: nothing where no slots are counted. A slot takes so many us. Hundredths of a
-/// slot, and so their us, are rounded towards 0.
+/// The time of slots, in brackets: nothing where no slots are counted. A slot takes `slot_us` us. Hundredths of a slot,
+/// and so their us, are rounded towards 0.
 #[derive(Clone, Copy, Drop)]
 struct TimeAfter {
     figure: Figure,
@@ -54,7 +54,7 @@ impl Display for TimeAfter {
     }
 }
 
-/// How many bytes a second so many pages are, in brackets: nothing where no pages are counted.
+/// How many bytes a second the pages are, in brackets: nothing where no pages are counted.
 #[derive(Clone, Copy, Drop)]
 struct RateAfter {
     figure: Figure,
@@ -119,8 +119,8 @@ impl Display for After {
 }
 
 /// A number, and after it in brackets what it comes to, where the length of a slot, and of pages their payload, are
-/// known: so many slots in time, as [`Slots`](tool_slot_times::Slots) are written, with a sign where they come before a
-/// deadline; and so many pages as a [`Rate`].
+/// known. Slots come to a time, written as [`Slots`](tool_slot_times::Slots) are, with a sign where they come before a
+/// deadline. Pages come to a [`Rate`].
 #[derive(Clone, Copy, PartialEq, Eq, Debug, Drop)]
 pub struct Quantity {
     pub figure: Figure,
@@ -129,7 +129,7 @@ pub struct Quantity {
 }
 
 impl Quantity {
-    /// How many pages were carried in so many slots.
+    /// How many pages were carried in `slots` slots.
     pub fn pages(count: u32, slots: u32, units: Units) -> Quantity
         ensures { result ≡ record { figure = count_of count; unit = unit.Page slots; units = units } }
     {

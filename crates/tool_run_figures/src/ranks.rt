@@ -10,7 +10,7 @@ fn number_at(numbers: &[i64], place: usize) -> Option<i64>
     numbers.get(place).copied()
 }
 
-/// Of rising numbers the least one that so many in a thousand don't exceed (nearest rank); none of no numbers.
+/// Of rising numbers the least one that `per_mille` in a thousand don't exceed (nearest rank); none of no numbers.
 pub fn nearest_rank(rising: &[i64], per_mille: usize) -> Option<i64>
     requires { per_mille ≤ 1000 }
     ensures { result ≡ nearest_rank rising.now per_mille }

@@ -84,7 +84,7 @@ fn figure_at(figures: &Figures, row: usize) -> Figure
     }
 }
 
-/// The unit of what is counted in a run of so many slots.
+/// The unit of what is counted in a run of `slots` slots.
 fn unit_of(slots: u32, counted: Counted) -> Unit
     ensures { result ≡ unit_of slots counted }
 {

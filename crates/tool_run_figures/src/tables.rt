@@ -267,5 +267,5 @@ pub fn put_table(
     put_heads(alloc, text, &layout, die, records)?;
     put_all_rows(alloc, text, &layout, records)?;
     put_lasting(alloc, text, &layout, records, lasting_of(own))?;
-    put_too_short(text, die, own)
+    put_too_short(text, die, own, units)
 }

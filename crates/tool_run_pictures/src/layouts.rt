@@ -66,7 +66,7 @@ pub struct Layout {
     pub height: u64,
 }
 
-/// How wide a slot is, in a picture of so many.
+/// How wide a slot is, in a picture of `slots` slots.
 fn cell_of(slots: u32) -> u32 {
     if slots <= 25 {
         40
@@ -112,7 +112,7 @@ impl Band {
     }
 }
 
-/// Adds bands for a window, each of so many slots, without lanes. The only refusal is NoMemory.
+/// Adds bands for a window, each of `across` slots, without lanes. The only refusal is NoMemory.
 fn put_bands(
     alloc: Global,
     bands: &mut Vec<Band>,
@@ -185,7 +185,7 @@ impl Layout {
         }
     }
 
-    /// The bands in which a row waits, from one to before another, in a run of so many slots.
+    /// The bands in which a row waits, from one to before another, in a run of `slots` slots.
     pub fn bands_of(&self, row: &Row, window: &Window, slots: u32) -> (usize, usize) {
         let first = row.release.max(window.from);
         self.bands_between(first, row.until(slots).min(window.to))
@@ -263,7 +263,7 @@ impl Layout {
         self.height = top;
     }
 
-    /// Where the window's jobs stand, in a run of so many slots: a lane a job, or a lane a task where a band would have
+    /// Where the window's jobs stand, in a run of `slots` slots: a lane a job, or a lane a task where a band would have
     /// too many. The only refusal is NoMemory.
     pub fn new(alloc: Global, window: &Window, rows: &[Row], slots: u32) -> Result<Layout, Refusal>
         ensures { FailsForMemory result }

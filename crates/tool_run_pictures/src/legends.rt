@@ -171,7 +171,7 @@ fn put_curve(text: &mut Vec<u8>, x: u64, series: usize) -> io::Result<()> {
     writeln!(text, "</text>")
 }
 
-/// Adds what the curves of the window are, of which there are so many.
+/// Adds what the window's `series` curves are.
 pub fn put_curves(text: &mut Vec<u8>, series: usize) -> io::Result<()> {
     if series == 0 {
         return Ok(());

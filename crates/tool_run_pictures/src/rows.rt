@@ -21,7 +21,7 @@ pub struct Row {
 }
 
 impl Row {
-    /// The slot before which it waited no more, of a run of so many slots.
+    /// The slot before which it waited no more, of a run of `slots` slots.
     pub fn until(&self, slots: u32) -> u32 {
         match self.end {
             End::Waiting => slots,
@@ -43,7 +43,7 @@ impl Row {
         self.due.saturating_sub(1)
     }
 
-    /// Whether it waited in a slot of the window, or its deadline lies there, in a run of so many slots.
+    /// Whether it waited in a slot of the window, or its deadline lies there, in a run of `slots` slots.
     pub fn is_seen(&self, window: &Window, slots: u32) -> bool {
         let first = self.release.max(window.from);
         let waited = first < self.until(slots).min(window.to);

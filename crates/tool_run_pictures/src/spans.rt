@@ -56,7 +56,7 @@ impl Span {
     }
 }
 
-/// The slots of a window in which a row waits, in a run of so many; none of a collection that was waived.
+/// The slots of a window in which a row waits, in a run of `slots` slots; none of a collection that was waived.
 fn span_of(
     row: &Row,
     window: &Window,
@@ -105,8 +105,8 @@ fn joined(alloc: Global, rising: &[Span]) -> Result<Vec<Span>, Refusal>
     Ok(joined)
 }
 
-/// The slots of a window in which jobs wait, by lane, and rising in each, in a run of so many slots. The only refusal is
-/// NoMemory.
+/// The slots of a window in which jobs wait, by lane, and rising in each, in a run of `slots` slots. The only refusal
+/// is NoMemory.
 pub fn spans_of(
     alloc: Global,
     window: &Window,

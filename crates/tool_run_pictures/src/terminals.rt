@@ -37,7 +37,7 @@ fn sign_of(kind: Kind) -> u8 {
     }
 }
 
-/// The characters of a band: so many in each lane.
+/// The characters of a band: `width` in each lane.
 #[derive(Drop)]
 struct Grid {
     first: u32,

@@ -85,7 +85,7 @@ module _ {R : Type 0} (rem : R → Option (List ℕ)) (s : ScriptReader R) where
       by None few = tt
       by (Some rows) few = omega (arith, few, items_few rows.items rows.fault)
 
--- so many items of the whole were read, and these are left
+-- `read` items of the whole were read, and these are left
 abbrev pub LeftAfter : ℕ → Option (Reading ScriptItem) → Option (Reading ScriptItem) → Type 0
 LeftAfter read None left = ⊤
 LeftAfter read (Some all) None = ⊥
@@ -103,7 +103,7 @@ left_next read (Some all) (Some more) new item so_far (rest, is, first) =
     subst (λ (o : Option (Reading ScriptItem)). LeftAfter (read + 1) (Some all) o) (sym is)
     (omega (arith, so_far, ap (λ (r : Reading ScriptItem). length r.items) first))
 
--- so many aren't read of any script
+-- 1,000,003 or more aren't read of any script
 pub not_so_many : {R : Type 0} (rem : R → Option (List ℕ)) (s : ScriptReader R) (left : Option (Reading ScriptItem)) (read : ℕ) (e : Refusal)
     → 1000003 ≤ read → LeftAfter read (reading_left rem s) left → RefusesScript (script_left rem s) e
 not_so_many rem s left read e many so_far = by (reading_left rem s) left (left_few rem s) so_far

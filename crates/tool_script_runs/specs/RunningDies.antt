@@ -33,7 +33,7 @@ starts_of dies = map (λ (die : RunningDie). die.start) dies
 abbrev pub Accepts : Start → Log → Event → Log → Type 0
 Accepts start past event log = IsAccepted (answer start past event) × (log ≡ with_entry 0 event (answer start past event) past)
 
--- so many slots more were carried out
+-- a number of slots more were carried out
 abbrev pub CarriesOut : Start → ℕ → Log → Log → Type 0
 CarriesOut start zero before after = after ≡ before
 CarriesOut start (suc more) before after = (between : Log) × CarriesOut start more before between × Accepts start between events.Slot after

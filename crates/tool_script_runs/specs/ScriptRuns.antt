@@ -122,11 +122,11 @@ RefusesScript script refusal = IsOutside refusal ⊎ IfSome script (λ all. all 
 
 -- Runs of texts
 
--- a text as a script for so many dies and slots, where the text is known
+-- a text as a script for `dies` dies and `slots` slots, where the text is known
 abbrev pub script_in : ℕ → ℕ → Option (List ℕ) → Option Script
 script_in dies slots text = option_map (script_of dies slots) text
 
--- dies that start so ran a script of this text, of which these rows were refused, and so many slots
+-- dies that start so ran a script of this text, of which these rows were refused, and `slots` slots
 pub record IsRunOf (starts : List Start) (text : Option (List ℕ)) (slots : ℕ) (refused : List RefusedRow) (dies : List RunningDie)
     : Type 0 where
   pub starts_are : starts_of dies ≡ starts

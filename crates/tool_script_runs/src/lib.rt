@@ -1,4 +1,5 @@
-//! Scripts that are run row by row on dies, each row once the slots before it are carried out, and then so many slots.
+//! Scripts that are run row by row on dies, each row once the slots before it are carried out, and then the slots that
+//! are left.
 #![tactic(auto)]
 
 mod boxes;

@@ -22,7 +22,7 @@ const LINE_PAST_ALL: u32 = 1_000_002;
 /// More rows than any script has.
 const MORE_THAN_ALL: u32 = 1_000_003;
 
-/// That a script has too many rows. Its reader says so before one that calls it so often can.
+/// That a script has too many rows. Its reader says so before it is called [`MORE_THAN_ALL`] times.
 const fn too_many_rows() -> Refusal {
     Refusal::ScriptRow {
         line: LINE_PAST_ALL,
@@ -57,9 +57,9 @@ fn read_rows<R: Read + Drop, D: ScriptDie>(
     Err(too_many_rows())
 }
 
-/// Runs the rows that a reader has left on the dies of a store, and then so many slots: a row comes on its die once the
-/// slots before its `at` were carried out. One that its die refuses is no event. A die whose device fails stays in that slot,
-/// and refuses the rows that are left. Answers the rows that were refused, in their order.
+/// Runs the rows that a reader has left on the dies of a store, and then what is left of `slots` slots. A row comes on
+/// its die once the slots before its `at` were carried out. One that its die refuses is no event. A die whose device
+/// fails stays in that slot, and refuses the rows that are left. Answers the rows that were refused, in their order.
 ///
 /// Refused with the first fault of the script, as [`ScriptReader`] says it; or with ReadFault or NoMemory. Nothing is said
 /// of the logs of the dies then.
@@ -136,8 +136,8 @@ fn read_own<R: Read + Drop, D: ScriptDie>(
     Err(too_many_rows())
 }
 
-/// Runs the rows that a reader has left on the die of this number alone, as [`run_dies`] does on all, and then so many
-/// slots. Rows of other dies are passed over. It is refused as there.
+/// Runs the rows that a reader has left on the die of this number alone, as [`run_dies`] does on all, and then what is
+/// left of `slots` slots. Rows of other dies are passed over. It is refused as there.
 pub fn run_die<R: Read + Drop, D: ScriptDie>(
     alloc: Global,
     script: &mut ScriptReader<R>,

@@ -8,7 +8,7 @@ use slot_types::{MAX_JOBS, MAX_OPS, MAX_SLOT};
 use terms_texts::StoreTerms;
 use tool_plan_arrivals::Fault;
 
-/// How many multiples of a period lie below so many slots, with so many slots left until 1,048,576.
+/// How many multiples of a period lie below `slots`, with `deadline` slots left until 1,048,576.
 fn multiples(period: u32, deadline: u32, slots: u32) -> u64 {
     if slots == 0 || deadline > MAX_SLOT {
         return 0;
@@ -35,7 +35,7 @@ impl Comes {
     }
 }
 
-/// How much comes of a task in so many slots.
+/// How much comes of a task in `slots` slots.
 fn of_task(own: &TaskTerms, slots: u32) -> Comes {
     let bursts = multiples(own.period, own.deadline, slots);
     Comes {
@@ -45,8 +45,8 @@ fn of_task(own: &TaskTerms, slots: u32) -> Comes {
     }
 }
 
-/// How much comes of tasks with these terms in so many slots, where they ask for all that they may, all at once in slot 0
-/// and from then on as often as they may; what would be due after slot 1,048,576 doesn't come.
+/// How much comes of tasks with these terms in `slots` slots, where they ask for all that they may: all at once in slot
+/// 0, and from then on as often as they may. What would be due after slot 1,048,576 doesn't come.
 pub fn comes_in(tasks: &[TaskTerms], slots: u32) -> Comes {
     let mut comes = Comes {
         jobs: 0,
@@ -86,7 +86,7 @@ pub fn life_of(tasks: &[TaskTerms]) -> u32 {
     few
 }
 
-/// That the numbers of each die last for so many slots; else the die whose numbers last least.
+/// That the numbers of each die last for `slots` slots; else the die whose numbers last least.
 pub(crate) fn check_lives(store: &StoreTerms, slots: u32) -> Result<(), Fault>
     ensures { IfErr result IsOwnFault }
 {

@@ -53,7 +53,7 @@ fn put_slot(
     Ok(())
 }
 
-/// The script of what each task of a store asks for in so many slots, slot by slot.
+/// The script of what each task of a store asks for in `slots` slots, slot by slot.
 pub(crate) fn script(
     alloc: Global,
     store: &StoreTerms,

@@ -27,12 +27,12 @@ fn kept(alloc: Global, text: &[u8], store: &StoreTerms, slots: u32) -> Result<()
     }
 }
 
-/// The script, as its readers take it, of the heaviest use that the terms of a plan allow in so many slots: all tasks at
-/// once in slot 0, and back to back from then on. At each multiple of its period a task asks for its whole `work`, in jobs
-/// of at most 64 operations that come and are released in that slot and are due `deadline` slots later; `writes` of these
-/// operations are writes. A collection comes at each multiple of its collect period. Both end where a deadline would be
-/// beyond 1,048,576. Which operations are writes, and the pages, are drawn by the seed: those of task t of n tasks are t,
-/// t + n, t + 2n and so on.
+/// The script, as its readers take it, of the heaviest use that the terms of a plan allow in `slots` slots: all tasks
+/// at once in slot 0, and back to back from then on. At each multiple of its period a task asks for its whole `work`,
+/// in jobs of at most 64 operations that come and are released in that slot and are due `deadline` slots later;
+/// `writes` of these operations are writes. A collection comes at each multiple of its collect period. Both end where a
+/// deadline would be beyond 1,048,576. Which operations are writes, and the pages, are drawn by the seed: those of task
+/// t of n tasks are t, t + n, t + 2n and so on.
 ///
 /// The text that is given is proved to be a script whose rows keep the plan of their die. Fault::TooMany comes where a die
 /// would get more than 65,536 jobs and collections, TooLong where the script would have more than 67,108,864 bytes, and

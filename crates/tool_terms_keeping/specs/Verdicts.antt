@@ -15,7 +15,7 @@ use Rattle.tool_terms_keeping.specs.declared.verdicts.Verdict.TheVariants as ver
 abbrev pub RowsKeepTerms : DieTerms → ℕ → List ScriptItem → Type 0
 RowsKeepTerms made slots rows = KeepsDemandPlan made.plan made.terms (events_of_rows slots rows)
 
--- the text is a script for the dies of a store and so many slots, and the rows of each die keep its plan
+-- the text is a script for the dies of a store and `slots` slots, and the rows of each die keep its plan
 pub record IsKeptScript (store : List DieTerms) (slots : ℕ) (text : List ℕ) : Type 0 where
   pub items : List ScriptItem
   pub said : script_of (length store) slots text ≡ Ok items

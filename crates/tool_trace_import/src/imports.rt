@@ -104,7 +104,7 @@ fn pages_of(alloc: Global, trace: &Trace) -> Result<Vec<(u32, u64)>, TraceFault>
     Ok(pages)
 }
 
-// The least blocks that meet the bound for so many pages.
+// The least blocks that meet the bound for `logical` pages.
 fn blocks_for(tasks: &[Task], logical: usize) -> u64 {
     let count = tasks.len() as u64;
     let mut free = u64::from(ALPHA - 1).saturating_add(count.saturating_mul(u64::from(

@@ -208,7 +208,7 @@ fn add_line<'a>(
     Ok(())
 }
 
-/// The requests of a trace, where a slot takes so many microseconds, and each is due so many slots after it came.
+/// The requests of a trace, where a slot takes `slot_us` microseconds, and each is due `due` slots after it came.
 pub(crate) fn trace_of(
     alloc: Global,
     text: &[u8],

@@ -14,7 +14,7 @@ use Rattle.tool_run_figures.specs.declared.ends.Ended.TheVariants as ended
 use Rattle.tool_run_figures.specs.declared.ends.JobEnd.{JobEnd}
 use Rattle.tool_script_runs.specs.declared.refused.RefusedRow.{RefusedRow}
 
--- waived, or done so late, or it waits, and is late or may be in time
+-- waived, or done with this lateness, or it waits, and is late or may be in time
 abbrev pub ended_as : Option Waived → Bool → ℤ → Bool → Ended
 ended_as (Some waiver) done lateness late = ended.Waived
 ended_as None true lateness late = ended.Done lateness

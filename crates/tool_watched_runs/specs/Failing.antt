@@ -17,7 +17,7 @@ abbrev pub calls_of : Option FailAt → ℕ → ℕ
 calls_of None die = ALL_CALLS
 calls_of (Some at) die = if at.die == die then at.call - 1 else ALL_CALLS
 
--- the die whose device is to fail isn't among so many
+-- the die whose device is to fail isn't among `dies` dies
 abbrev pub IsBeyond : Option FailAt → ℕ → Type 0
 IsBeyond None dies = ⊥
 IsBeyond (Some at) dies = dies ≤ at.die

@@ -53,9 +53,9 @@ abbrev pub failure_among : {N : Type 0} → Option FailAt → List (Core N) → 
 failure_among None dies = None
 failure_among (Some at) dies = option_map (failure_in at) (slice_get dies at.die)
 
--- Dies that start so ran a script, where its text is known, and so many slots, and this became of the device of one that was
--- to fail. So many of the script's rows were refused. The text is that of the dies' figures, by this life of a block and these
--- units.
+-- Dies that start so ran a script, where its text is known, and `slots` slots, and this became of the device of one
+-- that was to fail. The script's rows that were refused are counted. The text is that of the dies' figures, by this
+-- life of a block and these units.
 pub record IsReportFrom (starts : List Start) (script : Option (List ℕ)) (slots : ℕ) (life : Life) (units : Units) (as_csv : Bool)
     (fail : Option FailAt) (said : Reported) : Type 0 where
   pub dies : List (Core (Fuse Memory))

@@ -73,7 +73,7 @@ abbrev pub is_idle : Reply → Bool
 is_idle (replies.Slot s) = is_none s.ran
 is_idle _ = false
 
--- these are the counts of a log of a die with so many tasks
+-- these are the counts of a log of a die with `tasks` tasks
 pub record AreCountsOf (tasks : ℕ) (log : Log) (counts : DieCounts) : Type 0 where
   pub all : counts.all ≡ slot_counts None log
   pub count : length counts.tasks.items ≡ tasks

@@ -55,7 +55,7 @@ ends_erase_of block _ = false
 abbrev pub slots_of : (Reply → Bool) → Log → ℕ
 slots_of is log = count_by (λ e. is e.reply) log
 
--- these are the counts of the log of a die of so many blocks
+-- these are the counts of the log of a die of `blocks` blocks
 pub record IsWearOf (blocks : ℕ) (log : Log) (tally : Tally) : Type 0 where
   pub all : length tally.erases.items ≡ blocks
   pub by_block : (block : ℕ) → block < blocks → get_or tally.erases.items block 0 ≡ slots_of (ends_erase_of block) log

@@ -46,8 +46,8 @@ header = codes "row,die,block,erases,written,copied,amplification" ++ 10 ∷ []
 abbrev pub wear_text : List Tally → List ℕ
 wear_text dies = header ++ flat_map (λ (p : ℕ × Tally). records_of p.0 p.1) (enumerate_from 0 dies)
 
--- the text of what dies wore that start so, and ran this script, where it is known, and so many slots; no device failed, so
--- all rows came, and all slots were carried out
+-- the text of what dies wore that start so, and ran this script, where it is known, and `slots` slots; no device
+-- failed, so all rows came, and all slots were carried out
 pub record IsWearFrom (starts : List Start) (script : Option (List ℕ)) (slots : ℕ) (counts : RefusedRows) (text : List ℕ) : Type 0 where
   pub dies : List Worn
   pub refused : List RefusedRow

@@ -210,7 +210,7 @@ struct Frame {
     dies: u32,
 }
 
-/// So many slots are drawn before the busy interval of the worst, and after it.
+/// How many slots are drawn before the busy interval of the worst, and after it.
 const MARGIN: u32 = 10;
 
 /// Adds what a window has of the slots of another one. The only refusal is NoMemory.
@@ -249,7 +249,7 @@ fn part_of(alloc: Global, window: &Window, from: u32, to: u32) -> Result<Window,
     Ok(part)
 }
 
-/// The busy interval of the worst of a run of so many slots, with a margin; its end, where it has too many slots.
+/// The busy interval of the worst of a run of `slots` slots, with a margin; its end, where it has too many slots.
 fn worst_slots(worst: &Worst, slots: u32, all: bool) -> (u32, u32) {
     let to = worst.completion.saturating_add(MARGIN).min(slots);
     let from = worst.start.saturating_sub(MARGIN).min(to);
@@ -278,7 +278,7 @@ fn cut_off(run: &mut DieRun) {
 }
 
 impl Shown {
-    /// The slots that are looked at in a run of so many.
+    /// The slots that are looked at in a run of `slots` slots.
     fn seen(&self, slots: u32) -> (u32, u32)
         ensures order { result.0 ≤ result.1 }
         ensures within { result.1 ≤ slots }
@@ -290,8 +290,8 @@ impl Shown {
         (self.from.min(to), to)
     }
 
-    /// Whether the picture of a run of so many slots would have too many: where it isn't that of the worst, and not all are
-    /// asked for. The window that would do has the first of them.
+    /// Whether the picture of a run of `slots` slots would have too many: where it isn't that of the worst, and not all
+    /// are asked for. The window that would do has the first of them.
     pub fn too_many(&self, slots: u32) -> Option<TooMany>
         ensures larger { IfSome result (λ many. 20000 < many.slots) }
         ensures window { IfSome result (λ many.

@@ -37,7 +37,7 @@ pub fn calls_of(fail: Option<FailAt>, die: u32) -> u64
     }
 }
 
-/// Whether a store of so many dies has the one whose device is to fail. UnknownDie where it hasn't, and nothing else.
+/// Whether a store of `dies` dies has the one whose device is to fail. UnknownDie where it hasn't, and nothing else.
 pub fn check_failing(fail: Option<FailAt>, dies: usize) -> Result<(), Refusal>
     ensures there { OnOk result (¬ IsBeyond fail dies) }
     ensures unknown { IfErr result (λ refusal.

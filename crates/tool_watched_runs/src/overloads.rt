@@ -34,7 +34,7 @@ fn put_overdue(
     )
 }
 
-/// Tells what a die carried in the slots of a certificate: its job, and so many others.
+/// Tells what a die carried in the slots of a certificate: its job, and `others` others.
 fn put_others(text: &mut Vec<u8>, others: usize) -> io::Result<()> {
     if others == 0 {
         writeln!(text, "the die carried only it")

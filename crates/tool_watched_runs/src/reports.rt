@@ -33,8 +33,8 @@ use tool_run_figures::{
 use tool_script_runs::{RefusedRow, RefusedRows};
 use tool_slot_times::Units;
 
-/// What became of a job or a collection of this stage, of a die that carried out so many slots. One
-/// that waits can't be done before the end of the next slot.
+/// What became of a job or a collection of this stage, of a die that carried out `slots` slots. One that waits can't be
+/// done before the end of the next slot.
 fn ended_in(stage: Stage, due: u32, slots: u32) -> Ended
     ensures { result ≡ ended_in stage due slots }
 {
@@ -47,7 +47,7 @@ fn ended_in(stage: Stage, due: u32, slots: u32) -> Ended
     }
 }
 
-/// What became of a job or a collection of a die that carried out so many slots.
+/// What became of a job or a collection of a die that carried out `slots` slots.
 fn end_in(job: &Job<'_>, slots: u32) -> JobEnd
     ensures { result ≡ end_in slots job.now }
 {

@@ -25,8 +25,8 @@ pub struct StartedDie {
     pub levels: Levels,
 }
 
-/// A fresh die of a plan, on a device in memory that makes so many calls well and fails from then on. The only refusal is
-/// NoMemory.
+/// A fresh die of a plan, on a device in memory that makes `calls` calls well and fails from then on. The only refusal
+/// is NoMemory.
 fn fresh_core(alloc: Global, plan: DiePlan, calls: u64) -> Result<Box<DieCore<RunNand>>, Refusal>
     requires { MeetsBound plan }
     ensures start { IfOk result (λ core. (box_value core).start ≡ fresh plan) }
@@ -45,7 +45,7 @@ fn fresh_core(alloc: Global, plan: DiePlan, calls: u64) -> Result<Box<DieCore<Ru
 }
 
 impl StartedDie {
-    /// A fresh die of a plan, on a device in memory that makes so many calls well and fails from then on. The only
+    /// A fresh die of a plan, on a device in memory that makes `calls` calls well and fails from then on. The only
     /// refusal is NoMemory.
     fn fresh(alloc: Global, plan: DiePlan, calls: u64) -> Result<StartedDie, Refusal>
         requires { MeetsBound plan }
@@ -70,8 +70,8 @@ pub fn push_started(dies: &mut Vec<StartedDie>, die: StartedDie) -> Result<(), R
     Ok(())
 }
 
-/// A fresh die for each plan, on a device that makes all calls well, but for one that is to fail. The only refusal is
-/// NoMemory.
+/// A fresh die for each plan, on a device that makes all calls well, except for one that is to fail. The only refusal
+/// is NoMemory.
 pub fn fresh_dies(
     alloc: Global,
     plan: StorePlan,

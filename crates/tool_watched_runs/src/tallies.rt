@@ -24,7 +24,7 @@ pub struct Tally {
 }
 
 impl Tally {
-    /// Of a die of so many blocks, on which nothing was done. The only refusal is NoMemory.
+    /// Of a die of `blocks` blocks, on which nothing was done. The only refusal is NoMemory.
     pub fn new(alloc: Global, blocks: u32) -> Result<Tally, Refusal>
         ensures ok { IfOk result (IsWearOf blocks []) }
         ensures refused { FailsForMemory result }

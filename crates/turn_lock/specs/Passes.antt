@@ -61,13 +61,13 @@ module _ {E R A : Type 0} where
     pub own : (p : ℕ) → 0 < times p (v.number ∷ v.joined) → calls_by p w.seen ≡ calls_by p v.seen
     pub others : (p : ℕ) → 0 < times p (other.number ∷ other.joined) → calls_by p w.seen ≡ calls_by p other.seen
 
-  -- so many passes are neither this one nor joined into it; where there are none, the pass had seen all entries.
-  -- There are none where the pass knew that no other is left
+  -- `out` passes are neither this one nor joined into it; where there are none, the pass had seen all entries. There
+  -- are none where the pass knew that no other is left
   abbrev pub IsOut : (fits : A → List (Entry E R) → Type 0) → View E R A → ℕ → View E R A → Type 0
   IsOut fits v out w = SeesMore fits v w × (out + 1 + length w.joined ≡ w.made) × (out ≡ 0 → w.sole ≡ true) × (out ≡ 0 → w.seen ≡ v.seen)
       × (v.sole ≡ true → out ≡ 0)
 
-  -- the lock stays open: so many passes are out, and some are
+  -- the lock stays open: `out` passes are out, and some are
   abbrev pub StaysOpen : (fits : A → List (Entry E R) → Type 0) → View E R A → Refusal → View E R A → Type 0
   StaysOpen fits v refusal w = (out : ℕ) × (refusal ≡ PassesOut out) × (0 < out) × IsOut fits v out w
 

@@ -8,7 +8,7 @@ pub trait NotingBook<P>: Book {
     /// What is kept of a reply where the caller needs no more.
     type Note;
 
-    /// An event that isn't given up, but for its parts: these lie beside it.
+    /// An event that isn't given up, without its parts: these lie next to it.
     type Head;
 
     // The reply that a note is of.

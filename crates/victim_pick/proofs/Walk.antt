@@ -16,7 +16,7 @@ after_both erases a b c ab bc = record {
       omega (arith, ab.first one, bc.first other);
 }
 
--- a walk that has done so many steps, is at a block or at the end, and has seen the others, of which it found one
+-- a walk that has done `step` steps, is at a block or at the end, and has seen the others, of which it found one
 pub record IsWalked (counts erases : List (Option ℕ)) (place : ℕ → ℕ) (count step : ℕ) (found at : Option ℕ) : Type 0 where
   pub at_in : (block : ℕ) → at ≡ Some block → count_of counts block ≡ Some count
   pub near_end : (block : ℕ) → at ≡ Some block → place block + step < length counts

@@ -24,8 +24,8 @@ use Rattle.demand_rules.specs.Keeping.{IsDemanded, IsCollectSlot, is_released_in
 abbrev pub small : ℕ → DiePlan
 small cap = record { shape = record { blocks = 4; pages = 4; erase_slots = 3 }; logical = 2; alpha = 2; caps = cap ∷ []; times = None }
 
--- so many operations in twenty slots, two of them writes, each in six slots of its release and in seven of its coming;
--- and a collection in twenty
+-- `work` operations in twenty slots, two of them writes, by jobs that are due six slots after their release or later,
+-- and seven after they come or sooner; and a collection in twenty
 abbrev pub in_twenty : ℕ → TaskTerms
 in_twenty work = record { period = 20; deadline = 6; held = 7; work = work; writes = 2; collect_period = 20; collect_deadline = 20 }
 

@@ -32,7 +32,7 @@ abbrev pub in_buffer : Cells → List Act → ℕ → ℕ
 in_buffer c own b = one_if (is_placed_in c b (buffer_after (last_or None own)))
 
 -- a collection with these acts and this block: while it runs, what it read and what is still placed in its block fit its
--- reserve, but for the page in its buffer
+-- reserve, except for the page in its buffer
 pub record IsBounded (plan : DiePlan) (c : Cells) (j : Job) (own : List Act) (block : Option ℕ) : Type 0 where
   pub copies : count_by is_copy_program own ≤ reserve_full plan
   pub reads : count_by is_copy_read own ≤ reserve_full plan

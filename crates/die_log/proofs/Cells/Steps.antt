@@ -55,7 +55,7 @@ moved_to page b c p q e (inl is) (inr past) =
     absurd (none-some q (sym (get_or_past (slice_set c.places page new) p None (omega (arith, length-set c.places page new))) ∙ e))
 moved_to page b c p q e (inr other) h = inr (other, sym (get_or-set_other c.places page p _ None other) ∙ e)
 
--- a block that has room, and but for which none is open, may be programmed
+-- a block that has room may be programmed, if no other block is open
 pub program_is : (plan : DiePlan) (page b : ℕ) (c : Cells) → b < length c.blocks → (block_at c b).filled < plan.shape.pages
     → ((a : ℕ) → IsOpen plan c a → a ≡ b)
     → IsProgram plan page b c (cells_after_program_in page (Some b) c)

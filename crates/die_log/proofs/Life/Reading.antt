@@ -52,7 +52,7 @@ last_then None ys d = refl
 last_then (Some x) [] d = refl
 last_then (Some x) (y ∷ ys) d = some_last y d x ys
 
--- what the later ones leave, where the earlier ones left so much
+-- what the later ones leave, after what the earlier ones left
 last_joined : {X : Type 0} (xs ys : List X) (d : X) → last_of (xs ++ ys) d ≡ last_of ys (last_of xs d)
 last_joined xs ys d = ap (λ o. unwrap_or o d) (last_append None xs ys) ∙ last_then (last_or None xs) ys d
 

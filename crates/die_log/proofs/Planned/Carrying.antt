@@ -18,7 +18,7 @@ count_cons p o f = sum_by-cons (λ y. cond (p y) 1 0) o f
 one_by : (b : Bool) → b ≡ true → ◌≡◌ {A = ℕ} (cond b 1 0) 1
 one_by b e = ap (λ c. cond c 1 0) e
 
--- where each slot from start on passes, below the end, so many pass
+-- where each slot from `start` on passes, below `end`, as many pass as there are between them
 pub filled : (p : Option ℕ → Bool) (f : Slots) (start end : ℕ) → end ≤ length f → ((t : ℕ) → start ≤ t → t < end → p (slot_at f t) ≡ true)
     → end ≤ start + count_by p (take end f)
 filled p f start zero le pass = omega arith

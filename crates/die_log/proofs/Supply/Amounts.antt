@@ -1,10 +1,10 @@
 -- The inequality that covers a task's next job, and what each kind of event does to it: over plain numbers.
 --
--- Let `since` be the slot in which a collection last filled the task up to its cap, but for what was held, or else 0.
--- What was held then was for jobs that are due after it. Each collection that closed since then gave alpha pages, and of
--- those that came by then there are at most since / q + 1. So with `owed` the writes of all jobs that are due after it,
--- and at first what the start lacked, and with any share of `rate` pages in `span` slots that the collections give at
--- least (rate * q ≤ span * alpha),
+-- Let `since` be the slot in which a collection last filled the task up to its cap, except for what was held, or else
+-- 0. What was held then was for jobs that are due after it. Each collection that closed since then gave alpha pages,
+-- and of those that came by then there are at most since / q + 1. So with `owed` the writes of all jobs that are due
+-- after it, and at first what the start lacked, and with any share of `rate` pages in `span` slots that the collections
+-- give at least (rate * q ≤ span * alpha),
 --
 --     span * cap + rate * q * count ≤ span * balance + span * owed + rate * (since + q) + rate * q * pending
 use Rattle.std.proofs.Common.{◌≡◌, ℕ, ◌+◌, ◌-◌, ◌*◌, ◌<◌, ◌≤◌, ap, inl, inr, arith}
@@ -32,7 +32,7 @@ pub given : (span rate q alpha ago cap bal bal' owed count since pend pend' : �
 given span rate q alpha ago cap bal bal' owed count since pend pend' h le one share =
     omega (arith, h, mul-le-mul_left span le, times_sum span bal alpha, share, mul-le-mul_left (rate * q) one, times_one (rate * q))
 
--- a collection is closed and fills up to the cap, but for what is held
+-- a collection is closed and fills up to the cap, except for what is held
 pub filled : (span rate q cap bal' held owed count since pend' : ℕ) → cap ≤ bal' + held → held ≤ owed → q * count ≤ since + q
     → span * cap + rate * q * count + rate * 0 ≤ span * bal' + span * owed + rate * (since + q) + rate * q * pend'
 filled span rate q cap bal' held owed count since pend' full few some =

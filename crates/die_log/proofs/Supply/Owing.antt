@@ -206,7 +206,7 @@ module _ (plan : DiePlan) (terms : Terms) (log : Log) (rest : List Event) (f : F
       (before_planned plan terms (events_of_log log) rest keeps)
       (sooner (0 + slots (events_of_log log)) (now log) (omega (arith, f.clock)) came (come_by 0 (events_of_log log)))
 
-  -- in so many periods
+  -- in `n` periods
   limit : (first n : ℕ)
       → sum_by (λ b. cond (comes plan terms 0 task since first (first + n * (terms_of terms task).period) b) (writes b.ops) 0)
       (arrivals 0 (events_of_log log ++ rest))
@@ -291,7 +291,7 @@ only_before task first last (a ∷ came) = (
 
 -- Periods
 
--- so many periods reach beyond so many slots, by a period at most
+-- how many periods reach beyond `slots` slots, by a period at most
 pub periods_for : ℕ → ℕ → ℕ
 periods_for period slots = slots / period + 1
 

@@ -59,7 +59,7 @@ drop_none (suc n) = refl
 left_none : (own : ℕ → List Act) (j : Job) → j.ops ≡ [] → left_of own j ≡ 0
 left_none own j e = ap (λ (ops : List Op). writes (drop (length (own j.number)) ops)) e ∙ drop_none (length (own j.number))
 
--- so many writes are carried
+-- `d` writes are carried
 pub held_after : (own own' : ℕ → List Act) (js : List Job) (j : Job) (act : Act) (d : ℕ) → IsNumbered js → slice_get js j.number ≡ Some j
     → Acts own own' j.number act → left_of own j ≡ left_of own' j + d
     → (t : ℕ) → held_of own js t ≡ held_of own' js t + at_task j.task d t

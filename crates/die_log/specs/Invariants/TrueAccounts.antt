@@ -13,7 +13,7 @@ use Rattle.die_log.specs.Model.Work.{are_all, is_copy_program, owed_writes}
 use Rattle.die_log.specs.Model.Accounts.{accounts}
 use Rattle.die_log.specs.Model.Start.{Start}
 
--- so much at this task, and nothing at others
+-- `n` at this task, and nothing at others
 abbrev pub at_task : ℕ → ℕ → ℕ → ℕ
 at_task task n other = if task == other then n else 0
 
@@ -51,8 +51,8 @@ pending_of plan own gone js task = count_by (λ j. (j.task == task) && is_pendin
 abbrev pub reserve_full : DiePlan → ℕ
 reserve_full plan = plan.shape.pages - plan.alpha
 
--- accounts, where each task is held so much, and its collector lent so much; so much is owed in all, and so much is
--- free
+-- accounts where `held` says what each task holds, and `lent` what its collector lent; `owed` is what is owed in all,
+-- and `free` what is free
 pub record AccountsAgree (plan : DiePlan) (a : Accounts) (held lent : ℕ → ℕ) (owed free : ℕ) : Type 0 where
   pub plan_is : a.plan ≡ plan
   pub balances_len : length a.balances ≡ length plan.caps

@@ -65,9 +65,9 @@ KeepDemandPlans plan terms (calls ∷ earlier) =
     KeepDemandPlans plan terms earlier × KeepsDemandPlan plan terms (events_of_calls calls) × EndPeriods plan terms (events_of_calls calls)
     × WritesAreFew plan terms (calls ∷ earlier)
 
--- What a task lacks where a life starts in slot `first` of the clock, after what came before: no more to its cap than `owed`
--- pages and what a collection gives, less its share of alpha for `gap` slots; and so much was written by jobs that came in
--- these slots, or in those for which a job may be held.
+-- What a task lacks where a life starts in slot `first` of the clock, after what came before. It lacks no more to its
+-- cap than `owed` pages and what a collection gives, less its share of alpha for `gap` slots. At least `owed` pages
+-- were written by jobs that came in these slots, or in those for which a job may be held.
 pub record IsStockedAfter (start : Start) (t : TaskTerms) (before : List TaskArrival) (first task : ℕ) : Type 0 where
   pub gap : ℕ
   pub owed : ℕ

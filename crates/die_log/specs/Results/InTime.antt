@@ -20,7 +20,7 @@ events_of_log (e ∷ past) = events_of_log past ++ e.event ∷ []
 abbrev pub Adds : Event → Log → Log → Type 0
 Adds event past log = (caller : ℕ) × (reply : Reply) × (log ≡ record { caller = caller; event = event; reply = reply } ∷ past)
 
--- the log that events leave after `past`: in their order each is an entry, but for jobs and collections that were
+-- the log that events leave after `past`: in their order each is an entry, except for jobs and collections that were
 -- refused
 abbrev pub AreEntered : List Event → Log → Log → Type 0
 AreEntered [] past log = log ≡ past

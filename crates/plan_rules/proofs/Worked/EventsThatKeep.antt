@@ -17,7 +17,7 @@ use Rattle.slot_types.specs.Operations.{page_of}
 use Rattle.plan_rules.specs.Keeping.{TaskArrival, arrivals, slots, IsPlanned, AreApart, is_collection_at, IsCollectSlot, KeepsPlan}
 use Rattle.plan_rules.proofs.Worked.PlansWithTimes.{small, each_ten, has_times}
 
--- a collection and a job, and after so many slots a second job; twenty slots in all
+-- a collection and a job, and `wait` slots later a second job; twenty slots in all
 abbrev pub history : Op → ℕ → List Event
 history first wait =
     Collect 0 0 20 ∷ Submit 0 0 10 (first ∷ [])

@@ -10,7 +10,7 @@ use Rattle.plan_rules.specs.Times.{IsTaskTimes, HasTimes, Passes, demand, collec
 abbrev pub small : ℕ → DiePlan
 small cap = record { shape = record { blocks = 4; pages = 4; erase_slots = 3 }; logical = 2; alpha = 2; caps = cap ∷ []; times = None }
 
--- a job with so many operations in ten slots, one of them a write, and a collection in twenty
+-- a job with `work` operations in ten slots, one of them a write, and a collection in twenty
 abbrev pub work_in_ten : ℕ → TaskTimes
 work_in_ten work = record { period = 10; collect_period = 20; work = work; writes = 1 }
 

@@ -29,7 +29,7 @@ pub record IsThe (s t : Block) (own other : List (Option Label)) (back number : 
   pub labels : own ≡ other
   pub back_again : back ≡ number
 
--- the blocks of d and m are those of c and l, with other numbers, but for some in which nothing is programmed
+-- the blocks of d and m are those of c and l, with other numbers, except for some in which nothing is programmed
 pub record AreRenumbered (to from : ℕ → ℕ) (c d : Cells) (l m : Shown) : Type 0 where
   pub here : (b : ℕ) → IsNobodys (block_at d b) (labels_in m b)
       ⊎ IsThe (block_at d b) (block_at c (from b)) (labels_in m b) (labels_in l (from b)) (to (from b)) b

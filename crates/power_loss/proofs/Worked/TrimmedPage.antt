@@ -58,7 +58,7 @@ found : mounted_place 0 2 (labels start first log).blocks ≡ Some (record { blo
 unfolding answer
 found = refl
 
--- but for the trim, of which it needs to know
+-- except for the trim, of which it needs to know
 not_found : mounted_place (counts_from start first log 2) 2 (labels start first log).blocks ≡ None
 unfolding answer
 not_found = refl
