@@ -382,8 +382,11 @@ module _ (first : Start) (terms : Terms) (life : ℕ) (d : Ongoing) (k : IsOngoi
               (slot_asked caller task))
           | inr here ↦
               let is : w.until ≡ began + now log = omega (arith, here, a.later, slot_now caller) in
-              inl (is, ap (λ (l : List Asked). first_refusal (burst_refusals start.plan terms life began (now log) l task w.ops)) (slot_asked caller task)
-              ∙ awaited_enters start.plan terms life began (now d.log) (has_asked task) task w a (now log) lt is)
+              inl (
+                is,
+                ap (λ (l : List Asked). first_refusal (burst_refusals start.plan terms life began (now log) l task w.ops)) (slot_asked caller task)
+                    ∙ awaited_enters start.plan terms life began (now d.log) (has_asked task) task w a (now log) lt is,
+              )
         ]
 
     pub slot_goes : (b : Bool) → (now log == life) ≡ b
