@@ -1,7 +1,7 @@
 -- What the plan says of an ask as at a later slot follows from what it says now, and from which slot on there is room.
 use Rattle.std.proofs.Common.{◌≡◌, ℕ, zero, suc, ◌+◌, ◌-◌, ◌<◌, ◌≤◌, ◌==◌, nat_lt, nat_le, not, Bool, true, false, cond, List, [], ◌∷◌, ◌++◌, length, map, get_or}
 use Rattle.std.proofs.Common.{Option, Some, None, is_some, unwrap_or, refl, ap, sym, ◌∙◌, inl, inr, arith}
-use Rattle.std.specs.Prelude.{All}
+use Rattle.std.specs.Prelude.{All, IsTrue, ◌↔◌}
 use Rattle.std.specs.List.{AllByRecursion}
 use Rattle.std.proofs.lemmas.Bool.{true≢false, leb-true, cases_Bool, cases_lt}
 use Rattle.std.proofs.lemmas.Bool.Decides.{nat_tests}
@@ -87,9 +87,9 @@ module _ (t : TaskTerms) (asked : List Asked) (order : AreNewestFirst asked) (op
       omega (arith, one, two)
     where
       above : (n m : ℕ) → (n ≤ m → has_room t slot asked ops written ≡ true) → has_room t slot asked ops written ≡ false → m < n
-      above n m has no = elim (cases_lt m n) [
+      above n m has away = elim (cases_lt m n) [
         | inl lt ↦ lt
-        | inr by ↦ absurd (true≢false (sym (has by) ∙ no))
+        | inr by ↦ absurd (true≢false (sym (has by) ∙ away))
       ]
 
 -- What the plan says
@@ -128,7 +128,7 @@ module _ (most : ℕ) (plan : DiePlan) (terms : Terms) (life first now slot : �
       by false = refl
 
   module _ (few : length ops ≤ t.work) (few_written : writes ops ≤ t.writes) where
-    from : (moment n : ℕ) → moment ≤ n → _
+    from : (moment n : ℕ) → moment ≤ n → IsTrue (roomy_at n) ↔ (room_at t (counting t.period (first + moment) asked) (length ops) (writes ops) ≤ first + n)
     from moment n by = room_from t asked order (first + moment) (first + n) (length ops) (writes ops) (omega (arith, by)) few few_written
 
     -- where there is none now, there is at the later slot just from the named one on

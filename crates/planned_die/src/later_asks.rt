@@ -16,12 +16,7 @@ use slot_types::{Op, TaskNo};
 
 /// What the plan says of an ask as in slot `slot`, where it says `now` of it in the present one, and a job of the task has
 /// `deadline` slots.
-fn say_later(
-    now: Option<AskRefusal>,
-    life: u32,
-    deadline: u32,
-    slot: u64,
-) -> Option<AskRefusal>
+fn say_later(now: Option<AskRefusal>, life: u32, deadline: u32, slot: u64) -> Option<AskRefusal>
     ensures { result ≡ said_later life deadline slot now }
 {
     match now {
