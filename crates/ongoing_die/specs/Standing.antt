@@ -4,7 +4,7 @@ use Rattle.demand_rules.specs.declared.terms.Terms.{Terms}
 use Rattle.demand_rules.specs.Demand.{terms_of}
 use Rattle.die_log.specs.Model.Start.{Start}
 use Rattle.ongoing_log.specs.PastLives.{PastLife, starts_after, counted, HavePassed}
-use Rattle.ongoing_log.specs.Ongoing.{Ongoing, WaitingAsk, going_on, AreLongEnough, IsOngoing}
+use Rattle.ongoing_log.specs.Ongoing.{Ongoing, WaitingAsk, due_at, going_on, AreLongEnough, IsOngoing}
 use Rattle.planned_die.specs.Planned.{Planned, HasLived}
 use Rattle.ongoing_die.specs.declared.waiting.Waiting.{Waiting}
 
@@ -21,6 +21,10 @@ ask_in w = if w.waits then Some (record { caller = w.caller; ops = w.ops.items; 
 abbrev pub HaveRoom : Terms → List Waiting → Type 0
 HaveRoom terms waiting =
     (task : ℕ) (d : Waiting) → task < length waiting → (terms_of terms task).work ≤ vec_capacity (slice_index_or waiting task d).ops
+
+-- none waits for this slot of the clock
+abbrev pub NoneIsDue : ℕ → List (Option WaitingAsk) → Type 0
+NoneIsDue slot waiting = (task : ℕ) → due_at slot (slice_index_or waiting task None) ≡ None
 
 -- what stands, after these lives
 abbrev pub standing : {N : Type 0} → OngoingParts N → List PastLife → Ongoing

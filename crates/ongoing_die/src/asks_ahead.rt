@@ -7,6 +7,7 @@ ghost use Rattle.ongoing_die.specs.Standing.{StandsAs};
 ghost use Rattle.ongoing_die.specs.OngoingCalls.{IsOngoingAskAt, HaveOnePlan};
 
 use crate::answers::Taken;
+use crate::later_asks::of_ask;
 use crate::ongoing_die::OngoingDie;
 use crate::refusals::AskAtStop;
 use flash_die::Nand;
@@ -77,5 +78,17 @@ impl<N: Nand> OngoingDie<N> {
             → IsOngoingAskAt kind caller task ops.now at first d result self.old self.new }
         ensures plan { HaveOnePlan self.old self.new }
     {
+        match self.go_on(alloc) {
+            Ok(()) => {}
+            Err(stop) => return Err(AskAtStop::Ended(stop)),
+        }
+        let clock = self.clock();
+        if at < clock {
+            return Err(AskAtStop::Past);
+        }
+        if at == clock {
+            return of_ask(self.ask_as(alloc, caller, kind, task, ops));
+        }
+        self.ask_later(caller, kind, task, ops, at)
     }
 }
