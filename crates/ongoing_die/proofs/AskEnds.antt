@@ -1,5 +1,6 @@
 -- What an ask leaves, with what the die below answered.
-use Rattle.std.proofs.Common.{◌≡◌, ℕ, ◌+◌, ◌<◌, ◌≤◌, true, false, List, Option, ◌∷◌, length, map, get_or, set, vec_capacity, None, Some, Ok, Err, refl, ap, sym, ◌∙◌, arith}
+use Rattle.std.proofs.Common.{◌≡◌, ℕ, ◌+◌, ◌<◌, ◌≤◌, true, false, List, Option, is_some, ◌∷◌, length, map, get_or, set, vec_capacity, None, Some, Ok, Err, refl, ap, sym, ◌∙◌, arith}
+use Rattle.std.proofs.lemmas.Bool.{true≢false}
 use Rattle.std.proofs.lemmas.List.{length-map, get_or-map}
 use Rattle.slot_types.specs.declared.events.Op.{Op}
 use Rattle.demand_rules.specs.declared.terms.Terms.{Terms}
@@ -68,3 +69,12 @@ module _ {N : Type 0} (first : Start) (d : Ongoing) (die after : Planned N) (ws 
 
   pub late_fits : HaveRoom die.terms ws → (own : Waiting) → length ops ≤ vec_capacity (get_or ws task own).ops
   late_fits room own = omega (arith, late.1, room task own late_known)
+
+-- whether one waits
+pub none_if : {A : Type 0} (v : Option A) → is_some v ≡ false → v ≡ None
+none_if None e = refl
+none_if (Some x) e = absurd (true≢false e)
+
+pub some_if : {A : Type 0} (v : Option A) → is_some v ≡ true → (x : A) × (v ≡ Some x)
+some_if None e = absurd (true≢false (sym e))
+some_if (Some x) e = (x, refl)

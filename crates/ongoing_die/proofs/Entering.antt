@@ -1,5 +1,5 @@
 -- An ask of the die below, for a job or for a burst, is a move of its log; and what waited is entered task by task.
-use Rattle.std.proofs.Common.{◌≡◌, ℕ, zero, suc, ◌+◌, ◌<◌, ◌≤◌, false, List, [], ◌∷◌, length, map, drop, get_or, set, Option, None, Some, Result, Ok, Err}
+use Rattle.std.proofs.Common.{◌≡◌, ℕ, zero, suc, ◌+◌, ◌<◌, ◌≤◌, ◌==◌, true, false, List, [], ◌∷◌, length, map, drop, get_or, set, Option, None, Some, Result, Ok, Err}
 use Rattle.std.proofs.Common.{◌++◌, take, vec_capacity, refl, ap, sym, ◌∙◌, inl, inr, arith, add-one}
 use Rattle.std.proofs.lemmas.Bool.{true≢false}
 use Rattle.std.proofs.lemmas.List.{drop_more, get_or-map, length-map, map-set}
@@ -17,7 +17,7 @@ use Rattle.planned_log.specs.declared.refusals.AskRefusal.{AskRefusal}
 use Rattle.planned_log.specs.Asks.{asked_job}
 use Rattle.planned_log.specs.AskKinds.{jobs_as, with_jobs}
 use Rattle.planned_log.specs.Moves.{Ask, after_ask, after_move, after_moves}
-use Rattle.ongoing_log.specs.Ongoing.{WaitingAsk, asks_of, left_at}
+use Rattle.ongoing_log.specs.Ongoing.{WaitingAsk, asks_of, due_at, left_at}
 use Rattle.planned_die.specs.Planned.{Planned}
 use Rattle.planned_die.specs.declared.bursts.Burst.{Burst}
 use Rattle.planned_die.specs.PlannedCalls.{HasAsked, HaveAsked}
@@ -204,3 +204,8 @@ rooms_stay (x ∷ xs) zero w old lt is e zero d = e ∙ ap (λ (v : Waiting). ve
 rooms_stay (x ∷ xs) zero w old lt is e (suc task) d = refl
 rooms_stay (x ∷ xs) (suc i) w old lt is e zero d = refl
 rooms_stay (x ∷ xs) (suc i) w old lt is e (suc task) d = rooms_stay xs i w old (omega (arith, lt)) is e task d
+
+-- the ask of a task that waits for this slot
+pub is_due : (w : Waiting) (slot : ℕ) → w.waits ≡ true → (w.until == slot) ≡ true
+    → due_at slot (ask_in w) ≡ Some (record { caller = w.caller; ops = w.ops.items; until = w.until })
+is_due w slot waits here = rw waits (rw here refl)

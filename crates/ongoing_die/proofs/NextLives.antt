@@ -144,26 +144,21 @@ module _ {N : Type 0} (first : Start) (d : Ongoing) (before after : OngoingParts
     left_is : map (left_at (all_slots lives + now lived.core.log)) before.waiting ≡ after.waiting
     left_is = ap (λ n. map (left_at n) before.waiting) (sym clock_is) ∙ sym left
 
-    settled : d ≡ standing after goes.past
-    settled =
+    as_parts : d ≡ standing after goes.past
+    as_parts =
         (s.runs runs).stands
         ∙ (ap (let_in first terms life) goes.lives
         ∙ (λ i. record { earlier = goes.past; log = entered i; waiting = left_is i }))
 
-    pub begun : HasBegun first d before after
-    begun = record {
-      ran = runs;
-      runs = runs_on;
-      stands = stands_in first d after goes.past (has lives goes.had) (same.start ∙ goes.starts) settled
-          (subst (λ n. IsOngoing first after.die.terms n d) (sym plan.life)
-          (subst (λ (t : Terms). IsOngoing first t life d) (sym plan.terms) k))
-          (same.entered ∙ goes.whole);
-      settled = settled;
-      early = subst (λ (l : Log). now l < after.die.life) (ap (λ (e : Ongoing). e.log) settled)
-          (subst (λ n. now d.log < n) (sym plan.life) k.goes_on);
-      plan = plan;
-      device = same.device ∙ goes.device;
-    }
+    stands_there : StandsAs first d after
+    stands_there = stands_in first d after goes.past (has lives goes.had) (same.start ∙ goes.starts) as_parts
+        (subst (λ n. IsOngoing first after.die.terms n d) (sym plan.life)
+        (subst (λ (t : Terms). IsOngoing first t life d) (sym plan.terms) k))
+        (same.entered ∙ goes.whole)
+
+    early_there : now after.die.core.log < after.die.life
+    early_there = subst (λ (l : Log). now l < after.die.life) (ap (λ (e : Ongoing). e.log) as_parts)
+        (subst (λ n. now d.log < n) (sym plan.life) k.goes_on)
 
     -- what waited for the present slot waits no more
     pub none_due : NoneIsDue (after.die.first + now after.die.core.log) after.waiting
@@ -172,12 +167,23 @@ module _ {N : Type 0} (first : Start) (d : Ongoing) (before after : OngoingParts
         clock_there : after.die.first + now after.die.core.log ≡ clock_of d
         clock_there =
             ap (λ n. n + now after.die.core.log) (has lives goes.had).began
-            ∙ sym (ap clock_of settled)
+            ∙ sym (ap clock_of as_parts)
 
         by : (v : Option WaitingAsk) → get_or after.waiting task None ≡ v → due_at (after.die.first + now after.die.core.log) v ≡ None
         by None e = refl
         by (Some w) e =
-            let there : waiting_of d task ≡ Some w = ap (λ (x : Ongoing). waiting_of x task) settled ∙ e in
+            let there : waiting_of d task ≡ Some w = ap (λ (x : Ongoing). waiting_of x task) as_parts ∙ e in
             let later = (k.waits task w there).later in
             let away : (w.until == after.die.first + now after.die.core.log) ≡ false = grind (arith, nat_tests, later, clock_there) in
             rw away refl
+
+    pub begun : HasBegun first d before after
+    begun = record {
+      ran = runs;
+      runs = runs_on;
+      stands = stands_there;
+      settled = within first d after stands_there runs_on early_there none_due;
+      early = early_there;
+      plan = plan;
+      device = same.device ∙ goes.device;
+    }

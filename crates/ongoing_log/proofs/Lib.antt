@@ -1,6 +1,6 @@
 mod Passing
 mod Late
-mod WhatWaits
+pub mod WhatWaits
 pub mod GoingOn
 mod OngoingAnswers
 mod Taken

@@ -4,12 +4,12 @@ use Rattle.die_log.specs.Model.Log.{now}
 use Rattle.ongoing_log.specs.Ongoing.{WaitingAsk, left_at}
 use Rattle.ongoing_die.specs.Standing.{OngoingParts, ask_in}
 use Rattle.ongoing_die.specs.OngoingCalls.{HasBegun}
-use Rattle.ongoing_die.proofs.NextLives.{begun, plan, none_due, runs_on, goes_on_so}
+use Rattle.ongoing_die.proofs.NextLives.{begun, plan, none_due, goes_on_so}
 use Rattle.ongoing_die.proofs.Rooms.{have_room}
 use Rattle.ongoing_die.proofs.ongoing_die.OngoingDie.go_on.Goals as goal
 
-pub invariant_of-self : goal.invariant_of-self
-invariant_of-self g c =
+pub invariant_of-self-2 : goal.invariant_of-self-2
+invariant_of-self-2 g c =
     let before : OngoingParts g.row.N.Denot = record { die = c.self.inside.die; waiting = map ask_in c.self.inside.waiting.items } in
     let after : OngoingParts g.row.N.Denot = record { die = c.enter_waiting.new.die; waiting = map ask_in c.enter_waiting.new.waiting.items } in
     let i = c.self.invariant.0 in
@@ -39,3 +39,38 @@ returns-clause-ok g c =
     rw (← c.self.view_is) (λ first d s.
     begun first d before after s c.in-Ok.ensures.ran c.live_on.new.die c.in-Ok.ensures.ok c.enter_waiting.ensures.same
     (c.first.result + c.from.result) clock_at c.enter_waiting.ensures.lived c.enter_waiting.ensures.log c.enter_waiting.ensures.left)
+
+pub returns-clause-early : goal.returns-clause-early
+returns-clause-early g c =
+    let before : OngoingParts g.row.N.Denot = record { die = c.self.inside.die; waiting = map ask_in c.self.inside.waiting.items } in
+    let after : OngoingParts g.row.N.Denot = record { die = c.enter_waiting.new.die; waiting = map ask_in c.enter_waiting.new.waiting.items } in
+    let i = c.self.invariant.0 in
+    let clock_at : c.first.result + c.from.result ≡ c.live_on.new.die.first + now c.live_on.new.die.core.log =
+    omega (arith, c.first.ensures.first, c.from.ensures, c.now.ensures) in
+    let b : HasBegun {N = g.row.N.Denot} i.first i.ongoing before after =
+    begun i.first i.ongoing before after i.stands c.in-Ok.ensures.ran c.live_on.new.die c.in-Ok.ensures.ok c.enter_waiting.ensures.same
+    (c.first.result + c.from.result) clock_at c.enter_waiting.ensures.lived c.enter_waiting.ensures.log c.enter_waiting.ensures.left in
+    b.early
+
+pub returns-clause-none_due : goal.returns-clause-none_due
+returns-clause-none_due g c =
+    let before : OngoingParts g.row.N.Denot = record { die = c.self.inside.die; waiting = map ask_in c.self.inside.waiting.items } in
+    let after : OngoingParts g.row.N.Denot = record { die = c.enter_waiting.new.die; waiting = map ask_in c.enter_waiting.new.waiting.items } in
+    let i = c.self.invariant.0 in
+    let clock_at : c.first.result + c.from.result ≡ c.live_on.new.die.first + now c.live_on.new.die.core.log =
+    omega (arith, c.first.ensures.first, c.from.ensures, c.now.ensures) in
+    none_due i.first i.ongoing before after i.stands c.in-Ok.ensures.ran c.live_on.new.die c.in-Ok.ensures.ok c.enter_waiting.ensures.same
+    (c.first.result + c.from.result) clock_at c.enter_waiting.ensures.lived c.enter_waiting.ensures.log c.enter_waiting.ensures.left
+
+pub returns-clause-plan : goal.returns-clause-plan
+returns-clause-plan g c =
+    let before : OngoingParts g.row.N.Denot = record { die = c.self.inside.die; waiting = map ask_in c.self.inside.waiting.items } in
+    let after : OngoingParts g.row.N.Denot = record { die = c.enter_waiting.new.die; waiting = map ask_in c.enter_waiting.new.waiting.items } in
+    let i = c.self.invariant.0 in
+    let clock_at : c.first.result + c.from.result ≡ c.live_on.new.die.first + now c.live_on.new.die.core.log =
+    omega (arith, c.first.ensures.first, c.from.ensures, c.now.ensures) in
+    rw (← c.self.view_is) (plan i.first i.ongoing before after i.stands c.in-Ok.ensures.ran c.live_on.new.die c.in-Ok.ensures.ok c.enter_waiting.ensures.same
+    (c.first.result + c.from.result) clock_at)
+
+pub returns-in-Err-clause-stopped : goal.returns-in-Err-clause-stopped
+returns-in-Err-clause-stopped g c = rw (← c.self.view_is) (c.in-Err.ensures.stopped (map ask_in c.self.inside.waiting.items))
