@@ -14,7 +14,7 @@ ghost use Rattle.ongoing_die.specs.BegunSlots.{HasBegunSlot, stopped_in};
 
 use crate::ongoing_die::OngoingDie;
 use crate::refusals::{LifeStop, SlotStop};
-use crate::waiting::Waiting;
+use crate::waiting::{Waiting, ops_waiting};
 use flash_die::Nand;
 use ongoing_log::a_die_goes_on_by_itself;
 use planned_die::PlannedDie;
@@ -166,10 +166,7 @@ impl<N: Nand> BegunDie<N> {
     pub fn waiting(&self, task: TaskNo) -> Option<&[Op]>
         ensures { option_map (λ ops. ops.now) result ≡ ops_of (slice_index_or self.now.parts.waiting task None) }
     {
-        match self.waiting.get(task.0 as usize) {
-            Some(own) if own.waits => Some(own.ops.as_slice()),
-            _ => None,
-        }
+        ops_waiting(&self.waiting, task.0 as usize)
     }
 
     /// Who began the slot.

@@ -15,7 +15,7 @@ ghost use Rattle.ongoing_die.specs.OngoingPlans.{RefusesOngoing, IsLongestLife};
 
 use crate::lengths::first_too_late;
 use crate::refusals::OngoingRefusal;
-use crate::waiting::{Waiting, none_waiting};
+use crate::waiting::{Waiting, none_waiting, ops_waiting};
 use demand_rules::Terms;
 use flash_die::Nand;
 use ongoing_log::a_die_goes_on_by_itself;
@@ -128,10 +128,7 @@ impl<N: Nand> OngoingDie<N> {
     pub fn waiting(&self, task: TaskNo) -> Option<&[Op]>
         ensures { option_map (λ ops. ops.now) result ≡ ops_of (slice_index_or self.now.waiting task None) }
     {
-        match self.waiting.get(task.0 as usize) {
-            Some(own) if own.waits => Some(own.ops.as_slice()),
-            _ => None,
-        }
+        ops_waiting(&self.waiting, task.0 as usize)
     }
 
     /// Memory is reserved for all that is left of the present life, and lasts for each later one. This computes nothing;

@@ -1,6 +1,7 @@
 //! Asks that wait for the next life or for a slot that was asked for, for a job or for a burst, one a task.
 
-ghost use Rattle.std.specs.Prelude.{◌≡◌, ◌≤◌, ◌<◌, ◌∷◌, List, [], ℕ, length, map, replicate, slice_index_or, slice_set, vec_capacity, is_some, None, Some, IfOk, IfSome, IfNone};
+ghost use Rattle.std.specs.Prelude.{◌≡◌, ◌≤◌, ◌<◌, ◌∷◌, List, [], ℕ, length, map, replicate, slice_index_or, slice_set, vec_capacity, is_some, option_map, None, Some, IfOk, IfSome, IfNone};
+ghost use Rattle.ongoing_log.specs.Ongoing.{ops_of};
 ghost use Rattle.ongoing_die.specs.Standing.{ask_in, HaveRoom};
 ghost use Rattle.ongoing_die.specs.Resuming.{NoneWaits, IsFirstWaiting};
 ghost use Rattle.ongoing_die.specs.declared.waiting.Waiting.{Waiting};
@@ -71,6 +72,16 @@ pub(crate) fn is_waiting(waiting: &Vec<Waiting>, task: usize) -> bool
     match waiting.get(task) {
         Some(own) => own.waits,
         None => false,
+    }
+}
+
+/// The operations of the task's ask that waits, if one does.
+pub(crate) fn ops_waiting(waiting: &Vec<Waiting>, task: usize) -> Option<&[Op]>
+    ensures { option_map (λ ops. ops.now) result ≡ ops_of (slice_index_or (map ask_in waiting.now.items) task None) }
+{
+    match waiting.get(task) {
+        Some(own) if own.waits => Some(own.ops.as_slice()),
+        _ => None,
     }
 }
 
