@@ -6,6 +6,7 @@ ghost use Rattle.die_log.specs.Model.Lives.{Lives};
 ghost use Rattle.planned_log.specs.KeptLogs.{comes_at};
 ghost use Rattle.planned_log.specs.Laws.{IsKept};
 ghost use Rattle.planned_die.specs.Planned.{IsReservedFor};
+ghost use Rattle.planned_die.specs.OwnCollections.{AreQuiet};
 ghost use Rattle.planned_die.specs.PlannedCalls.{with_own};
 
 use crate::terms::terms_at;
@@ -63,13 +64,15 @@ fn enter_own<N: Nand>(
     }
 }
 
-/// Enters the collections of the present slot that haven't come yet. It takes no memory.
+/// Enters the collections of the present slot that haven't come yet. It takes no memory. Before slot `quiet` none comes, and
+/// no task is looked at.
 pub(crate) fn enter_rest<N: Nand>(
     core: &mut DieCore<N>,
     terms: &Terms,
     alloc: Global,
     caller: u32,
     life: u32,
+    quiet: u32,
     entered: &mut u32,
 )
     requires lived { (earlier : Lives)
@@ -77,6 +80,7 @@ pub(crate) fn enter_rest<N: Nand>(
     requires runs { core.old.stopped ≡ false }
     requires early { now core.old.log < life }
     requires reserved { IsReservedFor terms.now life core.old }
+    requires quiet { AreQuiet terms.now.tasks (now core.old.log) quiet }
     ensures entered { core.new ≡ with_own caller terms.now core.old entered.old entered.new }
     ensures kept { (earlier : Lives)
         → IsKept core.old.start terms.now earlier life entered.old core.old.log
@@ -87,6 +91,10 @@ pub(crate) fn enter_rest<N: Nand>(
 {
     core.promises();
     let tasks = core.plan().caps.len();
+    if core.now() < quiet {
+        *entered = tasks as u32;
+        return;
+    }
     while (*entered as usize) < tasks {
         enter_own(core, terms, alloc, caller, life, *entered);
         *entered += 1;

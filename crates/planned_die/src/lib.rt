@@ -11,6 +11,7 @@ mod lacks;
 mod laws;
 mod life;
 mod memory;
+mod next_collections;
 mod planned_die;
 mod refusals;
 mod renewals;
