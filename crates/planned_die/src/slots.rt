@@ -7,7 +7,7 @@ ghost use Rattle.planned_die.specs.Planned.{HasLived};
 ghost use Rattle.planned_die.specs.PlannedCalls.{IsSlot, told};
 
 use crate::collections::enter_rest;
-use crate::next_collections::next_collection;
+use crate::next_collections::still_quiet;
 use crate::planned_die::PlannedDie;
 use flash_die::Nand;
 use slot_core::new_reply;
@@ -46,9 +46,7 @@ impl<N: Nand> PlannedDie<N> {
         match self.core.fill_slot(caller, reply) {
             Ok(()) => {
                 self.entered = 0;
-                if now >= self.quiet {
-                    self.quiet = next_collection(self.terms.tasks.as_slice(), now + 1);
-                }
+                self.quiet = still_quiet(self.terms.tasks.as_slice(), self.quiet, now);
                 Ok(())
             }
             Err(refusal) => Err(refusal),

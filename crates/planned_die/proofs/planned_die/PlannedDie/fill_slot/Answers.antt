@@ -1,4 +1,4 @@
-use Rattle.std.proofs.Common.{map, ◌+◌, ◌≡◌, ◌<◌, ◌∷◌, false, length, ap, sym, ◌∙◌, arith}
+use Rattle.std.proofs.Common.{map, ◌+◌, ◌≡◌, ◌<◌, ◌∷◌, false, length, ap, sym, subst, ◌∙◌, arith}
 use Rattle.die_log.specs.Model.Log.{Log, now, carried_slots}
 use Rattle.die_log.specs.Model.Start.{Start}
 use Rattle.die_log.specs.Model.Lives.{Lives}
@@ -18,7 +18,7 @@ pub returns-in-Ok-clause-slot : goal.returns-in-Ok-clause-slot
 returns-in-Ok-clause-slot g c = rw (← c.self.view_is)
     (slotted g.N.Nand.ends g.N.Nand.failures g.N.Nand.never_fails c.self.inside.terms c.self.inside.first (map jobs_of c.self.inside.asked.items) c.args.caller
     c.self.inside.entered c.enter_rest.new.entered c.self.inside.life c.self.inside.core c.enter_rest.new.core c.fill_slot.new.self
-    c.enter_rest.ensures.entered c.enter_rest.ensures.all c.in-Ok.reply (omega (arith, c.now.ensures, c.if-now-self.false)) c.in-Ok.ensures)
+    c.enter_rest.ensures.entered c.enter_rest.ensures.all c.in-Ok.reply (omega (arith, c.now-now.ensures, c.if-now-self.false)) c.in-Ok.ensures)
 
 pub returns-in-Err-clause-slot : goal.returns-in-Err-clause-slot
 returns-in-Err-clause-slot g c =
@@ -29,13 +29,13 @@ returns-in-Err-clause-slot g c =
     let runs : f.core.stopped ≡ false = sym c.is_stopped.ensures ∙ c.if-is_stopped.false in
     let fault = only_fault g.N.Nand.ends g.N.Nand.failures g.N.Nand.never_fails f.terms p.earlier f.life c.enter_rest.new.entered c.args.caller
     c.in-Err.refusal c.enter_rest.new.core c.fill_slot.new.self (c.enter_rest.ensures.kept p.earlier p.lived.kept) all
-    (omega (arith, c.enter_rest.ensures.slot_stays, c.now.ensures, c.if-now-self.false))
+    (omega (arith, c.enter_rest.ensures.slot_stays, c.now-now.ensures, c.if-now-self.false))
     (ap (λ (core : Core g.row.N.Denot). core.stopped) c.enter_rest.ensures.entered ∙ runs) c.enter_rest.ensures.reserved c.in-Err.ensures in
     rw (← c.self.view_is)
     (unslotted g.N.Nand.ends g.N.Nand.failures g.N.Nand.never_fails c.self.inside.terms c.self.inside.first (map jobs_of c.self.inside.asked.items) c.args.caller
     c.self.inside.entered c.enter_rest.new.entered c.self.inside.life c.self.inside.core c.enter_rest.new.core c.fill_slot.new.self
     c.enter_rest.ensures.entered c.enter_rest.ensures.all c.in-Err.refusal runs
-    (omega (arith, c.now.ensures, c.if-now-self.false)) fault c.in-Err.ensures)
+    (omega (arith, c.now-now.ensures, c.if-now-self.false)) fault c.in-Err.ensures)
 
 pub returns-in-Ok-clause-lived : goal.returns-in-Ok-clause-lived
 returns-in-Ok-clause-lived g c =
@@ -52,7 +52,7 @@ returns-in-Ok-clause-lived g c =
     c.enter_rest.ensures.slot_stays (c.enter_rest.ensures.kept earlier h.kept) in
     let all : c.enter_rest.new.entered ≡ length c.enter_rest.new.core.start.plan.caps = c.enter_rest.ensures.all
     ∙ sym (ap (λ (core : Core g.row.N.Denot). length core.start.plan.caps) c.enter_rest.ensures.entered) in
-    let early : now c.enter_rest.new.core.log < die.life = omega (arith, c.enter_rest.ensures.slot_stays, c.now.ensures, c.if-now-self.false) in
+    let early : now c.enter_rest.new.core.log < die.life = omega (arith, c.enter_rest.ensures.slot_stays, c.now-now.ensures, c.if-now-self.false) in
     let lived : (earlier : Lives) → HasLived die earlier → HasLived (record die { core = c.fill_slot.new.self; entered = 0 }) earlier =
     λ earlier h. slot_lived (record die { core = c.enter_rest.new.core; entered = c.enter_rest.new.entered }) earlier (between earlier h)
     g.N.Nand.ends g.N.Nand.failures g.N.Nand.never_fails c.args.caller c.fill_slot.new.self c.in-Ok.reply c.in-Ok.ensures
@@ -98,7 +98,7 @@ invariant_of-self g c =
     c.enter_rest.ensures.slot_stays (c.enter_rest.ensures.kept earlier h.kept) in
     let all : c.enter_rest.new.entered ≡ length c.enter_rest.new.core.start.plan.caps = c.enter_rest.ensures.all
     ∙ sym (ap (λ (core : Core g.row.N.Denot). length core.start.plan.caps) c.enter_rest.ensures.entered) in
-    let early : now c.enter_rest.new.core.log < die.life = omega (arith, c.enter_rest.ensures.slot_stays, c.now.ensures, c.if-now-self.false) in
+    let early : now c.enter_rest.new.core.log < die.life = omega (arith, c.enter_rest.ensures.slot_stays, c.now-now.ensures, c.if-now-self.false) in
     let lived : (earlier : Lives) → HasLived die earlier → HasLived (record die { core = c.fill_slot.new.self; entered = 0 }) earlier =
     λ earlier h. slot_lived (record die { core = c.enter_rest.new.core; entered = c.enter_rest.new.entered }) earlier (between earlier h)
     g.N.Nand.ends g.N.Nand.failures g.N.Nand.never_fails c.args.caller c.fill_slot.new.self c.in-Ok.reply c.in-Ok.ensures
