@@ -30,17 +30,17 @@ Law = (first : Start) (terms : Terms) (life : ℕ) → AreLongEnough terms life 
 module _ {N : Type 0} (law : Law) (kind : AskKind) (caller task : ℕ) (ops : List Op) (die after : Planned N) (long : AreLongEnough die.terms die.life)
     (lives : (earlier : Lives) → HasLived die earlier → HasLived after earlier) (ws : List (Option WaitingAsk)) where
   pub entered : (burst : Burst) (release due : ℕ) (asked : (earlier : Lives) → HasLived die earlier → IsDieAsk kind caller task ops earlier (Ok burst) die after)
-      → release ≡ after.first + now after.core.log → due ≡ release + (terms_of die.terms task).deadline → (first : Start) (d : Ongoing)
+      → release ≡ after.first + now after.core.log → due ≡ release + (terms_of die.terms task).deadline → get_or ws task None ≡ None → (first : Start) (d : Ongoing)
       (before : OngoingParts N) → HasBegun first d before (record { die = die; waiting = ws })
       → HasTaken kind caller task ops first d (taken.Enters release due burst.first burst.jobs) before (record { die = after; waiting = ws })
-  entered burst release due asked at due_is first d before b =
+  entered burst release due asked at due_is none first d before b =
       ask_enters first d before (record { die = die; waiting = ws }) b (law first die.terms die.life long d (b.stands.runs b.runs).goes_on) kind caller task ops
-      (record { die = after; waiting = ws }) (lives (counted b.stands.past) b.stands.lived) burst release due (asked (counted b.stands.past) b.stands.lived) at due_is refl
+      (record { die = after; waiting = ws }) (lives (counted b.stands.past) b.stands.lived) burst release due (asked (counted b.stands.past) b.stands.lived) at due_is none refl
 
   pub waited : (release due : ℕ) (left : List (Option WaitingAsk))
       (asked : (earlier : Lives) → HasLived die earlier → IsDieAsk kind caller task ops earlier (Err because.LifeEnd) die after)
       → release ≡ after.first + after.life → due ≡ release + (terms_of die.terms task).deadline → get_or ws task None ≡ None
-      → left ≡ set ws task (Some (record { caller = caller; ops = ops })) → (first : Start) (d : Ongoing)
+      → left ≡ set ws task (Some (record { caller = caller; ops = ops; until = release })) → (first : Start) (d : Ongoing)
       (before : OngoingParts N) → HasBegun first d before (record { die = die; waiting = ws })
       → HasTaken kind caller task ops first d (taken.Waits release due) before (record { die = after; waiting = left })
   waited release due left asked at due_is none kept first d before b =
@@ -50,7 +50,7 @@ module _ {N : Type 0} (law : Law) (kind : AskKind) (caller task : ℕ) (ops : Li
 -- What waits
 
 module _ (ws : List Waiting) (task : ℕ) (w : Waiting) (lt : task < length ws) (is : w ≡ get_or ws task w) where
-  pub one_waits : w.waits ≡ true → get_or (map ask_in ws) task None ≡ Some (record { caller = w.caller; ops = w.ops.items })
+  pub one_waits : w.waits ≡ true → get_or (map ask_in ws) task None ≡ Some (record { caller = w.caller; ops = w.ops.items; until = w.until })
   one_waits waits = get_or-map ask_in ws task w None lt ∙ (sym (ap ask_in is) ∙ rw waits refl)
 
   pub none_waits : w.waits ≡ false → get_or (map ask_in ws) task None ≡ None

@@ -26,7 +26,6 @@ use Rattle.planned_die.specs.PlannedCalls.{own_calls, with_all_own, HasSlotted, 
 use Rattle.ongoing_log.specs.PastLives.{PastLife, starts_after, counted, HavePassed}
 use Rattle.ongoing_die.specs.Standing.{OngoingParts, standing, StandsAs}
 use Rattle.ongoing_die.specs.OngoingCalls.{HasBegun, HaveOnePlan, HasCarried, HasFailed}
-use Rattle.ongoing_die.proofs.OverAllLives.{within}
 
 module _ {N : Type 0} (caller : ℕ) (before : Planned N) (whole : before.entered ≡ 0)
     (one_each : length before.terms.tasks ≤ length before.core.start.plan.caps) where
@@ -80,7 +79,7 @@ module _ {N : Type 0} (ends : N → NandCall → Bool → N → Type 0) (failure
   one_task = omega (arith, b.stands.lived.kept.demand.has.one_each)
 
   is : d ≡ standing between past
-  is = within first d between b.stands b.runs b.early
+  is = b.settled
 
   -- a slot that is carried out
   module _ (reply : SlotReply) (h : HasSlotted ends failures never caller reply die after.die)

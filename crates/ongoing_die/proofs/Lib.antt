@@ -4,6 +4,7 @@ mod Entering
 mod OverAllLives
 mod NextLives
 mod Asking
+mod AskingAhead
 mod CarriedSlots
 mod BegunSlots
 mod Lasting

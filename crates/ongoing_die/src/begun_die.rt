@@ -67,8 +67,8 @@ pub struct CarriedSlot<N: Nand> {
 }
 
 impl<N: Nand> OngoingDie<N> {
-    /// Begins the present slot: where a life has ended the next one begins, and the collections come that the plan has in the
-    /// slot. It is carried out by [`BegunDie::carry_out`]; both together are a [`slot`](OngoingDie::slot).
+    /// Begins the present slot: where a life has ended the next one begins, what waits for the slot enters, and the collections
+    /// come that the plan has in it. It is carried out by [`BegunDie::carry_out`]; both together are a [`slot`](OngoingDie::slot).
     ///
     /// Refused where the whole die carries out no slot, as [`LifeStop`] lists the causes; then the die is handed back as it was.
     /// There is no other refusal: it takes no memory.
@@ -162,7 +162,7 @@ impl<N: Nand> BegunDie<N> {
         &self.die
     }
 
-    /// The operations of the task's ask that waits for the next life, if one does.
+    /// The operations of the task's ask that waits, for the next life or for a slot that was asked for, if one does.
     pub fn waiting(&self, task: TaskNo) -> Option<&[Op]>
         ensures { option_map (λ ops. ops.now) result ≡ ops_of (slice_index_or self.now.parts.waiting task None) }
     {

@@ -25,14 +25,14 @@ use std::alloc::Global;
 use std::marker::Model;
 
 /// A die that keeps its plan itself and goes on by itself: where a life ends the next one begins, and an ask whose job
-/// would be due after the end waits for it, one of each task. Nobody renews it.
+/// would be due after the end waits for it, or an ask for a later slot for that one, one of each task. Nobody renews it.
 ///
 /// Contracts see the die of the present life and what waits. Which lives it had before isn't kept: `StandsAs` says where
 /// it began and what stands of it over all its lives, and each call is a move of that.
 #[derive(Drop)]
 pub struct OngoingDie<N: Nand> {
     pub(crate) die: PlannedDie<N>,
-    /// By task the ask that waits for the next life.
+    /// By task the ask that waits.
     pub(crate) waiting: Vec<Waiting>,
 }
 
@@ -124,7 +124,7 @@ impl<N: Nand> OngoingDie<N> {
         self.die.first() + u64::from(self.die.now())
     }
 
-    /// The operations of the task's ask that waits for the next life, if one does.
+    /// The operations of the task's ask that waits, for the next life or for a slot that was asked for, if one does.
     pub fn waiting(&self, task: TaskNo) -> Option<&[Op]>
         ensures { option_map (λ ops. ops.now) result ≡ ops_of (slice_index_or self.now.waiting task None) }
     {

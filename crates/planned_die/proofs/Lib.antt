@@ -2,6 +2,7 @@ mod Sums
 mod Passing
 mod AllAsks
 mod Lists
+mod Later
 mod Waits
 mod Ending
 mod Counting

@@ -8,6 +8,7 @@ mod burst_jobs;
 mod bursts;
 mod collections;
 mod lacks;
+mod later_asks;
 mod laws;
 mod life;
 mod memory;

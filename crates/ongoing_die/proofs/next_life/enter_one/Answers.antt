@@ -6,15 +6,6 @@ use Rattle.planned_die.specs.Planned.{Planned}
 use Rattle.ongoing_die.proofs.Entering.{asked_same, asked_log}
 use Rattle.ongoing_die.proofs.next_life.enter_one.Goals as goal
 
-pub returns-clause-log : goal.returns-clause-log
-returns-clause-log g c =
-    let die : Planned g.row.N.Denot = c.args.die.now in
-    rw c.if-not-waiting.false (λ earlier h.
-    asked_log kinds.Burst c.args.waiting.now.caller c.args.task c.as_slice.result.now earlier die c.ask_die.new.die c.ask_die.result c.requires.runs
-    (c.ask_die.ensures.ask earlier h)
-    ∙ ap (λ (ops : List Op). after_move die.core.start die.terms earlier die.life die.core.log (Ask kinds.Burst c.args.waiting.now.caller c.args.task ops))
-    c.as_slice.ensures.value)
-
 pub returns-clause-same : goal.returns-clause-same
 returns-clause-same g c =
     let lived = c.keeps_plan.ensures.lived in

@@ -1,7 +1,7 @@
-use Rattle.std.proofs.Common.{◌≡◌, ◌<◌, false, map, refl, ap, sym, subst, ◌∙◌}
+use Rattle.std.proofs.Common.{◌≡◌, ◌+◌, ◌<◌, false, map, refl, ap, sym, subst, ◌∙◌}
 use Rattle.die_log.specs.Model.Log.{now}
 use Rattle.ongoing_log.specs.PastLives.{counted}
-use Rattle.ongoing_die.specs.Standing.{OngoingParts, ask_in}
+use Rattle.ongoing_die.specs.Standing.{OngoingParts, ask_in, NoneIsDue}
 use Rattle.ongoing_die.specs.OngoingCalls.{HasBegun, HaveOnePlan}
 use Rattle.ongoing_die.proofs.CarriedSlots.{carried, failed, carried_plan, failed_plan}
 use Rattle.ongoing_die.proofs.NextLives.{goes_on_so, goes_on_yet, plan_then, same_plan}
@@ -22,7 +22,9 @@ invariant_of-self-2 g c =
     let runs : between.die.core.stopped ≡ false = ap (λ (p : OngoingParts g.row.N.Denot). p.die.core.stopped) c.self.view_is ∙ c.in-Ok.ensures.runs in
     let early : now between.die.core.log < between.die.life =
     subst (λ (p : OngoingParts g.row.N.Denot). now p.die.core.log < p.die.life) (sym c.self.view_is) c.in-Ok.ensures.early in
-    let b : HasBegun {N = g.row.N.Denot} i.first i.ongoing between between = goes_on_yet i.first i.ongoing between i.stands runs early in
+    let none : NoneIsDue (between.die.first + now between.die.core.log) between.waiting =
+    subst (λ (p : OngoingParts g.row.N.Denot). NoneIsDue (p.die.first + now p.die.core.log) p.waiting) (sym c.self.view_is) c.in-Ok.ensures.none_due in
+    let b : HasBegun {N = g.row.N.Denot} i.first i.ongoing between between = goes_on_yet i.first i.ongoing between i.stands runs early none in
     let plan : HaveOnePlan between after = carried_plan g.N.Nand.ends g.N.Nand.failures g.N.Nand.never_fails c.args.caller i.first i.ongoing between between b after refl
     (c.slot.ensures.lived (counted b.stands.past) b.stands.lived) c.in-Ok-slot.reply c.in-Ok-slot.ensures.slot
     (c.a_die_goes_on_by_itself.ensures.goes_on i.first between.die.terms between.die.life i.long i.ongoing (b.stands.runs b.runs).goes_on) in
@@ -42,7 +44,9 @@ returns-clause-plan g c =
     let runs : between.die.core.stopped ≡ false = ap (λ (p : OngoingParts g.row.N.Denot). p.die.core.stopped) c.self.view_is ∙ c.in-Ok.ensures.runs in
     let early : now between.die.core.log < between.die.life =
     subst (λ (p : OngoingParts g.row.N.Denot). now p.die.core.log < p.die.life) (sym c.self.view_is) c.in-Ok.ensures.early in
-    let b : HasBegun {N = g.row.N.Denot} i.first i.ongoing between between = goes_on_yet i.first i.ongoing between i.stands runs early in
+    let none : NoneIsDue (between.die.first + now between.die.core.log) between.waiting =
+    subst (λ (p : OngoingParts g.row.N.Denot). NoneIsDue (p.die.first + now p.die.core.log) p.waiting) (sym c.self.view_is) c.in-Ok.ensures.none_due in
+    let b : HasBegun {N = g.row.N.Denot} i.first i.ongoing between between = goes_on_yet i.first i.ongoing between i.stands runs early none in
     let begun : HaveOnePlan c.args.self.now between =
     subst (λ (p : OngoingParts g.row.N.Denot). HaveOnePlan c.args.self.now p) (sym c.self.view_is) c.in-Ok.ensures.plan in
     plan_then c.args.self.now between after begun (carried_plan g.N.Nand.ends g.N.Nand.failures g.N.Nand.never_fails c.args.caller i.first i.ongoing between between b after refl
@@ -67,7 +71,9 @@ invariant_of-self g c =
     let runs : between.die.core.stopped ≡ false = ap (λ (p : OngoingParts g.row.N.Denot). p.die.core.stopped) c.self.view_is ∙ c.in-Ok.ensures.runs in
     let early : now between.die.core.log < between.die.life =
     subst (λ (p : OngoingParts g.row.N.Denot). now p.die.core.log < p.die.life) (sym c.self.view_is) c.in-Ok.ensures.early in
-    let b : HasBegun {N = g.row.N.Denot} i.first i.ongoing between between = goes_on_yet i.first i.ongoing between i.stands runs early in
+    let none : NoneIsDue (between.die.first + now between.die.core.log) between.waiting =
+    subst (λ (p : OngoingParts g.row.N.Denot). NoneIsDue (p.die.first + now p.die.core.log) p.waiting) (sym c.self.view_is) c.in-Ok.ensures.none_due in
+    let b : HasBegun {N = g.row.N.Denot} i.first i.ongoing between between = goes_on_yet i.first i.ongoing between i.stands runs early none in
     let plan : HaveOnePlan between after = failed_plan g.N.Nand.ends g.N.Nand.failures g.N.Nand.never_fails c.args.caller i.first i.ongoing between between b after refl
     (c.slot.ensures.lived (counted b.stands.past) b.stands.lived) c.in-Err-slot.field-0 c.in-Err-slot.ensures.slot in
     let done = failed g.N.Nand.ends g.N.Nand.failures g.N.Nand.never_fails c.args.caller i.first i.ongoing between between b after refl
@@ -85,7 +91,9 @@ returns-in-Err-slot-clause-plan g c =
     let runs : between.die.core.stopped ≡ false = ap (λ (p : OngoingParts g.row.N.Denot). p.die.core.stopped) c.self.view_is ∙ c.in-Ok.ensures.runs in
     let early : now between.die.core.log < between.die.life =
     subst (λ (p : OngoingParts g.row.N.Denot). now p.die.core.log < p.die.life) (sym c.self.view_is) c.in-Ok.ensures.early in
-    let b : HasBegun {N = g.row.N.Denot} i.first i.ongoing between between = goes_on_yet i.first i.ongoing between i.stands runs early in
+    let none : NoneIsDue (between.die.first + now between.die.core.log) between.waiting =
+    subst (λ (p : OngoingParts g.row.N.Denot). NoneIsDue (p.die.first + now p.die.core.log) p.waiting) (sym c.self.view_is) c.in-Ok.ensures.none_due in
+    let b : HasBegun {N = g.row.N.Denot} i.first i.ongoing between between = goes_on_yet i.first i.ongoing between i.stands runs early none in
     let begun : HaveOnePlan c.args.self.now between =
     subst (λ (p : OngoingParts g.row.N.Denot). HaveOnePlan c.args.self.now p) (sym c.self.view_is) c.in-Ok.ensures.plan in
     plan_then c.args.self.now between after begun (failed_plan g.N.Nand.ends g.N.Nand.failures g.N.Nand.never_fails c.args.caller i.first i.ongoing between between b after refl
