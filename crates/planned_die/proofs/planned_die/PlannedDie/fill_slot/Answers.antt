@@ -18,7 +18,7 @@ pub returns-in-Ok-clause-slot : goal.returns-in-Ok-clause-slot
 returns-in-Ok-clause-slot g c = rw (← c.self.view_is)
     (slotted g.N.Nand.ends g.N.Nand.failures g.N.Nand.never_fails c.self.inside.terms c.self.inside.first (map jobs_of c.self.inside.asked.items) c.args.caller
     c.self.inside.entered c.enter_rest.new.entered c.self.inside.life c.self.inside.core c.enter_rest.new.core c.fill_slot.new.self
-    c.enter_rest.ensures.entered c.enter_rest.ensures.all c.in-Ok.reply (omega (arith, c.now-now.ensures, c.if-now-self.false)) c.in-Ok.ensures)
+    c.enter_rest.ensures.entered c.enter_rest.ensures.all c.fill_slot.new.reply (omega (arith, c.now-now.ensures, c.if-now-self.false)) c.in-Ok.ensures)
 
 pub returns-in-Err-clause-slot : goal.returns-in-Err-clause-slot
 returns-in-Err-clause-slot g c =
@@ -55,9 +55,9 @@ returns-in-Ok-clause-lived g c =
     let early : now c.enter_rest.new.core.log < die.life = omega (arith, c.enter_rest.ensures.slot_stays, c.now-now.ensures, c.if-now-self.false) in
     let lived : (earlier : Lives) → HasLived die earlier → HasLived (record die { core = c.fill_slot.new.self; entered = 0 }) earlier =
     λ earlier h. slot_lived (record die { core = c.enter_rest.new.core; entered = c.enter_rest.new.entered }) earlier (between earlier h)
-    g.N.Nand.ends g.N.Nand.failures g.N.Nand.never_fails c.args.caller c.fill_slot.new.self c.in-Ok.reply c.in-Ok.ensures
+    g.N.Nand.ends g.N.Nand.failures g.N.Nand.never_fails c.args.caller c.fill_slot.new.self c.fill_slot.new.reply c.in-Ok.ensures
     (slot_keeps g.N.Nand.ends g.N.Nand.failures g.N.Nand.never_fails die.terms earlier die.life c.enter_rest.new.entered c.args.caller
-    c.in-Ok.reply c.enter_rest.new.core c.fill_slot.new.self (c.enter_rest.ensures.kept earlier h.kept) all early c.in-Ok.ensures) in
+    c.fill_slot.new.reply c.enter_rest.new.core c.fill_slot.new.self (c.enter_rest.ensures.kept earlier h.kept) all early c.in-Ok.ensures) in
     rw (← c.self.view_is) (λ earlier h. lived earlier h)
 
 pub returns-in-Err-clause-lived : goal.returns-in-Err-clause-lived
@@ -101,21 +101,29 @@ invariant_of-self g c =
     let early : now c.enter_rest.new.core.log < die.life = omega (arith, c.enter_rest.ensures.slot_stays, c.now-now.ensures, c.if-now-self.false) in
     let lived : (earlier : Lives) → HasLived die earlier → HasLived (record die { core = c.fill_slot.new.self; entered = 0 }) earlier =
     λ earlier h. slot_lived (record die { core = c.enter_rest.new.core; entered = c.enter_rest.new.entered }) earlier (between earlier h)
-    g.N.Nand.ends g.N.Nand.failures g.N.Nand.never_fails c.args.caller c.fill_slot.new.self c.in-Ok.reply c.in-Ok.ensures
+    g.N.Nand.ends g.N.Nand.failures g.N.Nand.never_fails c.args.caller c.fill_slot.new.self c.fill_slot.new.reply c.in-Ok.ensures
     (slot_keeps g.N.Nand.ends g.N.Nand.failures g.N.Nand.never_fails die.terms earlier die.life c.enter_rest.new.entered c.args.caller
-    c.in-Ok.reply c.enter_rest.new.core c.fill_slot.new.self (c.enter_rest.ensures.kept earlier h.kept) all early c.in-Ok.ensures) in (
+    c.fill_slot.new.reply c.enter_rest.new.core c.fill_slot.new.self (c.enter_rest.ensures.kept earlier h.kept) all early c.in-Ok.ensures) in
+    let next : now c.fill_slot.new.self.log ≡ c.now-now.result + 1 = omega (
+      arith,
+      c.enter_rest.ensures.slot_stays,
+      c.now-now.ensures,
+      ap now c.in-Ok.ensures.ended.logged,
+      length_push (carried_slots c.enter_rest.new.core.log) c.fill_slot.new.reply.ran,
+    ) in (
       record {
         reserved = slotted_reserved die.terms die.life g.N.Nand.ends g.N.Nand.failures g.N.Nand.never_fails c.args.caller c.enter_rest.new.core
-            c.fill_slot.new.self c.in-Ok.reply c.in-Ok.ensures c.enter_rest.ensures.reserved;
+            c.fill_slot.new.self c.fill_slot.new.reply c.in-Ok.ensures c.enter_rest.ensures.reserved;
         earlier = c.self.invariant.0.earlier;
         lived = lived c.self.invariant.0.earlier c.self.invariant.0.lived;
         early = c.self.invariant.0.early;
         asked_early = c.self.invariant.0.asked_early;
         one_each = c.self.invariant.0.one_each ∙ sym (ap (λ (t : Start). length t.plan.caps) c.in-Ok.ensures.start_stays ∙ ap (λ (core : Core g.row.N.Denot). length core.start.plan.caps) c.enter_rest.ensures.entered);
       },
-      kept_later die.terms (die.first + now die.core.log) _ c.self.inside.asked.items (omega (arith, c.enter_rest.ensures.slot_stays, ap now c.in-Ok.ensures.ended.logged, length_push (carried_slots c.enter_rest.new.core.log) c.in-Ok.reply.ran)) c.self.invariant.1,
+      kept_later die.terms (die.first + now die.core.log) _ c.self.inside.asked.items (omega (arith, c.enter_rest.ensures.slot_stays, ap now c.in-Ok.ensures.ended.logged, length_push (carried_slots c.enter_rest.new.core.log) c.fill_slot.new.reply.ran)) c.self.invariant.1,
       c.self.invariant.2,
-      quiet_next,
+      subst (λ n. AreQuiet die.terms.tasks n c.still_quiet-self-inside.result) (sym next)
+          (subst (λ ts. AreQuiet ts (c.now-now.result + 1) c.still_quiet-self-inside.result) c.as_slice.ensures c.still_quiet-self-inside.ensures.quiet),
     )
 
 pub invariant_of-self-in-Err : goal.invariant_of-self-in-Err
@@ -152,3 +160,8 @@ invariant_of-self-in-Err g c =
       c.self.invariant.2,
       subst (λ n. AreQuiet die.terms.tasks n c.self.inside.quiet) (sym (ap now logs ∙ c.enter_rest.ensures.slot_stays)) c.self.invariant.3,
     )
+
+pub still_quiet-self-inside-requires-clause-quiet : goal.still_quiet-self-inside-requires-clause-quiet
+still_quiet-self-inside-requires-clause-quiet g c =
+    subst (λ ts. AreQuiet ts c.now-now.result c.self.inside.quiet) (sym c.as_slice.ensures)
+    (subst (λ n. AreQuiet c.self.inside.terms.tasks n c.self.inside.quiet) (sym c.now-now.ensures) c.self.invariant.3)
