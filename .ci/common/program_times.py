@@ -6,7 +6,7 @@ from pathlib import Path
 
 from common.repository import TOP
 
-# What a program ends with: `measure` gets its three words.
+# What a program ends with: `measure` gets its three words, and the number that it answers is printed.
 END = r'''
 /// The number that a word is, or 0.
 fn number_of(word: Option<String>) -> u32 {
@@ -21,6 +21,7 @@ fn number_of(word: Option<String>) -> u32 {
 
 fn main(rt: HostRuntime) -> io::Result<ExitCode> {
     let alloc = rt.alloc();
+    let mut out = rt.stdout();
     let mut err = rt.stderr();
     let Ok(words) = env::args(&(&rt, alloc)) else {
         return Ok(ExitCode::from(2));
@@ -30,7 +31,10 @@ fn main(rt: HostRuntime) -> io::Result<ExitCode> {
     let count = number_of(words.next());
     let rounds = number_of(words.next());
     match measure(&rt, alloc, what, count, rounds) {
-        Ok(()) => Ok(ExitCode::from(0)),
+        Ok(said) => {
+            writeln!(out, "{said}")?;
+            Ok(ExitCode::from(0))
+        }
         Err(refusal) => {
             writeln!(err, "{refusal}")?;
             Ok(ExitCode::from(1))
@@ -64,6 +68,7 @@ def run(program, *words):
     """The processor seconds and the greatest memory in MiB of a run."""
     child = os.fork()
     if child == 0:
+        os.dup2(os.open(os.devnull, os.O_WRONLY), 1)
         os.execv(program, [str(program), *map(str, words)])
     _, status, used = os.wait4(child, 0)
     if status:
@@ -73,3 +78,8 @@ def run(program, *words):
 
 def seconds(program, runs, *words):
     return min(run(program, *words)[0] for _ in range(runs))
+
+
+def said_by(program, *words):
+    """The number that a run prints."""
+    return int(subprocess.run([program, *map(str, words)], check=True, capture_output=True, text=True).stdout)
