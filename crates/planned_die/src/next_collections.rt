@@ -16,6 +16,7 @@ fn next_of(period: u32, from: u32) -> u32
 }
 
 /// The first slot from `from` on in which a collection of one of these tasks comes.
+#[inline(never)]
 fn next_collection(tasks: &[TaskTerms], from: u32) -> u32
     ensures quiet { AreQuiet tasks.now from result }
 {
@@ -27,6 +28,7 @@ fn next_collection(tasks: &[TaskTerms], from: u32) -> u32
 }
 
 /// A slot before which none of these tasks' collections comes once slot `now` is over, where none came before slot `quiet`.
+#[inline(always)]
 pub(crate) fn still_quiet(tasks: &[TaskTerms], quiet: u32, now: u32) -> u32
     requires quiet { AreQuiet tasks.now now quiet }
     requires few { now < 4294967295 }

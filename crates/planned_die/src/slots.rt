@@ -58,6 +58,7 @@ impl<N: Nand> PlannedDie<N> {
     ///
     /// The refusals, in this order: `DieStopped`; `ClockEnd`, where the life has ended; these change nothing.
     /// `DeviceFault`, which stops the die, once the slot's collections have come. There is no other: it takes no memory.
+    #[inline(always)]
     pub fn slot(&mut self, alloc: Global, caller: u32) -> Result<SlotReply, Refusal>
         ensures slot { IsSlot N.ends N.failures N.never_fails caller result self.old self.new }
         ensures lived { (earlier : Lives) → HasLived self.old earlier → HasLived self.new earlier }
