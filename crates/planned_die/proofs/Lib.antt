@@ -9,6 +9,7 @@ mod Counting
 mod Own
 mod Reserved
 mod Cores
+mod Quiet
 mod Slotting
 pub mod BegunSlots
 mod Lived

@@ -142,6 +142,11 @@ abbrev pub IsSlot : {N : Type 0} → (N → NandCall → Bool → N → Type 0) 
 IsSlot ends failures never caller (Ok reply) before after = HasSlotted ends failures never caller reply before after
 IsSlot ends failures never caller (Err refusal) before after = RefusesSlot ends failures never caller refusal before after
 
+-- a slot that fills a reply, as one that hands it back
+abbrev pub told : {T : Type 0} → SlotReply → Result T Refusal → Result SlotReply Refusal
+told reply (Ok x) = Ok reply
+told reply (Err refusal) = Err refusal
+
 -- Lives
 
 -- why the next life doesn't begin: a fault has stopped the die; or the life ends in `left` slots; or it has ended, and

@@ -12,6 +12,7 @@ mod later_asks;
 mod laws;
 mod life;
 mod memory;
+mod next_collections;
 mod planned_die;
 mod refusals;
 mod renewals;
