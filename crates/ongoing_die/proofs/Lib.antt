@@ -3,6 +3,7 @@ mod TermsOf
 mod Entering
 mod OverAllLives
 mod NextLives
+mod Quiet
 mod Asking
 mod AskingAhead
 mod CarriedSlots

@@ -86,17 +86,17 @@ module _ {N : Type 0} (first : Start) (d : Ongoing) (before after : OngoingParts
   goes : GoesOn
   goes = elim on [
     | inl still ↦ record {
-        past = s.past;
-        had = subst (λ (p : Planned N). HasLived p (counted s.past)) (sym still.1) s.lived;
-        starts = ap (λ (p : Planned N). p.core.start) still.1 ∙ s.starts;
-        lives = still_lives life (standing before s.past) still.0
-            ∙ ap (λ (p : Planned N). standing (record { die = p; waiting = before.waiting }) s.past) (sym still.1);
-        terms_is = ap (λ (p : Planned N). p.terms) still.1;
-        life_is = ap (λ (p : Planned N). p.life) still.1;
-        whole = ap (λ (p : Planned N). p.entered) still.1 ∙ (s.runs runs).whole;
-        ran = ap (λ (p : Planned N). p.core.stopped) still.1 ∙ runs;
-        device = ap (λ (p : Planned N). p.core.device) still.1;
-      }
+      past = s.past;
+      had = subst (λ (p : Planned N). HasLived p (counted s.past)) (sym still.1) s.lived;
+      starts = ap (λ (p : Planned N). p.core.start) still.1 ∙ s.starts;
+      lives = still_lives life (standing before s.past) still.0
+          ∙ ap (λ (p : Planned N). standing (record { die = p; waiting = before.waiting }) s.past) (sym still.1);
+      terms_is = ap (λ (p : Planned N). p.terms) still.1;
+      life_is = ap (λ (p : Planned N). p.life) still.1;
+      whole = ap (λ (p : Planned N). p.entered) still.1 ∙ (s.runs runs).whole;
+      ran = ap (λ (p : Planned N). p.core.stopped) still.1 ∙ runs;
+      device = ap (λ (p : Planned N). p.core.device) still.1;
+    }
     | inr ended ↦
         let past : List PastLife = record { log = before.die.core.log; ended = Renewed } ∷ s.past in
         record {

@@ -145,6 +145,11 @@ pub record HasFailed {N : Type 0} (ends : N → NandCall → Bool → N → Type
   pub stands : StandsAs first d after
   pub stops : after.die.core.stopped ≡ true
 
+-- a slot that fills a reply, as one that hands it back
+abbrev pub filled : {T : Type 0} → SlotReply → Result T SlotStop → Result SlotReply SlotStop
+filled reply (Ok x) = Ok reply
+filled reply (Err stop) = Err stop
+
 abbrev pub IsOngoingSlot : {N : Type 0} → (N → NandCall → Bool → N → Type 0) → (N → ℕ) → Bool → ℕ → Start → Ongoing → Result SlotReply SlotStop
     → OngoingParts N → OngoingParts N → Type 0
 IsOngoingSlot ends failures never caller first d (Ok reply) before after = HasCarried ends failures never caller first d reply before after

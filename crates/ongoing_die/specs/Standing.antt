@@ -1,5 +1,5 @@
 -- A die that goes on by itself, as its callers see it, and what stands of it over all its lives.
-use Rattle.std.specs.Prelude.{◌≡◌, ℕ, ◌≤◌, ◌<◌, if◌then◌else◌, false, List, length, vec_capacity, slice_index_or, Option, Some, None}
+use Rattle.std.specs.Prelude.{◌≡◌, ℕ, ◌+◌, ◌≤◌, ◌<◌, if◌then◌else◌, false, List, length, vec_capacity, slice_index_or, Option, Some, None}
 use Rattle.demand_rules.specs.declared.terms.Terms.{Terms}
 use Rattle.demand_rules.specs.Demand.{terms_of}
 use Rattle.die_log.specs.Model.Start.{Start}
@@ -25,6 +25,11 @@ HaveRoom terms waiting =
 -- none waits for this slot of the clock
 abbrev pub NoneIsDue : ℕ → List (Option WaitingAsk) → Type 0
 NoneIsDue slot waiting = (task : ℕ) → due_at slot (slice_index_or waiting task None) ≡ None
+
+-- Before this slot of the clock a slot begins with nothing: the life goes on, and nothing waits for it.
+pub record IsQuietBefore {N : Type 0} (slot : ℕ) (parts : OngoingParts N) : Type 0 where
+  pub goes_on : slot ≤ parts.die.first + parts.die.life
+  pub none_waits : (task : ℕ) (w : WaitingAsk) → slice_index_or parts.waiting task None ≡ Some w → slot ≤ w.until
 
 -- what stands, after these lives
 abbrev pub standing : {N : Type 0} → OngoingParts N → List PastLife → Ongoing

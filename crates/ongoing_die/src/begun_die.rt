@@ -31,12 +31,13 @@ use std::marker::Model;
 pub struct BegunDie<N: Nand> {
     die: PlannedDie<N>,
     waiting: Vec<Waiting>,
+    quiet: u64,
     caller: u32,
 }
 
 impl<N: Nand> Model for BegunDie<N> {
     ghost use Rattle.std.specs.Prelude.{map};
-    ghost use Rattle.ongoing_die.specs.Standing.{HaveRoom, ask_in};
+    ghost use Rattle.ongoing_die.specs.Standing.{HaveRoom, IsQuietBefore, ask_in};
     ghost use Rattle.ongoing_die.specs.BegunSlots.{BegunParts, IsBegunDie};
 
     ghost Value = { BegunParts N };
@@ -49,7 +50,8 @@ impl<N: Nand> Model for BegunDie<N> {
     ghost invariant = { λ b. IsBegunDie {N = N} (record {
       parts = record { die = b.die; waiting = map ask_in b.waiting.items };
       caller = b.caller;
-    }) × HaveRoom b.die.terms b.waiting.items };
+    }) × HaveRoom b.die.terms b.waiting.items
+        × IsQuietBefore {N = N} b.quiet (record { die = b.die; waiting = map ask_in b.waiting.items }) };
 }
 
 /// A die that begins no slot, and why.
@@ -84,7 +86,11 @@ impl<N: Nand> OngoingDie<N> {
             Ok(()) => {}
             Err(stop) => return Err(NotBegun { die: ongoing, stop }),
         }
-        let OngoingDie { mut die, waiting } = ongoing;
+        let OngoingDie {
+            mut die,
+            waiting,
+            quiet,
+        } = ongoing;
         match die.enter_collections(alloc, caller) {
             Ok(()) => {}
             // The die runs, and its life goes on.
@@ -93,6 +99,7 @@ impl<N: Nand> OngoingDie<N> {
         Ok(BegunDie {
             die,
             waiting,
+            quiet,
             caller,
         })
     }
@@ -124,16 +131,25 @@ impl<N: Nand> BegunDie<N> {
         let BegunDie {
             mut die,
             waiting,
+            quiet,
             caller,
         } = self;
         a_die_goes_on_by_itself();
         match die.slot(alloc, caller) {
             Ok(reply) => CarriedSlot {
-                die: OngoingDie { die, waiting },
+                die: OngoingDie {
+                    die,
+                    waiting,
+                    quiet,
+                },
                 said: Ok(reply),
             },
             Err(_) => CarriedSlot {
-                die: OngoingDie { die, waiting },
+                die: OngoingDie {
+                    die,
+                    waiting,
+                    quiet,
+                },
                 said: Err(SlotStop::DeviceFault),
             },
         }
@@ -149,10 +165,15 @@ impl<N: Nand> BegunDie<N> {
         let BegunDie {
             mut die,
             waiting,
+            quiet,
             caller: _,
         } = self;
         die.stop();
-        OngoingDie { die, waiting }
+        OngoingDie {
+            die,
+            waiting,
+            quiet,
+        }
     }
 
     /// The die below, in the life of its log: the slot's collections are in that, and the slot isn't.

@@ -100,6 +100,8 @@ impl<N: Nand> OngoingDie<N> {
             return Err(AskAtStop::WaitsAlready);
         }
         keep_waiting(&mut self.waiting, own, caller, ops, release);
+        // The next slot looks at what waits.
+        self.quiet = 0;
         Ok(Taken::Waits {
             release,
             due: release + u64::from(deadline_of(self.die.terms(), own)),

@@ -1,7 +1,7 @@
 //! The present slot begins with the first call in it: the next life begins, if one has ended, and what waits for the slot
 //! enters.
 
-ghost use Rattle.std.specs.Prelude.{◌≡◌, ◌≤◌, ◌<◌, ◌+◌, ℕ, List, Option, false, length, map, vec_capacity, slice_index_or, OnOk, OnErr, IfErr};
+ghost use Rattle.std.specs.Prelude.{◌≡◌, ◌≤◌, ◌<◌, ◌+◌, ℕ, List, Option, true, false, length, map, vec_capacity, slice_index_or, OnOk, OnErr, IfErr};
 ghost use Rattle.die_log.specs.Model.Log.{now};
 ghost use Rattle.die_log.specs.Model.Start.{Start};
 ghost use Rattle.die_log.specs.Model.Lives.{Lives};
@@ -16,7 +16,7 @@ ghost use Rattle.ongoing_die.specs.Entering.{HasLivedOn, after_one, IsSameDie};
 use crate::die_asks::ask_die;
 use crate::ongoing_die::OngoingDie;
 use crate::refusals::LifeStop;
-use crate::waiting::Waiting;
+use crate::waiting::{Waiting, first_release};
 use flash_die::Nand;
 use planned_die::{LifeRefusal, PlannedDie};
 use planned_log::AskKind;
@@ -41,7 +41,13 @@ fn live_on<N: Nand>(die: &mut PlannedDie<N>) -> Result<(), LifeStop>
 }
 
 /// Enters the ask of a task, if one waits for slot `clock`: a burst, of one job where it was asked for as one.
-fn enter_one<N: Nand>(die: &mut PlannedDie<N>, alloc: Global, clock: u64, task: u32, waiting: &mut Waiting)
+fn enter_one<N: Nand>(
+    die: &mut PlannedDie<N>,
+    alloc: Global,
+    clock: u64,
+    task: u32,
+    waiting: &mut Waiting,
+)
     requires runs { die.old.core.stopped ≡ false }
     ensures log { (earlier : Lives) → HasLived die.old earlier
         → die.new.core.log ≡ after_one die.old.core.start die.old.terms earlier die.old.life die.old.core.log task
@@ -68,7 +74,12 @@ fn enter_one<N: Nand>(die: &mut PlannedDie<N>, alloc: Global, clock: u64, task: 
 }
 
 /// Enters what waits for slot `clock`, task by task.
-fn enter_waiting<N: Nand>(die: &mut PlannedDie<N>, alloc: Global, clock: u64, waiting: &mut Vec<Waiting>)
+fn enter_waiting<N: Nand>(
+    die: &mut PlannedDie<N>,
+    alloc: Global,
+    clock: u64,
+    waiting: &mut Vec<Waiting>,
+)
     requires runs { die.old.core.stopped ≡ false }
     requires few { length waiting.old.items ≤ 16 }
     ensures log { (earlier : Lives) → HasLived die.old earlier
@@ -86,9 +97,18 @@ fn enter_waiting<N: Nand>(die: &mut PlannedDie<N>, alloc: Global, clock: u64, wa
 }
 
 impl<N: Nand> OngoingDie<N> {
-    /// Begins the present slot, if that hasn't been done: the next life begins, if the present one has ended, and what waits
-    /// for the slot enters.
-    pub(crate) fn go_on(&mut self, alloc: Global) -> Result<(), LifeStop>
+    /// Whether the present slot begins with nothing.
+    #[inline(always)]
+    fn is_quiet(&self) -> bool
+        ensures runs { result ≡ true → self.now.die.core.stopped ≡ false }
+        ensures early { result ≡ true → now self.now.die.core.log < self.now.die.life }
+        ensures none_due { result ≡ true → NoneIsDue (self.now.die.first + now self.now.die.core.log) self.now.waiting }
+    {
+        !self.die.core().is_stopped() && self.die.first() + u64::from(self.die.now()) < self.quiet
+    }
+
+    /// The next life begins, if the present one has ended, and what waits for the present slot enters.
+    fn enter_slot(&mut self, alloc: Global) -> Result<(), LifeStop>
         ensures ok { OnOk result ((first : Start) (d : Ongoing) → StandsAs first d self.old
             → HasBegun first d self.old self.new) }
         ensures plan { OnOk result (HaveOnePlan self.old self.new) }
@@ -104,6 +124,55 @@ impl<N: Nand> OngoingDie<N> {
         }
         let clock = self.die.first() + u64::from(self.die.now());
         enter_waiting(&mut self.die, alloc, clock, &mut self.waiting);
+        self.quiet = 0;
         Ok(())
+    }
+
+    /// Looks up to which slot there is nothing to do as a slot begins.
+    fn look_ahead(&mut self)
+        ensures unchanged { self.new ≡ self.old }
+    {
+        let end = self.die.first() + u64::from(self.die.life());
+        let quiet = first_release(&self.waiting, end);
+        self.quiet = quiet;
+    }
+
+    /// Begins the present slot, and looks up to which one nothing is to be done.
+    #[inline(never)]
+    fn begin_slot(&mut self, alloc: Global) -> Result<(), LifeStop>
+        ensures ok { OnOk result ((first : Start) (d : Ongoing) → StandsAs first d self.old
+            → HasBegun first d self.old self.new) }
+        ensures plan { OnOk result (HaveOnePlan self.old self.new) }
+        ensures runs { OnOk result (self.new.die.core.stopped ≡ false) }
+        ensures early { OnOk result (now self.new.die.core.log < self.new.die.life) }
+        ensures none_due { OnOk result (NoneIsDue (self.new.die.first + now self.new.die.core.log) self.new.waiting) }
+        ensures stopped { IfErr result (HasStopped self.old) }
+        ensures unchanged { OnErr result (self.new ≡ self.old) }
+    {
+        match self.enter_slot(alloc) {
+            Ok(()) => {}
+            Err(stop) => return Err(stop),
+        }
+        self.look_ahead();
+        Ok(())
+    }
+
+    /// Begins the present slot, if that hasn't been done. Up to the end of the life, or the first slot for which something
+    /// waits, there is nothing to do, and what waits isn't looked at.
+    #[inline(always)]
+    pub(crate) fn go_on(&mut self, alloc: Global) -> Result<(), LifeStop>
+        ensures ok { OnOk result ((first : Start) (d : Ongoing) → StandsAs first d self.old
+            → HasBegun first d self.old self.new) }
+        ensures plan { OnOk result (HaveOnePlan self.old self.new) }
+        ensures runs { OnOk result (self.new.die.core.stopped ≡ false) }
+        ensures early { OnOk result (now self.new.die.core.log < self.new.die.life) }
+        ensures none_due { OnOk result (NoneIsDue (self.new.die.first + now self.new.die.core.log) self.new.waiting) }
+        ensures stopped { IfErr result (HasStopped self.old) }
+        ensures unchanged { OnErr result (self.new ≡ self.old) }
+    {
+        if self.is_quiet() {
+            return Ok(());
+        }
+        self.begin_slot(alloc)
     }
 }

@@ -34,11 +34,13 @@ pub struct OngoingDie<N: Nand> {
     pub(crate) die: PlannedDie<N>,
     /// By task the ask that waits.
     pub(crate) waiting: Vec<Waiting>,
+    /// Before this slot of the clock a slot begins with nothing: the life goes on, and nothing waits for it.
+    pub(crate) quiet: u64,
 }
 
 impl<N: Nand> Model for OngoingDie<N> {
     ghost use Rattle.std.specs.Prelude.{map};
-    ghost use Rattle.ongoing_die.specs.Standing.{OngoingParts, IsOngoingDie, HaveRoom, ask_in};
+    ghost use Rattle.ongoing_die.specs.Standing.{OngoingParts, IsOngoingDie, IsQuietBefore, HaveRoom, ask_in};
 
     ghost Value = { OngoingParts N };
 
@@ -47,7 +49,8 @@ impl<N: Nand> Model for OngoingDie<N> {
     ghost invariant = { λ d. IsOngoingDie {N = N} (record {
       die = d.die;
       waiting = map ask_in d.waiting.items;
-    }) × HaveRoom d.die.terms d.waiting.items };
+    }) × HaveRoom d.die.terms d.waiting.items
+        × IsQuietBefore {N = N} d.quiet (record { die = d.die; waiting = map ask_in d.waiting.items }) };
 }
 
 impl<N: Nand> OngoingDie<N> {
@@ -92,7 +95,11 @@ impl<N: Nand> OngoingDie<N> {
             Ok(waiting) => waiting,
             Err(_) => return Err(OngoingRefusal::Plan(PlanRefusal::Die(Refusal::NoMemory))),
         };
-        Ok(OngoingDie { die, waiting })
+        Ok(OngoingDie {
+            die,
+            waiting,
+            quiet: 0,
+        })
     }
 
     /// It goes on by itself: from its first start on it stands somehow over all its lives, whether each ended by itself, by a

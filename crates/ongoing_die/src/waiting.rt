@@ -1,7 +1,7 @@
 //! Asks that wait for the next life or for a slot that was asked for, for a job or for a burst, one a task.
 
 ghost use Rattle.std.specs.Prelude.{◌≡◌, ◌≤◌, ◌<◌, ◌∷◌, List, [], ℕ, length, map, replicate, slice_index_or, slice_set, vec_capacity, is_some, option_map, None, Some, IfOk, IfSome, IfNone};
-ghost use Rattle.ongoing_log.specs.Ongoing.{ops_of};
+ghost use Rattle.ongoing_log.specs.Ongoing.{WaitingAsk, ops_of};
 ghost use Rattle.ongoing_die.specs.Standing.{ask_in, HaveRoom};
 ghost use Rattle.ongoing_die.specs.Resuming.{NoneWaits, IsFirstWaiting};
 ghost use Rattle.ongoing_die.specs.declared.waiting.Waiting.{Waiting};
@@ -34,6 +34,18 @@ impl Waiting {
             until: 0,
             ops,
         })
+    }
+
+    /// The slot for which the ask waits; `end`, where that is no sooner, or none waits.
+    fn release_before(&self, end: u64) -> u64
+        ensures within { result ≤ end }
+        ensures first { (w : WaitingAsk) → ask_in self.now ≡ Some w → result ≤ w.until }
+    {
+        if self.waits && self.until < end {
+            self.until
+        } else {
+            end
+        }
     }
 
     /// This ask waits from now on until slot `until`. It takes no memory.
@@ -101,6 +113,19 @@ pub(crate) fn keep_waiting(
         ≡ vec_capacity (slice_index_or waiting.old.items own d).ops }
 {
     waiting[task].keep(caller, ops, until)
+}
+
+/// The first slot of the clock before slot `end` for which something waits; `end`, where nothing does.
+pub(crate) fn first_release(waiting: &Vec<Waiting>, end: u64) -> u64
+    ensures within { result ≤ end }
+    ensures first { (task : ℕ) (w : WaitingAsk)
+        → slice_index_or (map ask_in waiting.now.items) task None ≡ Some w → result ≤ w.until }
+{
+    let mut first = end;
+    for task in 0..waiting.len() {
+        first = waiting[task].release_before(first);
+    }
+    first
 }
 
 /// The first task of which an ask waits, if there is one.

@@ -9,7 +9,7 @@ use Rattle.planned_log.specs.declared.refusals.AskRefusal.TheVariants as because
 use Rattle.ongoing_log.specs.Ongoing.{Refused}
 use Rattle.planned_die.specs.Planned.{Planned, HasLived}
 use Rattle.ongoing_log.specs.PastLives.{counted}
-use Rattle.ongoing_die.specs.Standing.{OngoingParts, ask_in, HaveRoom, NoneIsDue, IsOngoingDie}
+use Rattle.ongoing_die.specs.Standing.{OngoingParts, ask_in, HaveRoom, NoneIsDue, IsQuietBefore, IsOngoingDie}
 use Rattle.ongoing_die.specs.OngoingCalls.{HasBegun, HaveOnePlan}
 use Rattle.ongoing_die.specs.DieAsks.{IsDieAsk}
 use Rattle.ongoing_die.proofs.Asking.{refused_by, refused_so, refused_while, answer_before, begun_still}
@@ -17,6 +17,7 @@ use Rattle.ongoing_die.proofs.AskEnds.{entered, waited, none_if, some_if, late_k
 use Rattle.ongoing_die.proofs.Entering.{asked_same}
 use Rattle.ongoing_die.proofs.NextLives.{goes_on_so, goes_on_yet, plan_then, same_plan}
 use Rattle.ongoing_die.proofs.Rooms.{have_room}
+use Rattle.ongoing_die.proofs.Quiet.{quiet_same, quiet_kept}
 use Rattle.ongoing_die.proofs.ongoing_die.OngoingDie.ask_as.Goals as goal
 
 pub returns-in-Err-clause-ask : goal.returns-in-Err-clause-ask
@@ -61,6 +62,7 @@ invariant_of-self-in-Ok-ask_die g c =
     (after.die.first + now after.die.core.log + (terms_of die.terms c.args.task).deadline) c.in-Ok-ask_die.ensures.ask refl refl free i.first i.ongoing between b in (
       goes_on_so i.first _ between after (record { terms = kept.terms; life = kept.life }) i.long done.stands,
       have_room die.terms after.die.terms ws ws kept.terms refl (λ task d. refl) c.self.invariant.1,
+      quiet_same c.self.inside.quiet between after kept.first kept.life c.self.invariant.2 refl,
     )
 
 pub returns-in-Ok-ask_die-clause-plan : goal.returns-in-Ok-ask_die-clause-plan
@@ -124,7 +126,8 @@ pub invariant_of-self-in_default : goal.invariant_of-self-in_default
 invariant_of-self-in_default g c =
     let i = c.self.invariant.0 in
     subst (λ (p : Planned g.row.N.Denot). IsOngoingDie {N = g.row.N.Denot} (record { die = p; waiting = map ask_in c.self.inside.waiting.items })
-    × HaveRoom p.terms c.self.inside.waiting.items) (sym (c.in-Err-ask_die.ensures.ask (counted i.stands.past) i.stands.lived).0) c.self.invariant
+    × HaveRoom p.terms c.self.inside.waiting.items
+    × IsQuietBefore {N = g.row.N.Denot} c.self.inside.quiet (record { die = p; waiting = map ask_in c.self.inside.waiting.items })) (sym (c.in-Err-ask_die.ensures.ask (counted i.stands.past) i.stands.lived).0) c.self.invariant
 
 pub returns-in_default : goal.returns-in_default
 returns-in_default g c = record {
@@ -194,6 +197,8 @@ invariant_of-self-in-Err-ask_die g c =
     ) in (
       goes_on_so i.first _ between after (record { terms = same.terms; life = same.life }) i.long done.stands,
       have_room die.terms after.die.terms ws left same.terms count c.keep_waiting.ensures.room c.self.invariant.1,
+      quiet_kept c.self.inside.quiet between after same.first same.life c.self.invariant.2 c.args.task
+          (record { caller = c.args.caller; ops = c.args.ops.now; until = release }) (omega (arith, at_end, same.first, same.life)) kept,
     )
 
 pub returns-in-LifeEnd-clause-plan : goal.returns-in-LifeEnd-clause-plan

@@ -15,6 +15,7 @@ use Rattle.ongoing_die.proofs.AskingAhead.{plan_refuses, too_far, one_waits_alre
 use Rattle.ongoing_die.proofs.AskEnds.{none_if, some_if}
 use Rattle.ongoing_die.proofs.NextLives.{goes_on_so, goes_on_yet}
 use Rattle.ongoing_die.proofs.Rooms.{have_room}
+use Rattle.ongoing_die.proofs.Quiet.{quiet_none}
 use Rattle.ongoing_die.proofs.ongoing_die.OngoingDie.ask_later.Goals as goal
 
 -- the plan refuses it
@@ -237,6 +238,7 @@ invariant_of-self-2 g c =
         life = ap (λ (p : Planned g.row.N.Denot). p.life) still;
       }) i.long taken.stands,
       have_room die.terms kept_parts.die.terms ws left (ap (λ (p : Planned g.row.N.Denot). p.terms) still) count c.keep_waiting.ensures.room c.self.invariant.1,
+      quiet_none kept_parts,
     )
 
 pub returns-clause-ask : goal.returns-clause-ask

@@ -7,6 +7,7 @@ use Rattle.planned_die.proofs.BegunSlots.{has_slot}
 use Rattle.ongoing_die.proofs.BegunSlots.{begins, is_begun}
 use Rattle.ongoing_die.proofs.NextLives.{goes_on_yet}
 use Rattle.ongoing_die.proofs.Rooms.{have_room}
+use Rattle.ongoing_die.proofs.Quiet.{quiet_same}
 use Rattle.ongoing_die.proofs.ongoing_die.OngoingDie.begin.Goals as goal
 
 pub unreachable-requires : goal.unreachable-requires
@@ -29,6 +30,8 @@ invariant_of-result g c =
       is_begun c.args.caller i.first i.ongoing between between after b c.in-Ok-enter_collections.ensures.entered refl c.enter_collections.ensures.lived i.long,
       have_room between.die.terms after.die.terms c.ongoing.inside.waiting.items c.ongoing.inside.waiting.items
           (ap (λ (p : Planned g.row.N.Denot). p.terms) c.in-Ok-enter_collections.ensures.entered.came) refl (λ task d. refl) c.ongoing.invariant.1,
+      quiet_same c.ongoing.inside.quiet between after (ap (λ (p : Planned g.row.N.Denot). p.first) c.in-Ok-enter_collections.ensures.entered.came)
+          (ap (λ (p : Planned g.row.N.Denot). p.life) c.in-Ok-enter_collections.ensures.entered.came) c.ongoing.invariant.2 refl,
     )
 
 pub returns-clause-begun : goal.returns-clause-begun
