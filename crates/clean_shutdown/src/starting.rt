@@ -70,6 +70,7 @@ fn mounted<N: SavingNand>(
     ensures refused { IfErr result (λ no. RefusesStart plan (N.shape_of part) None
         (N.labels part).blocks 0 (N.failures no.part) no.refusal) }
     ensures known { IfErr result (λ no. ¬ (no.refusal ≡ StartRefusal.NoMemory)) }
+    ensures still { IfErr result (λ no. N.saved no.part ≡ None) }
 {
     match mount(alloc, plan, part) {
         Ok(core) => Ok(core),
@@ -140,6 +141,7 @@ fn started<N: SavingNand>(
     ensures again { IfErr result (λ no. no.refusal ≡ StartRefusal.NoMemory
         → IsPoweredUp (N.shape_of no.part) (N.blocks no.part) (N.labels no.part)
         (N.failures no.part)) }
+    ensures still { IfErr result (λ no. N.saved no.part ≡ None) }
 {
     let shape = part.shape();
     let beside = Shape {
@@ -160,7 +162,7 @@ fn started<N: SavingNand>(
 
 /// Starts a die on a part whose power has come. What a clean shutdown saved is taken, and so it is void before anything
 /// else is done. Where it fits the plan the die goes on from it, and no cell is looked at; else the part is mounted
-/// (`device_mount::mount`).
+/// (`device_mount::mount`). However the die begins, nothing is saved on its part then.
 ///
 /// That the part was powered up where nothing is saved is the caller's to know, as at a mount; where something is, the
 /// device says that its cells are as they were left.
@@ -189,6 +191,7 @@ pub fn start_up<N: SavingNand>(
     ensures again { IfErr result (λ no. no.refusal ≡ StartRefusal.NoMemory
         → IsPoweredUp (N.shape_of no.part) (N.blocks no.part) (N.labels no.part)
         (N.failures no.part)) }
+    ensures still { IfErr result (λ no. N.saved no.part ≡ None) }
 {
     let mut part = part;
     match part.take_saved() {
