@@ -21,7 +21,8 @@ use std::alloc::Global;
 /// It is [`begin`], all steps of the mount, which are at most `most_calls` calls of the part, and [`finish`].
 ///
 /// Where a mount could go on from what the cells show (`StandsOnPart`), as it can wherever the power went, the die's
-/// life begins with just the pages that are found.
+/// life begins with just the pages that are found. A page that was trimmed since its last write, and since the last loss
+/// of power, may be found again, with some earlier write, since a trim leaves no label.
 ///
 /// What lasts of the part (`lasts` of [`LabelledNand`]) does so through the mount: of the die's part, and of one that is
 /// handed back.
