@@ -1,7 +1,7 @@
 -- A part of which no cell shows a label, and the first life of a die that was mounted.
-use Rattle.std.proofs.Common.{◌≡◌, ◌⊎◌, ℕ, zero, suc, ◌-◌, ◌<◌, List, [], ◌∷◌, get_or, map, replicate, length}
-use Rattle.std.proofs.Common.{Option, Some, None, refl, ap, sym, ◌∙◌, subst, inl, inr, false, arith}
-use Rattle.std.specs.Prelude.{◌≤◌, ◌+◌, option_map}
+use Rattle.std.proofs.Common.{◌≡◌, ◌⊎◌, ℕ, zero, suc, ◌-◌, ◌<◌, [], ◌∷◌, get_or, map, replicate}
+use Rattle.std.proofs.Common.{Option, Some, None, refl, ap, sym, ◌∙◌, inl, inr, false, arith}
+use Rattle.std.specs.Prelude.{◌≤◌, option_map}
 use Rattle.std.proofs.lemmas.Bool.{cases_lt}
 use Rattle.std.proofs.lemmas.List.{get_or-map, get_or-replicate, get_or_past, length-map, length-replicate}
 use Rattle.std.proofs.lemmas.List.FromFn.{length-map-range_with_len, get_or-map-range_with_len}
@@ -13,9 +13,9 @@ use Rattle.die_log.specs.Model.Start.{Start, blank_page, fresh}
 use Rattle.die_mount.specs.Told.{told_at, told_cells, told_label}
 use Rattle.labelled_die.specs.Scanning.{cells_shown}
 use Rattle.labelled_die.proofs.Seeing.{cells_len}
-use Rattle.labelled_nand.specs.Memory.{MarkedCells, block_labels, cell_label, closed_cells, device_labels, fresh_marked, no_cells, powered_up, torn_cell}
+use Rattle.labelled_nand.specs.Memory.{block_labels, cell_label, closed_cells, device_labels, fresh_marked, no_cells, powered_up, torn_cell}
 use Rattle.power_loss.specs.Aside.{MountsTo, StandsOnPart, part_of}
-use Rattle.power_loss.specs.Labels.{Label, Labels, Shown, label_at}
+use Rattle.power_loss.specs.Labels.{Labels, Shown, label_at}
 use Rattle.power_loss.specs.Losses.{AreLives}
 use Rattle.power_loss.specs.Mounted.{all_count, bytes_at, mounted_place}
 use Rattle.power_loss.proofs.Aside.ComingBack.{none_known}
@@ -84,17 +84,17 @@ all_same zero i x = refl
 all_same (suc n) zero x = refl
 all_same (suc n) (suc i) x = all_same n i x
 
-none_at : (blocks pages b i : ℕ) → get_or (get_or (replicate blocks (replicate pages (None {A = Label}))) b []) i None ≡ None
-none_at zero pages b i = refl
-none_at (suc n) pages zero i = all_same pages i None
-none_at (suc n) pages (suc b) i = none_at n pages b i
+same_in : {X : Type 0} (blocks pages b i : ℕ) (x : X) → get_or (get_or (replicate blocks (replicate pages x)) b []) i x ≡ x
+same_in zero pages b i x = refl
+same_in (suc n) pages zero i x = all_same pages i x
+same_in (suc n) pages (suc b) i x = same_in n pages b i x
 
 pub fresh_shows_nothing : (plan : DiePlan) (serial : ℕ)
     → ShowsNothing plan (device_labels (powered_up (fresh_marked (part_of plan).shape serial))).blocks
 fresh_shows_nothing plan serial = record {
   blocks = length-map (map (closed_cells pages) (replicate count no_cells)) block_labels
       ∙ (length-map (replicate count no_cells) (closed_cells pages) ∙ length-replicate count no_cells);
-  none = λ place. ap (λ (shown : Shown). label_at shown place) are ∙ none_at count (pages - 0) place.block place.page;
+  none = λ place. ap (λ (shown : Shown). label_at shown place) are ∙ same_in count (pages - 0) place.block place.page None;
 }
   where
     count : ℕ
