@@ -19,7 +19,7 @@ use Rattle.labelled_die.specs.Beside.{Beside, beside_of}
 use Rattle.saving_nand.specs.Saving.{closed_labels, numbered}
 use Rattle.saving_nand.specs.declared.saved.Saved.{Saved}
 use Rattle.device_mount.proofs.Ended.{born}
-use Rattle.clean_shutdown.specs.Starting.{GoesOn, GoesOnFrom, RefusesStart, beside_one, shown_of}
+use Rattle.clean_shutdown.specs.Starting.{BeginsByMount, GoesOn, GoesOnFrom, RefusesStart, beside_one, shown_of}
 use Rattle.clean_shutdown.specs.declared.refusals.StartRefusal.{StartRefusal}
 use Rattle.clean_shutdown.specs.declared.refusals.StartRefusal.TheVariants as starts
 
@@ -54,6 +54,18 @@ module _ {N : Type 0} (saved_of : N → Option Saved) (labels_of : N → Labels)
       subst (λ (x : Saved). GoesOn saved_of labels_of plan blocks (numbered had labels) x core) (same_Some found s (is ∙ has))
       (subst (λ (l : Labels). GoesOn saved_of labels_of plan blocks l found core) (lb ∙ ap (λ (o : Option Saved). numbered o labels) is)
       (subst (λ (b : List Block). GoesOn saved_of labels_of plan b next found core) bl g))
+
+  -- and of a die that was mounted
+  pub begins_again : (core : Core (Beside N)) (shape then : Shape) (labels next : Shown) (had : Option Saved) (found : Saved)
+      → then ≡ shape → next ≡ labels → Some found ≡ had
+      → ((GoesOnFrom plan then (Some found) → ⊥) → BeginsByMount saved_of labels_of plan (closed_labels then.pages next) core)
+      → (GoesOnFrom plan shape had → ⊥) → BeginsByMount saved_of labels_of plan (shown_of shape.pages had labels) core
+  begins_again core shape then labels next had found sh ls is begins other =
+      let b : BeginsByMount saved_of labels_of plan (closed_labels then.pages next) core =
+      begins (λ goes. other (subst (GoesOnFrom plan shape) is (subst (λ (x : Shape). GoesOnFrom plan x (Some found)) sh goes))) in
+      subst (λ (o : Option Saved). BeginsByMount saved_of labels_of plan (shown_of shape.pages o labels) core) is
+      (subst (λ (l : Shown). BeginsByMount saved_of labels_of plan (closed_labels shape.pages l) core) ls
+      (subst (λ (x : Shape). BeginsByMount saved_of labels_of plan (closed_labels x.pages next) core) sh b))
 
 -- Refusals
 
