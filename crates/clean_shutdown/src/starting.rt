@@ -81,6 +81,29 @@ fn mounted<N: SavingNand>(
     }
 }
 
+/// Mounts a part on which nothing is saved any more, and each block of which counts as closed from now on.
+#[tactic(auto, using(crate::proofs::Starts::closed_so))]
+fn mounted_closed<N: SavingNand>(
+    alloc: Global,
+    plan: DiePlan,
+    part: N,
+) -> Result<DieCore<BesideNand<N>>, NotStarted<N>>
+    requires well { N.failures part ≡ 0 }
+    requires void { N.saved part ≡ None }
+    ensures begun { IfOk result (HasBegun plan) }
+    ensures mounted { IfOk result (BeginsByMount N.saved N.labels plan
+        (closed_labels (N.shape_of part).pages (N.labels part).blocks)) }
+    ensures refused { IfErr result (λ no. RefusesStart plan (N.shape_of part) None
+        (closed_labels (N.shape_of part).pages (N.labels part).blocks) 0 (N.failures no.part)
+        no.refusal) }
+    ensures known { IfErr result (λ no. ¬ (no.refusal ≡ StartRefusal.NoMemory)) }
+    ensures still { IfErr result (λ no. N.saved no.part ≡ None) }
+{
+    let mut closed = part;
+    closed.count_as_closed();
+    mounted(alloc, plan, closed)
+}
+
 /// The die that goes on from what was saved.
 fn resumed<N: SavingNand>(
     alloc: Global,
@@ -151,11 +174,7 @@ fn started<N: SavingNand>(
     };
     match fits(alloc, &plan, beside, saved) {
         Ok(true) => resumed(alloc, plan, part, saved),
-        Ok(false) => {
-            let mut part = part;
-            part.count_as_closed();
-            mounted(alloc, plan, part)
-        }
+        Ok(false) => mounted_closed(alloc, plan, part),
         Err(_) => Err(no_memory(part)),
     }
 }
