@@ -1,0 +1,1 @@
+//! Blocks fail by a seed, until no spare one is left.
