@@ -1,26 +1,42 @@
-//! Each call of a part fails in turn, and each two that are near each other.
+//! Calls of a part fail: each in turn, two that are near each other, and the part itself at each in turn.
 
 use crate::kinds::{BLOCKS, LOGICAL, core_on, ongoing_on, planned_on};
 use crate::parts::{PAGES, device};
 use crate::played::{Ended, play};
 use crate::wrongs::Wrong;
+use slot_types::Refusal;
 use spare_blocks::{Failures, Health};
 use std::alloc::Global;
-use std::test::Fail;
 
 /// How many asks a die has.
 const ASKS: u32 = 40;
 
 /// The kinds of dies.
 #[derive(Clone, Copy, PartialEq, Eq, Debug, Drop)]
-enum Which {
+pub(crate) enum Which {
     Core,
     Planned,
     Ongoing,
 }
 
-/// How a die ends on a part with so many spare blocks, of which these calls fail, and this one finds it at fault.
-fn ends(
+/// How a die ends after so many asks, on a part with so many spare blocks whose calls fail so.
+pub(crate) fn ends(
+    alloc: Global,
+    which: Which,
+    spares: u32,
+    failures: Failures,
+    asks: u32,
+) -> Result<Ended, Wrong> {
+    let device = device(alloc, BLOCKS, spares, failures)?;
+    match which {
+        Which::Core => play(alloc, core_on(alloc, device)?, LOGICAL, asks),
+        Which::Planned => play(alloc, planned_on(alloc, device)?, LOGICAL, asks),
+        Which::Ongoing => play(alloc, ongoing_on(alloc, device)?, LOGICAL, asks),
+    }
+}
+
+/// The same, where these calls fail, and this one finds the part at fault.
+fn ends_by(
     alloc: Global,
     which: Which,
     spares: u32,
@@ -28,57 +44,92 @@ fn ends(
     faults_at: Option<u64>,
 ) -> Result<Ended, Wrong> {
     let failures = Failures::script(Vec::from_slice(alloc, fails_at)?, faults_at);
-    let device = device(alloc, BLOCKS, spares, failures)?;
-    match which {
-        Which::Core => play(alloc, core_on(alloc, device)?, LOGICAL, ASKS),
-        Which::Planned => play(alloc, planned_on(alloc, device)?, LOGICAL, ASKS),
-        Which::Ongoing => play(alloc, ongoing_on(alloc, device)?, LOGICAL, ASKS),
-    }
+    ends(alloc, which, spares, failures, ASKS)
 }
 
-/// How many calls may fail in a play in which none does: each block is erased first, and then come those of the acts.
+/// How many calls may fail before a die works: each block of the part is erased.
+fn erases(spares: u32) -> u64 {
+    u64::from(BLOCKS.saturating_add(spares))
+}
+
+/// How many may fail in all where none does: the erases, and those that the acts of the die take.
 fn calls(alloc: Global, which: Which, spares: u32) -> Result<u64, Wrong> {
-    let whole = ends(alloc, which, spares, &[], None)?;
-    Ok(u64::from(BLOCKS.saturating_add(spares)).saturating_add(whole.calls))
+    let whole = ends_by(alloc, which, spares, &[], None)?;
+    Ok(erases(spares).saturating_add(whole.calls))
 }
 
-/// One spare block is there, and one call fails, each in turn: the die does all that it is asked, and the spare block is
-/// used up just if the call was made. At most a slot costs the call that failed, copies of all cells but the last, each a
-/// read and a program, and the program that is made again. One call more, at the end, isn't made.
+/// One spare block is there, and this call fails: the die does all that it is asked, and the spare block is used up just
+/// if the call was made.
+fn one_fails_at(alloc: Global, which: Which, failing: u64, is_made: bool) -> Result<Ended, Wrong> {
+    let end = ends_by(alloc, which, 1, &[failing], None)?;
+    if end.health != Health::Working {
+        return Err(Wrong::End { failing });
+    }
+    let left = if is_made { 0 } else { 1 };
+    if end.spares != left {
+        return Err(Wrong::Spares {
+            failing,
+            left: end.spares,
+        });
+    }
+    Ok(end)
+}
+
+/// So with each call in turn. The answer is the most that a slot has cost.
 fn one_fails(alloc: Global, which: Which) -> Result<u64, Wrong> {
     let calls = calls(alloc, which, 1)?;
     let mut most = 0;
-    for failing in 0..calls.saturating_add(1) {
-        let end = ends(alloc, which, 1, &[failing], None)?;
-        let left = if failing < calls { 0 } else { 1 };
-        if end.health != Health::Working {
-            return Err(Wrong::End { failing });
-        }
-        if end.spares != left {
-            return Err(Wrong::Spares { failing, left: end.spares });
-        }
-        if end.most > most {
-            most = end.most;
-        }
+    for failing in 0..calls {
+        most = one_fails_at(alloc, which, failing, true)?.most.max(most);
     }
+    one_fails_at(alloc, which, calls, false)?;
     Ok(most)
 }
 
-/// Two calls fail, the second one of the next after the first: with two spare blocks the die does all that it is asked,
-/// with one its slot is refused, and each page is read. The erases of all blocks are made before the die works.
-fn two_fail(alloc: Global, which: Which) -> Result<(), Wrong> {
-    let erases = u64::from(BLOCKS.saturating_add(2));
-    let calls = calls(alloc, which, 2)?;
-    for failing in erases..calls {
-        for later in 1..u64::from(PAGES).saturating_mul(2) {
-            let both = [failing, failing.saturating_add(later)];
-            let end = ends(alloc, which, 2, &both, None)?;
-            if end.health != Health::Working {
-                return Err(Wrong::End { failing });
-            }
-            let end = ends(alloc, which, 1, &both, None)?;
-            if end.health == Health::Faulted {
-                return Err(Wrong::End { failing });
+/// What the slot of a block's last cell costs, where its program fails: that call, a read and a program for each cell
+/// before it, and the program once more.
+const DEAREST: u64 = 2 * PAGES as u64;
+
+#[test]
+fn a_die_sees_nothing_of_a_block_that_fails(rt: HostRuntime) {
+    assert_eq!(rt; one_fails(rt.alloc(), Which::Core), Ok(DEAREST));
+}
+
+#[test]
+fn one_that_keeps_its_plan_sees_nothing_of_it(rt: HostRuntime) {
+    assert_eq!(rt; one_fails(rt.alloc(), Which::Planned), Ok(DEAREST));
+}
+
+#[test]
+fn one_that_goes_on_by_itself_sees_nothing_of_it(rt: HostRuntime) {
+    assert_eq!(rt; one_fails(rt.alloc(), Which::Ongoing), Ok(DEAREST));
+}
+
+/// A call of an act of the die fails, and one of those that come after it: with as many spare blocks the die does all that
+/// it is asked, and with one less its slot is refused.
+fn two_fail_at(alloc: Global, first: u64, later: u64) -> Result<(), Wrong> {
+    let failing = erases(2).saturating_add(first);
+    let both = [failing, failing.saturating_add(later)];
+    let end = ends_by(alloc, Which::Core, 2, &both, None)?;
+    if end.health != Health::Working || end.spares != 0 {
+        return Err(Wrong::End { failing });
+    }
+    let failing = erases(1).saturating_add(first);
+    let both = [failing, failing.saturating_add(later)];
+    let end = ends_by(alloc, Which::Core, 1, &both, None)?;
+    if end.health != Health::WornOut {
+        return Err(Wrong::End { failing });
+    }
+    Ok(())
+}
+
+/// So with each call, and each of the next that a spare block may be filled by.
+fn two_fail(alloc: Global) -> Result<(), Wrong> {
+    let calls = calls(alloc, Which::Core, 2)?.saturating_sub(erases(2));
+    for first in 0..calls {
+        for later in 1..DEAREST {
+            if first.saturating_add(later) < calls {
+                two_fail_at(alloc, first, later)?;
             }
         }
     }
@@ -86,14 +137,45 @@ fn two_fail(alloc: Global, which: Which) -> Result<(), Wrong> {
 }
 
 #[test]
-fn a_block_that_fails_at_any_call_is_unseen(rt: HostRuntime) {
-    let two_blocks = u64::from(PAGES).saturating_mul(2);
-    assert_eq!(rt; one_fails(rt.alloc(), Which::Core), Ok(two_blocks));
-    assert_eq!(rt; one_fails(rt.alloc(), Which::Planned), Ok(two_blocks));
-    assert_eq!(rt; one_fails(rt.alloc(), Which::Ongoing), Ok(two_blocks));
+fn the_last_spare_block_is_used_up_before_a_slot_is_refused(rt: HostRuntime) {
+    assert_eq!(rt; two_fail(rt.alloc()), Ok(()));
+}
+
+/// The part has a fault at this call: it isn't taken for a block that failed.
+fn faults_at(alloc: Global, call: u64) -> Result<(), Wrong> {
+    match ends_by(alloc, Which::Core, 1, &[], Some(call)) {
+        Ok(end) if end.health == Health::Faulted && end.spares == 1 => Ok(()),
+        Err(Wrong::Refused(Refusal::DeviceFault)) if call < erases(1) => Ok(()),
+        Ok(_) => Err(Wrong::End { failing: call }),
+        Err(wrong) => Err(wrong),
+    }
+}
+
+/// The part has a fault at a call after one that failed, as a spare block is filled or later.
+fn faults_after(alloc: Global, failing: u64, later: u64) -> Result<(), Wrong> {
+    let fault = failing.saturating_add(later);
+    let end = ends_by(alloc, Which::Core, 1, &[failing], Some(fault))?;
+    if end.health != Health::Faulted {
+        return Err(Wrong::End { failing });
+    }
+    Ok(())
+}
+
+/// So with each call in turn, and each of the next.
+fn faults(alloc: Global) -> Result<(), Wrong> {
+    let calls = calls(alloc, Which::Core, 1)?;
+    for call in 0..calls {
+        faults_at(alloc, call)?;
+        for later in 1..DEAREST {
+            if call >= erases(1) && call.saturating_add(later) < calls {
+                faults_after(alloc, call, later)?;
+            }
+        }
+    }
+    Ok(())
 }
 
 #[test]
-fn two_blocks_that_fail_are_unseen(rt: HostRuntime) {
-    assert_eq!(rt; two_fail(rt.alloc(), Which::Core), Ok(()));
+fn a_fault_of_the_part_is_told_as_one(rt: HostRuntime) {
+    assert_eq!(rt; faults(rt.alloc()), Ok(()));
 }

@@ -35,8 +35,8 @@ pub(crate) trait Kind: Drop {
 /// What an ask of this number asks for. The pages come round, each with bytes of its own.
 fn ops_of(number: u32) -> [Op; 3] {
     let page = number.wrapping_mul(5) % LOGICAL;
-    let low = number as u8;
-    let high = number.wrapping_shr(8) as u8;
+    let low = (number % 256) as u8;
+    let high = (number / 256 % 256) as u8;
     let mut bytes = [low; 16];
     bytes[0] = high;
     [
@@ -93,13 +93,13 @@ pub(crate) fn core_on(alloc: Global, device: Device) -> Result<DieCore<Device>, 
     Ok(DieCore::new(alloc, plan(alloc)?, device)?)
 }
 
-/// A die that keeps its plan, for a life of 2,000 slots.
+/// A die that keeps its plan, for a life of 6,000 slots.
 pub(crate) fn planned_on(alloc: Global, device: Device) -> Result<PlannedDie<Device>, Wrong>
     requires fresh { IsFresh device.shape (spared_blocks (λ p. p.blocks) device) device.failures }
 {
     let of_die = plan(alloc)?;
     let terms = terms(alloc)?;
-    Ok(PlannedDie::new(alloc, of_die, terms, 2000, device)?)
+    Ok(PlannedDie::new(alloc, of_die, terms, 6000, device)?)
 }
 
 /// A die that goes on by itself, in lives of 200 slots.
@@ -121,11 +121,7 @@ fn is_early(refusal: Refusal) -> bool {
 }
 
 /// An ask of a die that takes what it is asked: a collection, and a job.
-fn ask_core(
-    die: &mut DieCore<Device>,
-    alloc: Global,
-    number: u32,
-) -> Result<(), Refusal> {
+fn ask_core(die: &mut DieCore<Device>, alloc: Global, number: u32) -> Result<(), Refusal> {
     let now = die.now();
     let due = now.saturating_add(20);
     match die.collect(alloc, 0, TaskNo(0), now, due) {
