@@ -1,7 +1,7 @@
 //! Devices on parts whose blocks fail.
 
-ghost use Rattle.std.specs.Prelude.{◌≡◌, IfOk};
-ghost use Rattle.flash_die.specs.Flash.{IsFresh};
+ghost use Rattle.std.specs.Prelude.{◌≡◌, true, IfOk};
+ghost use Rattle.flash_die.specs.Flash.{IsFresh, IsProgrammed};
 ghost use Rattle.spare_blocks.specs.Spares.{spared_blocks};
 
 use flash_die::Nand;
@@ -34,19 +34,28 @@ pub(crate) fn device(
     SpareBlocks::new(alloc, part, blocks, &[])
 }
 
+/// Whether a cell is programmed, in a block that isn't in erase: so it may be read.
+fn may_read(device: &Device, place: Place) -> bool
+    ensures { result ≡ true → IsProgrammed (spared_blocks (λ p. p.blocks) device.now) place }
+{
+    match device.on_part(place.block) {
+        None => false,
+        Some(on) => {
+            let cell = Place {
+                block: on,
+                page: place.page,
+            };
+            match device.part().held(cell) {
+                None => false,
+                Some(_) => device.part().slots_done(on) == 0,
+            }
+        }
+    }
+}
+
 /// The bytes of a cell, read from the device, whatever became of it; none where it isn't programmed.
 pub(crate) fn read_cell(device: &mut Device, place: Place) -> Option<PageData> {
-    let Some(on) = device.on_part(place.block) else {
-        return None;
-    };
-    let cell = Place {
-        block: on,
-        page: place.page,
-    };
-    if device.part().held(cell).is_none() || device.part().slots_done(on) != 0 {
-        return None;
-    }
-    if device.failures() == u32::MAX {
+    if !may_read(device, place) || device.failures() == u32::MAX {
         return None;
     }
     match device.read(place) {

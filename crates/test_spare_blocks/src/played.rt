@@ -4,7 +4,7 @@ use crate::kinds::Kind;
 use crate::pages::Pages;
 use crate::parts::{Device, PAGES, read_cell};
 use crate::wrongs::Wrong;
-use slot_types::Place;
+use slot_types::{PageData, Place};
 use spare_blocks::Health;
 use std::alloc::Global;
 
@@ -104,12 +104,16 @@ fn places<K: Kind>(alloc: Global, die: &K, logical: u32) -> Result<Vec<Option<Pl
 }
 
 /// Each page that lies somewhere has its last finished write there, and no other one was written.
-fn all_there(device: &mut Device, places: &[Option<Place>], pages: &Pages) -> Result<(), Wrong> {
-    for (page, place) in places.iter().enumerate() {
-        let page = page as u32;
-        let bytes = match place {
-            Some(place) => read_cell(device, *place),
-            None => Some(slot_types::PageData::BLANK),
+fn all_there(
+    device: &mut Device,
+    logical: u32,
+    places: &[Option<Place>],
+    pages: &Pages,
+) -> Result<(), Wrong> {
+    for page in 0..logical {
+        let bytes = match places.get(page as usize) {
+            Some(Some(place)) => read_cell(device, *place),
+            _ => Some(PageData::BLANK),
         };
         if bytes != Some(pages.of(page)) {
             return Err(Wrong::Lost { page });
@@ -130,7 +134,7 @@ fn give_up<K: Kind>(
     let mut device = die.into_device();
     let health = device.health();
     if health != Health::Faulted {
-        all_there(&mut device, places.as_slice(), &pages)?;
+        all_there(&mut device, logical, places.as_slice(), &pages)?;
     }
     Ok(Ended {
         health,
