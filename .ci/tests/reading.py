@@ -258,9 +258,10 @@ class Reading(unittest.TestCase):
 
     def test_names_of_wrong_bodies(self):
         (self.top / "crates/high/must-fail/gated.edit").write_text("file: src/calls.rt\nold: body()\nnew: Ok(3)\n")
+        (self.top / "crates/high/must-fail/by_test.md").write_text("# Tests\n\n## answers_late\n\nIt answers late.\n\nfails: test_high late\n")
         before, docs.crates = docs.crates, lambda: [("high", [], [])]
         try:
-            self.assertEqual(docs.wrong_bodies(), {"high": (["gated"], ["answers_zero", "answers_one"])})
+            self.assertEqual(docs.wrong_bodies(), {"high": (["gated"], ["answers_zero", "answers_one"], ["answers_late"])})
         finally:
             docs.crates = before
 
