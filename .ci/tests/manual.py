@@ -111,7 +111,8 @@ class Page(Case):
         named = set(re.findall(r"([a-z-]+)\((\d)\)", "\n".join(self.parts.values())))
         self.assertLessEqual(named, made)
         self.assertEqual(len(re.findall(r"\(\d\)", self.parts["SEE ALSO"])), 3)
-        self.assertNotRegex(self.text, r"(docs|crates|\.ci)/")
+        # But for what is installed, below share/doc.
+        self.assertEqual(re.findall(r"\S*(?<!maulgreen/)(?:docs|crates|\.ci)/\S*", self.text), [])
 
     def shown(self, page, width):
         done = subprocess.run(["man", "--warnings", "-l", page], capture_output=True, text=True,
@@ -119,13 +120,13 @@ class Page(Case):
         return done.stdout.splitlines(), [line for line in done.stderr.splitlines() if "troff" in line]
 
     def test_man_shows_each_page_in_80_columns(self):
-        """But for the record of a report, a word that can't be broken."""
+        """But for examples, and words that can't be broken, as the record of a report."""
         if not shutil.which("man"):
             self.skipTest("there is no man")
         for page in self.made.glob("*.[17]"):
             lines, warnings = self.shown(page, 80)
             self.assertGreater(len(lines), 50)
-            self.assertEqual([line for line in lines if len(line) > 86], [], page)
+            self.assertEqual([line for line in lines if len(line) > 86 and not line.startswith(f"       {NAME} ")], [], page)
             self.assertEqual([line for line in warnings if "break line" not in line], [], page)
 
     def test_the_name_of_each_page_is_a_line(self):
