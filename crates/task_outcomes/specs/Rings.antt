@@ -1,10 +1,8 @@
 -- How a queue lies in memory: what became of each job, and the pages of all reads one after the other.
 use Rattle.std.specs.Prelude.{◌≡◌, ℕ, ◌≤◌, List, [], ◌∷◌, length, take, drop, sum_by, Option, Some, None}
-use Rattle.std.specs.VecDeque.{deque_capacity}
 use Rattle.slot_types.specs.declared.pages.PageData.{PageData}
 use Rattle.task_outcomes.specs.declared.task_outcome.TaskOutcome.{TaskOutcome}
-use Rattle.task_outcomes.specs.declared.outcome_queue.DoneJob.{DoneJob}
-use Rattle.task_outcomes.specs.declared.outcome_queue.OutcomeQueue.{OutcomeQueue}
+use Rattle.task_outcomes.specs.declared.done_job.DoneJob.{DoneJob}
 
 abbrev pub with_reads : DoneJob → List PageData → TaskOutcome
 with_reads j reads = record {
@@ -24,12 +22,12 @@ outcomes_in [] pages = []
 outcomes_in (j ∷ later) pages = with_reads j (take j.reads pages) ∷ outcomes_in later (drop j.reads pages)
 
 -- the pages are those of these jobs' reads, and there is memory for as many of both as there is room
-pub record IsRing (q : OutcomeQueue) : Type 0 where
-  pub pages : length q.pages.items ≡ sum_by (λ j. j.reads) q.jobs.items
-  pub few_jobs : length q.jobs.items ≤ q.room
-  pub few_pages : length q.pages.items ≤ q.room
-  pub memory : q.room ≤ deque_capacity q.jobs
-  pub page_memory : q.room ≤ deque_capacity q.pages
+pub record IsRing (jobs : List DoneJob) (pages : List PageData) (room capacity page_capacity : ℕ) : Type 0 where
+  pub given : length pages ≡ sum_by (λ j. j.reads) jobs
+  pub few_jobs : length jobs ≤ room
+  pub few_pages : length pages ≤ room
+  pub memory : room ≤ capacity
+  pub page_memory : room ≤ page_capacity
 
 -- this is what is told of a job, if anything is, without these pages of its reads
 abbrev pub TellsDone : List PageData → Option TaskOutcome → Option DoneJob → Type 0

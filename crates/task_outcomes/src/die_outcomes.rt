@@ -8,7 +8,8 @@ ghost use Rattle.task_outcomes.specs.Told.{told_as, told_by};
 ghost use Rattle.task_outcomes.specs.Queues.{new_queues, queue_of, with_told, first_of, with_taken};
 ghost use Rattle.task_outcomes.specs.Rings.{TellsDone};
 
-use crate::outcome_queue::{DoneJob, OutcomeQueue};
+use crate::done_job::DoneJob;
+use crate::outcome_queue::OutcomeQueue;
 use crate::task_outcome::TaskOutcome;
 use demand_rules::Terms;
 use flash_die::Nand;

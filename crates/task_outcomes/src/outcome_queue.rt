@@ -1,33 +1,18 @@
 //! The outcomes that a task has still to take.
 
-ghost use Rattle.std.specs.Prelude.{◌≡◌, ◌+◌, ◌<◌, ◌&&◌, nat_le, nat_lt, [], ◌∷◌, ◌++◌, length, take, drop, slice_get, Some, None, IsOk, IfOk, IfSome, IfNone, OnOk, OnErr, true};
-ghost use Rattle.slot_types.specs.declared.pages.PageData.{PageData};
-ghost use Rattle.slot_core.specs.Outcomes.{head_in, outcome_in};
+ghost use Rattle.std.specs.Prelude.{◌≡◌, ◌≤◌, ◌+◌, ◌<◌, ◌&&◌, nat_le, nat_lt, [], ◌∷◌, ◌++◌, length, take, drop, slice_get, Some, None, IsOk, IfOk, IfSome, IfNone, OnOk, OnErr, true};
+ghost use Rattle.std.specs.VecDeque.{deque_capacity};
 ghost use Rattle.task_outcomes.specs.declared.task_outcome.TaskOutcome.{TaskOutcome};
-ghost use Rattle.task_outcomes.specs.Told.{told_as};
 ghost use Rattle.task_outcomes.specs.Queues.{new_queue, counted, pages_in, with_outcome, without_first, without_oldest};
 ghost use Rattle.task_outcomes.specs.Rings.{with_reads};
 
+use crate::done_job::DoneJob;
 use crate::task_outcome::TaskOutcome;
 use demand_rules::TaskTerms;
-use slot_types::{JobNo, PageData, Reads, TaskNo};
+use slot_types::{PageData, Reads};
 use std::alloc::{AllocError, Global};
 use std::collections::VecDeque;
 use std::marker::Model;
-
-/// What became of a job, but for what its reads gave.
-#[derive(Clone, Copy, PartialEq, Eq, Debug, Drop)]
-pub struct DoneJob {
-    pub task: TaskNo,
-    pub life: u64,
-    pub job: JobNo,
-    pub release: u64,
-    pub due: u64,
-    pub completion: u64,
-    pub lateness: i64,
-    /// How many pages they gave.
-    pub reads: usize,
-}
 
 /// The outcomes that a task has still to take, the first that was done first. Where one comes for which there is no room, the
 /// oldest go, and are counted. All memory is taken with the queue.
@@ -42,6 +27,7 @@ pub struct OutcomeQueue {
 }
 
 impl Model for OutcomeQueue {
+    ghost use Rattle.std.specs.VecDeque.{deque_capacity};
     ghost use Rattle.task_outcomes.specs.Queues.{Queue};
     ghost use Rattle.task_outcomes.specs.Rings.{outcomes_in, IsRing};
 
@@ -49,7 +35,8 @@ impl Model for OutcomeQueue {
 
     ghost view = { λ q. record { room = q.room; kept = outcomes_in q.jobs.items q.pages.items; dropped = q.dropped } };
 
-    ghost invariant = { λ q. IsRing q };
+    ghost invariant = { λ q.
+        IsRing q.jobs.items q.pages.items q.room (deque_capacity q.jobs) (deque_capacity q.pages) };
 }
 
 /// One more, where the count isn't at its end.
@@ -128,10 +115,19 @@ impl OutcomeQueue {
 
     /// Whether there is room for one more, whose reads gave so many pages.
     fn has_room(&self, reads: usize) -> bool
-        ensures { result ≡ (nat_lt (length self.now.kept) self.now.room
+        ensures room { result ≡ (nat_lt (length self.now.kept) self.now.room
             && nat_le (pages_in self.now.kept + reads) self.now.room) }
+        ensures counts { self.now.dropped ≤ 18446744073709551615 }
     {
+        let _dropped = self.dropped;
         self.jobs.len() < self.room && reads <= self.room - self.pages.len()
+    }
+
+    /// One that isn't kept is counted.
+    fn count_dropped(&mut self)
+        ensures { self.new ≡ record self.old { dropped = counted (self.old.dropped + 1) } }
+    {
+        self.dropped = one_more(self.dropped);
     }
 
     /// The oldest goes, if there is one.
@@ -149,7 +145,7 @@ impl OutcomeQueue {
         ensures { self.new ≡ without_oldest self.old }
     {
         self.remove_first();
-        self.dropped = one_more(self.dropped);
+        self.count_dropped();
     }
 
     /// One more comes last, for which there is room.
@@ -170,8 +166,8 @@ impl OutcomeQueue {
         ensures { self.new ≡ with_outcome (with_reads job reads.now) self.old }
     {
         while !self.has_room(reads.len()) {
-            if self.jobs.is_empty() {
-                self.dropped = one_more(self.dropped);
+            if self.len() == 0 {
+                self.count_dropped();
                 return;
             }
             self.drop_first();
@@ -179,19 +175,16 @@ impl OutcomeQueue {
         self.add(job, reads);
     }
 
-    /// Takes the first one. Where memory is refused for what its reads gave, it stays; of none no memory is taken.
-    pub(crate) fn take(&mut self, alloc: Global) -> Result<Option<TaskOutcome>, AllocError>
-        ensures ok { IfOk result (λ first. slice_get self.old.kept 0 ≡ first) }
-        ensures left { OnOk result (self.new ≡ without_first self.old) }
-        ensures nothing { (o : TaskOutcome) → slice_get self.old.kept 0 ≡ Some o → o.reads ≡ [] → IsOk result }
-        ensures refused { OnErr result (self.new ≡ self.old) }
+    /// A copy of the first one, if there is one; of one whose reads gave nothing it takes no memory.
+    fn first(&self, alloc: Global) -> Result<Option<TaskOutcome>, AllocError>
+        ensures ok { IfOk result (λ first. slice_get self.now.kept 0 ≡ first) }
+        ensures nothing { (o : TaskOutcome) → slice_get self.now.kept 0 ≡ Some o → o.reads ≡ [] → IsOk result }
     {
         let Some(first) = self.jobs.front() else {
             return Ok(None);
         };
         let job = *first;
         let reads = first_pages(alloc, &self.pages, job.reads)?;
-        self.remove_first();
         Ok(Some(TaskOutcome {
             task: job.task,
             life: job.life,
@@ -202,5 +195,17 @@ impl OutcomeQueue {
             lateness: job.lateness,
             reads,
         }))
+    }
+
+    /// Takes the first one. Where memory is refused for what its reads gave, it stays; of none no memory is taken.
+    pub(crate) fn take(&mut self, alloc: Global) -> Result<Option<TaskOutcome>, AllocError>
+        ensures ok { IfOk result (λ first. slice_get self.old.kept 0 ≡ first) }
+        ensures left { OnOk result (self.new ≡ without_first self.old) }
+        ensures nothing { (o : TaskOutcome) → slice_get self.old.kept 0 ≡ Some o → o.reads ≡ [] → IsOk result }
+        ensures refused { OnErr result (self.new ≡ self.old) }
+    {
+        let first = self.first(alloc)?;
+        self.remove_first();
+        Ok(first)
     }
 }
