@@ -1,2 +1,4 @@
 mod Rings
 mod Queues
+mod Telling
+mod Accounts

@@ -64,11 +64,12 @@ dropped_among (Taken o ∷ gone) = dropped_among gone
 dropped_among (Dropped o ∷ gone) = 1 + dropped_among gone
 
 -- With these moves some jobs of the task were done. What had been kept and what became of these, in order, is what has gone,
--- and then what is kept now. What has gone was taken, as the task was told, or dropped, and that was counted.
+-- and then what is kept now. What has gone was taken, as the task was told, or dropped, and that was counted, as far as the count
+-- goes.
 pub record AreAccountedFor (first : Start) (task : ℕ) (before : Told) (taken : List TaskOutcome) (after : Told) : Type 0 where
   pub new : List TaskOutcome
   pub done : own_of task (told_of first after.ongoing) ≡ own_of task (told_of first before.ongoing) ++ new
   pub gone : List Gone
   pub in_order : map outcome_gone gone ++ (queue_of after.queues task).kept ≡ (queue_of before.queues task).kept ++ new
   pub taken_are : taken_among gone ≡ taken
-  pub counts : (queue_of after.queues task).dropped ≡ counted ((queue_of before.queues task).dropped + dropped_among gone)
+  pub counts : counted (queue_of after.queues task).dropped ≡ counted ((queue_of before.queues task).dropped + dropped_among gone)
