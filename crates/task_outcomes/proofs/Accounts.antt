@@ -117,7 +117,7 @@ module _ (task : ℕ) where
   told_to queues lt None = nothing (queue_of queues task)
   told_to queues lt (Some o) = by (o.task == task) refl
     where
-      abbrev next : Queue
+      next : Queue
       next = queue_of (set queues o.task (with_outcome o (queue_of queues o.task))) task
 
       by : (b : Bool) → (o.task == task) ≡ b → Accounts (queue_of queues task) (cond b (o ∷ []) []) [] next

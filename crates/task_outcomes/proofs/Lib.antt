@@ -1,4 +1,6 @@
 mod Rings
 mod Queues
+mod Rooms
 mod Telling
 mod Accounts
+mod Slots

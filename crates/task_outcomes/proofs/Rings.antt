@@ -31,8 +31,14 @@ pages_are [] ps e = sym e
 pages_are (j ∷ js) ps e =
     let r = rest_given j js ps e in
     let later = pages_are js (drop j.reads ps) r.1 in
-    omega (arith, sum_by-cons (λ (o : TaskOutcome). length o.reads) (with_reads j (take j.reads ps)) (outcomes_in js (drop j.reads ps)),
-    length-take-le j.reads ps r.0, later, length-drop j.reads ps, r.0)
+    omega (
+      arith,
+      sum_by-cons (λ (o : TaskOutcome). length o.reads) (with_reads j (take j.reads ps)) (outcomes_in js (drop j.reads ps)),
+      length-take-le j.reads ps r.0,
+      later,
+      length-drop j.reads ps,
+      r.0,
+    )
 
 -- a job more, with its pages
 pub added : (js : List DoneJob) (ps : List PageData) (j : DoneJob) (reads : List PageData) → length ps ≡ given js → j.reads ≡ length reads

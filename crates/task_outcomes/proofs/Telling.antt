@@ -40,7 +40,7 @@ no_slots : (caller : ℕ) (ts : List TaskTerms) (task slot : ℕ)
 no_slots caller [] task slot = tt
 no_slots caller (t ∷ ts) task slot = by (no_slots caller ts (task + 1) slot) (comes_at t.collect_period slot)
   where
-    abbrev rest : List Event
+    rest : List Event
     rest = collections_at ts (task + 1) slot
 
     by : AllByRecursion (λ (c : ℕ × Event). IsNoSlot c.1) (map (λ event. (caller, event)) rest) → (b : Bool)
@@ -52,21 +52,21 @@ no_slots caller (t ∷ ts) task slot = by (no_slots caller ts (task + 1) slot) (
 module _ (start : Start) (began : ℕ) where
   none_by : (caller : ℕ) (event : Event) (past : Log) → IsNoSlot event → (o : Option Refusal)
       → told_in start began (with_answer caller event (answer_by start past event o) past) ≡ told_in start began past
-  none_by caller (events.Submit task release due ops) past no None = append-nil (told_in start began past)
-  none_by caller (events.Submit task release due ops) past no (Some r) = refl
-  none_by caller (events.Collect task release due) past no None = append-nil (told_in start began past)
-  none_by caller (events.Collect task release due) past no (Some r) = refl
-  none_by caller events.Slot past no o = absurd no
+  none_by caller (events.Submit task release due ops) past plain None = append-nil (told_in start began past)
+  none_by caller (events.Submit task release due ops) past plain (Some r) = refl
+  none_by caller (events.Collect task release due) past plain None = append-nil (told_in start began past)
+  none_by caller (events.Collect task release due) past plain (Some r) = refl
+  none_by caller events.Slot past plain o = absurd plain
 
   call_none : (caller : ℕ) (event : Event) (past : Log) → IsNoSlot event
       → told_in start began (after_call start past (caller, event)) ≡ told_in start began past
   unfolding answer
-  call_none caller event past no = none_by caller event past no (refusal_of start past event)
+  call_none caller event past plain = none_by caller event past plain (refusal_of start past event)
 
   run_none : (calls : List (ℕ × Event)) (past : Log) → AllByRecursion (λ (c : ℕ × Event). IsNoSlot c.1) calls
       → told_in start began (run start past calls) ≡ told_in start began past
-  run_none [] past no = refl
-  run_none (call ∷ calls) past no = run_none calls (after_call start past call) no.1 ∙ call_none call.0 call.1 past no.0
+  run_none [] past plain = refl
+  run_none (call ∷ calls) past plain = run_none calls (after_call start past call) plain.1 ∙ call_none call.0 call.1 past plain.0
 
   -- the jobs of an ask
   jobs_none : (terms : Terms) (caller task : ℕ) (jobs : List (List Op)) (log : Log)
@@ -138,7 +138,7 @@ module _ (first : Start) (terms : Terms) (life : ℕ) where
       (asks_none (starts_after first earlier) (all_slots (counted earlier)) terms (counted earlier) life d.waiting 0 [])
       ∙ append-nil (told_over first earlier)
     where
-      abbrev earlier : List PastLife
+      earlier : List PastLife
       earlier = record { log = d.log; ended = Renewed } ∷ d.earlier
 
   -- and a slot the one that comes with it

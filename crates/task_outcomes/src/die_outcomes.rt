@@ -2,21 +2,17 @@
 
 ghost use Rattle.std.specs.Prelude.{◌≡◌, [], Some, length, IfOk, IsOk, OnOk, OnErr, IfSome, IfNone, None};
 ghost use Rattle.slot_types.specs.declared.replies.Reply.{Reply};
-ghost use Rattle.slot_core.specs.Outcomes.{head_in, outcome_in};
 ghost use Rattle.task_outcomes.specs.declared.task_outcome.TaskOutcome.{TaskOutcome};
-ghost use Rattle.task_outcomes.specs.Told.{told_as, told_by};
+ghost use Rattle.task_outcomes.specs.Told.{told_by};
 ghost use Rattle.task_outcomes.specs.Queues.{new_queues, queue_of, with_told, first_of, with_taken};
-ghost use Rattle.task_outcomes.specs.Rings.{TellsDone};
 
-use crate::done_job::DoneJob;
+use crate::done_job::done_job;
 use crate::outcome_queue::OutcomeQueue;
 use crate::task_outcome::TaskOutcome;
 use demand_rules::Terms;
 use flash_die::Nand;
-use job_table::{Job, Stage};
-use late_cert::lateness;
 use planned_die::PlannedDie;
-use slot_types::{JobNo, SlotReply, TaskNo};
+use slot_types::{SlotReply, TaskNo};
 use std::alloc::{AllocError, Global};
 use std::marker::Model;
 
@@ -33,30 +29,6 @@ impl Model for DieOutcomes {
     ghost Value = { List Queue };
 
     ghost view = { λ o. o.queues.items };
-}
-
-/// What became of a job of a life that began in this slot of the clock: nothing where it is a collection, or isn't done.
-fn done_job(began: u64, number: JobNo, job: &Job) -> Option<DoneJob>
-    requires early { began ≤ 2305843009213693952 }
-    ensures { TellsDone job.now.reads (told_as began number (head_in job.now) (outcome_in job.now)) result }
-{
-    let completion = match job.stage() {
-        Stage::Done { completion, .. } => completion,
-        _ => return None,
-    };
-    if job.collects() {
-        return None;
-    }
-    Some(DoneJob {
-        task: job.task(),
-        life: began,
-        job: number,
-        release: began + u64::from(job.release()),
-        due: began + u64::from(job.due()),
-        completion: began + u64::from(completion),
-        lateness: lateness(completion, job.due()),
-        reads: job.reads().len(),
-    })
 }
 
 impl DieOutcomes {

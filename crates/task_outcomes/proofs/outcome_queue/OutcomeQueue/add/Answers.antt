@@ -19,8 +19,12 @@ pub add_pages-requires : goal.add_pages-requires
 add_pages-requires c =
     let few = subst (λ (q : Queue). pages_in q.kept + length c.args.reads.now ≤ q.room) (sym c.self.view_is) c.requires.page_room in
     record {
-      room = omega (arith, few, pages_are c.self.inside.jobs.items c.self.inside.pages.items c.self.invariant.given,
-          c.self.invariant.page_memory);
+      room = omega (
+        arith,
+        few,
+        pages_are c.self.inside.jobs.items c.self.inside.pages.items c.self.invariant.given,
+        c.self.invariant.page_memory,
+      );
     }
 
 pub invariant_of-self : goal.invariant_of-self
@@ -31,11 +35,20 @@ invariant_of-self c =
     let few = subst (λ (q : Queue). length q.kept < q.room) (sym c.self.view_is) c.requires.room in
     let few_pages = subst (λ (q : Queue). pages_in q.kept + length c.args.reads.now ≤ q.room) (sym c.self.view_is) c.requires.page_room in
     record {
-      given = rw c.add_pages.ensures.pages (rw c.push_back_reserved.ensures.items (omega (arith,
-          length-append pages.items c.args.reads.now, sum_by_push (λ (j : DoneJob). j.reads) jobs.items c.args.job, i.given, c.requires.reads)));
+      given = rw c.add_pages.ensures.pages (rw c.push_back_reserved.ensures.items (omega (
+        arith,
+        length-append pages.items c.args.reads.now,
+        sum_by_push (λ (j : DoneJob). j.reads) jobs.items c.args.job,
+        i.given,
+        c.requires.reads,
+      )));
       few_jobs = rw c.push_back_reserved.ensures.items (omega (arith, length_push jobs.items c.args.job, few, count_is jobs.items pages.items));
-      few_pages = rw c.add_pages.ensures.pages (omega (arith, length-append pages.items c.args.reads.now, few_pages,
-          pages_are jobs.items pages.items i.given));
+      few_pages = rw c.add_pages.ensures.pages (omega (
+        arith,
+        length-append pages.items c.args.reads.now,
+        few_pages,
+        pages_are jobs.items pages.items i.given,
+      ));
       memory = rw c.push_back_reserved.ensures.capacity i.memory;
       page_memory = rw c.add_pages.ensures.memory i.page_memory;
     }
