@@ -1,8 +1,7 @@
 -- What lies in memory is the list of outcomes.
-use Rattle.std.proofs.Common.{◌≡◌, ℕ, suc, ◌+◌, ◌-◌, ◌≤◌, List, [], ◌∷◌, ◌++◌, length, take, drop, get_or, slice_get, sum_by, Some, refl, ap, sym, ◌∙◌, arith}
+use Rattle.std.proofs.Common.{◌≡◌, ◌≢◌, ℕ, suc, ◌+◌, ◌-◌, ◌≤◌, ◌<◌, List, [], ◌∷◌, ◌++◌, length, take, drop, get_or, slice_get, sum_by, IsSomeAnd, refl, ap, sym, ◌∙◌, arith}
 use Rattle.std.proofs.lemmas.List.{length-take-le, length-drop, take_all, take-append-le, drop-append-le}
 use Rattle.std.proofs.lemmas.List.Sums.{sum_by-cons}
-use Rattle.std.proofs.lemmas.Option.{same_Some}
 use Rattle.slot_types.specs.declared.pages.PageData.{PageData}
 use Rattle.task_outcomes.specs.declared.task_outcome.TaskOutcome.{TaskOutcome}
 use Rattle.task_outcomes.specs.declared.done_job.DoneJob.{DoneJob}
@@ -50,12 +49,10 @@ added (i ∷ js) ps j reads e is =
     (λ t. with_reads i (take-append-le i.reads ps reads r.0 t) ∷ outcomes_in (js ++ j ∷ []) (drop-append-le i.reads ps reads r.0 t))
     ∙ ap (λ (os : List TaskOutcome). with_reads i (take i.reads ps) ∷ os) (added js (drop i.reads ps) j reads r.1 is)
 
--- where the reads of the first job gave nothing, it has no page
-pub first_given : (js : List DoneJob) (ps : List PageData) (d : DoneJob) (o : TaskOutcome) → length ps ≡ given js
-    → slice_get (outcomes_in js ps) 0 ≡ Some o → o.reads ≡ [] → (get_or js 0 d).reads ≡ 0
-first_given [] ps d o e at none = absurd cc
-first_given (j ∷ js) ps d o e at none =
+-- where the first job has a page, its reads gave something
+pub first_gave : (js : List DoneJob) (ps : List PageData) (d : DoneJob) → length ps ≡ given js → 0 < length js → (get_or js 0 d).reads ≢ 0
+    → IsSomeAnd (slice_get (outcomes_in js ps) 0) (λ o. o.reads ≢ [])
+first_gave [] ps d e some gave = absurd (omega (arith, some))
+first_gave (j ∷ js) ps d e some gave = λ empty.
     let r = rest_given j js ps e in
-    let same : with_reads j (take j.reads ps) ≡ o = same_Some (with_reads j (take j.reads ps)) o at in
-    let empty : take j.reads ps ≡ [] = ap (λ (x : TaskOutcome). x.reads) same ∙ none in
-    sym (length-take-le j.reads ps r.0) ∙ ap (λ (l : List PageData). length l) empty
+    absurd (gave (sym (length-take-le j.reads ps r.0) ∙ ap (λ (l : List PageData). length l) empty))

@@ -1,8 +1,7 @@
 //! The outcomes that the tasks of a die have still to take.
 
-ghost use Rattle.std.specs.Prelude.{◌≡◌, [], Some, length, IfOk, IsOk, OnOk, OnErr, IfSome, IfNone, None};
+ghost use Rattle.std.specs.Prelude.{◌≡◌, ◌≢◌, [], length, IsSomeAnd, IfOk, OnOk, OnErr};
 ghost use Rattle.slot_types.specs.declared.replies.Reply.{Reply};
-ghost use Rattle.task_outcomes.specs.declared.task_outcome.TaskOutcome.{TaskOutcome};
 ghost use Rattle.task_outcomes.specs.Told.{told_by};
 ghost use Rattle.task_outcomes.specs.Queues.{new_queues, queue_of, with_told, first_of, with_taken};
 
@@ -74,7 +73,7 @@ impl DieOutcomes {
     pub fn take(&mut self, alloc: Global, task: TaskNo) -> Result<Option<TaskOutcome>, AllocError>
         ensures ok { IfOk result (λ first. first_of self.old task ≡ first) }
         ensures left { OnOk result (self.new ≡ with_taken self.old task) }
-        ensures nothing { (o : TaskOutcome) → first_of self.old task ≡ Some o → o.reads ≡ [] → IsOk result }
+        ensures gave { OnErr result (IsSomeAnd (first_of self.old task) (λ o. o.reads ≢ [])) }
         ensures refused { OnErr result (self.new ≡ self.old) }
     {
         let own = task.0 as usize;

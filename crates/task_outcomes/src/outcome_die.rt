@@ -1,12 +1,11 @@
 //! A die that goes on by itself, and keeps what became of its tasks' jobs until they take it.
 
-ghost use Rattle.std.specs.Prelude.{◌≡◌, [], Some, length, IfOk, IfErr, IsOk, OnOk, OnErr};
+ghost use Rattle.std.specs.Prelude.{◌≡◌, ◌≢◌, [], length, IsSomeAnd, IfOk, IfErr, OnOk, OnErr};
 ghost use Rattle.die_log.specs.Model.Start.{Start};
 ghost use Rattle.planned_log.specs.declared.ask_kinds.AskKind.{AskKind};
 ghost use Rattle.ongoing_log.specs.Ongoing.{Ongoing};
 ghost use Rattle.ongoing_die.specs.Standing.{StandsAs};
 ghost use Rattle.ongoing_die.specs.OngoingCalls.{IsOngoingAsk, IsOngoingSlot, HaveOnePlan};
-ghost use Rattle.task_outcomes.specs.declared.task_outcome.TaskOutcome.{TaskOutcome};
 ghost use Rattle.task_outcomes.specs.Queues.{new_queues, queue_of, first_of, with_taken};
 ghost use Rattle.task_outcomes.specs.OutcomeDies.{HasTold};
 
@@ -135,7 +134,7 @@ impl<N: Nand> OutcomeDie<N> {
         ensures die { self.new.die ≡ self.old.die }
         ensures ok { IfOk result (λ first. first_of self.old.queues task ≡ first) }
         ensures left { OnOk result (self.new.queues ≡ with_taken self.old.queues task) }
-        ensures nothing { (o : TaskOutcome) → first_of self.old.queues task ≡ Some o → o.reads ≡ [] → IsOk result }
+        ensures gave { OnErr result (IsSomeAnd (first_of self.old.queues task) (λ o. o.reads ≢ [])) }
         ensures refused { OnErr result (self.new.queues ≡ self.old.queues) }
     {
         self.outcomes.take(alloc, task)

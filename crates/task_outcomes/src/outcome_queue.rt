@@ -1,8 +1,7 @@
 //! The outcomes that a task has still to take.
 
-ghost use Rattle.std.specs.Prelude.{◌≡◌, ◌≤◌, ◌+◌, ◌<◌, ◌&&◌, nat_le, nat_lt, [], ◌∷◌, ◌++◌, length, take, drop, slice_get, Some, None, IsOk, IfOk, IfSome, IfNone, OnOk, OnErr, true};
+ghost use Rattle.std.specs.Prelude.{◌≡◌, ◌≢◌, ◌≤◌, ◌+◌, ◌<◌, ◌&&◌, nat_le, nat_lt, [], ◌∷◌, ◌++◌, length, take, drop, slice_get, IsSomeAnd, IfOk, OnOk, OnErr};
 ghost use Rattle.std.specs.VecDeque.{deque_capacity};
-ghost use Rattle.task_outcomes.specs.declared.task_outcome.TaskOutcome.{TaskOutcome};
 ghost use Rattle.task_outcomes.specs.Queues.{new_queue, counted, pages_in, with_outcome, without_first, without_oldest};
 ghost use Rattle.task_outcomes.specs.Rings.{with_reads};
 
@@ -50,7 +49,7 @@ fn one_more(count: u64) -> u64
 fn first_pages(alloc: Global, pages: &VecDeque<PageData>, count: usize) -> Result<Reads, AllocError>
     requires enough { count ≤ length pages.now.items }
     ensures ok { IfOk result (λ copy. copy ≡ take count pages.now.items) }
-    ensures nothing { count ≡ 0 → IsOk result }
+    ensures some { OnErr result (count ≢ 0) }
 {
     if count == 0 {
         return Ok(Reads::new(alloc));
@@ -178,7 +177,7 @@ impl OutcomeQueue {
     /// A copy of the first one, if there is one; of one whose reads gave nothing it takes no memory.
     fn first(&self, alloc: Global) -> Result<Option<TaskOutcome>, AllocError>
         ensures ok { IfOk result (λ first. slice_get self.now.kept 0 ≡ first) }
-        ensures nothing { (o : TaskOutcome) → slice_get self.now.kept 0 ≡ Some o → o.reads ≡ [] → IsOk result }
+        ensures gave { OnErr result (IsSomeAnd (slice_get self.now.kept 0) (λ o. o.reads ≢ [])) }
     {
         let Some(first) = self.jobs.front() else {
             return Ok(None);
@@ -201,7 +200,7 @@ impl OutcomeQueue {
     pub(crate) fn take(&mut self, alloc: Global) -> Result<Option<TaskOutcome>, AllocError>
         ensures ok { IfOk result (λ first. slice_get self.old.kept 0 ≡ first) }
         ensures left { OnOk result (self.new ≡ without_first self.old) }
-        ensures nothing { (o : TaskOutcome) → slice_get self.old.kept 0 ≡ Some o → o.reads ≡ [] → IsOk result }
+        ensures gave { OnErr result (IsSomeAnd (slice_get self.old.kept 0) (λ o. o.reads ≢ [])) }
         ensures refused { OnErr result (self.new ≡ self.old) }
     {
         let first = self.first(alloc)?;
