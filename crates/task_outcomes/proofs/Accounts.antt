@@ -1,12 +1,12 @@
 -- Each outcome of a task is taken, dropped or kept.
-use Rattle.std.proofs.Common.{◌≡◌, ◌≢◌, ℕ, ◌+◌, ◌-◌, ◌<◌, ◌≤◌, ◌==◌, min, Bool, true, false, cond, List, [], ◌∷◌, ◌++◌, length, map, drop, filter, get_or, set}
+use Rattle.std.proofs.Common.{◌≡◌, ℕ, ◌+◌, ◌-◌, ◌<◌, ◌==◌, Bool, true, false, cond, List, [], ◌∷◌, ◌++◌, length, map, set}
 use Rattle.std.proofs.Common.{slice_get, option_to_list, Option, Some, None, refl, ap, sym, subst, ◌∙◌, arith}
 use Rattle.std.proofs.lemmas.Bool.{eqb-true, eqb-false}
 use Rattle.std.proofs.lemmas.List.{append-nil, append_assoc, map-append, length-append, length-set, get_or-set_same, get_or-set_other}
 use Rattle.demand_rules.specs.declared.terms.Terms.{Terms}
 use Rattle.die_log.specs.Model.Start.{Start}
 use Rattle.planned_log.specs.Moves.{Move, Ask, Slot}
-use Rattle.ongoing_log.specs.Ongoing.{Ongoing, ongoing_after, ongoing_after_move, IsOngoing}
+use Rattle.ongoing_log.specs.Ongoing.{Ongoing, ongoing_after, IsOngoing}
 use Rattle.task_outcomes.specs.declared.task_outcome.TaskOutcome.{TaskOutcome}
 use Rattle.task_outcomes.specs.Told.{told_of, own_of, told_next}
 use Rattle.task_outcomes.specs.Queues.{Queue, queue_of, no_queue, counted, have_room, newest_in, with_outcome, with_told, first_of, without_first, with_taken}

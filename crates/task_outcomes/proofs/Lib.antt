@@ -4,3 +4,4 @@ mod Rooms
 mod Telling
 mod Accounts
 mod Slots
+mod Noting

@@ -1,5 +1,5 @@
 -- The outcome of a slot that is carried out is that of the die's log.
-use Rattle.std.proofs.Common.{◌≡◌, ℕ, ◌≤◌, ◌==◌, nat_lt, Bool, true, false, List, ◌∷◌, length, map, refl, ap, sym, subst, ◌∙◌, arith}
+use Rattle.std.proofs.Common.{◌≡◌, ℕ, ◌≤◌, ◌==◌, nat_lt, Bool, true, false, List, length, map, refl, ap, sym, subst, ◌∙◌, arith}
 use Rattle.std.proofs.lemmas.Bool.{lt-ltb}
 use Rattle.std.proofs.lemmas.Bool.Decides.{nat_tests}
 use Rattle.std.proofs.lemmas.List.{take_all}
@@ -18,7 +18,7 @@ use Rattle.die_log.specs.Model.Answers.{with_answer, after_call, run}
 use Rattle.planned_log.specs.KeptLogs.{collections_at}
 use Rattle.planned_log.specs.Moves.{Slot, after_own, after_move}
 use Rattle.ongoing_log.specs.PastLives.{PastLife, starts_after, counted}
-use Rattle.ongoing_log.specs.Ongoing.{Ongoing, start_of, going_on}
+use Rattle.ongoing_log.specs.Ongoing.{Ongoing, going_on}
 use Rattle.planned_die.specs.Planned.{Planned}
 use Rattle.planned_die.specs.PlannedCalls.{own_calls, with_all_own}
 use Rattle.ongoing_die.specs.Standing.{OngoingParts, standing}

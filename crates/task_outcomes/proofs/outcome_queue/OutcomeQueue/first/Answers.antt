@@ -1,4 +1,4 @@
-use Rattle.std.proofs.Common.{◌≡◌, ◌≢◌, ◌<◌, [], length, deque_len, get_or, slice_get, IsSomeAnd, Result, Ok, Err, OnErr, subst, ap, sym, ◌∙◌, arith, rules}
+use Rattle.std.proofs.Common.{◌≡◌, ◌≢◌, ◌<◌, [], length, deque_len, get_or, slice_get, IsSomeAnd, Result, Ok, Err, OnErr, subst, ap, ◌∙◌, arith, rules}
 use Rattle.task_outcomes.specs.declared.done_job.DoneJob.{DoneJob}
 use Rattle.task_outcomes.specs.Queues.{Queue}
 use Rattle.task_outcomes.proofs.Rings.{first_gave}

@@ -1,4 +1,4 @@
-use Rattle.std.proofs.Common.{◌≡◌, nat_lt, true, false, length, deque_len, ap, ◌∙◌, arith, rules}
+use Rattle.std.proofs.Common.{◌≡◌, nat_lt, true, false, length, deque_len, ◌∙◌, arith, rules}
 use Rattle.std.proofs.lemmas.Bool.Decides.{nat_tests}
 use Rattle.task_outcomes.proofs.Rings.{count_is, pages_are}
 use Rattle.task_outcomes.proofs.Queues.{room_then, room_else}
