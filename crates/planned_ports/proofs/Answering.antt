@@ -1,5 +1,5 @@
 -- What a task was answered, in the log of a shared die.
-use Rattle.std.proofs.Common.{◌≡◌, ℕ, ◌==◌, true, false, Bool, List, [], ◌∷◌, ◌++◌, Result, Ok, Err, refl, ap, sym, ◌∙◌, arith}
+use Rattle.std.proofs.Common.{◌≡◌, ℕ, ◌==◌, true, false, Bool, List, [], ◌∷◌, ◌++◌, Option, option_to_list, if◌then◌else◌, Result, Ok, Err, refl, ap, sym, ◌∙◌, arith}
 use Rattle.std.proofs.lemmas.Bool.Decides.{nat_tests}
 use Rattle.slot_types.specs.declared.events.Op.{Op}
 use Rattle.demand_rules.specs.declared.terms.Terms.{Terms}
@@ -8,15 +8,17 @@ use Rattle.planned_log.specs.declared.ask_kinds.AskKind.{AskKind}
 use Rattle.planned_log.specs.Laws.{Seen, Asks, Slots, seen_by}
 use Rattle.planned_log.specs.Moves.{Move, Ask, Slot}
 use Rattle.ongoing_log.specs.Ongoing.{Ongoing, Answer, answer_to, answers_to, ongoing_after, ongoing_after_move}
-use Rattle.task_outcomes.specs.OutcomeMoves.{Told, told_after_move}
+use Rattle.task_outcomes.specs.declared.task_outcome.TaskOutcome.{TaskOutcome}
+use Rattle.task_outcomes.specs.Queues.{first_of as first_told}
+use Rattle.task_outcomes.specs.OutcomeMoves.{OutcomeMove, Takes, Told, told_after_move, taken_by}
 use Rattle.planned_ports.specs.declared.calls.Request.{Request}
 use Rattle.planned_ports.specs.declared.calls.Request.TheVariants as requests
 use Rattle.planned_ports.specs.declared.calls.Granted.{Granted}
 use Rattle.planned_ports.specs.declared.calls.Granted.TheVariants as granted
 use Rattle.planned_ports.specs.declared.calls.Refused.{Refused}
-use Rattle.planned_ports.specs.Calls.{PortCall, move_by, move_of, die_move_by, die_moves, after_calls}
+use Rattle.planned_ports.specs.Calls.{PortCall, move_by, move_of, moves_of, die_move_by, die_moves, after_calls}
 use Rattle.planned_ports.specs.Replies.{WasGranted, WereGranted}
-use Rattle.planned_ports.specs.Laws.{answer_in, answers_in}
+use Rattle.planned_ports.specs.Laws.{answer_in, answers_in, outcome_in, outcomes_in}
 
 same_task : (task : ℕ) → (task == task) ≡ true
 same_task task = grind (arith, nat_tests)
@@ -118,3 +120,34 @@ seen_then kind task (Ask its by other own ∷ moves) caller ops = either (other 
         → seen_by task (Ask its by other own ∷ (moves ++ Ask kind caller task ops ∷ [])) ≡ seen_by task (Ask its by other own ∷ moves) ++ Asks kind ops ∷ []
     either true e after = rw e (ap (λ (l : List Seen). Asks its own ∷ l) after)
     either false e after = rw e after
+
+-- Outcomes
+
+module _ (first : Start) (terms : Terms) (life task : ℕ) where
+  one_outcome : (t : Told) (caller : ℕ) (request : Request) (reply : Result Granted Refused) (rest : List OutcomeMove)
+      → WasGranted first terms life t caller request reply
+      → taken_by first terms life task t (move_by caller request ∷ rest)
+      ≡ outcome_in task request reply ++ taken_by first terms life task (told_after_move first terms life t (move_by caller request)) rest
+  one_outcome t caller (requests.Ask kind other ops) (Ok answer) rest h = refl
+  one_outcome t caller requests.Slot (Ok answer) rest h = refl
+  one_outcome t caller (requests.Outcome other) (Ok (granted.Outcome outcome)) rest h = by (other == task) refl
+    where
+      later : List TaskOutcome
+      later = taken_by first terms life task (told_after_move first terms life t (Takes other)) rest
+
+      by : (b : Bool) → (other == task) ≡ b
+          → (if b then option_to_list (first_told t.queues task) ++ later else later) ≡ (if b then outcome ∷ [] else []) ++ later
+      by true e = ap (λ (o : Option TaskOutcome). option_to_list o ++ later) (ap (first_told t.queues) (sym (equal other task e)) ∙ h)
+      by false e = refl
+  one_outcome t caller (requests.Outcome other) (Ok (granted.Job answer)) rest h = absurd h
+  one_outcome t caller (requests.Outcome other) (Ok (granted.Slot reply)) rest h = absurd h
+  one_outcome t caller request (Err refusal) rest h = absurd h
+
+  -- the outcomes in the log are those that the task takes
+  pub outcomes_are : (t : Told) (calls : List PortCall) → WereGranted first terms life t calls
+      → taken_by first terms life task t (moves_of calls) ≡ outcomes_in task calls
+  outcomes_are t [] all = refl
+  outcomes_are t (call ∷ calls) all =
+      one_outcome t call.caller call.event call.reply (moves_of calls) all.0
+      ∙ ap (λ (os : List TaskOutcome). outcome_in task call.event call.reply ++ os)
+      (outcomes_are (told_after_move first terms life t (move_of call)) calls all.1)

@@ -1,5 +1,5 @@
 -- What a task is answered in two shared logs in which it sees the same.
-use Rattle.std.proofs.Common.{◌≡◌, ℕ, List, [], ◌∷◌, ◌++◌, ap, sym, subst, ◌∙◌}
+use Rattle.std.proofs.Common.{◌≡◌, ◌<◌, length, ℕ, List, [], ◌∷◌, ◌++◌, ap, sym, subst, ◌∙◌}
 use Rattle.slot_types.specs.declared.events.Op.{Op}
 use Rattle.demand_rules.specs.declared.terms.Terms.{Terms}
 use Rattle.die_log.specs.Model.Log.{now}
@@ -12,11 +12,12 @@ use Rattle.planned_log.specs.Moves.{Move, Ask}
 use Rattle.ongoing_log.specs.PastLives.{counted}
 use Rattle.ongoing_log.specs.Ongoing.{Ongoing, Answer, answer_to, answers_to, ongoing_after, waiting_of, ops_of, start_of, AreLongEnough, IsOngoing}
 use Rattle.task_outcomes.specs.OutcomeDies.{OutcomeParts}
-use Rattle.task_outcomes.specs.OutcomeMoves.{Told, told_after, taken_by, AreAccountedFor}
-use Rattle.planned_ports.specs.Calls.{PortCall, die_moves, after_calls}
+use Rattle.task_outcomes.specs.declared.task_outcome.TaskOutcome.{TaskOutcome}
+use Rattle.task_outcomes.specs.OutcomeMoves.{OutcomeMove, Told, told_after, taken_by, AreAccountedFor}
+use Rattle.planned_ports.specs.Calls.{PortCall, moves_of, die_moves, after_calls}
 use Rattle.planned_ports.specs.Replies.{WereGranted, opened_as}
-use Rattle.planned_ports.specs.Laws.{IsInTime, RanFrom, SeesTheSame, answers_in}
-use Rattle.planned_ports.proofs.Answering.{last_same, answers_are, answers_then, seen_then, ongoing_is}
+use Rattle.planned_ports.specs.Laws.{IsInTime, RanFrom, SeesTheSame, answers_in, outcomes_in}
+use Rattle.planned_ports.proofs.Answering.{last_same, answers_are, answers_then, seen_then, ongoing_is, outcomes_are}
 
 -- In time
 
@@ -61,15 +62,15 @@ module _ {N : Type 0} (law : Isolates) (task : ℕ) (opened again : OutcomeParts
   goes_on_again = subst (λ n. IsOngoing other terms n two) h.plan.life
       (subst (λ (t : Terms). IsOngoing other t again.die.die.life two) h.plan.terms (h.ran_again.stands.runs h.ran_again.runs).goes_on)
 
-  abbrev t : Told
-  t = opened_as opened one
+  abbrev told_one : Told
+  told_one = opened_as opened one
 
-  abbrev u : Told
-  u = opened_as again two
+  abbrev told_two : Told
+  told_two = opened_as again two
 
-  granted_again : WereGranted other terms life u others
-  granted_again = subst (λ n. WereGranted other terms n u others) h.plan.life
-      (subst (λ (x : Terms). WereGranted other x again.die.die.life u others) h.plan.terms (h.ran_again.shared.granted other two h.ran_again.stands))
+  granted_again : WereGranted other terms life told_two others
+  granted_again = subst (λ n. WereGranted other terms n told_two others) h.plan.life
+      (subst (λ (x : Terms). WereGranted other x again.die.die.life told_two others) h.plan.terms (h.ran_again.shared.granted other two h.ran_again.stands))
 
   same : (moves more : List Move) → seen_by task moves ≡ seen_by task more
       → answers_to first terms life task one moves ≡ answers_to other terms life task two more
@@ -78,8 +79,8 @@ module _ {N : Type 0} (law : Isolates) (task : ℕ) (opened again : OutcomeParts
 
   pub same_granted : answers_in task calls ≡ answers_in task others
   same_granted =
-      answers_are first terms life task t calls (h.ran.shared.granted first one h.ran.stands)
-      ∙ (same (die_moves calls) (die_moves others) h.seen ∙ sym (answers_are other terms life task u others granted_again))
+      answers_are first terms life task told_one calls (h.ran.shared.granted first one h.ran.stands)
+      ∙ (same (die_moves calls) (die_moves others) h.seen ∙ sym (answers_are other terms life task told_two others granted_again))
 
   then_same : (kind : AskKind) (ops : List Op) → answer_to first terms life (ongoing_after first terms life one (die_moves calls)) kind task ops
       ≡ answer_to other terms life (ongoing_after other terms life two (die_moves others)) kind task ops
@@ -94,8 +95,27 @@ module _ {N : Type 0} (law : Isolates) (task : ℕ) (opened again : OutcomeParts
       ∙ (answers_then other terms life task kind two (die_moves others) 0 ops
       ∙ ap (λ (l : List Answer). l ++ y ∷ []) (sym (same (die_moves calls) (die_moves others) h.seen)))))
 
-  pub same_next : (kind : AskKind) (ops : List Op) → answer_to first terms life (after_calls first terms life t calls).ongoing kind task ops
-      ≡ answer_to other terms life (after_calls other terms life u others).ongoing kind task ops
+  pub same_next : (kind : AskKind) (ops : List Op) → answer_to first terms life (after_calls first terms life told_one calls).ongoing kind task ops
+      ≡ answer_to other terms life (after_calls other terms life told_two others).ongoing kind task ops
   same_next kind ops =
-      ap (λ (x : Ongoing). answer_to first terms life x kind task ops) (ongoing_is first terms life task t calls)
-      ∙ (then_same kind ops ∙ sym (ap (λ (x : Ongoing). answer_to other terms life x kind task ops) (ongoing_is other terms life task u others)))
+      ap (λ (x : Ongoing). answer_to first terms life x kind task ops) (ongoing_is first terms life task told_one calls)
+      ∙ (then_same kind ops ∙ sym (ap (λ (x : Ongoing). answer_to other terms life x kind task ops) (ongoing_is other terms life task told_two others)))
+
+-- Outcomes
+
+abbrev pub Accounts : Type 0
+Accounts = (first : Start) (terms : Terms) (life : ℕ) → AreLongEnough terms life → (t : Told) → IsOngoing first terms life t.ongoing → (task : ℕ)
+    → task < length t.queues → (moves : List OutcomeMove)
+    → AreAccountedFor first task t (taken_by first terms life task t moves) (told_after first terms life t moves)
+
+pub accounted : {N : Type 0} → Accounts → (task : ℕ) (opened : OutcomeParts N) (first : Start) (d : Ongoing) (calls : List PortCall)
+    → RanFrom opened first d calls → task < length opened.queues
+    → AreAccountedFor first task (opened_as opened d) (outcomes_in task calls)
+    (after_calls first opened.die.die.terms opened.die.die.life (opened_as opened d) calls)
+accounted law task opened first d calls ran lt =
+    let terms = opened.die.die.terms in
+    let life = opened.die.die.life in
+    let t : Told = opened_as opened d in
+    subst (λ (os : List TaskOutcome). AreAccountedFor first task t os (after_calls first terms life t calls))
+    (outcomes_are first terms life task t calls (ran.shared.granted first d ran.stands))
+    (law first terms life ran.shared.is_die.long t (ran.stands.runs ran.runs).goes_on task lt (moves_of calls))
