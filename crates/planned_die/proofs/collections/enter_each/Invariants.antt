@@ -4,7 +4,7 @@ use Rattle.die_log.specs.Model.Lives.{Lives}
 use Rattle.planned_log.specs.Laws.{IsKept}
 use Rattle.planned_die.specs.Planned.{IsReservedFor}
 use Rattle.planned_die.specs.PlannedCalls.{with_own}
-use Rattle.planned_die.proofs.collections.enter_rest.Given as goal
+use Rattle.planned_die.proofs.collections.enter_each.Given as goal
 
 abbrev pub invariant-loop-entered : goal.invariant-loop-entered
 invariant-loop-entered g l = record {
