@@ -104,12 +104,16 @@ impl<D: LabelledWearing> Nand for LabelledSpares<D> {
 }
 
 impl<D: LabelledWearing> LabelledNand for LabelledSpares<D> {
-    ghost use Rattle.std.specs.Prelude.{refl};
+    ghost use Rattle.std.specs.Prelude.{refl, ⊤};
     ghost use Rattle.labelled_spares.specs.Labels.{spared_labels};
 
     ghost labels = { spared_labels D.blocks D.next };
 
+    ghost lasts = { λ _. ⊤ };
+
     ghost follows = { λ before after call ended. ended.labels refl };
+
+    ghost keeps = { λ before after call well ended lasts. lasts };
 
     fn number_from(&mut self, serial: u64) {
         self.spares.count_from(serial);
