@@ -8,3 +8,4 @@ pub mod Seen
 pub mod Tabled
 pub mod Tries
 pub mod WearingBlocks
+pub mod WearingPower

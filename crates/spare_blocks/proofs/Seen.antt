@@ -3,7 +3,7 @@ use Rattle.std.proofs.Common.{◌≡◌, ◌≢◌, ◌⊎◌, ℕ, ◌+◌, ◌
 use Rattle.std.specs.Prelude.{Option, Some, None, Contains, slice_get}
 use Rattle.std.proofs.lemmas.Bool.{cases_eq, cases_lt}
 use Rattle.std.proofs.lemmas.List.{get_or_past, get_or_push, get_or_append_left, length_push}
-use Rattle.std.proofs.lemmas.Option.{slice_get_cases, get_or_from_slice_get, none-some, some-inj}
+use Rattle.std.proofs.lemmas.Option.{slice_get_cases, get_or_from_slice_get, none-some}
 use Rattle.slot_types.specs.declared.plans.Shape.{Shape}
 use Rattle.spare_blocks.specs.declared.cells.Cell.{Cell}
 use Rattle.spare_blocks.specs.declared.cells.Mark.{Mark}
@@ -21,17 +21,17 @@ mark_of b k = by_case (slice_get_cases b.cells k).1
     by_case (inr (past, is)) = ap mark_in is ∙ ap (λ (c : Cell). c.mark) (sym (get_or_past b.cells k blank_cell past))
 
 -- up to k or at k
-upto : (k page : ℕ) → page < k + 1 → (page < k) ⊎ (page ≡ k)
-upto k page lt = elim (cases_lt page k) [ inl below ↦ inl below | inr past ↦ inr (omega (arith, lt, past)) ]
+pub up_to : (k page : ℕ) → page < k + 1 → (page < k) ⊎ (page ≡ k)
+up_to k page lt = elim (cases_lt page k) [ inl below ↦ inl below | inr past ↦ inr (omega (arith, lt, past)) ]
 
 pub one_cell : (b : PartBlock) (k : ℕ) (mark : Option Mark) (seen : Option Labelled) → mark_at b k ≡ mark → IsSeen b k seen
     → IsSeen b (k + 1) (with_cell k mark seen)
-one_cell b k None None e is = λ page lt. at page (upto k page lt)
+one_cell b k None None e is = λ page lt. at page (up_to k page lt)
   where
     at : (page : ℕ) → (page < k) ⊎ (page ≡ k) → mark_at b page ≡ None
     at page (inl below) = is page below
     at page (inr same) = ap (mark_at b) same ∙ e
-one_cell b k None (Some s) e is = record { starts = is.starts; last = is.last; none = λ page far lt. at page far (upto k page lt) }
+one_cell b k None (Some s) e is = record { starts = is.starts; last = is.last; none = λ page far lt. at page far (up_to k page lt) }
   where
     at : (page : ℕ) → s.last < page → (page < k) ⊎ (page ≡ k) → mark_at b page ≡ None
     at page far (inl below) = is.none page far below
@@ -56,7 +56,7 @@ pub record AreSeenTo (pages k : ℕ) (blocks : List PartBlock) (bad : List ℕ) 
   pub seen : (x : ℕ) → x < k → (Contains bad x → ⊥) → IsSeen (part_block blocks x) pages (seen_at all x)
 
 pub none_seen : (pages : ℕ) (blocks : List PartBlock) (bad : List ℕ) → AreSeenTo pages 0 blocks bad []
-none_seen pages blocks bad = record { count = refl; listed = λ x is. refl; seen = λ x lt no. absurd (omega (arith, lt)) }
+none_seen pages blocks bad = record { count = refl; listed = λ x is. refl; seen = λ x lt off. absurd (omega (arith, lt)) }
 
 seen_here : (all : List (Option Labelled)) (s : Option Labelled) (k : ℕ) → length all ≡ k → seen_at (all ++ s ∷ []) k ≡ s
 seen_here all s k count = get_or_push all s None k count
@@ -69,7 +69,7 @@ pub one_seen : (pages k : ℕ) (blocks : List PartBlock) (bad : List ℕ) (all :
 one_seen pages k blocks bad all s is none here = record {
   count = length_push all s ∙ ap (λ (n : ℕ). n + 1) is.count;
   listed = λ x listed. listed_at x listed (cases_lt x k);
-  seen = λ x lt no. seen_is x no (upto k x lt);
+  seen = λ x lt off. seen_is x off (up_to k x lt);
 }
   where
     listed_at : (x : ℕ) → Contains bad x → (x < k) ⊎ (k ≤ x) → seen_at (all ++ s ∷ []) x ≡ None
@@ -80,11 +80,11 @@ one_seen pages k blocks bad all s is none here = record {
     ]
 
     seen_is : (x : ℕ) → (Contains bad x → ⊥) → (x < k) ⊎ (x ≡ k) → IsSeen (part_block blocks x) pages (seen_at (all ++ s ∷ []) x)
-    seen_is x no (inl below) =
-        subst (IsSeen (part_block blocks x) pages) (sym (seen_before all s x (omega (arith, below, is.count)))) (is.seen x below no)
-    seen_is x no (inr same) =
+    seen_is x off (inl below) =
+        subst (IsSeen (part_block blocks x) pages) (sym (seen_before all s x (omega (arith, below, is.count)))) (is.seen x below off)
+    seen_is x off (inr same) =
         subst (λ (y : ℕ). IsSeen (part_block blocks y) pages (seen_at (all ++ s ∷ []) y)) (sym same)
-        (subst (IsSeen (part_block blocks k) pages) (sym (seen_here all s k is.count)) (here (λ listed. no (subst (λ (y : ℕ). Contains bad y) (sym same) listed))))
+        (subst (IsSeen (part_block blocks k) pages) (sym (seen_here all s k is.count)) (here (λ listed. off (subst (λ (y : ℕ). Contains bad y) (sym same) listed))))
 
 -- The block that has the most
 
@@ -118,7 +118,7 @@ next_farthest all s k best after is (inl (own, here, shares, far, e)) =
       is = here;
       same = shares;
       last = refl;
-      most = λ y other lt at same. most_at y other at same (upto k y lt) far;
+      most = λ y other lt at same. most_at y other at same (up_to k y lt) far;
     })
   where
     most_at : (y : ℕ) (other : Labelled) → seen_at all y ≡ Some other → SharesFirst other s → (y < k) ⊎ (y ≡ k)
@@ -141,7 +141,7 @@ next_farthest all s k best after is (inr (not, e)) =
       is = is.is;
       same = is.same;
       last = is.last;
-      most = λ y other lt at same. most_at y other at same (upto k y lt);
+      most = λ y other lt at same. most_at y other at same (up_to k y lt);
     })
   where
     most_at : (y : ℕ) (other : Labelled) → seen_at all y ≡ Some other → SharesFirst other s → (y < k) ⊎ (y ≡ k)

@@ -20,7 +20,7 @@ use Rattle.spare_blocks.specs.Tables.{Table, IsTable, IsSpare, use_of, on_part, 
 use Rattle.spare_blocks.specs.Powering.{mark_at, seen_at, HasNoMark, StartsWith, EndsBy, GoesAsFar, HasLabels, IsSeen, AreSeen, IsPoweredPart, SharesFirst, IsHolder, IsOwn, IsCovered, IsGroup, HasNumber, IsNumbered, AreNumbered, IsNeedless, IsPoweredTable}
 use Rattle.spare_blocks.proofs.Numbers.{bad-plan}
 use Rattle.spare_blocks.proofs.Prepared.{not_listed}
-use Rattle.spare_blocks.proofs.Seen.{upto, one_holder, holds_for}
+use Rattle.spare_blocks.proofs.Seen.{up_to, one_holder, holds_for}
 
 -- so many blocks were numbered; those from there on are as they were
 pub record AreNumberedTo (k : ℕ) (bad : List ℕ) (all : List (Option Labelled)) (t : Table) (before after : List PartBlock) : Type 0 where
@@ -49,7 +49,7 @@ none_numbered bad all blocks = record {
     number = λ x has. refl;
     spare = λ x is. absurd (bad-is-spare is);
     known = λ x listed. refl;
-    own = λ x lt no is. absurd (omega (arith, lt));
+    own = λ x lt off is. absurd (omega (arith, lt));
     groups = λ x lt. absurd (omega (arith, lt));
   };
   ahead = λ x le. refl;
@@ -93,7 +93,7 @@ module _ (k : ℕ) (bad : List ℕ) (all : List (Option Labelled)) (t u : Table)
       number = λ x has. number_at x has (cases_eq x k);
       spare = λ x has. spare_at x has (cases_eq x k);
       known = λ x has. known_at x has (cases_eq x k);
-      own = λ x lt no o. own_at x lt no o (cases_eq x k);
+      own = λ x lt off o. own_at x lt off o (cases_eq x k);
       groups = λ x lt. group_at x lt (cases_eq x k);
     };
     ahead = λ x le. block_other x (λ same. absurd (omega (arith, le, same))) ∙ is.ahead x (omega (arith, le));
@@ -115,12 +115,12 @@ module _ (k : ℕ) (bad : List ℕ) (all : List (Option Labelled)) (t u : Table)
       known_at x has (inr other) = use_other x other ∙ is.numbered.known x has
 
       own_at : (x : ℕ) → x < length u.uses → (Contains bad x → ⊥) → IsOwn all x → (x ≡ k) ⊎ (x ≡ k → ⊥) → HasNumber (use_of u x)
-      own_at x lt no o (inl same) =
-          subst HasNumber (sym (use_here x same)) (one.own (free (λ has. no (subst (λ (y : ℕ). Contains bad y) (sym same) has)))
+      own_at x lt off o (inl same) =
+          subst HasNumber (sym (use_here x same)) (one.own (free (λ has. off (subst (λ (y : ℕ). Contains bad y) (sym same) has)))
           (group_own group of (subst (IsOwn all) same o)))
-      own_at x lt no o (inr other) =
+      own_at x lt off o (inr other) =
           subst HasNumber (sym (use_other x other)) (is.numbered.own x
-          (omega (arith, lt, other, is.uses, ap (λ (l : List BlockUse). length l) one.pushed, length_push t.uses one.becomes)) no o)
+          (omega (arith, lt, other, is.uses, ap (λ (l : List BlockUse). length l) one.pushed, length_push t.uses one.becomes)) off o)
 
       group_at : (x : ℕ) → x < length u.uses → (x ≡ k) ⊎ (x ≡ k → ⊥) → ((g : Group) × IsGroup all x g)
       group_at x lt (inl same) = (group, subst (λ (y : ℕ). IsGroup all y group) (sym same) of)
@@ -144,7 +144,7 @@ module _ (part : Shape) (shape : Shape) (bad : List ℕ) (all : List (Option Lab
   has_labels : (x : ℕ) (s : Labelled) → seen_at all x ≡ Some s → HasLabels (part_block before x) part.pages s
   has_labels x s e = subst (IsSeen (part_block before x) part.pages) e (seen.seen x (below e) (is_listed e))
 
-  -- no cell beyond the block's pages has a label
+  -- off cell beyond the block's pages has a label
   none_beyond : (x : ℕ) → x < part.blocks → (page : ℕ) → part.pages ≤ page → mark_at (part_block before x) page ≡ None
   none_beyond x lt page past =
       ap (λ (c : _). c.mark) (get_or_past (part_block before x).cells page blank_cell (omega (arith, past, up.closed x lt)))
@@ -155,7 +155,7 @@ module _ (part : Shape) (shape : Shape) (bad : List ℕ) (all : List (Option Lab
     | inr past ↦ none_beyond x (below e) page past
   ]
 
-  -- where no label comes after a cell, the last one stands there or before
+  -- where off label comes after a cell, the last one stands there or before
   not_after : (x : ℕ) (s : Labelled) → seen_at all x ≡ Some s → (last : ℕ) → EndsBy (part_block before x) last → s.last ≤ last
   not_after x s e last ends = elim (cases_lt last s.last) [
     | inl more ↦ absurd (none-some (has_labels x s e).last.0 (sym (ends s.last more) ∙ (has_labels x s e).last.1))
@@ -186,12 +186,12 @@ module _ (part : Shape) (shape : Shape) (bad : List ℕ) (all : List (Option Lab
   own_holder y s h = record { labelled = h.own; is = h.is; holder = holds_for all s h.own y (sym h.same.0, sym h.same.1) h }
 
   needless_by : (x : ℕ) → x < part.blocks → (HasNumber (use_of t x) → ⊥) → (Contains bad x → ⊥) → (g : Group) → IsGroup all x g → IsNeedless bad t before x
-  needless_by x lt none no groups.Own own = absurd (none (is.own x (omega (arith, lt, whole)) no own))
-  needless_by x lt none no groups.Blank blank = inr (inl (λ page. elim (cases_lt page part.pages) [
-    | inl inside ↦ (subst (IsSeen (part_block before x) part.pages) blank (seen.seen x lt no)) page inside
+  needless_by x lt none off groups.Own own = absurd (none (is.own x (omega (arith, lt, whole)) off own))
+  needless_by x lt none off groups.Blank blank = inr (inl (λ page. elim (cases_lt page part.pages) [
+    | inl inside ↦ (subst (IsSeen (part_block before x) part.pages) blank (seen.seen x lt off)) page inside
     | inr past ↦ none_beyond x lt page past
   ]))
-  needless_by x lt none no groups.Covered c =
+  needless_by x lt none off groups.Covered c =
       let o = own_holder c.holder c.labelled c.holds in
       let number = is.own c.holder (omega (arith, below c.holds.is, whole)) (is_listed c.holds.is) o in
       let listed = sound.listed c.holder number.0 number.1 in
@@ -224,3 +224,13 @@ module _ (part : Shape) (shape : Shape) (bad : List ℕ) (all : List (Option Lab
       within_by : (b : ℕ) → b < length t.blocks → (on_part t b < length t.uses) ⊎ (length t.uses ≤ on_part t b) → on_part t b < part.blocks
       within_by b lt (inl less) = omega (arith, less, whole)
       within_by b lt (inr past) = absurd (bad-plan b (sym (get_or_past t.uses (on_part t b) use_as.Bad past) ∙ sound.numbered b lt))
+
+-- What a list says of a block
+
+pub told_listed : (bad : List ℕ) (k : ℕ) (b : Bool) → b ≡ list_any (λ y. nat_eq y k) bad → Contains bad k → b ≡ true
+told_listed bad k true e listed = refl
+told_listed bad k false e listed = absurd (not_listed bad k (sym e) listed)
+
+pub told_unlisted : (bad : List ℕ) (k : ℕ) (b : Bool) → b ≡ list_any (λ y. nat_eq y k) bad → (Contains bad k → ⊥) → b ≡ false
+told_unlisted bad k true e off = absurd (off (is_in bad k (sym e)))
+told_unlisted bad k false e off = refl

@@ -23,6 +23,10 @@ pub record IsPoweredPart (shape : Shape) (blocks : List PartBlock) : Type 0 wher
   pub quiet : (x : ℕ) → (part_block blocks x).erasing ≡ 0
   pub whole : (x : ℕ) → x < shape.blocks → (part_block blocks x).failed ≡ false
 
+-- no block has more cells than so many pages
+abbrev pub AreWithin : (pages : ℕ) → List PartBlock → Type 0
+AreWithin pages blocks = (x : ℕ) → length (part_block blocks x).cells ≤ pages
+
 -- The labels of a block
 
 abbrev pub mark_in : Option Cell → Option Mark

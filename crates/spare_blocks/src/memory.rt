@@ -5,6 +5,7 @@ ghost use Rattle.slot_types.specs.Refusal.{FailsForMemory};
 ghost use Rattle.spare_blocks.specs.Parts.{FaultsAlone, IsCell, IsFreeCell, part_block, cell_on, blocks_after_program, blocks_after_erase};
 ghost use Rattle.spare_blocks.specs.Wearing.{fresh_wearing, closed_part_block, powered_wearing, torn_cell, with_torn};
 ghost use Rattle.spare_blocks.specs.WearingView.{seen_block};
+ghost use Rattle.spare_blocks.specs.Powering.{IsPoweredPart, AreWithin};
 
 use crate::cells::{Cell, Ended, Erased, Mark};
 use crate::labelled::LabelledWearing;
@@ -217,6 +218,22 @@ impl WearingMemory {
     /// it had fewer than its pages, none is in erase, and none is known to fail. Programs are numbered from 0 on, until the
     /// owner says otherwise. From now on the part's calls fail so.
     pub fn power_comes(&mut self, failures: Failures)
+        ensures comes { self.new ≡ powered_wearing self.old }
+        ensures powered { IsPoweredPart self.new.shape self.new.blocks }
+    {
+        self.is_within();
+        self.close_all(failures);
+    }
+
+    /// Each block has no more cells than its pages. The body does nothing.
+    fn is_within(&self)
+        ensures count { length self.now.blocks ≡ self.now.shape.blocks }
+        ensures within { AreWithin self.now.shape.pages self.now.blocks }
+    {
+        let _ = &self.blocks;
+    }
+
+    fn close_all(&mut self, failures: Failures)
         ensures { self.new ≡ powered_wearing self.old }
     {
         let pages = self.shape.pages;
