@@ -6,7 +6,7 @@ use Rattle.task_outcomes.specs.Told.{told_by}
 use Rattle.task_outcomes.specs.Queues.{Queue, room_for, with_told}
 use Rattle.task_outcomes.proofs.Rooms.{told_rooms}
 use Rattle.task_outcomes.proofs.Slots.{tells}
-use Rattle.task_outcomes.proofs.outcome_die.OutcomeDie.slot.Goals as goal
+use Rattle.task_outcomes.proofs.outcome_die.OutcomeDie.fill_slot.Goals as goal
 
 pub invariant_of-self : goal.invariant_of-self
 invariant_of-self g c =
@@ -22,6 +22,6 @@ returns-in-Ok-clause-told g c =
     let queues = c.self.inside.outcomes in
     rw (← c.self.view_is) (λ first d s.
     c.note.ensures
-    ∙ (ap (λ (p : Planned g.row.N.Denot). with_told queues (told_by p.core.start p.first p.core.log (replies.Slot c.in-Ok.reply))) c.die.ensures
-    ∙ ap (with_told queues) (tells g.N.Nand.ends g.N.Nand.failures g.N.Nand.never_fails c.args.caller first d c.in-Ok.reply
-    c.self.inside.die c.slot.new.self (c.in-Ok.ensures.slot first d s))))
+    ∙ (ap (λ (p : Planned g.row.N.Denot). with_told queues (told_by p.core.start p.first p.core.log (replies.Slot c.fill_slot.new.reply))) c.die.ensures
+    ∙ ap (with_told queues) (tells g.N.Nand.ends g.N.Nand.failures g.N.Nand.never_fails c.args.caller first d c.fill_slot.new.reply
+    c.self.inside.die c.fill_slot.new.self (c.in-Ok.ensures.slot first d s))))
