@@ -55,6 +55,7 @@ h1{font-size:16pt}
 h2{font-size:12.5pt;margin-top:18pt;break-after:avoid}
 pre{font-size:8pt;white-space:pre-wrap}
 table{font-size:8pt}
+.wide td{white-space:normal}
 th,td{padding:2pt 6pt 2pt 0}
 figcaption{font-size:9pt}
 tr,figure{break-inside:avoid}
