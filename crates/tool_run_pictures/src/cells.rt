@@ -10,13 +10,25 @@ use std::io;
 use std::io::Write;
 use tool_slot_times::Units;
 
+/// Below which numbers a cell is wide enough for: six pixels a digit.
+fn numbers_in(cell: u32) -> u32 {
+    if cell < 20 {
+        0
+    } else if cell < 40 {
+        1_000
+    } else {
+        1_000_000
+    }
+}
+
 /// Draws the number of a cell's page or block, where it is wide enough.
 fn put_number(text: &mut Vec<u8>, carried: &Carried, spot: Spot, cell: u32) -> io::Result<()> {
-    if cell < 20 {
+    let of = carried.brief.of;
+    if of >= numbers_in(cell) {
         return Ok(());
     }
     let x = spot.x.saturating_add(u64::from(cell / 2));
-    let (y, of) = (spot.y.saturating_add(12), carried.brief.of);
+    let y = spot.y.saturating_add(12);
     match carried.brief.kind {
         Kind::Write | Kind::Trim | Kind::Erase => {
             writeln!(text, "<text class=\"p w\" x=\"{x}\" y=\"{y}\">{of}</text>")
