@@ -65,20 +65,10 @@ pub(crate) fn task_terms(terms: &Terms, task: usize) -> TaskTerms
     }
 }
 
-fn page(op: &Op) -> u32
-    ensures { result ≡ page_of op.now }
-{
-    match op {
-        Op::Read(page) => *page,
-        Op::Write(page, _) => *page,
-        Op::Trim(page) => *page,
-    }
-}
-
 fn are_on_die(ops: &[Op], logical: u32) -> bool
     ensures { IsTrue result ↔ All (λ op. page_of op < logical) ops.now }
 {
-    ops.iter().all(|op| page(op) < logical)
+    ops.iter().all(|op| op.page() < logical)
 }
 
 /// The first condition that doesn't hold of a job that comes in slot `now`.

@@ -37,9 +37,7 @@ pub(crate) struct Counted {
 fn writes(ops: &[Op]) -> usize
     ensures { result ≡ count_by is_write ops.now }
 {
-    ops.iter()
-        .filter(|op| matches!(op, Op::Write(_, _)))
-        .count()
+    ops.iter().filter(|op| op.is_write()).count()
 }
 
 /// How many slots an event carries out.

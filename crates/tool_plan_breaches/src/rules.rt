@@ -63,31 +63,18 @@ pub fn task_times(times: &Times, task: u32) -> TaskTimes
     }
 }
 
-/// The page of an operation.
-fn page(op: &Op) -> u32
-    ensures { result ≡ page_of op.now }
-{
-    match op {
-        Op::Read(page) => *page,
-        Op::Write(page, _) => *page,
-        Op::Trim(page) => *page,
-    }
-}
-
 /// Whether all operations are on pages of a die.
 fn are_on_die(ops: &[Op], logical: u32) -> bool
     ensures { IsTrue result ↔ All (λ op. page_of op < logical) ops.now }
 {
-    ops.iter().all(|op| page(op) < logical)
+    ops.iter().all(|op| op.page() < logical)
 }
 
 /// How many operations write.
 pub fn writes(ops: &[Op]) -> usize
     ensures { result ≡ count_by is_write ops.now }
 {
-    ops.iter()
-        .filter(|op| matches!(op, Op::Write(_, _)))
-        .count()
+    ops.iter().filter(|op| op.is_write()).count()
 }
 
 /// Whether a condition on a job holds of one.
