@@ -105,6 +105,10 @@ class Case(unittest.TestCase):
         writer.start()
         self.addCleanup(writer.join)
 
+    def test_help_that_is_not_taken_is_reported_with_the_cause(self):
+        with open("/dev/full", "wb") as full:
+            self.refused("--help", "error 22 WriteFault", "standard output: No space left on device (os error 28)", stdout=full)
+
     def no_part(self):
         self.assertEqual([path.name for path in self.at.rglob("*.part")], [])
 
@@ -300,6 +304,24 @@ class Planned(Case):
         """The fields of a checkpoint's records of a kind, without the kind."""
         lines = (self.at / name).read_text().splitlines()
         return [line.split(",")[1:] for line in lines if line.startswith(f"{kind},")]
+
+    def test_a_fault_of_a_datasheet_is_reported_with_its_file_and_line(self):
+        sheet = (TOP / "crates/tool_plan_fit/datasheets/recorder.toml").read_text()
+        (self.at / "part.toml").write_text(sheet.replace("\nlogical", "\nLogical"))
+        (self.at / "few.toml").write_text(sheet.replace("reads = 8", "reads = 65"))
+        for words in ("fit part.toml", "design part.toml -o page.html"):
+            self.refused(words, "error: line 9, column 1: the datasheet has the key `Logical`, which no datasheet has",
+                         "part.toml, line 9: man maulgreen-texts has the form")
+        self.refused("fit few.toml", "error: line 23, column 1: [[task]] 3 needs `reads`, a whole number from 0 to 64",
+                     "few.toml, line 23: man maulgreen-texts has the form")
+
+    def test_a_checkpoint_of_other_dies_and_a_trace_of_nothing_are_named(self):
+        self.assertEqual(self.run_words("fill planned.toml --to two.ck -o said")[0], 0)
+        self.refused("run one_die.toml one_die.csv --slots 5 --from two.ck", "error: the checkpoint has 2 dies, and the plan has 1",
+                     "two.ck: it was saved of the dies of another plan")
+        (self.at / "none.log").write_text("fio version 3 iolog\n")
+        self.refused("import none.log --slot-us 100", "error: the trace has no read, write or trim",
+                     "none.log: flashplan import --help has the form")
 
     def test_full_dies_are_left_after_lives(self):
         status, out, err = self.run_words("fill planned.toml --to full.ck --lives 2")

@@ -258,9 +258,10 @@ class Reading(unittest.TestCase):
 
     def test_names_of_wrong_bodies(self):
         (self.top / "crates/high/must-fail/gated.edit").write_text("file: src/calls.rt\nold: body()\nnew: Ok(3)\n")
+        (self.top / "crates/high/must-fail/by_test.md").write_text("# Tests\n\n## answers_late\n\nIt answers late.\n\nfails: test_high late\n")
         before, docs.crates = docs.crates, lambda: [("high", [], [])]
         try:
-            self.assertEqual(docs.wrong_bodies(), {"high": (["gated"], ["answers_zero", "answers_one"])})
+            self.assertEqual(docs.wrong_bodies(), {"high": (["gated"], ["answers_zero", "answers_one"], ["answers_late"])})
         finally:
             docs.crates = before
 
@@ -365,9 +366,15 @@ class Releases(unittest.TestCase):
     def test_a_page_as_a_manual_page(self):
         page = "# Rules\n\n## Of *lives*\n\n- A **wholly\n  free** block; w * q <= a * p, `**kept**`, *said*:\n  1. one\n  2. two\n\n```\n**as it is**\n```\n"
         self.assertEqual(manual.page_text(page, "rules", "what it does"),
-                         ".TH RULES 7\n.SH NAME\nrules \\- what it does\n.P\n.SH OF \\fILIVES\\fR\n.P\n.IP \\(bu 2\nA \\fBwholly\n"
+                         "'\\\" t\n.TH RULES 7\n.SH NAME\nrules \\- what it does\n.SH OF \\fILIVES\\fR\n.P\n.IP \\(bu 2\nA \\fBwholly\n"
                          "free\\fR block; w * q <= a * p, **kept**, \\fIsaid\\fR:\n.IP 1. 5\none\n.IP 2. 5\ntwo\n.P\n.P\n.nf\n"
                          "**as it is**\n.fi\n")
+
+    def test_a_table_of_a_manual_page(self):
+        page = "# Rules\n\nWhat a die does.\n\n| word | it is |\n|---|---|\n| slot, `now` | a time |\n| job | |\n\nThe end.\n"
+        self.assertEqual(manual.page_text(page, "rules", "what it does"),
+                         "'\\\" t\n.TH RULES 7\n.SH NAME\nrules \\- what it does\n.SH DESCRIPTION\nWhat a die does.\n.P\n.P\n.na\n.TS\n"
+                         "lb lxb\nl lx.\nword\tit is\nslot, now\tT{\na time\nT}\njob\tT{\n\\&\nT}\n.TE\n.ad\n.P\nThe end.\n")
 
     def test_crates_that_changed(self):
         before, nightly.crates = nightly.crates, lambda: [("low", [], []), ("mid", [], []), ("high", [], [])]

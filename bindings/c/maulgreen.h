@@ -190,6 +190,8 @@ void mg_free(mg_die *die);
 
 struct mg_name { uint8_t bytes[16]; }; /* sixteen bytes 0xFF: a page that was never written, or was trimmed since */
 
+/* A trimmed page reads blank. A loss of power may undo that: after a mount such a page may have an earlier write again, unless the
+ * driver keeps notes of trims (MG_CALL_TRIM). */
 enum { MG_READ = 0, MG_WRITE = 1, MG_TRIM = 2 };
 struct mg_op {
     uint32_t kind;          /* 0 to 2 */

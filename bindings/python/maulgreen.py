@@ -13,7 +13,7 @@ import threading
 from typing import Callable, Iterable, List, NamedTuple, Optional, Sequence, Tuple, Union
 
 BLANK = b"\xff" * 16  # the name of a page that was never written, or was trimmed since
-READ, WRITE, TRIM = 0, 1, 2
+READ, WRITE, TRIM = 0, 1, 2  # a trimmed page reads blank; after a loss of power it may have an earlier write again, without notes of trims
 NOTHING, READ_CELL, PROGRAM_CELL, ERASE_SLOT, NOTE_TRIM = 0, 1, 2, 3, 4
 IDLE, DID_READ, DID_WRITE, DID_TRIM, COPY_READ, COPY_PROGRAM, ERASE = range(7)
 WAITING, DONE, WAIVED = 0, 1, 2

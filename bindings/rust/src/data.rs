@@ -86,6 +86,8 @@ pub struct Load {
 pub enum Op {
     Read(u32),
     Write(u32, Name),
+    /// The page reads blank from then on. After a loss of power it may have an earlier write again, unless the driver keeps notes
+    /// of trims.
     Trim(u32),
 }
 

@@ -19,7 +19,8 @@ use Rattle.labelled_die.specs.Beside.{Beside, beside_of}
 use Rattle.saving_nand.specs.Saving.{closed_labels, numbered}
 use Rattle.saving_nand.specs.declared.saved.Saved.{Saved}
 use Rattle.device_mount.proofs.Ended.{born}
-use Rattle.clean_shutdown.specs.Starting.{GoesOn, GoesOnFrom, RefusesStart, beside_one, shown_of}
+use Rattle.clean_shutdown.specs.Starting.{BeginsByMount, GoesOn, GoesOnFrom, RefusesStart, beside_one, shown_of}
+use Rattle.clean_shutdown.specs.declared.refusals.NotStarted.{NotStarted}
 use Rattle.clean_shutdown.specs.declared.refusals.StartRefusal.{StartRefusal}
 use Rattle.clean_shutdown.specs.declared.refusals.StartRefusal.TheVariants as starts
 
@@ -55,19 +56,35 @@ module _ {N : Type 0} (saved_of : N → Option Saved) (labels_of : N → Labels)
       (subst (λ (l : Labels). GoesOn saved_of labels_of plan blocks l found core) (lb ∙ ap (λ (o : Option Saved). numbered o labels) is)
       (subst (λ (b : List Block). GoesOn saved_of labels_of plan b next found core) bl g))
 
+  -- and of a die that was mounted
+  pub begins_again : (core : Core (Beside N)) (shape then : Shape) (labels next : Shown) (had : Option Saved) (found : Saved)
+      → then ≡ shape → next ≡ labels → Some found ≡ had
+      → ((GoesOnFrom plan then (Some found) → ⊥) → BeginsByMount saved_of labels_of plan (closed_labels then.pages next) core)
+      → (GoesOnFrom plan shape had → ⊥) → BeginsByMount saved_of labels_of plan (shown_of shape.pages had labels) core
+  begins_again core shape then labels next had found sh ls is begins other =
+      let b : BeginsByMount saved_of labels_of plan (closed_labels then.pages next) core =
+      begins (λ goes. other (subst (GoesOnFrom plan shape) is (subst (λ (x : Shape). GoesOnFrom plan x (Some found)) sh goes))) in
+      subst (λ (o : Option Saved). BeginsByMount saved_of labels_of plan (shown_of shape.pages o labels) core) is
+      (subst (λ (l : Shown). BeginsByMount saved_of labels_of plan (closed_labels shape.pages l) core) ls
+      (subst (λ (x : Shape). BeginsByMount saved_of labels_of plan (closed_labels x.pages next) core) sh b))
+
 -- Refusals
 
 -- a mount of a part of which each block counts as closed
-pub refuses_closed : (plan : DiePlan) (shape then : Shape) (s : Saved) (shown seen : Shown) (after : ℕ) (why : StartRefusal)
-    → then ≡ shape → seen ≡ shown → (GoesOnFrom plan shape (Some s) → ⊥) → (why ≡ starts.NoMemory → ⊥)
-    → RefusesStart plan then None seen 0 after why → RefusesStart plan shape (Some s) shown 0 after why
-refuses_closed plan shape then s shown seen after starts.NotTaken sh sn none known h = h
-refuses_closed plan shape then s shown seen after starts.NoMemory sh sn none known h = absurd (known refl)
-refuses_closed plan shape then s shown seen after (starts.NotMounted why) sh sn none known h =
-    let moved : RefusesStart plan shape None shown 0 after (starts.NotMounted why) =
-    subst (λ (x : Shape). RefusesStart plan x None shown 0 after (starts.NotMounted why)) sh
-    (subst (λ (x : Shown). RefusesStart plan then None x 0 after (starts.NotMounted why)) sn h) in
-    (none, moved.1)
+pub closed_so : {A N : Type 0} (plan : DiePlan) (shape then : Shape) (shown seen : Shown) (failures : N → ℕ) (r : Result A (NotStarted N))
+    → then ≡ shape → seen ≡ shown → IfErr r (λ no. RefusesStart plan then None seen 0 (failures no.part) no.refusal)
+    → IfErr r (λ no. RefusesStart plan shape None shown 0 (failures no.part) no.refusal)
+closed_so plan shape then shown seen failures r sh sn h =
+    subst (λ (x : Shape). IfErr r (λ no. RefusesStart plan x None shown 0 (failures no.part) no.refusal)) sh
+    (subst (λ (x : Shown). IfErr r (λ no. RefusesStart plan then None x 0 (failures no.part) no.refusal)) sn h)
+
+-- a mount, where what was saved doesn't fit
+pub refuses_other : (plan : DiePlan) (shape : Shape) (s : Saved) (shown : Shown) (after : ℕ) (why : StartRefusal)
+    → (GoesOnFrom plan shape (Some s) → ⊥) → (why ≡ starts.NoMemory → ⊥)
+    → RefusesStart plan shape None shown 0 after why → RefusesStart plan shape (Some s) shown 0 after why
+refuses_other plan shape s shown after starts.NotTaken none known h = h
+refuses_other plan shape s shown after starts.NoMemory none known h = absurd (known refl)
+refuses_other plan shape s shown after (starts.NotMounted why) none known h = (none, h.1)
 
 pub refuses_again : (plan : DiePlan) (shape then : Shape) (had : Option Saved) (found : Saved) (labels next : Shown) (before after : ℕ) (why : StartRefusal)
     → then ≡ shape → Some found ≡ had → next ≡ labels → before ≡ 0

@@ -40,13 +40,10 @@ pub record GoesOn {N : Type 0} (saved_of : N → Option Saved) (labels_of : N �
   pub start : core.start ≡ resumed_start plan saved.checkpoint (without_aside plan.shape.blocks saved.aside free_block blocks)
   pub labels_are : labels_beside labels_of core.device ≡ die_labels plan.shape.blocks saved.aside labels
 
--- The die begins the life that a mount begins by these labels, which some part shows on which nothing is saved. That it is
--- the die's part isn't said.
+-- The die begins the life that a mount begins by these labels. Nothing is saved on its part any more.
 pub record BeginsByMount {N : Type 0} (saved_of : N → Option Saved) (labels_of : N → Labels) (plan : DiePlan) (shown : Shown) (core : Core (Beside N))
     : Type 0 where
-  pub part : N
-  pub void : saved_of part ≡ None
-  pub shows : (labels_of part).blocks ≡ shown
+  pub void : saved_of core.device.part ≡ None
   pub life : (pages : List PageData) → StandsOnPart plan pages all_count shown → BeginsLife labels_of plan shown pages core
 
 -- what a mount is shown: where something was saved each block counts as closed then

@@ -70,6 +70,7 @@ fn mounted<N: SavingNand>(
     ensures refused { IfErr result (λ no. RefusesStart plan (N.shape_of part) None
         (N.labels part).blocks 0 (N.failures no.part) no.refusal) }
     ensures known { IfErr result (λ no. ¬ (no.refusal ≡ StartRefusal.NoMemory)) }
+    ensures still { IfErr result (λ no. N.saved no.part ≡ None) }
 {
     match mount(alloc, plan, part) {
         Ok(core) => Ok(core),
@@ -78,6 +79,29 @@ fn mounted<N: SavingNand>(
             refusal: StartRefusal::NotMounted { why: no.refusal },
         }),
     }
+}
+
+/// Mounts a part on which nothing is saved any more, and each block of which counts as closed from now on.
+#[tactic(auto, using(crate::proofs::Starts::closed_so))]
+fn mounted_closed<N: SavingNand>(
+    alloc: Global,
+    plan: DiePlan,
+    part: N,
+) -> Result<DieCore<BesideNand<N>>, NotStarted<N>>
+    requires well { N.failures part ≡ 0 }
+    requires void { N.saved part ≡ None }
+    ensures begun { IfOk result (HasBegun plan) }
+    ensures mounted { IfOk result (BeginsByMount N.saved N.labels plan
+        (closed_labels (N.shape_of part).pages (N.labels part).blocks)) }
+    ensures refused { IfErr result (λ no. RefusesStart plan (N.shape_of part) None
+        (closed_labels (N.shape_of part).pages (N.labels part).blocks) 0 (N.failures no.part)
+        no.refusal) }
+    ensures known { IfErr result (λ no. ¬ (no.refusal ≡ StartRefusal.NoMemory)) }
+    ensures still { IfErr result (λ no. N.saved no.part ≡ None) }
+{
+    let mut closed = part;
+    closed.count_as_closed();
+    mounted(alloc, plan, closed)
 }
 
 /// The die that goes on from what was saved.
@@ -140,6 +164,7 @@ fn started<N: SavingNand>(
     ensures again { IfErr result (λ no. no.refusal ≡ StartRefusal.NoMemory
         → IsPoweredUp (N.shape_of no.part) (N.blocks no.part) (N.labels no.part)
         (N.failures no.part)) }
+    ensures still { IfErr result (λ no. N.saved no.part ≡ None) }
 {
     let shape = part.shape();
     let beside = Shape {
@@ -149,18 +174,14 @@ fn started<N: SavingNand>(
     };
     match fits(alloc, &plan, beside, saved) {
         Ok(true) => resumed(alloc, plan, part, saved),
-        Ok(false) => {
-            let mut part = part;
-            part.count_as_closed();
-            mounted(alloc, plan, part)
-        }
+        Ok(false) => mounted_closed(alloc, plan, part),
         Err(_) => Err(no_memory(part)),
     }
 }
 
 /// Starts a die on a part whose power has come. What a clean shutdown saved is taken, and so it is void before anything
 /// else is done. Where it fits the plan the die goes on from it, and no cell is looked at; else the part is mounted
-/// (`device_mount::mount`).
+/// (`device_mount::mount`). However the die begins, nothing is saved on its part then.
 ///
 /// That the part was powered up where nothing is saved is the caller's to know, as at a mount; where something is, the
 /// device says that its cells are as they were left.
@@ -189,6 +210,7 @@ pub fn start_up<N: SavingNand>(
     ensures again { IfErr result (λ no. no.refusal ≡ StartRefusal.NoMemory
         → IsPoweredUp (N.shape_of no.part) (N.blocks no.part) (N.labels no.part)
         (N.failures no.part)) }
+    ensures still { IfErr result (λ no. N.saved no.part ≡ None) }
 {
     let mut part = part;
     match part.take_saved() {

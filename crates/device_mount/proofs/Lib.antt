@@ -5,3 +5,4 @@ pub mod Starting
 pub mod Again
 pub mod Keeping
 pub mod Refusing
+pub mod Blank

@@ -1,5 +1,5 @@
 -- A part that may be mounted by a plan, and what a mount of it keeps as it erases its first block.
-use Rattle.std.specs.Prelude.{◌≡◌, ℕ, ◌+◌, ◌<◌, List, Some}
+use Rattle.std.specs.Prelude.{◌≡◌, ℕ, ◌+◌, ◌<◌, List, Some, None, length}
 use Rattle.slot_types.specs.declared.pages.Place.{Place}
 use Rattle.slot_types.specs.declared.plans.DiePlan.{DiePlan}
 use Rattle.slot_types.specs.declared.plans.Shape.{Shape}
@@ -30,6 +30,11 @@ pub record IsPartOf {N : Type 0} (shape_of : N → Shape) (blocks : N → List B
   pub powered : IsPoweredUp (shape_of part) (blocks part) (labels part) (failures part)
   pub of_plan : IsPlanOf plan (shape_of part)
   pub fit : AreOfPart plan (labels part).blocks
+
+-- no cell of a part of this plan shows a label, as on one on which nothing was ever programmed
+pub record ShowsNothing (plan : DiePlan) (seen : Shown) : Type 0 where
+  pub blocks : length seen ≡ plan.shape.blocks + 1
+  pub none : (place : Place) → label_at seen place ≡ None
 
 -- the cell has a label
 abbrev pub HasLabel : Shown → Place → Type 0

@@ -57,6 +57,7 @@ fn mount_of<N: LabelledNand>(
     ensures of_plan { OnOk result (IsPlanOf plan (N.shape_of part.old)) }
     ensures same { OnOk result (IsSamePart N.shape_of N.failures N.blocks N.labels part.old
         part.new) }
+    ensures lasts { N.lasts part.old → N.lasts part.new }
     ensures refused { IfErr result (RefusesMount plan (N.shape_of part.old)
         (N.labels part.old).blocks (N.failures part.new)) }
 {
@@ -94,6 +95,8 @@ pub fn begin<N: LabelledNand>(
     ensures of_plan { OnOk result (IsPlanOf plan (N.shape_of part)) }
     ensures well { IfOk result (λ mount. mount.failed ≡ false) }
     ensures calls { IfOk result (λ mount. calls_left mount.mount ≡ most_calls plan) }
+    ensures lasts { IfOk result (λ mount. N.lasts part → N.lasts mount.part) }
+    ensures lasts_still { IfErr result (λ no. N.lasts part → N.lasts no.part) }
     ensures refused { IfErr result (λ no. RefusesMount plan (N.shape_of part)
         (N.labels part).blocks (N.failures no.part) no.refusal) }
 {

@@ -72,6 +72,8 @@ pub fn finish<N: LabelledNand>(
         → GoesBySeen N.labels pages seen mount → GoesBySeen N.labels pages seen again) }
     ensures same { IfErr result (λ again. again.mount ≡ mount.mount) }
     ensures still { IfErr result (λ again. again.failed ≡ false) }
+    ensures lasts { IfOk result (λ core. N.lasts mount.part → N.lasts core.device.part) }
+    ensures lasts_still { IfErr result (λ again. N.lasts mount.part → N.lasts again.part) }
 {
     let parts = mount.into_parts();
     match parts.mount.next() {
@@ -102,6 +104,8 @@ fn end_of<N: LabelledNand>(
         → GoesBySeen N.labels pages seen again) }
     ensures same { IfErr result (λ again. again.mount ≡ parts.mount) }
     ensures still { IfErr result (λ again. again.failed ≡ false) }
+    ensures lasts { IfOk result (λ core. N.lasts parts.part → N.lasts core.device.part) }
+    ensures lasts_still { IfErr result (λ again. N.lasts parts.part → N.lasts again.part) }
 {
     let Ok(plan) = plan_copy(alloc, parts.mount.plan()) else {
         return Err(PartMount::from_parts(parts));
@@ -145,6 +149,8 @@ fn resumed<N: LabelledNand>(
         → GoesBySeen N.labels pages seen again) }
     ensures same { IfErr result (λ again. again.mount ≡ parts.mount) }
     ensures still { IfErr result (λ again. again.failed ≡ false) }
+    ensures lasts { IfOk result (λ core. N.lasts parts.part → N.lasts core.device.part) }
+    ensures lasts_still { IfErr result (λ again. N.lasts parts.part → N.lasts again.part) }
 {
     let mut part = parts.part;
     part.number_from(end.next);

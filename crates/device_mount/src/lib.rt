@@ -11,6 +11,8 @@ mod undoing;
 
 pub use beginning::begin;
 pub use ending::finish;
-pub use laws::a_part_that_stands_has_a_block_to_erase;
+pub use laws::{
+    a_blank_part_stands, a_mounted_life_may_be_the_first, a_part_that_stands_has_a_block_to_erase,
+};
 pub use mounts::mount;
 pub use refusals::{MountRefusal, NotMounted};

@@ -21,7 +21,11 @@ use std::alloc::Global;
 /// It is [`begin`], all steps of the mount, which are at most `most_calls` calls of the part, and [`finish`].
 ///
 /// Where a mount could go on from what the cells show (`StandsOnPart`), as it can wherever the power went, the die's
-/// life begins with just the pages that are found.
+/// life begins with just the pages that are found. A page that was trimmed since its last write, and since the last loss
+/// of power, may be found again, with some earlier write, since a trim leaves no label.
+///
+/// What lasts of the part (`lasts` of [`LabelledNand`]) does so through the mount: of the die's part, and of one that is
+/// handed back.
 ///
 /// Refused with the first cause that stands, as [`MountRefusal`] lists them; the part is handed back then, and the plan is
 /// given up. Once a slot of an erase was done on the part, it has to be powered up anew before the next mount.
@@ -38,6 +42,8 @@ pub fn mount<N: LabelledNand>(
         → BeginsLife N.labels plan (N.labels part).blocks pages core) }
     ensures refused { IfErr result (λ no. RefusesMount plan (N.shape_of part)
         (N.labels part).blocks (N.failures no.part) no.refusal) }
+    ensures lasts { IfOk result (λ core. N.lasts part → N.lasts core.device.part) }
+    ensures lasts_still { IfErr result (λ no. N.lasts part → N.lasts no.part) }
 {
     let mut mount = match begin(alloc, plan, part) {
         Ok(mount) => mount,

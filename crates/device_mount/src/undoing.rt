@@ -37,6 +37,7 @@ fn look_again<N: LabelledNand>(
         ≡ told_cells (labels_in (without_block without (N.labels part.old).blocks) block)) }
     ensures same { OnOk result (IsSamePart N.shape_of N.failures N.blocks N.labels part.old
         part.new) }
+    ensures lasts { N.lasts part.old → N.lasts part.new }
     ensures room { vec_capacity cells.new ≡ vec_capacity cells.old }
     ensures failed { OnErr result (N.failures part.new ≡ 1) }
 {
@@ -65,6 +66,7 @@ fn tell_again<N: LabelledNand>(
         (take (block + 1) (without_block without (N.labels part.old).blocks))) }
     ensures same { OnOk result (IsSamePart N.shape_of N.failures N.blocks N.labels part.old
         part.new) }
+    ensures lasts { N.lasts part.old → N.lasts part.new }
     ensures room { vec_capacity cells.new ≡ vec_capacity cells.old }
     ensures failed { OnErr result (N.failures part.new ≡ 1) }
 {
@@ -92,6 +94,7 @@ fn scan_without<N: LabelledNand>(
     ensures whole { IfOk result (λ scan. scan.told ≡ scan.shape.blocks) }
     ensures same { OnOk result (IsSamePart N.shape_of N.failures N.blocks N.labels part.old
         part.new) }
+    ensures lasts { N.lasts part.old → N.lasts part.new }
     ensures refused { IfErr result (RefusesMount plan.now (N.shape_of part.old)
         (N.labels part.old).blocks (N.failures part.new)) }
 {
@@ -123,6 +126,7 @@ fn read_labelled<N: LabelledNand>(
     ensures bytes { IfOk result (λ bytes. bytes ≡ bytes_at (N.labels part.old).blocks (Some place)) }
     ensures same { OnOk result (IsSamePart N.shape_of N.failures N.blocks N.labels part.old
         part.new) }
+    ensures lasts { N.lasts part.old → N.lasts part.new }
     ensures failed { OnErr result (N.failures part.new ≡ 1) }
 {
     match part.read(place) {
@@ -152,6 +156,7 @@ fn has_same_bytes<N: LabelledNand>(
         ≡ bytes_at (N.labels part.old).blocks other)) }
     ensures same { OnOk result (IsSamePart N.shape_of N.failures N.blocks N.labels part.old
         part.new) }
+    ensures lasts { N.lasts part.old → N.lasts part.new }
     ensures failed { OnErr result (N.failures part.new ≡ 1) }
 {
     let had = match read_labelled(part, plan, one) {
@@ -187,6 +192,7 @@ fn keeps_page<N: LabelledNand>(
         → ¬ KeepsPage (N.labels part.old).blocks without page) }
     ensures same { OnOk result (IsSamePart N.shape_of N.failures N.blocks N.labels part.old
         part.new) }
+    ensures lasts { N.lasts part.old → N.lasts part.new }
     ensures failed { OnErr result (N.failures part.new ≡ 1) }
 {
     match before.place(page) {
@@ -222,6 +228,7 @@ fn keeps_pages<N: LabelledNand>(
         → LosesPage plan.now (N.labels part.old).blocks without) }
     ensures same { OnOk result (IsSamePart N.shape_of N.failures N.blocks N.labels part.old
         part.new) }
+    ensures lasts { N.lasts part.old → N.lasts part.new }
     ensures failed { OnErr result (N.failures part.new ≡ 1) }
 {
     for page in 0..plan.logical {
@@ -281,6 +288,7 @@ pub(crate) fn undo<N: LabelledNand>(
         → KeepsPages plan (N.labels part.old).blocks block) }
     ensures same { OnOk result (IsSamePart N.shape_of N.failures N.blocks N.labels part.old
         part.new) }
+    ensures lasts { N.lasts part.old → N.lasts part.new }
     ensures refused { IfErr result (RefusesMount plan (N.shape_of part.old)
         (N.labels part.old).blocks (N.failures part.new)) }
 {

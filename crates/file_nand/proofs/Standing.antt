@@ -1,5 +1,5 @@
 -- What a device in a file is after a call that touches none of its cells, and once its blocks count as closed.
-use Rattle.std.proofs.Common.{◌≡◌, ℕ, ◌-◌, List, [], ◌∷◌, ◌++◌, length, map, replicate, zero, suc, Option, Some, None, refl, ap, sym, ◌∙◌, subst, arith}
+use Rattle.std.proofs.Common.{◌≡◌, ℕ, ◌-◌, List, [], ◌∷◌, ◌++◌, length, map, replicate, zero, suc, Option, None, refl, ap, sym, ◌∙◌, subst, arith}
 use Rattle.std.proofs.lemmas.List.{length-map, map-append}
 use Rattle.slot_types.specs.declared.plans.Shape.{Shape}
 use Rattle.flash_die.specs.Flash.{Block, free_block}
@@ -7,7 +7,6 @@ use Rattle.flash_volume.specs.Checkpoints.{IsAsLeft}
 use Rattle.power_loss.specs.Aside.{without_aside}
 use Rattle.power_loss.specs.Labels.{Label}
 use Rattle.labelled_nand.specs.Memory.{Marked, MarkedCells, block_labels, cell_label, closed_cells, device_block, device_blocks, device_labels, torn_cell}
-use Rattle.labelled_nand.specs.declared.memory.MarkedCell.{MarkedCell}
 use Rattle.saving_nand.specs.Saving.{IsLeftFor, closed_labels}
 use Rattle.saving_nand.specs.declared.saved.Saved.{Saved}
 use Rattle.file_nand.specs.Filed.{IsSoundFiled}

@@ -206,12 +206,17 @@ impl<S: CellStore> Nand for FileNand<S> {
 }
 
 impl<S: CellStore> LabelledNand for FileNand<S> {
-    ghost use Rattle.std.specs.Prelude.{refl};
+    ghost use Rattle.std.specs.Prelude.{◌≡◌, None, refl};
     ghost use Rattle.file_nand.specs.Filed.{filed_labels};
+    ghost use Rattle.saving_nand.specs.Saving.{void_stays};
 
     ghost labels = { filed_labels };
 
+    ghost lasts = { λ d. d.saved ≡ None };
+
     ghost follows = { λ before after call ended. (ended.marked refl).labels };
+
+    ghost keeps = { λ before after call well ended. void_stays call before.saved after.saved ended.saved };
 
     fn number_from(&mut self, serial: u64) {
         self.mirror.number_from(serial);
@@ -230,6 +235,8 @@ impl<S: CellStore> SavingNand for FileNand<S> {
     ghost saved = { λ d. d.saved };
 
     ghost voids = { λ before after call well ended. ended.saved };
+
+    ghost stays_void = { λ device. (λ void. void, λ void. void) };
 
     fn next_serial(&self) -> u64 {
         self.next

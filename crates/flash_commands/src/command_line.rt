@@ -6,6 +6,7 @@ ghost use Rattle.clap.specs.declared.error.kind.ErrorKind.{ErrorKind};
 ghost use Rattle.flash_commands.specs.Faults.{IsUnreadable};
 
 use crate::faults::{Fault, end};
+use crate::hints::report_unwritten;
 use slot_types::Refusal;
 use std::alloc::Global;
 use std::env::Env;
@@ -55,6 +56,10 @@ pub fn show<R: Print + Eprint, E: Write>(rt: &R, err: &mut E, error: clap::Error
     }
     match shown {
         Ok(()) => 0,
-        Err(_) => end(err, Err(Fault::Refused(Refusal::WriteFault))),
+        Err(fault) => {
+            let status = end(err, Err(Fault::Refused(Refusal::WriteFault)));
+            report_unwritten(err, Some(&fault));
+            status
+        }
     }
 }

@@ -57,6 +57,11 @@ const SHEET_BYTES: u64 = 1_048_576;
 /// Where the form of a text stands.
 pub(crate) const FORM: &str = "man maulgreen-texts has the form";
 
+const TRACE_FORM: &str = "flashplan import --help has the form";
+
+/// What a checkpoint of another number of dies is.
+const OTHER_PLAN: &str = "it was saved of the dies of another plan";
+
 /// The line in which a record of a file begins; none where the file isn't there any more as it was read, as a pipe.
 pub(crate) fn line_in<R: Files>(files: &R, name: &str, record: u64) -> Option<u64> {
     let path = path_of(name);
@@ -151,11 +156,19 @@ fn report_plan<W: Write>(err: &mut W, plan: Option<&str>) {
     }
 }
 
-/// Tells of a datasheet what says its form. A writer that fails is passed over.
-fn report_sheet<W: Write>(err: &mut W, sheet: Option<&str>) {
-    if let Some(sheet) = sheet {
+/// Tells of a file what to do. A writer that fails is passed over.
+fn report_whole<W: Write>(err: &mut W, name: Option<&str>, remedy: &str) {
+    if let Some(name) = name {
+        let shown = shown_name(name);
+        let _ = writeln!(err, "{shown}: {remedy}");
+    }
+}
+
+/// Tells in which line of a datasheet a fault lies, and what says its form. A writer that fails is passed over.
+fn report_sheet<W: Write>(err: &mut W, sheet: Option<&str>, line: &str) {
+    if let (Some(sheet), Some(number)) = (sheet, line.strip_suffix(',')) {
         let shown = shown_name(sheet);
-        let _ = writeln!(err, "{shown}: {FORM}");
+        let _ = writeln!(err, "{shown}, line {number}: {FORM}");
     }
 }
 
@@ -188,10 +201,7 @@ pub fn report_unwritten<W: Write>(err: &mut W, error: Option<&io::Error>) {
 fn report_trace<W: Write>(err: &mut W, trace: Option<&str>, line: &str) {
     if let (Some(trace), Some(number)) = (trace, line.strip_suffix(':')) {
         let shown = shown_name(trace);
-        let _ = writeln!(
-            err,
-            "{shown}, line {number}: flashplan import --help has the form"
-        );
+        let _ = writeln!(err, "{shown}, line {number}: {TRACE_FORM}");
     }
 }
 
@@ -235,10 +245,19 @@ fn report_line<R: Files, W: Write>(
             let number = record.strip_suffix(':').unwrap_or(record);
             report_record(files, err, texts.checkpoint, number, FORM);
         }
-        ["error:", "the", "datasheet", ..] | ["error:", "[[task]]", ..] => {
-            report_sheet(err, texts.sheet);
+        ["error:", "the", "checkpoint", "has", ..] => {
+            report_whole(err, texts.checkpoint, OTHER_PLAN);
         }
-        ["error:", "line", line, ..] => report_trace(err, texts.traces.first().copied(), line),
+        ["error:", "the", "datasheet", ..] | ["error:", "[[task]]", ..] => {
+            report_whole(err, texts.sheet, FORM);
+        }
+        ["error:", "line", line, ..] => {
+            report_sheet(err, texts.sheet, line);
+            report_trace(err, texts.traces.first().copied(), line);
+        }
+        ["error:", "the", "trace", ..] | ["error:", "its", "pages", ..] => {
+            report_whole(err, texts.traces.first().copied(), TRACE_FORM);
+        }
         _ => {}
     }
 }

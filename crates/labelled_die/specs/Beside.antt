@@ -1,5 +1,6 @@
 -- A device on all blocks of a part but one, which stands aside.
-use Rattle.std.specs.Prelude.{◌≡◌, ℕ, ◌+◌, ◌-◌, ◌<◌, Bool, true, false, List, length}
+use Rattle.std.specs.Prelude.{◌≡◌, ℕ, ◌+◌, ◌-◌, ◌<◌, Bool, true, false, List, length, refl}
+use Rattle.std.proofs.Common.{subst, sym}
 use Rattle.slot_types.specs.declared.plans.Shape.{Shape}
 use Rattle.flash_die.specs.Flash.{Block, free_block}
 use Rattle.flash_die.specs.declared.nand.NandCall.{NandCall}
@@ -62,3 +63,14 @@ pub record EndsBeside {N : Type 0} (ends : N → NandCall → Bool → N → Typ
   pub passed : before.failed ≡ false → ends before.part (call_on_part before.shape.blocks before.aside call) well after.part
   pub labelled : well ≡ true → labels_beside labels after
       ≡ labels_after_call before.shape.erase_slots (blocks_beside blocks before) call (labels_beside labels before)
+
+-- what lasts of the part, whatever the call, lasts here
+pub keeps_beside : {N : Type 0} (ends : N → NandCall → Bool → N → Type 0) (blocks : N → List Block) (labels : N → Labels) (lasts : N → Type 0)
+    → ((before after : N) (call : NandCall) (well : Bool) → ends before call well after → lasts before → lasts after)
+    → (before after : Beside N) (call : NandCall) (well : Bool) → EndsBeside ends blocks labels before call well after
+    → lasts before.part → lasts after.part
+keeps_beside ends blocks labels lasts keeps before after call well ended there = by_flag before.failed refl
+  where
+    by_flag : (failed : Bool) → before.failed ≡ failed → lasts after.part
+    by_flag false e = keeps before.part after.part (call_on_part before.shape.blocks before.aside call) well (ended.passed e) there
+    by_flag true e = subst lasts (sym (ended.refused e).1) there

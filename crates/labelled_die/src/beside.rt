@@ -10,7 +10,7 @@ use slot_types::{PageData, Place, Refusal, Shape};
 use std::marker::Model;
 
 /// A device on all blocks of a part but one, which stands aside: the part's last block has the number of that one here.
-/// Labels are the part's.
+/// Labels are the part's, and so is what lasts.
 ///
 /// A call that fails on the part fails here, and so does each one after it, without a call of the part.
 #[derive(Drop)]
@@ -185,11 +185,15 @@ impl<N: LabelledNand> Nand for BesideNand<N> {
 
 impl<N: LabelledNand> LabelledNand for BesideNand<N> {
     ghost use Rattle.std.specs.Prelude.{refl};
-    ghost use Rattle.labelled_die.specs.Beside.{labels_beside};
+    ghost use Rattle.labelled_die.specs.Beside.{keeps_beside, labels_beside};
 
     ghost labels = { labels_beside N.labels };
 
+    ghost lasts = { λ d. N.lasts d.part };
+
     ghost follows = { λ before after call ended. ended.labelled refl };
+
+    ghost keeps = { keeps_beside N.ends N.blocks N.labels N.lasts N.keeps };
 
     fn number_from(&mut self, serial: u64) {
         self.part.number_from(serial);

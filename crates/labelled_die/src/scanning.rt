@@ -62,6 +62,7 @@ pub fn look_at<N: LabelledNand>(
         ≡ told_cells (cells_shown (N.labels part.old).blocks block pages)) }
     ensures same { OnOk result (IsSamePart N.shape_of N.failures N.blocks N.labels part.old
         part.new) }
+    ensures lasts { N.lasts part.old → N.lasts part.new }
     ensures room { vec_capacity cells.new ≡ vec_capacity cells.old }
     ensures fault { OnErr result (N.failures part.new ≡ 1) }
 {
@@ -130,6 +131,7 @@ fn tell_block<N: LabelledNand>(
         (told_cells (cells_shown (N.labels part.old).blocks block plan.now.shape.pages))) }
     ensures same { OnOk result (IsSamePart N.shape_of N.failures N.blocks N.labels part.old
         part.new) }
+    ensures lasts { N.lasts part.old → N.lasts part.new }
     ensures room { vec_capacity cells.new ≡ vec_capacity cells.old }
     ensures fault { IfErr result (RefusesBlock plan.now (N.labels part.old).blocks block
         (N.failures part.new)) }
@@ -159,6 +161,7 @@ pub fn scan<N: LabelledNand>(alloc: Global, plan: &DiePlan, part: &mut N) -> Res
     ensures whole { IfOk result (λ scan. scan.told ≡ scan.shape.blocks) }
     ensures same { OnOk result (IsSamePart N.shape_of N.failures N.blocks N.labels part.old
         part.new) }
+    ensures lasts { N.lasts part.old → N.lasts part.new }
     ensures plan { OnOk result (IsMountPlan plan.now) }
     ensures shape { OnOk result (N.shape_of part.old ≡ (part_of plan.now).shape) }
     ensures fit { OnOk result ((block : ℕ) → block < (N.shape_of part.old).blocks

@@ -30,8 +30,11 @@ use slot_types::{Place, Refusal};
 /// A device that was powered up (`IsPoweredUp`) counts each block as closed, with all its cells programmed, until it is
 /// erased: those that aren't good have no label, and what is read of them may be anything. It counts erases, and calls
 /// that fail, from then on.
+///
+/// A device may keep more than its cells, as what a clean shutdown saves. What stays true of that, whatever call comes,
+/// it says itself (`lasts`), and who makes the calls hands it on: so it is true of the device of a die that was mounted.
 pub trait LabelledNand: Nand {
-    ghost use Rattle.std.specs.Prelude.{◌≡◌, true};
+    ghost use Rattle.std.specs.Prelude.{◌≡◌, Bool, true};
     ghost use Rattle.flash_die.specs.declared.nand.NandCall.{NandCall};
     ghost use Rattle.power_loss.specs.Labels.{Labels};
     ghost use Rattle.labelled_nand.specs.Calls.{labels_after_call};
@@ -39,12 +42,16 @@ pub trait LabelledNand: Nand {
     // by block the labels of the programmed cells, and the serial of the next program
     ghost labels: { Self → Labels };
 
+    // what stays true of a device, whatever call of it is made, and whether that ends well or not
+    ghost lasts: { Self → Type 0 };
+
     /// From now on programs are numbered from this serial on.
     fn number_from(&mut self, serial: u64)
         ensures labels { labels self.new ≡ record (labels self.old) { next = serial } }
         ensures blocks { Self.blocks self.new ≡ Self.blocks self.old }
         ensures failures { Self.failures self.new ≡ Self.failures self.old }
-        ensures shape { Self.shape_of self.new ≡ Self.shape_of self.old };
+        ensures shape { Self.shape_of self.new ≡ Self.shape_of self.old }
+        ensures lasts { lasts self.old → lasts self.new };
 
     /// What a cell shows, of a block that isn't in erase. A good cell may be read, and gives the same bytes.
     fn look(&mut self, place: Place) -> Result<Look, Refusal>
@@ -58,10 +65,15 @@ pub trait LabelledNand: Nand {
         ensures blocks { OnOk result (Self.blocks self.new ≡ Self.blocks self.old) }
         ensures fails { FailsByFault Self.never_fails result (Self.failures self.old)
             (Self.failures self.new) }
-        ensures shape { Self.shape_of self.new ≡ Self.shape_of self.old };
+        ensures shape { Self.shape_of self.new ≡ Self.shape_of self.old }
+        ensures lasts { lasts self.old → lasts self.new };
 
     // what a call that ends well leaves of the labels
     ghost follows: { (before after : Self) (call : NandCall) → Self.ends before call true after
         → labels after ≡ labels_after_call (Self.shape_of before).erase_slots (Self.blocks before) call
         (labels before) };
+
+    // what lasts does so whatever the call
+    ghost keeps: { (before after : Self) (call : NandCall) (well : Bool) → Self.ends before call well after
+        → lasts before → lasts after };
 }

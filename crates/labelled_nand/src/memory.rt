@@ -266,11 +266,17 @@ impl Nand for LabelledMemory {
 }
 
 impl LabelledNand for LabelledMemory {
+    ghost use Rattle.std.specs.Prelude.{⊤};
     ghost use Rattle.labelled_nand.specs.Memory.{device_labels};
 
     ghost labels = { device_labels };
 
+    // it keeps nothing beside its cells
+    ghost lasts = { λ _. ⊤ };
+
     ghost follows = { λ before after call ended. ended.labels };
+
+    ghost keeps = { λ before after call well ended lasts. lasts };
 
     fn number_from(&mut self, serial: u64) {
         self.next = serial;

@@ -1,5 +1,6 @@
 -- What an ask leaves, with what the die below answered.
-use Rattle.std.proofs.Common.{◌≡◌, ℕ, ◌+◌, ◌<◌, ◌≤◌, true, false, List, Option, ◌∷◌, length, map, get_or, set, vec_capacity, None, Some, Ok, Err, refl, ap, sym, ◌∙◌, arith}
+use Rattle.std.proofs.Common.{◌≡◌, ℕ, ◌+◌, ◌<◌, ◌≤◌, true, false, List, Option, is_some, ◌∷◌, length, map, get_or, set, vec_capacity, None, Some, Ok, Err, refl, ap, sym, ◌∙◌, arith}
+use Rattle.std.proofs.lemmas.Bool.{true≢false}
 use Rattle.std.proofs.lemmas.List.{length-map, get_or-map}
 use Rattle.slot_types.specs.declared.events.Op.{Op}
 use Rattle.demand_rules.specs.declared.terms.Terms.{Terms}
@@ -30,17 +31,17 @@ Law = (first : Start) (terms : Terms) (life : ℕ) → AreLongEnough terms life 
 module _ {N : Type 0} (law : Law) (kind : AskKind) (caller task : ℕ) (ops : List Op) (die after : Planned N) (long : AreLongEnough die.terms die.life)
     (lives : (earlier : Lives) → HasLived die earlier → HasLived after earlier) (ws : List (Option WaitingAsk)) where
   pub entered : (burst : Burst) (release due : ℕ) (asked : (earlier : Lives) → HasLived die earlier → IsDieAsk kind caller task ops earlier (Ok burst) die after)
-      → release ≡ after.first + now after.core.log → due ≡ release + (terms_of die.terms task).deadline → (first : Start) (d : Ongoing)
+      → release ≡ after.first + now after.core.log → due ≡ release + (terms_of die.terms task).deadline → get_or ws task None ≡ None → (first : Start) (d : Ongoing)
       (before : OngoingParts N) → HasBegun first d before (record { die = die; waiting = ws })
       → HasTaken kind caller task ops first d (taken.Enters release due burst.first burst.jobs) before (record { die = after; waiting = ws })
-  entered burst release due asked at due_is first d before b =
+  entered burst release due asked at due_is none first d before b =
       ask_enters first d before (record { die = die; waiting = ws }) b (law first die.terms die.life long d (b.stands.runs b.runs).goes_on) kind caller task ops
-      (record { die = after; waiting = ws }) (lives (counted b.stands.past) b.stands.lived) burst release due (asked (counted b.stands.past) b.stands.lived) at due_is refl
+      (record { die = after; waiting = ws }) (lives (counted b.stands.past) b.stands.lived) burst release due (asked (counted b.stands.past) b.stands.lived) at due_is none refl
 
   pub waited : (release due : ℕ) (left : List (Option WaitingAsk))
       (asked : (earlier : Lives) → HasLived die earlier → IsDieAsk kind caller task ops earlier (Err because.LifeEnd) die after)
       → release ≡ after.first + after.life → due ≡ release + (terms_of die.terms task).deadline → get_or ws task None ≡ None
-      → left ≡ set ws task (Some (record { caller = caller; ops = ops })) → (first : Start) (d : Ongoing)
+      → left ≡ set ws task (Some (record { caller = caller; ops = ops; until = release })) → (first : Start) (d : Ongoing)
       (before : OngoingParts N) → HasBegun first d before (record { die = die; waiting = ws })
       → HasTaken kind caller task ops first d (taken.Waits release due) before (record { die = after; waiting = left })
   waited release due left asked at due_is none kept first d before b =
@@ -50,7 +51,7 @@ module _ {N : Type 0} (law : Law) (kind : AskKind) (caller task : ℕ) (ops : Li
 -- What waits
 
 module _ (ws : List Waiting) (task : ℕ) (w : Waiting) (lt : task < length ws) (is : w ≡ get_or ws task w) where
-  pub one_waits : w.waits ≡ true → get_or (map ask_in ws) task None ≡ Some (record { caller = w.caller; ops = w.ops.items })
+  pub one_waits : w.waits ≡ true → get_or (map ask_in ws) task None ≡ Some (record { caller = w.caller; ops = w.ops.items; until = w.until })
   one_waits waits = get_or-map ask_in ws task w None lt ∙ (sym (ap ask_in is) ∙ rw waits refl)
 
   pub none_waits : w.waits ≡ false → get_or (map ask_in ws) task None ≡ None
@@ -68,3 +69,12 @@ module _ {N : Type 0} (first : Start) (d : Ongoing) (die after : Planned N) (ws 
 
   pub late_fits : HaveRoom die.terms ws → (own : Waiting) → length ops ≤ vec_capacity (get_or ws task own).ops
   late_fits room own = omega (arith, late.1, room task own late_known)
+
+-- whether one waits
+pub none_if : {A : Type 0} (v : Option A) → is_some v ≡ false → v ≡ None
+none_if None e = refl
+none_if (Some x) e = absurd (true≢false e)
+
+pub some_if : {A : Type 0} (v : Option A) → is_some v ≡ true → (x : A) × (v ≡ Some x)
+some_if None e = absurd (true≢false (sym e))
+some_if (Some x) e = (x, refl)

@@ -30,9 +30,10 @@ use Rattle.ongoing_log.specs.PastLives.{starts_after, counted}
 use Rattle.ongoing_die.specs.declared.answers.Taken.{Taken}
 use Rattle.ongoing_die.specs.declared.answers.Taken.TheVariants as taken
 use Rattle.ongoing_die.specs.Standing.{OngoingParts, standing, StandsAs}
-use Rattle.ongoing_die.specs.OngoingCalls.{HasBegun, HasTaken, told, with_numbered}
-use Rattle.ongoing_die.specs.DieAsks.{refusal_of, HasAskedFor, IsDieAsk}
-use Rattle.ongoing_die.proofs.OverAllLives.{within, stands_in}
+use Rattle.ongoing_die.specs.declared.refusals.AskStop.{AskStop}
+use Rattle.ongoing_die.specs.OngoingCalls.{HasBegun, HasTaken, RefusesAsk, told, with_numbered}
+use Rattle.ongoing_die.specs.DieAsks.{refusal_of, while_waiting, HasAskedFor, IsDieAsk}
+use Rattle.ongoing_die.proofs.OverAllLives.{stands_in}
 use Rattle.ongoing_die.proofs.Entering.{asked_same, jobs_log, jobs_numbered, numbered_now}
 
 -- Why an ask waits
@@ -43,7 +44,7 @@ passes true r rest other e = absurd (other (same_Some r because.LifeEnd e))
 passes false r rest other e = (refl, e)
 
 -- an ask of either kind is no larger than a burst may be
-most_within : (kind : AskKind) (t : TaskTerms) → most_of kind t ≤ t.work
+pub most_within : (kind : AskKind) (t : TaskTerms) → most_of kind t ≤ t.work
 most_within kinds.Burst t = omega arith
 most_within kinds.Job t = within t.work (nat_le t.work MAX_OPS) refl
   where
@@ -90,7 +91,7 @@ plain first slot life deadline w (because.TooManyWrites most) other = refl
 plain first slot life deadline w (because.TooSoon next) other = refl
 plain first slot life deadline w because.LifeEnd other = absurd (other refl)
 
-module _ {N : Type 0} (first : Start) (d : Ongoing) (parts : OngoingParts N) (s : StandsAs first d parts) (early : now parts.die.core.log < parts.die.life)
+module _ {N : Type 0} (first : Start) (d : Ongoing) (parts : OngoingParts N) (s : StandsAs first d parts) (is : d ≡ standing parts s.past)
     (runs : parts.die.core.stopped ≡ false) (kind : AskKind) (caller task : ℕ) (ops : List Op) where
   abbrev die : Planned N
   die = parts.die
@@ -106,9 +107,6 @@ module _ {N : Type 0} (first : Start) (d : Ongoing) (parts : OngoingParts N) (s 
 
   abbrev w : Option WaitingAsk
   w = get_or parts.waiting task None
-
-  is : d ≡ here
-  is = within first d parts s runs early
 
   -- it is answered by what the plan says of it
   answer_as : (o : Option AskRefusal) → refusal_of kind die (counted s.past) task ops ≡ o
@@ -134,10 +132,13 @@ module _ {N : Type 0} (first : Start) (d : Ongoing) (parts : OngoingParts N) (s 
         (whole ∙ (s.runs runs).whole)
 
     -- an ask that enters
-    module _ (release due : ℕ) (burst : Burst) (at : release ≡ die.first + now log) (due_is : due ≡ release + deadline)
+    module _ (release due : ℕ) (burst : Burst) (at : release ≡ die.first + now log) (due_is : due ≡ release + deadline) (none : w ≡ None)
         (same : after.waiting ≡ parts.waiting) (h : HasAskedFor kind caller task ops (counted s.past) burst die after.die) where
       enters : answer_to first die.terms die.life d kind task ops ≡ Enters release due
-      enters = answer_as None h.unrefused ∙ (λ i. Enters (sym at i) (due_here i))
+      enters =
+          answer_as None h.unrefused
+          ∙ (ap (λ (v : Option WaitingAsk). answer_by die.first (now log) die.life deadline v None) none
+          ∙ (λ i. Enters (sym at i) (due_here i)))
         where
           due_here : die.first + now log + deadline ≡ due
           due_here = omega (arith, at, due_is)
@@ -169,7 +170,7 @@ module _ {N : Type 0} (first : Start) (d : Ongoing) (parts : OngoingParts N) (s 
     -- one that waits
     module _ (release due : ℕ) (at : release ≡ die.first + die.life) (due_is : due ≡ release + deadline)
         (late : refusal_of kind die (counted s.past) task ops ≡ Some because.LifeEnd) (none : w ≡ None)
-        (kept : after.waiting ≡ set parts.waiting task (Some (record { caller = caller; ops = ops }))) (log_is : after.die.core.log ≡ log) where
+        (kept : after.waiting ≡ set parts.waiting task (Some (record { caller = caller; ops = ops; until = release }))) (log_is : after.die.core.log ≡ log) where
       waits : answer_to first die.terms die.life d kind task ops ≡ Waits release due
       waits =
           answer_as (Some because.LifeEnd) late
@@ -182,7 +183,7 @@ module _ {N : Type 0} (first : Start) (d : Ongoing) (parts : OngoingParts N) (s 
       waits_is : next ≡ standing after s.past
       waits_is =
           ap (after_answer first die.terms d kind caller task ops) waits
-          ∙ (ap (λ (x : Ongoing). record x { waiting = set x.waiting task (Some (record { caller = caller; ops = ops })) }) is
+          ∙ (ap (λ (x : Ongoing). record x { waiting = set x.waiting task (Some (record { caller = caller; ops = ops; until = release })) }) is
           ∙ (λ i. record { earlier = s.past; log = sym log_is i; waiting = sym kept i }))
 
       pub has_waited : HasTaken kind caller task ops first d (taken.Waits release due) parts after
@@ -194,11 +195,11 @@ module _ {N : Type 0} (first : Start) (d : Ongoing) (parts : OngoingParts N) (s 
       }
 
   -- one that is refused
-  pub waits_already : (v : WaitingAsk) → refusal_of kind die (counted s.past) task ops ≡ Some because.LifeEnd → w ≡ Some v
+  pub waits_already : (v : WaitingAsk) (o : Option AskRefusal) → refusal_of kind die (counted s.past) task ops ≡ o → w ≡ Some v
+      → ((x : WaitingAsk) → answer_by die.first (now log) die.life deadline (Some x) o ≡ WaitsAlready)
       → answer_to first die.terms die.life d kind task ops ≡ WaitsAlready
-  waits_already v late there =
-      answer_as (Some because.LifeEnd) late
-      ∙ ap (λ (x : Option WaitingAsk). answer_by die.first (now log) die.life deadline x (Some because.LifeEnd)) there
+  waits_already v o said there already =
+      answer_as o said ∙ (ap (λ (x : Option WaitingAsk). answer_by die.first (now log) die.life deadline x o) there ∙ already v)
 
   pub refused_so : (refusal : AskRefusal) → refusal_of kind die (counted s.past) task ops ≡ Some refusal → refusal ≢ because.LifeEnd
       → answer_to first die.terms die.life d kind task ops ≡ Refused refusal
@@ -236,12 +237,13 @@ module _ {N : Type 0} (first : Start) (d : Ongoing) (before between : OngoingPar
     (law : (moves : List Move) → IsOngoing first between.die.terms between.die.life (ongoing_after first between.die.terms between.die.life d moves))
     (kind : AskKind) (caller task : ℕ) (ops : List Op) (after : OngoingParts N) (lived : HasLived after.die (counted b.stands.past)) where
   pub ask_enters : (burst : Burst) (release due : ℕ) → IsDieAsk kind caller task ops (counted b.stands.past) (Ok burst) between.die after.die
-      → release ≡ after.die.first + now after.die.core.log → due ≡ release + (terms_of between.die.terms task).deadline → after.waiting ≡ between.waiting
+      → release ≡ after.die.first + now after.die.core.log → due ≡ release + (terms_of between.die.terms task).deadline
+      → get_or between.waiting task None ≡ None → after.waiting ≡ between.waiting
       → HasTaken kind caller task ops first d (taken.Enters release due burst.first burst.jobs) before after
-  ask_enters burst release due h at due_is same =
+  ask_enters burst release due h at due_is none same =
       let kept = asked_same kind caller task ops (counted b.stands.past) between.die after.die (Ok burst) h in
       taken_before first d before between b kind task ops caller (taken.Enters release due burst.first burst.jobs) after
-      (has_entered first d between b.stands b.early b.runs kind caller task ops law after lived kept.terms kept.life kept.start kept.entered release due burst
+      (has_entered first d between b.stands b.settled b.runs kind caller task ops law after lived kept.terms kept.life kept.start kept.entered release due burst
       (omega (
         arith,
         at,
@@ -249,16 +251,16 @@ module _ {N : Type 0} (first : Start) (d : Ongoing) (before between : OngoingPar
         ap now (jobs_numbered caller task (counted b.stands.past) (jobs_as kind ops) burst.first between.die after.die h.asked),
         numbered_now between.die.terms caller task (jobs_as kind ops) burst.first between.die.core.log,
       ))
-      due_is same h)
+      due_is none same h)
 
   pub ask_waits : (release due : ℕ) → IsDieAsk kind caller task ops (counted b.stands.past) (Err because.LifeEnd) between.die after.die
       → release ≡ after.die.first + after.die.life → due ≡ release + (terms_of between.die.terms task).deadline
-      → get_or between.waiting task None ≡ None → after.waiting ≡ set between.waiting task (Some (record { caller = caller; ops = ops }))
+      → get_or between.waiting task None ≡ None → after.waiting ≡ set between.waiting task (Some (record { caller = caller; ops = ops; until = release }))
       → HasTaken kind caller task ops first d (taken.Waits release due) before after
   ask_waits release due h at due_is none same =
       let kept = asked_same kind caller task ops (counted b.stands.past) between.die after.die (Err because.LifeEnd) h in
       taken_before first d before between b kind task ops caller (taken.Waits release due) after
-      (has_waited first d between b.stands b.early b.runs kind caller task ops law after lived kept.terms kept.life kept.start kept.entered release due
+      (has_waited first d between b.stands b.settled b.runs kind caller task ops law after lived kept.terms kept.life kept.start kept.entered release due
       (omega (arith, at, kept.first, kept.life)) due_is
       (refused_by kind caller task ops (counted b.stands.past) because.LifeEnd between.die after.die b.runs h) none same (ap (λ (p : Planned N). p.core.log) h.0))
 
@@ -266,3 +268,44 @@ module _ {N : Type 0} (first : Start) (d : Ongoing) (before between : OngoingPar
 pub begun_still : {N : Type 0} (first : Start) (d : Ongoing) (before between after : OngoingParts N) → after ≡ between → HasBegun first d before between
     → HasBegun first d before after
 begun_still first d before between after is b = subst (λ (p : OngoingParts _). HasBegun first d before p) (sym is) b
+
+-- one that is refused since one of the task waits
+module _ {N : Type 0} (first : Start) (d : Ongoing) (before between after : OngoingParts N) (b : HasBegun first d before between) (same : after ≡ between)
+    (kind : AskKind) (task : ℕ) (ops : List Op) (v : WaitingAsk) (there : get_or between.waiting task None ≡ Some v) where
+  refuses_by : (o : Option AskRefusal) → refusal_of kind between.die (counted b.stands.past) task ops ≡ o
+      → RefusesAsk kind task ops first d (while_waiting o) before after
+  refuses_by None e = (
+    answer_before first d before between b kind task ops WaitsAlready
+        (waits_already first d between b.stands b.settled b.runs kind 0 task ops v None e there (λ x. refl)),
+    begun_still first d before between after same b,
+  )
+  refuses_by (Some refusal) e = by refusal e
+    where
+      already : refusal_of kind between.die (counted b.stands.past) task ops ≡ Some because.LifeEnd
+          → answer_to first before.die.terms before.die.life d kind task ops ≡ WaitsAlready
+      already k = answer_before first d before between b kind task ops WaitsAlready
+          (waits_already first d between b.stands b.settled b.runs kind 0 task ops v (Some because.LifeEnd) k there (λ x. refl))
+
+      plain_one : (r : AskRefusal) → refusal_of kind between.die (counted b.stands.past) task ops ≡ Some r → r ≢ because.LifeEnd
+          → (answer_to first before.die.terms before.die.life d kind task ops ≡ Refused r) × HasBegun first d before after
+      plain_one r k other = (
+        answer_before first d before between b kind task ops (Refused r)
+            (refused_so first d between b.stands b.settled b.runs kind 0 task ops r k other),
+        begun_still first d before between after same b,
+      )
+
+      by : (r : AskRefusal) → refusal_of kind between.die (counted b.stands.past) task ops ≡ Some r
+          → RefusesAsk kind task ops first d (while_waiting (Some r)) before after
+      by because.LifeEnd k = (already k, begun_still first d before between after same b)
+      by because.DieStopped k = plain_one because.DieStopped k (λ e. absurd cc)
+      by because.UnknownTask k = plain_one because.UnknownTask k (λ e. absurd cc)
+      by because.EmptyJob k = plain_one because.EmptyJob k (λ e. absurd cc)
+      by (because.TooManyOps most) k = plain_one (because.TooManyOps most) k (λ e. absurd cc)
+      by (because.BadPage page) k = plain_one (because.BadPage page) k (λ e. absurd cc)
+      by (because.TooManyWrites most) k = plain_one (because.TooManyWrites most) k (λ e. absurd cc)
+      by (because.TooSoon next) k = plain_one (because.TooSoon next) k (λ e. absurd cc)
+
+  pub refused_while : (stop : AskStop) → stop ≡ while_waiting (refusal_of kind between.die (counted b.stands.past) task ops)
+      → RefusesAsk kind task ops first d stop before after
+  refused_while stop is = subst (λ (x : AskStop). RefusesAsk kind task ops first d x before after) (sym is)
+      (refuses_by (refusal_of kind between.die (counted b.stands.past) task ops) refl)

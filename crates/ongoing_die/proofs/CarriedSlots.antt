@@ -1,5 +1,5 @@
 -- A slot of the die below is a move of its log.
-use Rattle.std.proofs.Common.{◌≡◌, ℕ, ◌≤◌, nat_lt, Bool, true, List, [], ◌∷◌, length, map, Err, refl, ap, sym, subst, ◌∙◌, inl, inr, arith}
+use Rattle.std.proofs.Common.{◌≡◌, ℕ, ◌≤◌, nat_lt, Bool, true, List, [], ◌∷◌, length, map, Result, Ok, Err, refl, ap, sym, subst, ◌∙◌, inl, inr, arith}
 use Rattle.std.proofs.lemmas.Bool.{lt-ltb, true≢false}
 use Rattle.std.proofs.lemmas.List.{take_all}
 use Rattle.slot_types.specs.declared.events.Event.{Event}
@@ -22,11 +22,10 @@ use Rattle.planned_log.specs.KeptLogs.{collections_at}
 use Rattle.planned_log.specs.Moves.{Move, Slot, after_own, after_move}
 use Rattle.ongoing_log.specs.Ongoing.{Ongoing, start_of, going_on, ongoing_after_move, ongoing_after, IsOngoing}
 use Rattle.planned_die.specs.Planned.{Planned, HasLived}
-use Rattle.planned_die.specs.PlannedCalls.{own_calls, with_all_own, HasSlotted, RefusesSlot}
+use Rattle.planned_die.specs.PlannedCalls.{own_calls, with_all_own, HasSlotted, RefusesSlot, IsSlot}
 use Rattle.ongoing_log.specs.PastLives.{PastLife, starts_after, counted, HavePassed}
 use Rattle.ongoing_die.specs.Standing.{OngoingParts, standing, StandsAs}
 use Rattle.ongoing_die.specs.OngoingCalls.{HasBegun, HaveOnePlan, HasCarried, HasFailed}
-use Rattle.ongoing_die.proofs.OverAllLives.{within}
 
 module _ {N : Type 0} (caller : ℕ) (before : Planned N) (whole : before.entered ≡ 0)
     (one_each : length before.terms.tasks ≤ length before.core.start.plan.caps) where
@@ -67,6 +66,29 @@ module _ {N : Type 0} (caller : ℕ) (before : Planned N) (whole : before.entere
         by (inr (inr (inl h))) = record { stops = h.stops; log_is = h.log_stays }
         by (inr (inr (inr h))) = let no = h.refusal_is in absurd cc
 
+-- it leaves how long a life is, and where it began
+pub slot_first : {N : Type 0} (ends : N → NandCall → Bool → N → Type 0) (failures : N → ℕ) (never : Bool) (caller : ℕ) (before after : Planned N)
+    (result : Result SlotReply Refusal) → IsSlot ends failures never caller result before after → after.first ≡ before.first
+slot_first {N} ends failures never caller before after (Ok reply) h = ap (λ (p : Planned N). p.first) h.stays
+slot_first {N} ends failures never caller before after (Err refusal) h = elim h [
+  | inl stopped ↦ ap (λ (p : Planned N). p.first) stopped.2
+  | inr other ↦ elim other [
+    | inl over ↦ ap (λ (p : Planned N). p.first) over.3
+    | inr fault ↦ ap (λ (p : Planned N). p.first) fault.4
+  ]
+]
+
+pub slot_life : {N : Type 0} (ends : N → NandCall → Bool → N → Type 0) (failures : N → ℕ) (never : Bool) (caller : ℕ) (before after : Planned N)
+    (result : Result SlotReply Refusal) → IsSlot ends failures never caller result before after → after.life ≡ before.life
+slot_life {N} ends failures never caller before after (Ok reply) h = ap (λ (p : Planned N). p.life) h.stays
+slot_life {N} ends failures never caller before after (Err refusal) h = elim h [
+  | inl stopped ↦ ap (λ (p : Planned N). p.life) stopped.2
+  | inr other ↦ elim other [
+    | inl over ↦ ap (λ (p : Planned N). p.life) over.3
+    | inr fault ↦ ap (λ (p : Planned N). p.life) fault.4
+  ]
+]
+
 module _ {N : Type 0} (ends : N → NandCall → Bool → N → Type 0) (failures : N → ℕ) (never : Bool) (caller : ℕ) (first : Start) (d : Ongoing)
     (before between : OngoingParts N) (b : HasBegun first d before between) (after : OngoingParts N) (waits : after.waiting ≡ between.waiting)
     (lived : HasLived after.die (counted b.stands.past)) where
@@ -80,7 +102,7 @@ module _ {N : Type 0} (ends : N → NandCall → Bool → N → Type 0) (failure
   one_task = omega (arith, b.stands.lived.kept.demand.has.one_each)
 
   is : d ≡ standing between past
-  is = within first d between b.stands b.runs b.early
+  is = b.settled
 
   -- a slot that is carried out
   module _ (reply : SlotReply) (h : HasSlotted ends failures never caller reply die after.die)

@@ -1,5 +1,5 @@
 -- An ask of the die below, for a job or for a burst, is a move of its log; and what waited is entered task by task.
-use Rattle.std.proofs.Common.{◌≡◌, ℕ, zero, suc, ◌+◌, ◌<◌, ◌≤◌, false, List, [], ◌∷◌, length, map, drop, get_or, set, Option, None, Some, Result, Ok, Err}
+use Rattle.std.proofs.Common.{◌≡◌, ℕ, zero, suc, ◌+◌, ◌<◌, ◌≤◌, ◌==◌, true, false, List, [], ◌∷◌, length, map, drop, get_or, set, Option, None, Some, Result, Ok, Err}
 use Rattle.std.proofs.Common.{◌++◌, take, vec_capacity, refl, ap, sym, ◌∙◌, inl, inr, arith, add-one}
 use Rattle.std.proofs.lemmas.Bool.{true≢false}
 use Rattle.std.proofs.lemmas.List.{drop_more, get_or-map, length-map, map-set}
@@ -17,7 +17,7 @@ use Rattle.planned_log.specs.declared.refusals.AskRefusal.{AskRefusal}
 use Rattle.planned_log.specs.Asks.{asked_job}
 use Rattle.planned_log.specs.AskKinds.{jobs_as, with_jobs}
 use Rattle.planned_log.specs.Moves.{Ask, after_ask, after_move, after_moves}
-use Rattle.ongoing_log.specs.Ongoing.{WaitingAsk, asks_of}
+use Rattle.ongoing_log.specs.Ongoing.{WaitingAsk, asks_of, due_at, left_at}
 use Rattle.planned_die.specs.Planned.{Planned}
 use Rattle.planned_die.specs.declared.bursts.Burst.{Burst}
 use Rattle.planned_die.specs.PlannedCalls.{HasAsked, HaveAsked}
@@ -142,58 +142,59 @@ entered_more start terms earlier life ws i log next lt e =
     ∙ (sym (entered_one start terms earlier life log i (get_or ws i None) (drop (i + 1) ws))
     ∙ ap (λ (l : List (Option WaitingAsk)). after_moves start terms earlier life log (asks_of i l)) (sym (drop_more ws i None lt)))
 
--- of the first tasks none waits any more
-abbrev pub cleared : ℕ → List (Option WaitingAsk) → List (Option WaitingAsk)
-cleared i ws = map (λ w. None) (take i ws) ++ drop i ws
+module _ (slot : ℕ) where
+  -- of the first tasks what was due waits no more
+  abbrev pub cleared : ℕ → List (Option WaitingAsk) → List (Option WaitingAsk)
+  cleared i ws = map (left_at slot) (take i ws) ++ drop i ws
 
-cleared_at : (ws : List (Option WaitingAsk)) (i : ℕ) → get_or (cleared i ws) i None ≡ get_or ws i None
-cleared_at [] zero = refl
-cleared_at [] (suc i) = refl
-cleared_at (w ∷ ws) zero = refl
-cleared_at (w ∷ ws) (suc i) = cleared_at ws i
+  cleared_at : (ws : List (Option WaitingAsk)) (i : ℕ) → get_or (cleared i ws) i None ≡ get_or ws i None
+  cleared_at [] zero = refl
+  cleared_at [] (suc i) = refl
+  cleared_at (w ∷ ws) zero = refl
+  cleared_at (w ∷ ws) (suc i) = cleared_at ws i
 
-cleared_next : (ws : List (Option WaitingAsk)) (i : ℕ) → set (cleared i ws) i None ≡ cleared (suc i) ws
-cleared_next [] zero = refl
-cleared_next [] (suc i) = refl
-cleared_next (w ∷ ws) zero = refl
-cleared_next (w ∷ ws) (suc i) = ap (λ (l : List (Option WaitingAsk)). None ∷ l) (cleared_next ws i)
+  cleared_next : (ws : List (Option WaitingAsk)) (i : ℕ) → set (cleared i ws) i (left_at slot (get_or ws i None)) ≡ cleared (suc i) ws
+  cleared_next [] zero = refl
+  cleared_next [] (suc i) = refl
+  cleared_next (w ∷ ws) zero = refl
+  cleared_next (w ∷ ws) (suc i) = ap (λ (l : List (Option WaitingAsk)). left_at slot w ∷ l) (cleared_next ws i)
 
-cleared_all : (ws : List (Option WaitingAsk)) (i : ℕ) → length ws ≤ i → cleared i ws ≡ map (λ w. None) ws
-cleared_all [] zero le = refl
-cleared_all [] (suc i) le = refl
-cleared_all (w ∷ ws) zero le = absurd (omega (arith, le))
-cleared_all (w ∷ ws) (suc i) le = ap (λ (l : List (Option WaitingAsk)). None ∷ l) (cleared_all ws i (omega (arith, le)))
+  cleared_all : (ws : List (Option WaitingAsk)) (i : ℕ) → length ws ≤ i → cleared i ws ≡ map (left_at slot) ws
+  cleared_all [] zero le = refl
+  cleared_all [] (suc i) le = refl
+  cleared_all (w ∷ ws) zero le = absurd (omega (arith, le))
+  cleared_all (w ∷ ws) (suc i) le = ap (λ (l : List (Option WaitingAsk)). left_at slot w ∷ l) (cleared_all ws i (omega (arith, le)))
 
-same_length : (ws : List (Option WaitingAsk)) (i : ℕ) → length (cleared i ws) ≡ length ws
-same_length [] zero = refl
-same_length [] (suc i) = refl
-same_length (w ∷ ws) zero = refl
-same_length (w ∷ ws) (suc i) = ap suc (same_length ws i)
+  same_length : (ws : List (Option WaitingAsk)) (i : ℕ) → length (cleared i ws) ≡ length ws
+  same_length [] zero = refl
+  same_length [] (suc i) = refl
+  same_length (w ∷ ws) zero = refl
+  same_length (w ∷ ws) (suc i) = ap suc (same_length ws i)
 
-pub as_many : (kept left : List Waiting) (i : ℕ) → map ask_in left ≡ cleared i (map ask_in kept) → length left ≡ length kept
-as_many kept left i is = omega (arith, length-map left ask_in, ap length is, length-map kept ask_in, same_length (map ask_in kept) i)
+  pub as_many : (kept left : List Waiting) (i : ℕ) → map ask_in left ≡ cleared i (map ask_in kept) → length left ≡ length kept
+  as_many kept left i is = omega (arith, length-map left ask_in, ap length is, length-map kept ask_in, same_length (map ask_in kept) i)
 
--- one more, in the lists that are kept of it
-module _ (kept left : List Waiting) (i : ℕ) (is : map ask_in left ≡ cleared i (map ask_in kept)) where
-  pub here_waits : (w : Waiting) → i < length kept → w ≡ get_or left i w → ask_in w ≡ get_or (map ask_in kept) i None
-  here_waits w lt e =
-      ap ask_in e
-      ∙ (sym (get_or-map ask_in left i w None lt_left)
-      ∙ (ap (λ l. get_or l i None) is ∙ cleared_at (map ask_in kept) i))
-    where
-      lt_left : i < length left
-      lt_left = omega (arith, lt, as_many kept left i is)
+  -- one more, in the lists that are kept of it
+  module _ (kept left : List Waiting) (i : ℕ) (is : map ask_in left ≡ cleared i (map ask_in kept)) where
+    pub here_waits : (w : Waiting) → i < length kept → w ≡ get_or left i w → ask_in w ≡ get_or (map ask_in kept) i None
+    here_waits w lt e =
+        ap ask_in e
+        ∙ (sym (get_or-map ask_in left i w None lt_left)
+        ∙ (ap (λ l. get_or l i None) is ∙ cleared_at (map ask_in kept) i))
+      where
+        lt_left : i < length left
+        lt_left = omega (arith, lt, as_many kept left i is)
 
-  pub then_left : (w : Waiting) → ask_in w ≡ None → map ask_in (set left i w) ≡ cleared (i + 1) (map ask_in kept)
-  then_left w none =
-      map-set ask_in left i w
-      ∙ (ap (λ v. set (map ask_in left) i v) none
-      ∙ (ap (λ l. set l i None) is
-      ∙ (cleared_next (map ask_in kept) i ∙ ap (λ n. cleared n (map ask_in kept)) (sym (add-one i)))))
+    pub then_left : (w : Waiting) → ask_in w ≡ left_at slot (get_or (map ask_in kept) i None) → map ask_in (set left i w) ≡ cleared (i + 1) (map ask_in kept)
+    then_left w then_is =
+        map-set ask_in left i w
+        ∙ (ap (λ v. set (map ask_in left) i v) then_is
+        ∙ (ap (λ l. set l i (left_at slot (get_or (map ask_in kept) i None))) is
+        ∙ (cleared_next (map ask_in kept) i ∙ ap (λ n. cleared n (map ask_in kept)) (sym (add-one i)))))
 
-pub all_left : (kept left : List Waiting) (i : ℕ) → length kept ≤ i → map ask_in left ≡ cleared i (map ask_in kept)
-    → map ask_in left ≡ map (λ w. None) (map ask_in kept)
-all_left kept left i le is = is ∙ cleared_all (map ask_in kept) i (omega (arith, le, length-map kept ask_in))
+  pub all_left : (kept left : List Waiting) (i : ℕ) → length kept ≤ i → map ask_in left ≡ cleared i (map ask_in kept)
+      → map ask_in left ≡ map (left_at slot) (map ask_in kept)
+  all_left kept left i le is = is ∙ cleared_all (map ask_in kept) i (omega (arith, le, length-map kept ask_in))
 
 -- and their memory
 pub rooms_stay : (xs : List Waiting) (i : ℕ) (w old : Waiting) → i < length xs → old ≡ get_or xs i old → vec_capacity w.ops ≡ vec_capacity old.ops
@@ -203,3 +204,8 @@ rooms_stay (x ∷ xs) zero w old lt is e zero d = e ∙ ap (λ (v : Waiting). ve
 rooms_stay (x ∷ xs) zero w old lt is e (suc task) d = refl
 rooms_stay (x ∷ xs) (suc i) w old lt is e zero d = refl
 rooms_stay (x ∷ xs) (suc i) w old lt is e (suc task) d = rooms_stay xs i w old (omega (arith, lt)) is e task d
+
+-- the ask of a task that waits for this slot
+pub is_due : (w : Waiting) (slot : ℕ) → w.waits ≡ true → (w.until == slot) ≡ true
+    → due_at slot (ask_in w) ≡ Some (record { caller = w.caller; ops = w.ops.items; until = w.until })
+is_due w slot waits here = rw waits (rw here refl)

@@ -3,7 +3,9 @@ mod TermsOf
 mod Entering
 mod OverAllLives
 mod NextLives
+mod Quiet
 mod Asking
+mod AskingAhead
 mod CarriedSlots
 mod BegunSlots
 mod Lasting

@@ -1,5 +1,5 @@
 -- What stands of a die over all its lives.
-use Rattle.std.proofs.Common.{◌≡◌, ℕ, ◌+◌, ◌<◌, ◌≤◌, ◌==◌, Bool, true, false, List, [], ◌∷◌, length, Option, None, Some, refl, ap, sym, subst, ◌∙◌, arith}
+use Rattle.std.proofs.Common.{◌≡◌, ℕ, ◌+◌, ◌<◌, ◌≤◌, ◌==◌, Bool, true, false, cond, List, [], ◌∷◌, length, map, get_or, Option, None, Some, refl, ap, sym, subst, ◌∙◌, arith}
 use Rattle.std.proofs.lemmas.List.Sums.{sum_by-cons}
 use Rattle.std.proofs.lemmas.Bool.Decides.{nat_tests}
 use Rattle.slot_types.specs.declared.events.Op.{Op}
@@ -10,7 +10,7 @@ use Rattle.demand_rules.specs.Demand.{terms_of}
 use Rattle.die_log.specs.Model.Log.{Log, now}
 use Rattle.die_log.specs.Model.Start.{Start}
 use Rattle.die_log.specs.Model.Lives.{Lives, all_slots}
-use Rattle.ongoing_log.specs.PastLives.{PastLife, Renewed, starts_after, counted, HavePassed}
+use Rattle.ongoing_log.specs.PastLives.{PastLife, starts_after, counted, HavePassed}
 use Rattle.die_log.specs.Model.Answers.{answer, answer_by, refusal_of, with_answer, after_call}
 use Rattle.planned_log.specs.declared.refusals.AskRefusal.{AskRefusal}
 use Rattle.planned_log.specs.declared.ask_kinds.AskKind.TheVariants as kinds
@@ -18,26 +18,51 @@ use Rattle.planned_log.specs.Asks.{asked_job, burst_refusal}
 use Rattle.planned_log.specs.AskKinds.{with_jobs}
 use Rattle.planned_log.specs.Bursts.{jobs_of}
 use Rattle.planned_log.specs.Moves.{Ask, after_ask, after_move, after_moves}
-use Rattle.ongoing_log.specs.Ongoing.{Ongoing, WaitingAsk, asks_of, start_of, next_life, going_on, IsOngoing}
+use Rattle.ongoing_log.specs.Ongoing.{Ongoing, WaitingAsk, asks_of, start_of, clock_of, due_at, let_in, next_life, living_on, going_on, IsOngoing}
+use Rattle.ongoing_log.proofs.WhatWaits.{none_of_all, all_left}
+use Rattle.ongoing_log.proofs.GoingOn.{stays_so}
 use Rattle.planned_die.specs.Planned.{HasLived}
-use Rattle.ongoing_die.specs.Standing.{OngoingParts, standing, StandsAs}
+use Rattle.ongoing_die.specs.Standing.{OngoingParts, NoneIsDue, standing, StandsAs}
 
 -- in a life that hasn't ended
-pub not_ended : (first : Start) (terms : Terms) (life : ℕ) (d : Ongoing) → now d.log < life → going_on first terms life d ≡ d
-not_ended first terms life d lt =
+pub still_lives : (life : ℕ) (d : Ongoing) → now d.log < life → living_on life d ≡ d
+still_lives life d lt =
     let away : (now d.log == life) ≡ false = grind (arith, nat_tests, lt) in
     rw away refl
 
 -- and in one that has
-pub has_ended : (first : Start) (terms : Terms) (life : ℕ) (d : Ongoing) → now d.log ≡ life → going_on first terms life d ≡ next_life first terms life d
-has_ended first terms life d over =
+pub next_lives : (life : ℕ) (d : Ongoing) → now d.log ≡ life → living_on life d ≡ next_life d
+next_lives life d over =
     let there : (now d.log == life) ≡ true = grind (arith, nat_tests, over) in
     rw there refl
 
+-- what waits, where none is due, waits for another slot
+waits_else : (slot : ℕ) (v : Option WaitingAsk) (w : WaitingAsk) → due_at slot v ≡ None → v ≡ Some w → (w.until == slot) ≡ false
+waits_else slot v w none is = by (w.until == slot) refl (sym (ap (due_at slot) is) ∙ none)
+  where
+    by : (b : Bool) → (w.until == slot) ≡ b → due_at slot (Some w) ≡ None → (w.until == slot) ≡ false
+    by false e none_there = e
+    by true e none_there = let no : Some w ≡ None = sym (rw e refl) ∙ none_there in absurd cc
+
+-- and nothing enters
+pub none_enters : (first : Start) (terms : Terms) (life : ℕ) (d : Ongoing) → NoneIsDue (clock_of d) d.waiting → let_in first terms life d ≡ d
+none_enters first terms life d none =
+    let away : (task : ℕ) (w : WaitingAsk) → get_or d.waiting task None ≡ Some w → (w.until == clock_of d) ≡ false =
+    λ task w e. waits_else (clock_of d) (get_or d.waiting task None) w (none task) e in
+    λ i. record d {
+      log = after_moves (start_of first d) terms (counted d.earlier) life d.log (none_of_all (clock_of d) d.waiting away 0 i);
+      waiting = all_left (clock_of d) d.waiting away i;
+    }
+
 module _ {N : Type 0} (first : Start) (d : Ongoing) (parts : OngoingParts N) where
-  -- within a life the die stands as its parts say
-  pub within : (s : StandsAs first d parts) → parts.die.core.stopped ≡ false → now parts.die.core.log < parts.die.life → d ≡ standing parts s.past
-  within s runs lt = (s.runs runs).stands ∙ not_ended first parts.die.terms parts.die.life (standing parts s.past) lt
+  -- within a life, and where none is due, the die stands as its parts say
+  pub within : (s : StandsAs first d parts) → parts.die.core.stopped ≡ false → now parts.die.core.log < parts.die.life
+      → NoneIsDue (parts.die.first + now parts.die.core.log) parts.waiting → d ≡ standing parts s.past
+  within s runs lt none =
+      (s.runs runs).stands
+      ∙ (ap (let_in first parts.die.terms parts.die.life) (still_lives parts.die.life (standing parts s.past) lt)
+      ∙ none_enters first parts.die.terms parts.die.life (standing parts s.past)
+      (subst (λ n. NoneIsDue (n + now parts.die.core.log) parts.waiting) s.lived.began none))
 
   -- what its parts say keeps the plan
   pub stands_in : (past : List PastLife) → HasLived parts.die (counted past) → parts.die.core.start ≡ starts_after first past → d ≡ standing parts past
@@ -50,8 +75,7 @@ module _ {N : Type 0} (first : Start) (d : Ongoing) (parts : OngoingParts N) whe
     one_each = ap (λ (e : Ongoing). length e.waiting) (sym is)
         ∙ (k.tasks ∙ (ap (λ (e : Ongoing). length (start_of first e).plan.caps) is ∙ ap (λ (s : Start). length s.plan.caps) (sym starts)));
     runs = λ runs. record {
-      stands = is ∙ sym (not_ended first parts.die.terms parts.die.life (standing parts past)
-          (subst (λ (e : Ongoing). now e.log < parts.die.life) is k.goes_on));
+      stands = is ∙ sym (stays_so first parts.die.terms parts.die.life (standing parts past) (subst (IsOngoing first parts.die.terms parts.die.life) is k));
       goes_on = k;
       whole = whole;
     };
@@ -90,19 +114,25 @@ entered_now start terms earlier life n (Some w ∷ ws) log =
     by (Some refusal) = refl
 
 -- the next life begins in the slot in which the one before ended
-same_slot : (first : Start) (terms : Terms) (life : ℕ) (d : Ongoing) (b : Bool) → (now d.log == life) ≡ b
-    → all_slots (counted (going_on first terms life d).earlier) + now (going_on first terms life d).log ≡ all_slots (counted d.earlier) + now d.log
-same_slot first terms life d true e =
-    let past : List PastLife = record { log = d.log; ended = Renewed } ∷ d.earlier in
-    rw e (omega (arith, sum_by-cons now d.log (counted d.earlier), entered_now (starts_after first past) terms (counted past) life 0 d.waiting []))
-same_slot first terms life d false e = rw e refl
+living_slot : (life : ℕ) (d : Ongoing) → clock_of (living_on life d) ≡ clock_of d
+living_slot life d = by (now d.log == life)
+  where
+    by : (b : Bool) → clock_of (cond b (next_life d) d) ≡ clock_of d
+    by true = omega (arith, sum_by-cons now d.log (counted d.earlier))
+    by false = refl
+
+same_slot : (first : Start) (terms : Terms) (life : ℕ) (d : Ongoing) → clock_of (going_on first terms life d) ≡ clock_of d
+same_slot first terms life d =
+    let n : Ongoing = living_on life d in
+    ap (λ m. all_slots (counted n.earlier) + m) (entered_now (start_of first n) terms (counted n.earlier) life 0 (map (due_at (clock_of n)) n.waiting) n.log)
+    ∙ living_slot life d
 
 pub clock_is : {N : Type 0} (first : Start) (d : Ongoing) (parts : OngoingParts N) → StandsAs first d parts → parts.die.core.stopped ≡ false
     → parts.die.first + now parts.die.core.log ≡ all_slots (counted d.earlier) + now d.log
 clock_is first d parts s runs =
     let here : Ongoing = standing parts s.past in
     ap (λ n. n + now parts.die.core.log) s.lived.began
-    ∙ (sym (same_slot first parts.die.terms parts.die.life here (now parts.die.core.log == parts.die.life) refl)
+    ∙ (sym (same_slot first parts.die.terms parts.die.life here)
     ∙ sym (ap (λ (e : Ongoing). all_slots (counted e.earlier) + now e.log) (s.runs runs).stands))
 
 -- there are few tasks

@@ -1,5 +1,5 @@
 -- A die that is shut down, or loses its power: its present life is one more of those that passed.
-use Rattle.std.proofs.Common.{◌≡◌, ℕ, suc, ◌+◌, ◌<◌, ◌==◌, Bool, true, false, List, [], ◌∷◌, Option, None, Some, refl, ap, sym, subst, ◌∙◌, arith}
+use Rattle.std.proofs.Common.{◌≡◌, ℕ, ◌+◌, ◌<◌, ◌==◌, Bool, true, false, List, [], Option, refl, ap, sym, subst, ◌∙◌, arith}
 use Rattle.std.specs.Prelude.{Contains}
 use Rattle.std.proofs.lemmas.Bool.{eqb-true}
 use Rattle.std.proofs.lemmas.Bool.Decides.{nat_tests}
@@ -11,20 +11,14 @@ use Rattle.die_log.specs.Model.Lives.{Lives, all_slots}
 use Rattle.die_log.specs.Results.DemandedLives.{AreFull}
 use Rattle.planned_log.specs.Laws.{IsKept}
 use Rattle.ongoing_log.specs.PastLives.{starts_after, counted, HavePassed}
-use Rattle.planned_log.specs.Moves.{after_moves}
-use Rattle.ongoing_log.specs.Ongoing.{Ongoing, WaitingAsk, asks_of, start_of, next_life, shut_down, lost_power, IsOngoing}
-use Rattle.ongoing_die.specs.Standing.{OngoingParts, standing, StandsAs}
+use Rattle.ongoing_log.specs.Ongoing.{Ongoing, WaitingAsk, start_of, clock_of, due_at, let_in, next_life, shut_down, lost_power, IsOngoing}
+use Rattle.ongoing_die.specs.Standing.{OngoingParts, NoneIsDue, standing, StandsAs}
 use Rattle.ongoing_die.specs.Resuming.{NoneWaits, GoesOnAfter}
-use Rattle.ongoing_die.proofs.OverAllLives.{within, has_ended}
+use Rattle.ongoing_die.proofs.OverAllLives.{within, next_lives, none_enters}
 
--- where none waits none is entered
-none_enters : (ws : List (Option WaitingAsk)) (n : ℕ) → NoneWaits ws → asks_of n ws ≡ []
-none_enters [] n h = refl
-none_enters (None ∷ ws) n h = none_enters ws (n + 1) (λ task. h (suc task))
-none_enters (Some w ∷ ws) n h = absurd (no (h 0))
-  where
-    no : ◌≡◌ {A = Option WaitingAsk} (Some w) None → ⊥
-    no e = absurd cc
+-- where none waits none is due
+none_is_due : (slot : ℕ) (ws : List (Option WaitingAsk)) → NoneWaits ws → NoneIsDue slot ws
+none_is_due slot ws h task = ap (due_at slot) (h task)
 
 pub nobody_in : {P : Type 0} (j : Job) → Contains [] j → P
 nobody_in j h = absurd (omega (arith, h.1))
@@ -57,22 +51,21 @@ module _ {N : Type 0} (first : Start) (d : Ongoing) (parts : OngoingParts N) (s 
   left_is : left ≡ renewed_start (starts_after first s.past) log
   left_is = ap (λ (t : Start). renewed_start t log) s.starts
 
-  abbrev next : Ongoing
-  next = next_life first terms life (standing parts s.past)
+  abbrev here : Ongoing
+  here = standing parts s.past
 
   leaves : (b : Bool) → (now log == life) ≡ b → Leaves first left d
-  leaves false e = subst (Leaves first left) (sym (within first d parts s runs before))
+  leaves false e =
+      subst (Leaves first left) (sym (within first d parts s runs before (none_is_due (parts.die.first + now log) parts.waiting none)))
       (subst (λ (t : Start). IsQuiet t log) s.starts quiet, left_is)
     where
       before : now log < life
       before = let most = s.lived.kept.kept.within in grind (arith, nat_tests, e, most)
   leaves true e =
-      subst (Leaves first left) (sym ((s.runs runs).stands ∙ has_ended first terms life (standing parts s.past) (eqb-true (now log) life e)))
-      (leaves_none first left next empty left_is)
-    where
-      empty : next.log ≡ []
-      empty = ap (λ moves. after_moves (renewed_start (starts_after first s.past) log) terms (log ∷ counted s.past) life [] moves)
-          (none_enters parts.waiting 0 none)
+      subst (Leaves first left) (sym ((s.runs runs).stands
+      ∙ (ap (let_in first terms life) (next_lives life here (eqb-true (now log) life e))
+      ∙ none_enters first terms life (next_life here) (none_is_due (clock_of (next_life here)) parts.waiting none))))
+      (leaves_none first left (next_life here) refl left_is)
 
   -- so it is shut down
   pub shut : ((d : Ongoing) → IsOngoing first terms life d → IsQuiet (start_of first d) d.log → (counts : Lives) → all_slots counts ≡ 0

@@ -6,6 +6,8 @@ use Rattle.planned_log.specs.declared.ask_kinds.AskKind.{AskKind}
 use Rattle.planned_log.specs.declared.refusals.AskRefusal.{AskRefusal}
 use Rattle.planned_log.specs.declared.refusals.AskRefusal.TheVariants as because
 use Rattle.planned_log.specs.AskKinds.{refusal_as, jobs_as}
+use Rattle.ongoing_die.specs.declared.refusals.AskStop.{AskStop}
+use Rattle.ongoing_die.specs.declared.refusals.AskStop.TheVariants as stops
 use Rattle.planned_die.specs.declared.bursts.Burst.{Burst}
 use Rattle.planned_die.specs.Planned.{Planned}
 use Rattle.planned_die.specs.PlannedCalls.{HaveAsked}
@@ -14,6 +16,12 @@ use Rattle.planned_die.specs.PlannedCalls.{HaveAsked}
 abbrev pub refusal_of : {N : Type 0} → AskKind → Planned N → Lives → ℕ → List Op → Option AskRefusal
 refusal_of kind die earlier task ops =
     refusal_as kind die.core.start.plan die.terms die.life earlier die.core.log task ops
+
+-- what an ask is refused for while one of the task waits
+abbrev pub while_waiting : Option AskRefusal → AskStop
+while_waiting None = stops.WaitsAlready
+while_waiting (Some because.LifeEnd) = stops.WaitsAlready
+while_waiting (Some refusal) = stops.Plan refusal
 
 -- the plan doesn't refuse the ask, and its jobs are asked for, all of them
 pub record HasAskedFor {N : Type 0} (kind : AskKind) (caller task : ℕ) (ops : List Op) (earlier : Lives) (burst : Burst) (before after : Planned N)

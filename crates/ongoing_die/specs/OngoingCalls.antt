@@ -14,7 +14,8 @@ use Rattle.planned_log.specs.Asks.{asked_job}
 use Rattle.planned_log.specs.AskKinds.{jobs_as}
 use Rattle.planned_log.specs.Moves.{Ask, Slot}
 use Rattle.ongoing_log.specs.Ongoing.{Ongoing, Answer, answer_to, ongoing_after_move}
-use Rattle.ongoing_log.specs.Ongoing.{Enters, Waits, Refused, WaitsAlready}
+use Rattle.ongoing_log.specs.Ongoing.{Enters, Waits, Refused, WaitsAlready, Past, TooFarAhead}
+use Rattle.ongoing_log.specs.Ahead.{answer_at, AskAt, ahead_after_move}
 use Rattle.planned_die.specs.declared.refusals.LifeRefusal.TheVariants as lives
 use Rattle.planned_die.specs.PlannedCalls.{IsSlot, RefusesLife}
 use Rattle.ongoing_die.specs.declared.answers.Taken.{Taken}
@@ -23,9 +24,11 @@ use Rattle.ongoing_die.specs.declared.refusals.LifeStop.{LifeStop}
 use Rattle.ongoing_die.specs.declared.refusals.LifeStop.TheVariants as stops
 use Rattle.ongoing_die.specs.declared.refusals.AskStop.{AskStop}
 use Rattle.ongoing_die.specs.declared.refusals.AskStop.TheVariants as asks
+use Rattle.ongoing_die.specs.declared.refusals.AskAtStop.{AskAtStop}
+use Rattle.ongoing_die.specs.declared.refusals.AskAtStop.TheVariants as ahead
 use Rattle.ongoing_die.specs.declared.refusals.SlotStop.{SlotStop}
 use Rattle.ongoing_die.specs.declared.refusals.SlotStop.TheVariants as slots
-use Rattle.ongoing_die.specs.Standing.{OngoingParts, StandsAs}
+use Rattle.ongoing_die.specs.Standing.{OngoingParts, standing, StandsAs}
 
 -- The next life
 
@@ -40,12 +43,13 @@ pub record HaveOnePlan {N : Type 0} (before after : OngoingParts N) : Type 0 whe
   pub terms : after.die.terms ≡ before.die.terms
   pub life : after.die.life ≡ before.die.life
 
--- The die runs in a life that goes on. If its life had ended, the next one has begun with what waited. So it stands as it
--- did, and the device has had no call.
+-- The die runs in a life that goes on. If its life had ended, the next one has begun; and what waited for the present slot has
+-- entered. So it stands as it did, as its parts say, and the device has had no call.
 pub record HasBegun {N : Type 0} (first : Start) (d : Ongoing) (before after : OngoingParts N) : Type 0 where
   pub ran : before.die.core.stopped ≡ false
   pub runs : after.die.core.stopped ≡ false
   pub stands : StandsAs first d after
+  pub settled : d ≡ standing after stands.past
   pub early : now after.die.core.log < after.die.life
   pub plan : HaveOnePlan before after
   pub device : after.die.core.device ≡ before.die.core.device
@@ -91,6 +95,35 @@ abbrev pub IsOngoingAsk : {N : Type 0} → AskKind → ℕ → ℕ → List Op �
 IsOngoingAsk kind caller task ops first d (Ok answer) before after = HasTaken kind caller task ops first d answer before after
 IsOngoingAsk kind caller task ops first d (Err refusal) before after = RefusesAsk kind task ops first d refusal before after
 
+-- Asks for a slot of the clock
+
+-- it is answered by the rules, and the die stands as after this move
+pub record HasTakenAt {N : Type 0} (kind : AskKind) (caller task : ℕ) (ops : List Op) (at : ℕ) (first : Start) (d : Ongoing) (answer : Taken)
+    (before after : OngoingParts N) : Type 0 where
+  pub ran : before.die.core.stopped ≡ false
+  pub answered : answer_at first before.die.terms before.die.life d kind task ops at ≡ told answer
+  pub stands : StandsAs first (ahead_after_move first before.die.terms before.die.life d (AskAt kind caller task ops at)) after
+  pub numbered : IsNumbered kind caller task ops d answer after
+
+-- it is refused by the rules, and the die stands as it did, and as after this move
+abbrev pub AnswersAt : {N : Type 0} → AskKind → (task : ℕ) → List Op → (at : ℕ) → Start → Ongoing → Answer → OngoingParts N → OngoingParts N → Type 0
+AnswersAt kind task ops at first d answer before after =
+    (answer_at first before.die.terms before.die.life d kind task ops at ≡ answer) × HasBegun first d before after
+
+-- Why it is refused: the whole die takes none, and nothing changes; or by the rules. Memory is no cause.
+abbrev pub RefusesAskAt : {N : Type 0} → AskKind → (task : ℕ) → List Op → (at : ℕ) → Start → Ongoing → AskAtStop → OngoingParts N → OngoingParts N
+    → Type 0
+RefusesAskAt kind task ops at first d (ahead.Ended stop) before after = HasStopped before stop × (after ≡ before)
+RefusesAskAt kind task ops at first d ahead.Past before after = AnswersAt kind task ops at first d Past before after
+RefusesAskAt kind task ops at first d (ahead.Plan refusal) before after = AnswersAt kind task ops at first d (Refused refusal) before after
+RefusesAskAt kind task ops at first d (ahead.TooFarAhead last) before after = AnswersAt kind task ops at first d (TooFarAhead last) before after
+RefusesAskAt kind task ops at first d ahead.WaitsAlready before after = AnswersAt kind task ops at first d WaitsAlready before after
+
+abbrev pub IsOngoingAskAt : {N : Type 0} → AskKind → (caller task : ℕ) → List Op → (at : ℕ) → Start → Ongoing → Result Taken AskAtStop
+    → OngoingParts N → OngoingParts N → Type 0
+IsOngoingAskAt kind caller task ops at first d (Ok answer) before after = HasTakenAt kind caller task ops at first d answer before after
+IsOngoingAskAt kind caller task ops at first d (Err refusal) before after = RefusesAskAt kind task ops at first d refusal before after
+
 -- Slots
 
 -- in a life that goes on the slot is carried out as one of the die below, and the die stands as after this move
@@ -111,6 +144,11 @@ pub record HasFailed {N : Type 0} (ends : N → NandCall → Bool → N → Type
   pub failed : IsSlot ends failures never caller (Err because.DeviceFault) between.die after.die
   pub stands : StandsAs first d after
   pub stops : after.die.core.stopped ≡ true
+
+-- a slot that fills a reply, as one that hands it back
+abbrev pub filled : {T : Type 0} → SlotReply → Result T SlotStop → Result SlotReply SlotStop
+filled reply (Ok x) = Ok reply
+filled reply (Err stop) = Err stop
 
 abbrev pub IsOngoingSlot : {N : Type 0} → (N → NandCall → Bool → N → Type 0) → (N → ℕ) → Bool → ℕ → Start → Ongoing → Result SlotReply SlotStop
     → OngoingParts N → OngoingParts N → Type 0

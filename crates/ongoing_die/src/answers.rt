@@ -14,7 +14,8 @@ pub enum Taken {
         /// How many jobs, from 1 on.
         jobs: u32,
     },
-    /// It waits for the next life, and its jobs are released and due as jobs of that.
+    /// It waits until its release, and its jobs are due then as a job is that is asked for then. That is the first slot of the
+    /// next life, if they would be due after the present one; else the slot that was asked for.
     Waits {
         release: u64,
         due: u64,

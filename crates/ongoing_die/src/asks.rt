@@ -7,11 +7,11 @@ ghost use Rattle.ongoing_die.specs.Standing.{StandsAs};
 ghost use Rattle.ongoing_die.specs.OngoingCalls.{IsOngoingAsk, HaveOnePlan};
 
 use crate::answers::Taken;
-use crate::die_asks::ask_die;
+use crate::die_asks::{ask_die, why_not};
 use crate::lengths::deadline_of;
 use crate::ongoing_die::OngoingDie;
 use crate::refusals::AskStop;
-use crate::waiting::keep_waiting;
+use crate::waiting::{is_waiting, keep_waiting};
 use flash_die::Nand;
 use ongoing_log::a_die_goes_on_by_itself;
 use planned_log::{AskKind, AskRefusal};
@@ -27,8 +27,9 @@ impl<N: Nand> OngoingDie<N> {
     /// The refusals, of which the first that stands is answered, and the die stands as it did: `Ended`, where the whole die
     /// takes nothing more, as [`LifeStop`](crate::LifeStop) lists the causes; `Plan`, for what the task itself asks and has
     /// asked for, as [`PlannedDie::ask`](planned_die::PlannedDie::ask) lists the causes, without `DieStopped` and
-    /// `LifeEnd`; `WaitsAlready`, where it would wait, and an ask of the task does. There is no other: tokens, numbers,
-    /// deadlines and memory are never lacking, and it takes no memory.
+    /// `LifeEnd`; `WaitsAlready`, where an ask of the task waits. One that waits for the next life alone refuses only what would
+    /// wait, too: what isn't refused for `Plan` then would be due after the present life. There is no other refusal: tokens,
+    /// numbers, deadlines and memory are never lacking, and it takes no memory.
     pub fn ask(
         &mut self,
         alloc: Global,
@@ -50,8 +51,8 @@ impl<N: Nand> OngoingDie<N> {
     ///
     /// The refusals are those of `ask`, of which the first that stands is answered, and the die stands as it did; but that
     /// `Plan` has the causes of [`PlannedDie::ask_all`](planned_die::PlannedDie::ask_all), without `DieStopped` and
-    /// `LifeEnd`: up to the task's `work` operations may be asked for. `WaitsAlready` is answered where it would wait, and
-    /// an ask of the task does, for a job or for a burst. It takes no memory.
+    /// `LifeEnd`: up to the task's `work` operations may be asked for. `WaitsAlready` is answered where an ask of the task
+    /// waits, for a job or for a burst. It takes no memory.
     pub fn ask_all(
         &mut self,
         alloc: Global,
@@ -85,6 +86,9 @@ impl<N: Nand> OngoingDie<N> {
         }
         a_die_goes_on_by_itself();
         let own = task.0 as usize;
+        if is_waiting(&self.waiting, own) {
+            return Err(why_not(&mut self.die, kind, task, ops));
+        }
         let deadline = u64::from(deadline_of(self.die.terms(), own));
         match ask_die(&mut self.die, alloc, caller, kind, task, ops) {
             Ok(burst) => {
@@ -101,11 +105,8 @@ impl<N: Nand> OngoingDie<N> {
                     AskRefusal::LifeEnd => {}
                     _ => return Err(AskStop::Plan(refusal)),
                 }
-                if self.waiting[own].waits {
-                    return Err(AskStop::WaitsAlready);
-                }
-                keep_waiting(&mut self.waiting, own, caller, ops);
                 let release = self.die.first() + u64::from(self.die.life());
+                keep_waiting(&mut self.waiting, own, caller, ops, release);
                 Ok(Taken::Waits {
                     release,
                     due: release + deadline,

@@ -14,7 +14,7 @@ ghost use Rattle.ongoing_die.specs.BegunSlots.{HasBegunSlot, stopped_in};
 
 use crate::ongoing_die::OngoingDie;
 use crate::refusals::{LifeStop, SlotStop};
-use crate::waiting::Waiting;
+use crate::waiting::{Waiting, ops_waiting};
 use flash_die::Nand;
 use ongoing_log::a_die_goes_on_by_itself;
 use planned_die::PlannedDie;
@@ -31,12 +31,13 @@ use std::marker::Model;
 pub struct BegunDie<N: Nand> {
     die: PlannedDie<N>,
     waiting: Vec<Waiting>,
+    quiet: u64,
     caller: u32,
 }
 
 impl<N: Nand> Model for BegunDie<N> {
     ghost use Rattle.std.specs.Prelude.{map};
-    ghost use Rattle.ongoing_die.specs.Standing.{HaveRoom, ask_in};
+    ghost use Rattle.ongoing_die.specs.Standing.{HaveRoom, IsQuietBefore, ask_in};
     ghost use Rattle.ongoing_die.specs.BegunSlots.{BegunParts, IsBegunDie};
 
     ghost Value = { BegunParts N };
@@ -49,7 +50,8 @@ impl<N: Nand> Model for BegunDie<N> {
     ghost invariant = { λ b. IsBegunDie {N = N} (record {
       parts = record { die = b.die; waiting = map ask_in b.waiting.items };
       caller = b.caller;
-    }) × HaveRoom b.die.terms b.waiting.items };
+    }) × HaveRoom b.die.terms b.waiting.items
+        × IsQuietBefore {N = N} b.quiet (record { die = b.die; waiting = map ask_in b.waiting.items }) };
 }
 
 /// A die that begins no slot, and why.
@@ -67,8 +69,8 @@ pub struct CarriedSlot<N: Nand> {
 }
 
 impl<N: Nand> OngoingDie<N> {
-    /// Begins the present slot: where a life has ended the next one begins, and the collections come that the plan has in the
-    /// slot. It is carried out by [`BegunDie::carry_out`]; both together are a [`slot`](OngoingDie::slot).
+    /// Begins the present slot: where a life has ended the next one begins, what waits for the slot enters, and the collections
+    /// come that the plan has in it. It is carried out by [`BegunDie::carry_out`]; both together are a [`slot`](OngoingDie::slot).
     ///
     /// Refused where the whole die carries out no slot, as [`LifeStop`] lists the causes; then the die is handed back as it was.
     /// There is no other refusal: it takes no memory.
@@ -84,7 +86,11 @@ impl<N: Nand> OngoingDie<N> {
             Ok(()) => {}
             Err(stop) => return Err(NotBegun { die: ongoing, stop }),
         }
-        let OngoingDie { mut die, waiting } = ongoing;
+        let OngoingDie {
+            mut die,
+            waiting,
+            quiet,
+        } = ongoing;
         match die.enter_collections(alloc, caller) {
             Ok(()) => {}
             // The die runs, and its life goes on.
@@ -93,6 +99,7 @@ impl<N: Nand> OngoingDie<N> {
         Ok(BegunDie {
             die,
             waiting,
+            quiet,
             caller,
         })
     }
@@ -124,16 +131,25 @@ impl<N: Nand> BegunDie<N> {
         let BegunDie {
             mut die,
             waiting,
+            quiet,
             caller,
         } = self;
         a_die_goes_on_by_itself();
         match die.slot(alloc, caller) {
             Ok(reply) => CarriedSlot {
-                die: OngoingDie { die, waiting },
+                die: OngoingDie {
+                    die,
+                    waiting,
+                    quiet,
+                },
                 said: Ok(reply),
             },
             Err(_) => CarriedSlot {
-                die: OngoingDie { die, waiting },
+                die: OngoingDie {
+                    die,
+                    waiting,
+                    quiet,
+                },
                 said: Err(SlotStop::DeviceFault),
             },
         }
@@ -149,10 +165,15 @@ impl<N: Nand> BegunDie<N> {
         let BegunDie {
             mut die,
             waiting,
+            quiet,
             caller: _,
         } = self;
         die.stop();
-        OngoingDie { die, waiting }
+        OngoingDie {
+            die,
+            waiting,
+            quiet,
+        }
     }
 
     /// The die below, in the life of its log: the slot's collections are in that, and the slot isn't.
@@ -162,14 +183,11 @@ impl<N: Nand> BegunDie<N> {
         &self.die
     }
 
-    /// The operations of the task's ask that waits for the next life, if one does.
+    /// The operations of the task's ask that waits, for the next life or for a slot that was asked for, if one does.
     pub fn waiting(&self, task: TaskNo) -> Option<&[Op]>
         ensures { option_map (λ ops. ops.now) result ≡ ops_of (slice_index_or self.now.parts.waiting task None) }
     {
-        match self.waiting.get(task.0 as usize) {
-            Some(own) if own.waits => Some(own.ops.as_slice()),
-            _ => None,
-        }
+        ops_waiting(&self.waiting, task.0 as usize)
     }
 
     /// Who began the slot.

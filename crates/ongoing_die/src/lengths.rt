@@ -16,6 +16,16 @@ pub(crate) fn deadline_of(terms: &Terms, task: usize) -> u32
     }
 }
 
+/// In how many slots what the task asks for counts; of a task that the plan doesn't have it is 0.
+pub(crate) fn period_of(terms: &Terms, task: usize) -> u32
+    ensures { result ≡ (terms_of terms.now task).period }
+{
+    match terms.tasks.get(task) {
+        Some(own) => own.period,
+        None => 0,
+    }
+}
+
 /// The most operations that the task may ask for at once; of a task that the plan doesn't have it is 0.
 pub(crate) fn work_of(terms: &Terms, task: usize) -> u32
     ensures { result ≡ (terms_of terms.now task).work }

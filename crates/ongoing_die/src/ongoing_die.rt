@@ -15,7 +15,7 @@ ghost use Rattle.ongoing_die.specs.OngoingPlans.{RefusesOngoing, IsLongestLife};
 
 use crate::lengths::first_too_late;
 use crate::refusals::OngoingRefusal;
-use crate::waiting::{Waiting, none_waiting};
+use crate::waiting::{Waiting, none_waiting, ops_waiting};
 use demand_rules::Terms;
 use flash_die::Nand;
 use ongoing_log::a_die_goes_on_by_itself;
@@ -25,20 +25,22 @@ use std::alloc::Global;
 use std::marker::Model;
 
 /// A die that keeps its plan itself and goes on by itself: where a life ends the next one begins, and an ask whose job
-/// would be due after the end waits for it, one of each task. Nobody renews it.
+/// would be due after the end waits for it, or an ask for a later slot for that one, one of each task. Nobody renews it.
 ///
 /// Contracts see the die of the present life and what waits. Which lives it had before isn't kept: `StandsAs` says where
 /// it began and what stands of it over all its lives, and each call is a move of that.
 #[derive(Drop)]
 pub struct OngoingDie<N: Nand> {
     pub(crate) die: PlannedDie<N>,
-    /// By task the ask that waits for the next life.
+    /// By task the ask that waits.
     pub(crate) waiting: Vec<Waiting>,
+    /// Before this slot of the clock a slot begins with nothing: the life goes on, and nothing waits for it.
+    pub(crate) quiet: u64,
 }
 
 impl<N: Nand> Model for OngoingDie<N> {
     ghost use Rattle.std.specs.Prelude.{map};
-    ghost use Rattle.ongoing_die.specs.Standing.{OngoingParts, IsOngoingDie, HaveRoom, ask_in};
+    ghost use Rattle.ongoing_die.specs.Standing.{OngoingParts, IsOngoingDie, IsQuietBefore, HaveRoom, ask_in};
 
     ghost Value = { OngoingParts N };
 
@@ -47,7 +49,8 @@ impl<N: Nand> Model for OngoingDie<N> {
     ghost invariant = { λ d. IsOngoingDie {N = N} (record {
       die = d.die;
       waiting = map ask_in d.waiting.items;
-    }) × HaveRoom d.die.terms d.waiting.items };
+    }) × HaveRoom d.die.terms d.waiting.items
+        × IsQuietBefore {N = N} d.quiet (record { die = d.die; waiting = map ask_in d.waiting.items }) };
 }
 
 impl<N: Nand> OngoingDie<N> {
@@ -92,7 +95,11 @@ impl<N: Nand> OngoingDie<N> {
             Ok(waiting) => waiting,
             Err(_) => return Err(OngoingRefusal::Plan(PlanRefusal::Die(Refusal::NoMemory))),
         };
-        Ok(OngoingDie { die, waiting })
+        Ok(OngoingDie {
+            die,
+            waiting,
+            quiet: 0,
+        })
     }
 
     /// It goes on by itself: from its first start on it stands somehow over all its lives, whether each ended by itself, by a
@@ -124,14 +131,11 @@ impl<N: Nand> OngoingDie<N> {
         self.die.first() + u64::from(self.die.now())
     }
 
-    /// The operations of the task's ask that waits for the next life, if one does.
+    /// The operations of the task's ask that waits, for the next life or for a slot that was asked for, if one does.
     pub fn waiting(&self, task: TaskNo) -> Option<&[Op]>
         ensures { option_map (λ ops. ops.now) result ≡ ops_of (slice_index_or self.now.waiting task None) }
     {
-        match self.waiting.get(task.0 as usize) {
-            Some(own) if own.waits => Some(own.ops.as_slice()),
-            _ => None,
-        }
+        ops_waiting(&self.waiting, task.0 as usize)
     }
 
     /// Memory is reserved for all that is left of the present life, and lasts for each later one. This computes nothing;

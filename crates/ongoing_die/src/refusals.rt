@@ -31,7 +31,24 @@ pub enum AskStop {
     Ended(LifeStop),
     /// The task's own part of the plan refuses it.
     Plan(AskRefusal),
-    /// Its job would be due after the life, and an ask of the task waits for the next one already.
+    /// An ask of the task waits already: for the next life, since its jobs would have been due after the present one, or for
+    /// a slot that was asked for.
+    WaitsAlready,
+}
+
+/// Why an ask for a slot of the clock is refused, in the order in which the causes are looked at.
+#[derive(Clone, Copy, PartialEq, Eq, Debug, Drop)]
+pub enum AskAtStop {
+    /// The whole die takes none.
+    Ended(LifeStop),
+    /// The slot is over.
+    Past,
+    /// The task's own part of the plan refuses it, as at that slot.
+    Plan(AskRefusal),
+    /// The slot lies ahead by the task's period or more, or after the first slot of the next life: the last slot for which
+    /// the task may ask now.
+    TooFarAhead { last: u64 },
+    /// An ask of the task waits already.
     WaitsAlready,
 }
 
@@ -50,7 +67,7 @@ pub enum OngoingCheckpointRefusal {
     /// As none is taken of a die: it can't be renewed, since a fault has stopped it, work waits or a block is worn out; or
     /// there is no memory.
     Die(CheckpointRefusal),
-    /// An ask of this task waits for the next life, of the first such task.
+    /// An ask of this task waits, of the first such task.
     AskWaits { task: u32 },
 }
 

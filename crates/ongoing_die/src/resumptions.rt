@@ -175,6 +175,10 @@ impl<N: Nand> OngoingDie<N> {
                 });
             }
         };
-        Ok(OngoingDie { die, waiting })
+        Ok(OngoingDie {
+            die,
+            waiting,
+            quiet: 0,
+        })
     }
 }

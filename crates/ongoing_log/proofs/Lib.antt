@@ -1,3 +1,6 @@
 mod Passing
-mod GoingOn
+mod Late
+pub mod WhatWaits
+pub mod GoingOn
 mod OngoingAnswers
+mod Taken

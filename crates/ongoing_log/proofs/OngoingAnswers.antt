@@ -1,58 +1,64 @@
--- What a task of a die that goes on by itself is answered tells from the slots and its own asks alone.
-use Rattle.std.proofs.Common.{◌≡◌, ◌≢◌, ℕ, zero, suc, ◌+◌, ◌<◌, ◌==◌, Bool, true, false, cond, if◌then◌else◌, List, [], ◌∷◌, length, map, get_or}
-use Rattle.std.proofs.Common.{Option, Some, None, refl, ap, sym, ◌∙◌, inl, inr, ◌⊎◌, arith}
+-- What a task of a die that goes on by itself is answered tells from the slots and its own asks alone, also where some are for
+-- slots ahead.
+use Rattle.std.proofs.Common.{◌≡◌, ◌≢◌, ℕ, ◌+◌, ◌-◌, ◌<◌, ◌==◌, nat_lt, Bool, true, false, cond, if◌then◌else◌, List, [], ◌∷◌, ◌++◌, length, map, get_or}
+use Rattle.std.proofs.Common.{Option, Some, None, refl, ap, sym, ◌∙◌, arith}
 use Rattle.std.proofs.lemmas.Bool.{eqb-true}
 use Rattle.std.proofs.lemmas.Bool.Decides.{nat_tests}
 use Rattle.std.proofs.lemmas.List.{get_or-set_other, get_or-set_same}
 use Rattle.slot_types.specs.declared.events.Op.{Op}
 use Rattle.slot_types.specs.declared.plans.DiePlan.{DiePlan}
+use Rattle.demand_rules.specs.declared.terms.TaskTerms.{TaskTerms}
 use Rattle.demand_rules.specs.declared.terms.Terms.{Terms}
 use Rattle.demand_rules.specs.Demand.{terms_of}
 use Rattle.die_log.specs.Model.Log.{Log, now}
 use Rattle.die_log.specs.Model.Start.{Start}
 use Rattle.die_log.specs.Model.Lives.{Lives, all_slots}
-use Rattle.die_log.specs.Model.Opening.{renewed_start}
 use Rattle.planned_log.specs.declared.ask_kinds.AskKind.{AskKind}
-use Rattle.planned_log.specs.declared.ask_kinds.AskKind.TheVariants as kinds
 use Rattle.planned_log.specs.declared.refusals.AskRefusal.{AskRefusal}
 use Rattle.planned_log.specs.declared.refusals.AskRefusal.TheVariants as because
-use Rattle.planned_log.specs.Asks.{Asked, asked_by, burst_refusal}
+use Rattle.planned_log.specs.Asks.{Asked, asked_by}
 use Rattle.planned_log.specs.AskKinds.{refusal_as, jobs_as, with_jobs, with_asked}
 use Rattle.planned_log.specs.Bursts.{jobs_of}
-use Rattle.planned_log.specs.Laws.{IsKept, Seen, Asks, Slots, seen_by}
-use Rattle.planned_log.specs.Moves.{Move, Ask, Slot, after_move, after_moves}
+use Rattle.planned_log.specs.Laws.{Seen, Asks, Slots, seen_by}
+use Rattle.planned_log.specs.Moves.{Move, Ask, Slot}
+use Rattle.planned_log.proofs.Answered.{refused_now, other_ask, own_ask}
 use Rattle.ongoing_log.specs.PastLives.{counted}
-use Rattle.ongoing_log.specs.Ongoing.{WaitingAsk, Ongoing, waiting_of, ops_of, start_of, Answer, Refused, Enters, Waits, WaitsAlready}
-use Rattle.ongoing_log.specs.Ongoing.{answer_by, answer_to, after_answer, answers_to, asks_of, next_life, ongoing_after_move, AreLongEnough, IsOngoing}
-use Rattle.planned_log.proofs.Answered.{then_asked, refused_now, other_ask, own_ask}
-use Rattle.planned_log.proofs.Moving.{move_keeps}
+use Rattle.ongoing_log.specs.Ongoing.{WaitingAsk, Ongoing, waiting_of, awaited_of, start_of, clock_of, Answer, Refused, Enters, Waits, WaitsAlready, Past, TooFarAhead}
+use Rattle.ongoing_log.specs.Ongoing.{unless_waits, answer_by, answer_to, after_answer, answers_to, due_at, left_at, let_in, next_life, living_on, carried, ongoing_after_move}
+use Rattle.ongoing_log.specs.Ongoing.{AreLongEnough, IsOngoing}
+use Rattle.ongoing_log.specs.Ahead.{last_slot, wait_until, refusal_at, answer_ahead, answer_at, AheadMove, Now, AskAt, ahead_after_move, ahead_answer_to, ahead_answers_to}
+use Rattle.ongoing_log.specs.Ahead.{AheadSeen, Sees, AsksAt, ahead_seen_of, ahead_seen_by}
 use Rattle.ongoing_log.proofs.Passing.{plan_stays}
-use Rattle.ongoing_log.proofs.GoingOn.{seen_of, own_seen, slot_log, slot_now, slot_asked, next_clock, begins, enters_next, at_first, move_goes_on, known_task, as_burst}
+use Rattle.ongoing_log.proofs.WhatWaits.{left_reads, none_due}
+use Rattle.ongoing_log.proofs.GoingOn.{Begins, Sound, sound_now, sound_at, known_waits, let_in_now, asks_none, asks_here, slot_log, slot_now, slot_asked, next_clock, slot_begins, ahead_goes_on}
 
 -- By what the task sees
 
--- what the answers to a task depend on: where the present life began on the clock, its slot, what the task asked for,
--- and the operations of its ask that waits
+-- what the answers to a task depend on: where the present life began on the clock, its slot, what the task asked for, and the
+-- slot and the operations of its ask that waits
 record Known : Type 0 where
   pub first : ℕ
   pub slot : ℕ
   pub asked : List Asked
-  pub ops : Option (List Op)
+  pub awaits : Option (ℕ × List Op)
 
-abbrev late_told : (first life deadline : ℕ) → Option (List Op) → Answer
-late_told first life deadline None = Waits (first + life) (first + life + deadline)
-late_told first life deadline (Some ops) = WaitsAlready
+abbrev unless_known : Option (ℕ × List Op) → Answer → Answer
+unless_known None answer = answer
+unless_known (Some a) answer = WaitsAlready
 
-abbrev told_by : (first slot life deadline : ℕ) → Option (List Op) → Option AskRefusal → Answer
-told_by first slot life deadline ops None = Enters (first + slot) (first + slot + deadline)
-told_by first slot life deadline ops (Some because.LifeEnd) = late_told first life deadline ops
-told_by first slot life deadline ops (Some refusal) = Refused refusal
+unless_is : (v : Option WaitingAsk) (answer : Answer) → unless_waits v answer ≡ unless_known (awaited_of v) answer
+unless_is None answer = refl
+unless_is (Some w) answer = refl
+
+abbrev told_by : (first slot life deadline : ℕ) → Option (ℕ × List Op) → Option AskRefusal → Answer
+told_by first slot life deadline v None = unless_known v (Enters (first + slot) (first + slot + deadline))
+told_by first slot life deadline v (Some because.LifeEnd) = unless_known v (Waits (first + life) (first + life + deadline))
+told_by first slot life deadline v (Some refusal) = Refused refusal
 
 told_is : (first slot life deadline : ℕ) (v : Option WaitingAsk) (o : Option AskRefusal)
-    → answer_by first slot life deadline v o ≡ told_by first slot life deadline (ops_of v) o
-told_is first slot life deadline v None = refl
-told_is first slot life deadline None (Some because.LifeEnd) = refl
-told_is first slot life deadline (Some w) (Some because.LifeEnd) = refl
+    → answer_by first slot life deadline v o ≡ told_by first slot life deadline (awaited_of v) o
+told_is first slot life deadline v None = unless_is v (Enters (first + slot) (first + slot + deadline))
+told_is first slot life deadline v (Some because.LifeEnd) = unless_is v (Waits (first + life) (first + life + deadline))
 told_is first slot life deadline v (Some because.DieStopped) = refl
 told_is first slot life deadline v (Some because.UnknownTask) = refl
 told_is first slot life deadline v (Some because.EmptyJob) = refl
@@ -61,86 +67,65 @@ told_is first slot life deadline v (Some (because.BadPage page)) = refl
 told_is first slot life deadline v (Some (because.TooManyWrites most)) = refl
 told_is first slot life deadline v (Some (because.TooSoon next)) = refl
 
--- what waits after an ask that was refused so
-abbrev late_waits : List Op → Option (List Op) → Option (List Op)
-late_waits ops None = Some ops
-late_waits ops (Some before) = Some before
+abbrev wait_told : (at last deadline : ℕ) → Option (ℕ × List Op) → (release : ℕ) → Answer
+wait_told at last deadline v release = cond (nat_lt last at) (TooFarAhead last) (unless_known v (Waits release (release + deadline)))
 
-abbrev then_waits : List Op → Option (List Op) → Option AskRefusal → Option (List Op)
-then_waits ops before (Some because.LifeEnd) = late_waits ops before
-then_waits ops before _ = before
+wait_is : (at last deadline : ℕ) (v : Option WaitingAsk) (release : ℕ) → wait_until at last deadline v release ≡ wait_told at last deadline (awaited_of v) release
+wait_is at last deadline v release = ap (cond (nat_lt last at) (TooFarAhead last)) (unless_is v (Waits release (release + deadline)))
+
+abbrev told_ahead : (at last first life deadline : ℕ) → Option (ℕ × List Op) → Option AskRefusal → Answer
+told_ahead at last first life deadline v None = wait_told at last deadline v at
+told_ahead at last first life deadline v (Some because.LifeEnd) = wait_told at last deadline v (first + life)
+told_ahead at last first life deadline v (Some refusal) = Refused refusal
+
+ahead_is : (at last first life deadline : ℕ) (v : Option WaitingAsk) (o : Option AskRefusal)
+    → answer_ahead at last first life deadline v o ≡ told_ahead at last first life deadline (awaited_of v) o
+ahead_is at last first life deadline v None = wait_is at last deadline v at
+ahead_is at last first life deadline v (Some because.LifeEnd) = wait_is at last deadline v (first + life)
+ahead_is at last first life deadline v (Some because.DieStopped) = refl
+ahead_is at last first life deadline v (Some because.UnknownTask) = refl
+ahead_is at last first life deadline v (Some because.EmptyJob) = refl
+ahead_is at last first life deadline v (Some (because.TooManyOps most)) = refl
+ahead_is at last first life deadline v (Some (because.BadPage page)) = refl
+ahead_is at last first life deadline v (Some (because.TooManyWrites most)) = refl
+ahead_is at last first life deadline v (Some (because.TooSoon next)) = refl
+
+-- what waits for the slot enters
+abbrev entered_known : Known → Option (ℕ × List Op) → Known
+entered_known s None = s
+entered_known s (Some a) =
+    cond (a.0 == s.first + s.slot) (record s { asked = with_asked (s.first + s.slot) (jobs_of a.1) s.asked; awaits = None }) s
 
 module _ (plan : DiePlan) (terms : Terms) (life task : ℕ) where
-  abbrev refusal_in : Known → AskKind → List Op → Option AskRefusal
-  refusal_in s kind ops = refused_now plan terms life s.first task kind s.slot s.asked ops
+  abbrev own_terms : TaskTerms
+  own_terms = terms_of terms task
 
-  abbrev after_own : Known → AskKind → List Op → Option AskRefusal → Known
-  after_own s kind ops o = record s {
-    asked = then_asked (s.first + s.slot) (jobs_as kind ops) s.asked o;
-    ops = then_waits ops s.ops o;
-  }
+  abbrev answer_in : Known → AskKind → List Op → Answer
+  answer_in s kind ops = told_by s.first s.slot life own_terms.deadline s.awaits (refused_now plan terms life s.first task kind s.slot s.asked ops)
 
-  -- what was asked for where the next life begins
-  abbrev with_waiting : ℕ → Option (List Op) → List Asked → List Asked
-  with_waiting clock None asked = asked
-  with_waiting clock (Some ops) asked = with_asked (clock + 0) (jobs_of ops) asked
+  abbrev answer_in_at : Known → AskKind → List Op → ℕ → Answer
+  answer_in_at s kind ops at =
+      cond (nat_lt at (s.first + s.slot)) Past (cond (at == s.first + s.slot) (answer_in s kind ops)
+      (told_ahead at (last_slot (s.first + s.slot) own_terms.period s.first life) s.first life own_terms.deadline s.awaits
+      (refused_now plan terms life s.first task kind (at - s.first) s.asked ops)))
 
-  abbrev after_end : Known → Known
-  after_end s = record {
-    first = s.first + (s.slot + 1);
-    slot = 0;
-    asked = with_waiting (s.first + (s.slot + 1)) s.ops s.asked;
-    ops = None;
-  }
+  abbrev after_told : Known → AskKind → List Op → Answer → Known
+  after_told s kind ops (Enters release due) = record s { asked = with_asked (s.first + s.slot) (jobs_as kind ops) s.asked }
+  after_told s kind ops (Waits release due) = record s { awaits = Some (release, ops) }
+  after_told s kind ops _ = s
 
-  abbrev after_one : Known → Known
-  after_one s = if s.slot + 1 == life then after_end s else record s { slot = s.slot + 1 }
+  abbrev begun_known : Known → Known
+  begun_known s = cond (s.slot + 1 == life) (record s { first = s.first + (s.slot + 1); slot = 0 }) (record s { slot = s.slot + 1 })
 
-  abbrev known_answers : Known → List Seen → List Answer
+  abbrev after_slot : Known → Known
+  after_slot s = entered_known (begun_known s) (begun_known s).awaits
+
+  abbrev known_answers : Known → List AheadSeen → List Answer
   known_answers s [] = []
-  known_answers s (Asks kind ops ∷ rest) =
-      told_by s.first s.slot life (terms_of terms task).deadline s.ops (refusal_in s kind ops)
-      ∷ known_answers (after_own s kind ops (refusal_in s kind ops)) rest
-  known_answers s (Slots ∷ rest) = known_answers (after_one s) rest
-
--- Asks where a life begins
-
-module _ (start : Start) (terms : Terms) (earlier : Lives) (life task : ℕ) where
-  abbrev asked_seen : ℕ → List Asked → List Seen → List Asked
-  asked_seen slot asked [] = asked
-  asked_seen slot asked (Asks kind ops ∷ rest) =
-      asked_seen slot (then_asked (all_slots earlier + slot) (jobs_as kind ops) asked
-      (refused_now start.plan terms life (all_slots earlier) task kind slot asked ops)) rest
-  asked_seen slot asked (Slots ∷ rest) = asked_seen slot asked rest
-
-  asks_asked : (ws : List (Option WaitingAsk)) (n : ℕ) (log : Log) → IsKept start terms earlier life 0 log
-      → asked_by task (after_moves start terms earlier life log (asks_of n ws) ∷ earlier)
-      ≡ asked_seen (now log) (asked_by task (log ∷ earlier)) (seen_by task (asks_of n ws))
-  asks_asked [] n log k = refl
-  asks_asked (None ∷ ws) n log k = asks_asked ws (n + 1) log k
-  asks_asked (Some w ∷ ws) n log k =
-      by_test (asks_asked ws (n + 1) next (move_keeps start terms earlier life log (Ask kinds.Burst w.caller n w.ops) k)) (n == task) refl
-    where
-      next : Log
-      next = after_move start terms earlier life log (Ask kinds.Burst w.caller n w.ops)
-
-      by_test : asked_by task (after_moves start terms earlier life next (asks_of (n + 1) ws) ∷ earlier)
-          ≡ asked_seen (now next) (asked_by task (next ∷ earlier)) (seen_by task (asks_of (n + 1) ws))
-          → (b : Bool) → (n == task) ≡ b
-          → asked_by task (after_moves start terms earlier life next (asks_of (n + 1) ws) ∷ earlier)
-          ≡ asked_seen (now log) (asked_by task (log ∷ earlier)) (cond b (Asks kinds.Burst w.ops ∷ seen_by task (asks_of (n + 1) ws)) (seen_by task (asks_of (n + 1) ws)))
-      by_test rest false e =
-          let o = other_ask start terms earlier life task log k kinds.Burst w.caller n w.ops e (burst_refusal start.plan terms life earlier log n w.ops) refl in
-          rest ∙ (ap (λ m. asked_seen m (asked_by task (next ∷ earlier)) (seen_by task (asks_of (n + 1) ws))) o.0
-          ∙ ap (λ (l : List Asked). asked_seen (now log) l (seen_by task (asks_of (n + 1) ws))) o.1)
-      by_test rest true e =
-          let o = own_ask start terms earlier life task log k kinds.Burst w.caller n w.ops e (burst_refusal start.plan terms life earlier log n w.ops) refl in
-          let same : burst_refusal start.plan terms life earlier log n w.ops ≡ burst_refusal start.plan terms life earlier log task w.ops =
-          ap (λ i. burst_refusal start.plan terms life earlier log i w.ops) (eqb-true n task e) in
-          rest ∙ (ap (λ m. asked_seen m (asked_by task (next ∷ earlier)) (seen_by task (asks_of (n + 1) ws))) o.0
-          ∙ (ap (λ (l : List Asked). asked_seen (now log) l (seen_by task (asks_of (n + 1) ws))) o.1
-          ∙ ap (λ (r : Option AskRefusal). asked_seen (now log) (then_asked (all_slots earlier + now log) (jobs_of w.ops) (asked_by task (log ∷ earlier)) r)
-          (seen_by task (asks_of (n + 1) ws))) same))
+  known_answers s (Sees (Asks kind ops) ∷ rest) = answer_in s kind ops ∷ known_answers (after_told s kind ops (answer_in s kind ops)) rest
+  known_answers s (Sees Slots ∷ rest) = known_answers (after_slot s) rest
+  known_answers s (AsksAt kind ops at ∷ rest) =
+      answer_in_at s kind ops at ∷ known_answers (after_told s kind ops (answer_in_at s kind ops at)) rest
 
 -- A die
 
@@ -150,270 +135,239 @@ module _ (first : Start) (terms : Terms) (life task : ℕ) (long : AreLongEnough
     first = all_slots (counted d.earlier);
     slot = now d.log;
     asked = asked_by task (d.log ∷ counted d.earlier);
-    ops = ops_of (waiting_of d task);
+    awaits = awaited_of (waiting_of d task);
   }
+
+  -- what waits enters
+  let_in_known : (n : Ongoing) → Begins first terms life n → known_of (let_in first terms life n) ≡ entered_known (known_of n) (awaited_of (waiting_of n task))
+  let_in_known n b = by (waiting_of n task) refl
+    where
+      clock : ℕ
+      clock = clock_of n
+
+      left_is : (v : Option WaitingAsk) → left_at clock (waiting_of n task) ≡ v
+          → awaited_of (waiting_of (let_in first terms life n) task) ≡ awaited_of v
+      left_is v e = ap awaited_of (left_reads clock n.waiting task ∙ e)
+
+      here : Option (ℕ × List Op) → List Asked → Known
+      here awaits asked = record { first = all_slots (counted n.earlier); slot = now n.log; asked = asked; awaits = awaits }
+
+      then_is : (v : Option WaitingAsk) (asked : List Asked) → left_at clock (waiting_of n task) ≡ v
+          → asked_by task ((let_in first terms life n).log ∷ counted n.earlier) ≡ asked
+          → known_of (let_in first terms life n) ≡ here (awaited_of v) asked
+      then_is v asked left same = λ i. record {
+        first = all_slots (counted n.earlier);
+        slot = let_in_now first terms life n b i;
+        asked = same i;
+        awaits = left_is v left i;
+      }
+
+      by_slot : (w : WaitingAsk) → waiting_of n task ≡ Some w → (t : Bool) → (w.until == clock) ≡ t
+          → known_of (let_in first terms life n)
+          ≡ cond t (here None (with_asked clock (jobs_of w.ops) (asked_by task (n.log ∷ counted n.earlier)))) (known_of n)
+      by_slot w is true e =
+          then_is None (with_asked clock (jobs_of w.ops) (asked_by task (n.log ∷ counted n.earlier))) (ap (left_at clock) is ∙ rw e refl)
+          (asks_here first terms life n b task w is (sym (eqb-true w.until clock e)))
+      by_slot w is false e =
+          then_is (waiting_of n task) (asked_by task (n.log ∷ counted n.earlier)) (ap (left_at clock) is ∙ (rw e refl ∙ sym is))
+          (asks_none first terms life n b task (none_due clock (waiting_of n task) w is e))
+
+      by : (v : Option WaitingAsk) → waiting_of n task ≡ v → known_of (let_in first terms life n) ≡ entered_known (known_of n) (awaited_of v)
+      by None is = then_is (waiting_of n task) (asked_by task (n.log ∷ counted n.earlier)) (ap (left_at clock) is ∙ sym is)
+          (asks_none first terms life n b task (ap (λ (v : Option WaitingAsk). due_of v) is))
+        where
+          due_of : Option WaitingAsk → Option WaitingAsk
+          due_of v = due_at clock v
+      by (Some w) is = by_slot w is (w.until == clock) refl
 
   module _ (d : Ongoing) (k : IsOngoing first terms life d) where
     abbrev start : Start
     start = start_of first d
 
-    abbrev deadline : ℕ → ℕ
-    deadline other = (terms_of terms other).deadline
-
-    abbrev refuses : AskKind → ℕ → List Op → Option AskRefusal
-    refuses kind other ops = refusal_as kind start.plan terms life (counted d.earlier) d.log other ops
-
     -- another task's ask
-    other_known : (kind : AskKind) (caller other : ℕ) (ops : List Op) → (other == task) ≡ false → (v : Option WaitingAsk) (o : Option AskRefusal) → refuses kind other ops ≡ o
-        → known_of (after_answer first terms d kind caller other ops (answer_by (all_slots (counted d.earlier)) (now d.log) life (deadline other) v o)) ≡ known_of d
-    other_known kind caller other ops away v None e =
-        let o = other_ask start terms (counted d.earlier) life task d.log k.kept kind caller other ops away None e in
-        ap (λ n. record { first = all_slots (counted d.earlier); slot = n; asked = asked_by task (with_jobs start terms d.log caller other (jobs_as kind ops) ∷ counted d.earlier); ops = ops_of (waiting_of d task) }) o.0
-        ∙ ap (λ (l : List Asked). record { first = all_slots (counted d.earlier); slot = now d.log; asked = l; ops = ops_of (waiting_of d task) }) o.1
-    other_known kind caller other ops away None (Some because.LifeEnd) e =
-        ap (λ (w : Option WaitingAsk). record { first = all_slots (counted d.earlier); slot = now d.log; asked = asked_by task (d.log ∷ counted d.earlier); ops = ops_of w })
-        (get_or-set_other d.waiting other task (Some (record { caller = caller; ops = ops })) None (apart away))
+    other_known : (kind : AskKind) (caller other : ℕ) (ops : List Op) (a : Answer) → Sound first terms life d k kind other ops a → (other == task) ≡ false
+        → known_of (after_answer first terms d kind caller other ops a) ≡ known_of d
+    other_known kind caller other ops (Enters release due) s away =
+        let o = other_ask start terms (counted d.earlier) life task d.log k.kept kind caller other ops away None s.1 in
+        λ i. record { first = all_slots (counted d.earlier); slot = o.0 i; asked = o.1 i; awaits = awaited_of (waiting_of d task) }
+    other_known kind caller other ops (Waits release due) s away =
+        ap (λ (v : Option WaitingAsk). record { first = all_slots (counted d.earlier); slot = now d.log; asked = asked_by task (d.log ∷ counted d.earlier); awaits = awaited_of v })
+        (get_or-set_other d.waiting other task (Some (record { caller = caller; ops = ops; until = release })) None apart)
       where
-        apart : (other == task) ≡ false → task ≢ other
-        apart h same = grind (arith, nat_tests, h, same)
-    other_known kind caller other ops away (Some w) (Some because.LifeEnd) e = refl
-    other_known kind caller other ops away v (Some because.DieStopped) e = refl
-    other_known kind caller other ops away v (Some because.UnknownTask) e = refl
-    other_known kind caller other ops away v (Some because.EmptyJob) e = refl
-    other_known kind caller other ops away v (Some (because.TooManyOps most)) e = refl
-    other_known kind caller other ops away v (Some (because.BadPage page)) e = refl
-    other_known kind caller other ops away v (Some (because.TooManyWrites most)) e = refl
-    other_known kind caller other ops away v (Some (because.TooSoon next)) e = refl
+        apart : task ≢ other
+        apart same = grind (arith, nat_tests, away, same)
+    other_known kind caller other ops (Refused refusal) s away = refl
+    other_known kind caller other ops WaitsAlready s away = refl
+    other_known kind caller other ops Past s away = refl
+    other_known kind caller other ops (TooFarAhead last) s away = refl
 
     -- the task's own ask
-    own_known : (kind : AskKind) (caller : ℕ) (ops : List Op) (v : Option WaitingAsk) → waiting_of d task ≡ v → (o : Option AskRefusal) → refuses kind task ops ≡ o
-        → known_of (after_answer first terms d kind caller task ops (answer_by (all_slots (counted d.earlier)) (now d.log) life (deadline task) v o))
-        ≡ after_own start.plan terms life task (known_of d) kind ops o
-    own_known kind caller ops v is None e =
-        let o = own_ask start terms (counted d.earlier) life task d.log k.kept kind caller task ops same None e in
-        ap (λ n. record { first = all_slots (counted d.earlier); slot = n; asked = asked_by task (with_jobs start terms d.log caller task (jobs_as kind ops) ∷ counted d.earlier); ops = ops_of (waiting_of d task) }) o.0
-        ∙ ap (λ (l : List Asked). record { first = all_slots (counted d.earlier); slot = now d.log; asked = l; ops = ops_of (waiting_of d task) }) o.1
+    own_known : (kind : AskKind) (caller : ℕ) (ops : List Op) (a : Answer) → Sound first terms life d k kind task ops a
+        → known_of (after_answer first terms d kind caller task ops a) ≡ after_told start.plan terms life task (known_of d) kind ops a
+    own_known kind caller ops (Enters release due) s =
+        let o = own_ask start terms (counted d.earlier) life task d.log k.kept kind caller task ops same None s.1 in
+        λ i. record { first = all_slots (counted d.earlier); slot = o.0 i; asked = o.1 i; awaits = awaited_of (waiting_of d task) }
       where
         same : (task == task) ≡ true
         same = grind (arith, nat_tests)
-    own_known kind caller ops None is (Some because.LifeEnd) e =
-        ap (λ (w : Option WaitingAsk). record { first = all_slots (counted d.earlier); slot = now d.log; asked = asked_by task (d.log ∷ counted d.earlier); ops = ops_of w })
-        (get_or-set_same d.waiting task (Some (record { caller = caller; ops = ops })) None within)
-        ∙ ap (λ (w : Option WaitingAsk). record { first = all_slots (counted d.earlier); slot = now d.log; asked = asked_by task (d.log ∷ counted d.earlier); ops = late_waits ops (ops_of w) })
-        (sym is)
-      where
-        within : task < length d.waiting
-        within = omega (
-          arith,
-          known_task start.plan terms life task ops (all_slots (counted d.earlier)) (now d.log) (asked_by task (d.log ∷ counted d.earlier))
-              (as_burst start.plan terms life task ops kind (all_slots (counted d.earlier)) (now d.log) (asked_by task (d.log ∷ counted d.earlier)) e),
-          k.tasks,
-        )
-    own_known kind caller ops (Some w) is (Some because.LifeEnd) e =
-        ap (λ (x : Option WaitingAsk). record { first = all_slots (counted d.earlier); slot = now d.log; asked = asked_by task (d.log ∷ counted d.earlier); ops = ops_of x }) is
-        ∙ ap (λ (x : Option WaitingAsk). record { first = all_slots (counted d.earlier); slot = now d.log; asked = asked_by task (d.log ∷ counted d.earlier); ops = late_waits ops (ops_of x) })
-        (sym is)
-    own_known kind caller ops v is (Some because.DieStopped) e = refl
-    own_known kind caller ops v is (Some because.UnknownTask) e = refl
-    own_known kind caller ops v is (Some because.EmptyJob) e = refl
-    own_known kind caller ops v is (Some (because.TooManyOps most)) e = refl
-    own_known kind caller ops v is (Some (because.BadPage page)) e = refl
-    own_known kind caller ops v is (Some (because.TooManyWrites most)) e = refl
-    own_known kind caller ops v is (Some (because.TooSoon next)) e = refl
+    own_known kind caller ops (Waits release due) s =
+        ap (λ (v : Option WaitingAsk). record { first = all_slots (counted d.earlier); slot = now d.log; asked = asked_by task (d.log ∷ counted d.earlier); awaits = awaited_of v })
+        (get_or-set_same d.waiting task (Some (record { caller = caller; ops = ops; until = release })) None
+        (known_waits first terms life d k task (record { caller = caller; ops = ops; until = release }) (s.1 caller)))
+    own_known kind caller ops (Refused refusal) s = refl
+    own_known kind caller ops WaitsAlready s = refl
+    own_known kind caller ops Past s = refl
+    own_known kind caller ops (TooFarAhead last) s = refl
 
     -- a slot
-    abbrev slot_log_of : ℕ → Log
-    slot_log_of caller = slot_log first terms life long d k caller
+    module _ (caller : ℕ) where
+      abbrev begun : Ongoing
+      begun = living_on life (carried first terms life d caller)
 
-    -- what was asked for where the next life begins
-    next_asked : (caller : ℕ) → now (slot_log_of caller) ≡ life
-        → asked_by task (after_moves (renewed_start start (slot_log_of caller)) terms (slot_log_of caller ∷ counted d.earlier) life [] (asks_of 0 d.waiting)
-        ∷ (slot_log_of caller ∷ counted d.earlier))
-        ≡ with_waiting start.plan terms life task (all_slots (slot_log_of caller ∷ counted d.earlier)) (ops_of (waiting_of d task)) (asked_by task (d.log ∷ counted d.earlier))
-    next_asked caller ended =
-        asks_asked next terms (slot_log_of caller ∷ counted d.earlier) life task d.waiting 0 [] (begins first terms life long d k caller ended)
-        ∙ (ap (λ (l : List Seen). asked_seen next terms (slot_log_of caller ∷ counted d.earlier) life task 0 (asked_by task (slot_log_of caller ∷ counted d.earlier)) l) seen
-        ∙ (by_waiting (waiting_of d task) refl
-        ∙ ap (λ (l : List Asked). with_waiting start.plan terms life task (all_slots (slot_log_of caller ∷ counted d.earlier)) (ops_of (waiting_of d task)) l)
-        (slot_asked first terms life long d k caller task)))
-      where
-        next : Start
-        next = renewed_start start (slot_log_of caller)
+      abbrev log : Log
+      log = slot_log first terms life d k caller
 
-        from_first : task ≡ 0 + task
-        from_first = omega arith
+      slot_begun : known_of begun ≡ begun_known start.plan terms life task (known_of d)
+      slot_begun = by (now log == life) ∙ ap (λ n. cond (n == life) (record (known_of d) { first = all_slots (counted d.earlier) + (now d.log + 1); slot = 0 })
+          (record (known_of d) { slot = now d.log + 1 })) (slot_now first terms life d k caller)
+        where
+          by : (b : Bool) → known_of (cond b (next_life (carried first terms life d caller)) (carried first terms life d caller))
+              ≡ cond b (record (known_of d) { first = all_slots (counted d.earlier) + (now d.log + 1); slot = 0 }) (record (known_of d) { slot = now d.log + 1 })
+          by true = λ i. record {
+            first = next_clock first terms life d k caller i;
+            slot = 0;
+            asked = slot_asked first terms life d k caller task i;
+            awaits = awaited_of (waiting_of d task);
+          }
+          by false = λ i. record {
+            first = all_slots (counted d.earlier);
+            slot = slot_now first terms life d k caller i;
+            asked = slot_asked first terms life d k caller task i;
+            awaits = awaited_of (waiting_of d task);
+          }
 
-        seen : seen_by task (asks_of 0 d.waiting) ≡ seen_of (waiting_of d task)
-        seen = ap (λ n. seen_by n (asks_of 0 d.waiting)) from_first ∙ own_seen d.waiting 0 task
+      one_slot : known_of (ongoing_after_move first terms life d (Slot caller)) ≡ after_slot start.plan terms life task (known_of d)
+      one_slot =
+          let_in_known begun (slot_begins first terms life d k long caller)
+          ∙ ap (λ (s : Known). entered_known s s.awaits) slot_begun
 
-        by_waiting : (v : Option WaitingAsk) → waiting_of d task ≡ v
-            → asked_seen next terms (slot_log_of caller ∷ counted d.earlier) life task 0 (asked_by task (slot_log_of caller ∷ counted d.earlier)) (seen_of v)
-            ≡ with_waiting start.plan terms life task (all_slots (slot_log_of caller ∷ counted d.earlier)) (ops_of v) (asked_by task (slot_log_of caller ∷ counted d.earlier))
-        by_waiting None is = refl
-        by_waiting (Some w) is =
-            ap (λ (r : Option AskRefusal). then_asked (all_slots (slot_log_of caller ∷ counted d.earlier) + 0) (jobs_of w.ops)
-            (asked_by task (slot_log_of caller ∷ counted d.earlier)) r)
-            (enters_next first terms life long d k caller task w is)
+    told_here : (kind : AskKind) (ops : List Op) → answer_to first terms life d kind task ops ≡ answer_in start.plan terms life task (known_of d) kind ops
+    told_here kind ops = told_is (all_slots (counted d.earlier)) (now d.log) life (terms_of terms task).deadline (waiting_of d task)
+        (refusal_as kind start.plan terms life (counted d.earlier) d.log task ops)
 
-    none_of : (ws : List (Option WaitingAsk)) (j : ℕ) → get_or (map {B = Option WaitingAsk} (λ v. None) ws) j None ≡ None
-    none_of [] j = refl
-    none_of (v ∷ ws) zero = refl
-    none_of (v ∷ ws) (suc j) = none_of ws j
+    told_at : (kind : AskKind) (ops : List Op) (at : ℕ) → answer_at first terms life d kind task ops at
+        ≡ answer_in_at start.plan terms life task (known_of d) kind ops at
+    told_at kind ops at = λ i. cond (nat_lt at (clock_of d)) Past (cond (at == clock_of d) (told_here kind ops i)
+        (ahead_is at (last_slot (clock_of d) (terms_of terms task).period (all_slots (counted d.earlier)) life) (all_slots (counted d.earlier)) life
+        (terms_of terms task).deadline (waiting_of d task)
+        (refusal_at kind start.plan terms life (counted d.earlier) d.log (at - all_slots (counted d.earlier)) task ops) i))
 
-    slot_known : (caller : ℕ) (b : Bool) → (now (slot_log_of caller) == life) ≡ b
-        → known_of (cond b (next_life first terms life (record d { log = slot_log_of caller })) (record d { log = slot_log_of caller }))
-        ≡ cond b (after_end start.plan terms life task (known_of d)) (record (known_of d) { slot = now d.log + 1 })
-    slot_known caller false e =
-        ap (λ n. record { first = all_slots (counted d.earlier); slot = n; asked = asked_by task (slot_log_of caller ∷ counted d.earlier); ops = ops_of (waiting_of d task) })
-        (slot_now first terms life long d k caller)
-        ∙ ap (λ (l : List Asked). record { first = all_slots (counted d.earlier); slot = now d.log + 1; asked = l; ops = ops_of (waiting_of d task) })
-        (slot_asked first terms life long d k caller task)
-    slot_known caller true e =
-        let ended : now (slot_log_of caller) ≡ life = eqb-true (now (slot_log_of caller)) life e in
-        let earlier : Lives = slot_log_of caller ∷ counted d.earlier in
-        let next : Log = after_moves (renewed_start start (slot_log_of caller)) terms earlier life [] (asks_of 0 d.waiting) in
-        ap (λ (w : Option WaitingAsk). record { first = all_slots earlier; slot = now next; asked = asked_by task (next ∷ earlier); ops = ops_of w }) (none_of d.waiting task)
-        ∙ (ap (λ n. record { first = all_slots earlier; slot = n; asked = asked_by task (next ∷ earlier); ops = None })
-        (at_first first terms life long (renewed_start start (slot_log_of caller)) earlier (asks_of 0 d.waiting) [] (begins first terms life long d k caller ended) 0 d.waiting refl)
-        ∙ (ap (λ (l : List Asked). record { first = all_slots earlier; slot = 0; asked = l; ops = None }) (next_asked caller ended)
-        ∙ ap (λ n. record { first = n; slot = 0; asked = with_waiting start.plan terms life task n (ops_of (waiting_of d task)) (asked_by task (d.log ∷ counted d.earlier)); ops = None })
-        (next_clock first terms life long d k caller)))
-
-    ask_known : (kind : AskKind) (caller other : ℕ) (ops : List Op) → (other == task) ≡ false
-        → known_of (ongoing_after_move first terms life d (Ask kind caller other ops)) ≡ known_of d
-    ask_known kind caller other ops away = other_known kind caller other ops away (waiting_of d other) (refuses kind other ops) refl
-
-    asked_known : (kind : AskKind) (caller : ℕ) (ops : List Op) → known_of (ongoing_after_move first terms life d (Ask kind caller task ops))
-        ≡ after_own start.plan terms life task (known_of d) kind ops (refuses kind task ops)
-    asked_known kind caller ops = own_known kind caller ops (waiting_of d task) refl (refuses kind task ops) refl
-
-    told_here : (kind : AskKind) (ops : List Op) → answer_to first terms life d kind task ops
-        ≡ told_by (all_slots (counted d.earlier)) (now d.log) life (deadline task) (ops_of (waiting_of d task)) (refuses kind task ops)
-    told_here kind ops = told_is (all_slots (counted d.earlier)) (now d.log) life (deadline task) (waiting_of d task) (refuses kind task ops)
-
-    one_slot : (caller : ℕ) → known_of (ongoing_after_move first terms life d (Slot caller)) ≡ after_one start.plan terms life task (known_of d)
-    one_slot caller =
-        slot_known caller (now (slot_log_of caller) == life) refl
-        ∙ ap (λ n. cond (n == life) (after_end start.plan terms life task (known_of d)) (record (known_of d) { slot = now d.log + 1 }))
-        (slot_now first terms life long d k caller)
-
-  abbrev known_told : Known → List Seen → List Answer
+  abbrev known_told : Known → List AheadSeen → List Answer
   known_told s seen = known_answers first.plan terms life task s seen
 
-  pub answers_known : (moves : List Move) (d : Ongoing) → IsOngoing first terms life d
-      → answers_to first terms life task d moves ≡ known_told (known_of d) (seen_by task moves)
+  -- one more ask
+  module _ (d : Ongoing) (k : IsOngoing first terms life d) (kind : AskKind) (caller : ℕ) (ops : List Op) where
+    own_then : (a b : Answer) → Sound first terms life d k kind task ops a → a ≡ b → (rest : List Answer) (seen : List AheadSeen)
+        → rest ≡ known_told (known_of (after_answer first terms d kind caller task ops a)) seen
+        → a ∷ rest ≡ b ∷ known_told (after_told first.plan terms life task (known_of d) kind ops b) seen
+    own_then a b sound same rest seen is =
+        let after : known_of (after_answer first terms d kind caller task ops a) ≡ after_told first.plan terms life task (known_of d) kind ops b =
+        own_known d k kind caller ops a sound ∙ ap (after_told first.plan terms life task (known_of d) kind ops) same in
+        ap (λ (l : List Answer). a ∷ l) (is ∙ ap (λ (s : Known). known_told s seen) after)
+        ∙ ap (λ (x : Answer). x ∷ known_told (after_told first.plan terms life task (known_of d) kind ops b) seen) same
+
+    of_plan : answer_to first terms life d kind task ops ≡ answer_in first.plan terms life task (known_of d) kind ops
+    of_plan = told_here d k kind ops
+        ∙ ap (λ (plan : DiePlan). answer_in plan terms life task (known_of d) kind ops) (plan_stays first life d.earlier k.passed)
+
+    of_plan_at : (at : ℕ) → answer_at first terms life d kind task ops at ≡ answer_in_at first.plan terms life task (known_of d) kind ops at
+    of_plan_at at = told_at d k kind ops at
+        ∙ ap (λ (plan : DiePlan). answer_in_at plan terms life task (known_of d) kind ops at) (plan_stays first life d.earlier k.passed)
+
+  answers_known : (moves : List AheadMove) (d : Ongoing) → IsOngoing first terms life d
+      → ahead_answers_to first terms life task d moves ≡ known_told (known_of d) (ahead_seen_by task moves)
   answers_known [] d k = refl
-  answers_known (Slot caller ∷ moves) d k =
-      answers_known moves (ongoing_after_move first terms life d (Slot caller)) (move_goes_on first terms life long d k (Slot caller))
-      ∙ ap (λ (s : Known). known_told s (seen_by task moves)) (one_slot d k caller)
-  answers_known (Ask kind caller other ops ∷ moves) d k =
-      by_test (answers_known moves next (move_goes_on first terms life long d k (Ask kind caller other ops))) (other == task) refl
+  answers_known (Now (Slot caller) ∷ moves) d k =
+      answers_known moves (ongoing_after_move first terms life d (Slot caller)) (ahead_goes_on first terms life long d k (Now (Slot caller)))
+      ∙ ap (λ (s : Known). known_told s (ahead_seen_by task moves)) (one_slot d k caller)
+  answers_known (Now (Ask kind caller other ops) ∷ moves) d k =
+      by_test (answers_known moves next (ahead_goes_on first terms life long d k (Now (Ask kind caller other ops)))) (other == task) refl
     where
       next : Ongoing
       next = ongoing_after_move first terms life d (Ask kind caller other ops)
 
-      by_test : answers_to first terms life task next moves ≡ known_told (known_of next) (seen_by task moves)
+      by_test : ahead_answers_to first terms life task next moves ≡ known_told (known_of next) (ahead_seen_by task moves)
           → (b : Bool) → (other == task) ≡ b
-          → cond b (answer_to first terms life d kind task ops ∷ answers_to first terms life task next moves) (answers_to first terms life task next moves)
-          ≡ known_told (known_of d) (cond b (Asks kind ops ∷ seen_by task moves) (seen_by task moves))
-      by_test rest false e = rest ∙ ap (λ (s : Known). known_told s (seen_by task moves)) (ask_known d k kind caller other ops e)
+          → cond b (answer_to first terms life d kind task ops ∷ []) [] ++ ahead_answers_to first terms life task next moves
+          ≡ known_told (known_of d) (map Sees (cond b (Asks kind ops ∷ []) []) ++ ahead_seen_by task moves)
+      by_test rest false e = rest ∙ ap (λ (s : Known). known_told s (ahead_seen_by task moves))
+          (other_known d k kind caller other ops (answer_to first terms life d kind other ops) (sound_now first terms life d k kind other ops) e)
       by_test rest true e =
-          let mine : ongoing_after_move first terms life d (Ask kind caller other ops) ≡ ongoing_after_move first terms life d (Ask kind caller task ops) =
-          ap (λ i. ongoing_after_move first terms life d (Ask kind caller i ops)) (eqb-true other task e) in
-          let after : known_of next ≡ after_own first.plan terms life task (known_of d) kind ops (refusal_in first.plan terms life task (known_of d) kind ops) =
-          ap known_of mine ∙ (asked_known d k kind caller ops ∙ ap (λ (plan : DiePlan). after_own first.plan terms life task (known_of d) kind ops
-          (refusal_in plan terms life task (known_of d) kind ops)) (plan_stays first life d.earlier k.passed)) in
-          let told : answer_to first terms life d kind task ops
-          ≡ told_by (all_slots (counted d.earlier)) (now d.log) life (terms_of terms task).deadline (ops_of (waiting_of d task)) (refusal_in first.plan terms life task (known_of d) kind ops) =
-          told_here d k kind ops ∙ ap (λ (plan : DiePlan). told_by (all_slots (counted d.earlier)) (now d.log) life (terms_of terms task).deadline
-          (ops_of (waiting_of d task)) (refusal_in plan terms life task (known_of d) kind ops)) (plan_stays first life d.earlier k.passed) in
-          ap (λ (a : Answer). a ∷ answers_to first terms life task next moves) told
-          ∙ ap (λ (l : List Answer). told_by (all_slots (counted d.earlier)) (now d.log) life (terms_of terms task).deadline (ops_of (waiting_of d task))
-          (refusal_in first.plan terms life task (known_of d) kind ops) ∷ l)
-          (rest ∙ ap (λ (s : Known). known_told s (seen_by task moves)) after)
-
-  -- what waited is asked for where the next life begins
-  pub waiting_enters : (d : Ongoing) → IsOngoing first terms life d → (caller : ℕ)
-      → now (after_move (start_of first d) terms (counted d.earlier) life d.log (Slot caller)) ≡ life → (w : WaitingAsk) → waiting_of d task ≡ Some w
-      → let e = ongoing_after_move first terms life d (Slot caller) in
-      asked_by task (e.log ∷ counted e.earlier)
-      ≡ with_asked (all_slots (counted e.earlier)) (jobs_of w.ops) (asked_by task (d.log ∷ counted d.earlier))
-  waiting_enters d k caller ended w is = by_test (now (slot_log_of d k caller) == life) same
+          own_then d k kind caller ops (answer_to first terms life d kind task ops) (answer_in first.plan terms life task (known_of d) kind ops)
+          (sound_now first terms life d k kind task ops) (of_plan d k kind caller ops) (ahead_answers_to first terms life task next moves) (ahead_seen_by task moves)
+          (rest ∙ ap (λ i. known_told (known_of (ongoing_after_move first terms life d (Ask kind caller i ops))) (ahead_seen_by task moves)) (eqb-true other task e))
+  answers_known (AskAt kind caller other ops at ∷ moves) d k =
+      by_test (answers_known moves next (ahead_goes_on first terms life long d k (AskAt kind caller other ops at))) (other == task) refl
     where
-      same : (now (slot_log_of d k caller) == life) ≡ true
-      same = grind (arith, nat_tests, ended)
+      next : Ongoing
+      next = ahead_after_move first terms life d (AskAt kind caller other ops at)
 
-      log : Log
-      log = after_move (start_of first d) terms (counted d.earlier) life d.log (Slot caller)
+      by_test : ahead_answers_to first terms life task next moves ≡ known_told (known_of next) (ahead_seen_by task moves)
+          → (b : Bool) → (other == task) ≡ b
+          → cond b (answer_at first terms life d kind task ops at ∷ []) [] ++ ahead_answers_to first terms life task next moves
+          ≡ known_told (known_of d) (cond b (AsksAt kind ops at ∷ []) [] ++ ahead_seen_by task moves)
+      by_test rest false e = rest ∙ ap (λ (s : Known). known_told s (ahead_seen_by task moves))
+          (other_known d k kind caller other ops (answer_at first terms life d kind other ops at) (sound_at first terms life d k kind other ops at) e)
+      by_test rest true e =
+          own_then d k kind caller ops (answer_at first terms life d kind task ops at) (answer_in_at first.plan terms life task (known_of d) kind ops at)
+          (sound_at first terms life d k kind task ops at) (of_plan_at d k kind caller ops at) (ahead_answers_to first terms life task next moves)
+          (ahead_seen_by task moves)
+          (rest ∙ ap (λ i. known_told (known_of (ahead_after_move first terms life d (AskAt kind caller i ops at))) (ahead_seen_by task moves)) (eqb-true other task e))
 
-      by_test : (b : Bool) → b ≡ true
-          → let e = cond b (next_life first terms life (record d { log = log })) (record d { log = log }) in
-          asked_by task (e.log ∷ counted e.earlier)
-          ≡ with_asked (all_slots (counted e.earlier)) (jobs_of w.ops) (asked_by task (d.log ∷ counted d.earlier))
-      by_test false h = absurd cc
-      by_test true h =
-          next_asked d k caller ended
-          ∙ (ap (λ (v : Option WaitingAsk). with_waiting (start_of first d).plan terms life task (all_slots (log ∷ counted d.earlier)) (ops_of v) (asked_by task (d.log ∷ counted d.earlier))) is
-          ∙ ap (λ n. with_asked n (jobs_of w.ops) (asked_by task (d.log ∷ counted d.earlier))) at_first_slot)
-        where
-          at_first_slot : all_slots (log ∷ counted d.earlier) + 0 ≡ all_slots (log ∷ counted d.earlier)
-          at_first_slot = omega arith
-
-  -- what waits is kept, until the life ends
-  ask_stays : (d : Ongoing) (kind : AskKind) (caller other : ℕ) (ops : List Op) (w : WaitingAsk) → waiting_of d task ≡ Some w → (v : Option WaitingAsk)
-      → waiting_of d other ≡ v → (o : Option AskRefusal)
-      → waiting_of (after_answer first terms d kind caller other ops
-      (answer_by (all_slots (counted d.earlier)) (now d.log) life (terms_of terms other).deadline v o)) task ≡ Some w
-  ask_stays d kind caller other ops w is v own None = is
-  ask_stays d kind caller other ops w is None own (Some because.LifeEnd) =
-      get_or-set_other d.waiting other task (Some (record { caller = caller; ops = ops })) None apart ∙ is
+  -- moves that are made now
+  now_answers : (moves : List Move) (d : Ongoing) → answers_to first terms life task d moves ≡ ahead_answers_to first terms life task d (map Now moves)
+  now_answers [] d = refl
+  now_answers (Slot caller ∷ moves) d = now_answers moves (ongoing_after_move first terms life d (Slot caller))
+  now_answers (Ask kind caller other ops ∷ moves) d =
+      by (now_answers moves (ongoing_after_move first terms life d (Ask kind caller other ops))) (other == task)
     where
-      none_some : None ≡ Some w → ⊥
-      none_some e = absurd cc
+      next : Ongoing
+      next = ongoing_after_move first terms life d (Ask kind caller other ops)
 
-      apart : task ≢ other
-      apart same = none_some (sym own ∙ (ap (waiting_of d) (sym same) ∙ is))
-  ask_stays d kind caller other ops w is (Some x) own (Some because.LifeEnd) = is
-  ask_stays d kind caller other ops w is v own (Some because.DieStopped) = is
-  ask_stays d kind caller other ops w is v own (Some because.UnknownTask) = is
-  ask_stays d kind caller other ops w is v own (Some because.EmptyJob) = is
-  ask_stays d kind caller other ops w is v own (Some (because.TooManyOps most)) = is
-  ask_stays d kind caller other ops w is v own (Some (because.BadPage page)) = is
-  ask_stays d kind caller other ops w is v own (Some (because.TooManyWrites most)) = is
-  ask_stays d kind caller other ops w is v own (Some (because.TooSoon next)) = is
+      by : answers_to first terms life task next moves ≡ ahead_answers_to first terms life task next (map Now moves) → (b : Bool)
+          → cond b (answer_to first terms life d kind task ops ∷ answers_to first terms life task next moves) (answers_to first terms life task next moves)
+          ≡ cond b (answer_to first terms life d kind task ops ∷ []) [] ++ ahead_answers_to first terms life task next (map Now moves)
+      by rest true = ap (λ (l : List Answer). answer_to first terms life d kind task ops ∷ l) rest
+      by rest false = rest
 
-  pub waiting_stays : (d : Ongoing) (move : Move) (w : WaitingAsk) → waiting_of d task ≡ Some w
-      → (waiting_of (ongoing_after_move first terms life d move) task ≡ Some w)
-      ⊎ (now (after_move (start_of first d) terms (counted d.earlier) life d.log move) ≡ life)
-  waiting_stays d (Ask kind caller other ops) w is = inl (ask_stays d kind caller other ops w is (waiting_of d other) refl
-      (refusal_as kind (start_of first d).plan terms life (counted d.earlier) d.log other ops))
-  waiting_stays d (Slot caller) w is = by_test (now log == life) refl
-    where
-      log : Log
-      log = after_move (start_of first d) terms (counted d.earlier) life d.log (Slot caller)
-
-      by_test : (b : Bool) → (now log == life) ≡ b
-          → (waiting_of (cond b (next_life first terms life (record d { log = log })) (record d { log = log })) task ≡ Some w) ⊎ (now log ≡ life)
-      by_test false e = inl is
-      by_test true e = inr (eqb-true (now log) life e)
+now_seen : (task : ℕ) (moves : List Move) → ahead_seen_by task (map Now moves) ≡ map Sees (seen_by task moves)
+now_seen task [] = refl
+now_seen task (Slot caller ∷ moves) = ap (λ (l : List AheadSeen). Sees Slots ∷ l) (now_seen task moves)
+now_seen task (Ask kind caller other ops ∷ moves) = by (now_seen task moves) (other == task)
+  where
+    by : ahead_seen_by task (map Now moves) ≡ map Sees (seen_by task moves) → (b : Bool) → map Sees (cond b (Asks kind ops ∷ []) []) ++ ahead_seen_by task (map Now moves)
+        ≡ map Sees (cond b (Asks kind ops ∷ seen_by task moves) (seen_by task moves))
+    by rest true = ap (λ (l : List AheadSeen). Sees (Asks kind ops) ∷ l) rest
+    by rest false = rest
 
 -- two such dies answer a task alike
-pub ongoing_answered_alike : (first other : Start) (terms : Terms) (life task : ℕ) → AreLongEnough terms life → first.plan ≡ other.plan
-    → (one two : Ongoing) → IsOngoing first terms life one → IsOngoing other terms life two
-    → all_slots (counted one.earlier) ≡ all_slots (counted two.earlier) → now one.log ≡ now two.log
-    → asked_by task (one.log ∷ counted one.earlier) ≡ asked_by task (two.log ∷ counted two.earlier)
-    → ops_of (waiting_of one task) ≡ ops_of (waiting_of two task)
-    → (moves others : List Move) → seen_by task moves ≡ seen_by task others
-    → answers_to first terms life task one moves ≡ answers_to other terms life task two others
-ongoing_answered_alike first other terms life task long plan one two k h clock slot asked ops moves others same =
-    answers_known first terms life task long moves one k
-    ∙ (ap (λ (p : DiePlan). known_answers p terms life task (known_of first terms life task long one) (seen_by task moves)) plan
-    ∙ (ap (λ n. told (record { first = n; slot = now one.log; asked = asked_by task (one.log ∷ counted one.earlier); ops = ops_of (waiting_of one task) }) (seen_by task moves)) clock
-    ∙ (ap (λ n. told (record { first = all_slots (counted two.earlier); slot = n; asked = asked_by task (one.log ∷ counted one.earlier); ops = ops_of (waiting_of one task) }) (seen_by task moves)) slot
-    ∙ (ap (λ (l : List Asked). told (record { first = all_slots (counted two.earlier); slot = now two.log; asked = l; ops = ops_of (waiting_of one task) }) (seen_by task moves)) asked
-    ∙ (ap (λ (o : Option (List Op)). told (record { first = all_slots (counted two.earlier); slot = now two.log; asked = asked_by task (two.log ∷ counted two.earlier); ops = o }) (seen_by task moves)) ops
-    ∙ (ap (λ (l : List Seen). told (known_of other terms life task long two) l) same
-    ∙ sym (answers_known other terms life task long others two h)))))))
-  where
-    told : Known → List Seen → List Answer
-    told s seen = known_answers other.plan terms life task s seen
+module _ (first other : Start) (terms : Terms) (life task : ℕ) (long : AreLongEnough terms life) (plan : first.plan ≡ other.plan)
+    (one two : Ongoing) (k : IsOngoing first terms life one) (h : IsOngoing other terms life two)
+    (clock : all_slots (counted one.earlier) ≡ all_slots (counted two.earlier)) (slot : now one.log ≡ now two.log)
+    (asked : asked_by task (one.log ∷ counted one.earlier) ≡ asked_by task (two.log ∷ counted two.earlier))
+    (awaits : awaited_of (waiting_of one task) ≡ awaited_of (waiting_of two task)) where
+  same_known : known_of first terms life task long one ≡ known_of other terms life task long two
+  same_known = λ i. record { first = clock i; slot = slot i; asked = asked i; awaits = awaits i }
+
+  pub ahead_answered_alike : (moves others : List AheadMove) → ahead_seen_by task moves ≡ ahead_seen_by task others
+      → ahead_answers_to first terms life task one moves ≡ ahead_answers_to other terms life task two others
+  ahead_answered_alike moves others same =
+      answers_known first terms life task long moves one k
+      ∙ ((λ i. known_answers (plan i) terms life task (same_known i) (same i)) ∙ sym (answers_known other terms life task long others two h))
+
+  pub ongoing_answered_alike : (moves others : List Move) → seen_by task moves ≡ seen_by task others
+      → answers_to first terms life task one moves ≡ answers_to other terms life task two others
+  ongoing_answered_alike moves others same =
+      now_answers first terms life task long moves one
+      ∙ (ahead_answered_alike (map Now moves) (map Now others) (now_seen task moves ∙ (ap (map Sees) same ∙ sym (now_seen task others)))
+      ∙ sym (now_answers other terms life task long others two))

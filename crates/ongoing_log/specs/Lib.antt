@@ -1,2 +1,3 @@
 pub mod PastLives
 pub mod Ongoing
+pub mod Ahead

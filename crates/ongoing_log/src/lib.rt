@@ -2,7 +2,8 @@
 //! them, apart from any body.
 //!
 //! - `PastLives`: the lives that a die had, which ended by themselves, by a checkpoint or by a loss of power;
-//! - `Ongoing`: what stands of a die over all its lives, what an ask is answered, and what each move does.
+//! - `Ongoing`: what stands of a die over all its lives, what an ask is answered, and what each move does;
+//! - `Ahead`: asks whose release lies ahead.
 //!
 //! Each law is a function that does nothing, whose contract is the law.
 #![tactic(auto)]

@@ -24,6 +24,7 @@ pub(crate) fn carry_out<N: LabelledNand>(
     ensures fails { FailsByFault N.never_fails result (N.failures part.old)
         (N.failures part.new) }
     ensures shape { N.shape_of part.new ≡ N.shape_of part.old }
+    ensures lasts { N.lasts part.old → N.lasts part.new }
 {
     match call {
         MountCall::Read { place } => match part.read(place) {

@@ -110,6 +110,7 @@ impl<N: LabelledNand> PartMount<N> {
         ensures end { result ≡ Ok false → self.new ≡ self.old }
         ensures done { result ≡ Ok false → self.old.mount.stage ≡ Stage.Done }
         ensures well { self.old.failed ≡ false → IsOk result → self.new.failed ≡ false }
+        ensures lasts { N.lasts self.old.part → N.lasts self.new.part }
         ensures fault { IfErr result (λ refusal. refusal ≡ Refusal.DeviceFault) }
         ensures failed { IfErr result (λ _. self.new.failed ≡ true) }
         ensures never { N.never_fails ≡ true → IsOk result }
@@ -147,6 +148,7 @@ impl<N: LabelledNand> PartMount<N> {
         ensures well { self.old.failed ≡ false → IsOk result → self.new.failed ≡ false }
         ensures goes_on { OnOk result ((pages : List Bytes) (seen : Shown)
             → GoesBySeen N.labels pages seen self.old → GoesBySeen N.labels pages seen self.new) }
+        ensures lasts { N.lasts self.old.part → N.lasts self.new.part }
         ensures fault { IfErr result (λ refusal. refusal ≡ Refusal.DeviceFault) }
         ensures failed { IfErr result (λ _. self.new.failed ≡ true) }
         ensures never { N.never_fails ≡ true → IsOk result }

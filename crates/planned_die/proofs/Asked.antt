@@ -132,6 +132,10 @@ module _ {N : Type 0} (ends : N → NandCall → Bool → N → Type 0) (failure
           (omega (arith, ap (λ (k : AskedJob). k.at) job_is, clock_is, ap (λ (core : Core N). now core.log) (has_asked p.earlier p.lived).entered.logged))
           sums_now
 
+      -- in the same slot
+      pub asked_now : IsPlanned die → now after.log ≡ now die.core.log
+      asked_now p = ap (λ (core : Core N). now core.log) (has_asked p.earlier p.lived).entered.logged
+
   -- it is never refused
   pub asked_stands : (r : Refusal) → IsPlanned die → IsCall ends failures never caller entry (Err r) die.core after → ⊥
   asked_stands r p call =

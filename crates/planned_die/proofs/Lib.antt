@@ -2,12 +2,14 @@ mod Sums
 mod Passing
 mod AllAsks
 mod Lists
+mod Later
 mod Waits
 mod Ending
 mod Counting
 mod Own
 mod Reserved
 mod Cores
+mod Quiet
 mod Slotting
 pub mod BegunSlots
 mod Lived

@@ -1,5 +1,6 @@
 pub mod Remembered
 pub mod Planned
+pub mod OwnCollections
 pub mod PlannedCalls
 pub mod BegunSlots
 pub mod NewPlans

@@ -10,15 +10,18 @@ use Rattle.slot_types.specs.declared.replies.Reply.TheVariants as replies
 use Rattle.slot_types.specs.declared.replies.SlotReply.{SlotReply}
 use Rattle.flash_die.specs.declared.nand.NandCall.{NandCall}
 use Rattle.demand_rules.specs.declared.terms.Terms.{Terms}
+use Rattle.demand_rules.specs.Demand.{terms_of}
 use Rattle.die_log.specs.Model.Log.{now}
-use Rattle.die_log.specs.Model.Lives.{Lives}
+use Rattle.die_log.specs.Model.Lives.{Lives, all_slots}
 use Rattle.die_log.specs.Model.Answers.{run}
 use Rattle.slot_core.specs.Core.{Core}
 use Rattle.slot_core.specs.Calls.{IsCall, HasEntered}
 use Rattle.slot_core.specs.Renewals.{IsFirstWorn}
+use Rattle.planned_log.specs.declared.ask_kinds.AskKind.{AskKind}
 use Rattle.planned_log.specs.declared.refusals.AskRefusal.{AskRefusal}
 use Rattle.planned_log.specs.declared.refusals.AskRefusal.TheVariants as asks
-use Rattle.planned_log.specs.Asks.{asked_job, ask_refusal, burst_refusal}
+use Rattle.planned_log.specs.Asks.{asked_job, asked_by, ask_refusal, burst_refusal, refusals_above, first_refusal}
+use Rattle.planned_log.specs.AskKinds.{most_of}
 use Rattle.planned_log.specs.Bursts.{jobs_of}
 use Rattle.planned_log.specs.KeptLogs.{collections_at}
 use Rattle.planned_die.specs.declared.bursts.Burst.{Burst}
@@ -50,6 +53,21 @@ RefusesAsk task ops earlier refusal die =
 abbrev pub IsAsk : {N : Type 0} → ℕ → ℕ → List Op → Lives → Result ℕ AskRefusal → Planned N → Planned N → Type 0
 IsAsk caller task ops earlier (Ok number) before after = HasAsked caller task ops earlier number before after
 IsAsk caller task ops earlier (Err refusal) before after = (after ≡ before) × RefusesAsk task ops earlier refusal before
+
+-- As at a later slot
+
+-- why the plan would refuse an ask of either kind in slot `slot` of the life or of a later one, after these earlier lives, if the
+-- task asked for nothing else before
+abbrev pub refusal_at : {N : Type 0} → AskKind → Planned N → Lives → (slot task : ℕ) → List Op → Option AskRefusal
+refusal_at kind die earlier slot task ops =
+    first_refusal (refusals_above (most_of kind (terms_of die.terms task)) die.core.start.plan die.terms die.life (all_slots earlier) slot
+    (asked_by task (die.core.log ∷ earlier)) task ops)
+
+-- a fault had stopped the die; or this is what the plan says
+abbrev pub IsRefusalAt : {N : Type 0} → AskKind → (slot task : ℕ) → List Op → Lives → Option AskRefusal → Planned N → Type 0
+IsRefusalAt kind slot task ops earlier refusal die =
+    ((die.core.stopped ≡ true) × (refusal ≡ Some asks.DieStopped))
+    ⊎ ((die.core.stopped ≡ false) × (refusal ≡ refusal_at kind die earlier slot task ops))
 
 -- Bursts
 
@@ -123,6 +141,11 @@ RefusesSlot ends failures never caller refusal before after =
 abbrev pub IsSlot : {N : Type 0} → (N → NandCall → Bool → N → Type 0) → (N → ℕ) → Bool → ℕ → Result SlotReply Refusal → Planned N → Planned N → Type 0
 IsSlot ends failures never caller (Ok reply) before after = HasSlotted ends failures never caller reply before after
 IsSlot ends failures never caller (Err refusal) before after = RefusesSlot ends failures never caller refusal before after
+
+-- a slot that fills a reply, as one that hands it back
+abbrev pub told : {T : Type 0} → SlotReply → Result T Refusal → Result SlotReply Refusal
+told reply (Ok x) = Ok reply
+told reply (Err refusal) = Err refusal
 
 -- Lives
 

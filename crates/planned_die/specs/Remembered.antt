@@ -1,5 +1,5 @@
 -- What a die remembers of its tasks' asks, to answer the next one.
-use Rattle.std.specs.Prelude.{◌≡◌, ℕ, ◌+◌, ◌-◌, ◌%◌, ◌≤◌, ◌<◌, ◌==◌, ◌||◌, nat_le, Bool, if◌then◌else◌, List, [], ◌∷◌, ◌++◌, length, slice_index_or, take, drop}
+use Rattle.std.specs.Prelude.{◌≡◌, ℕ, ◌+◌, ◌-◌, ◌%◌, ◌≤◌, ◌<◌, ◌==◌, ◌||◌, nat_lt, nat_le, Bool, if◌then◌else◌, List, [], ◌∷◌, ◌++◌, length, slice_index_or, take, drop}
 use Rattle.std.specs.Prelude.{sum_by, All, Option, Some, None}
 use Rattle.std.specs.VecDeque.{deque_capacity}
 use Rattle.slot_types.specs.declared.plans.DiePlan.{DiePlan}
@@ -7,6 +7,8 @@ use Rattle.demand_rules.specs.declared.terms.TaskTerms.{TaskTerms}
 use Rattle.demand_rules.specs.declared.terms.Terms.{Terms}
 use Rattle.demand_rules.specs.Demand.{terms_of}
 use Rattle.die_log.specs.Model.Lives.{Lives}
+use Rattle.planned_log.specs.declared.refusals.AskRefusal.{AskRefusal}
+use Rattle.planned_log.specs.declared.refusals.AskRefusal.TheVariants as because
 use Rattle.planned_log.specs.Asks.{Asked, counting, asked_by, has_room, room_at}
 use Rattle.planned_die.specs.declared.memory.AskedJob.{AskedJob}
 use Rattle.planned_die.specs.declared.task_asks.TaskAsks.{TaskAsks}
@@ -34,6 +36,19 @@ CountAs plan terms clock asked lives = (task slot : ℕ) → task < length plan.
 abbrev pub next_room : TaskTerms → (first clock : ℕ) → List Asked → (operations writes : ℕ) → Option ℕ
 next_room t first clock asked ops written =
     if has_room t clock asked ops written then None else Some (room_at t (counting t.period clock asked) ops written - first)
+
+-- whether a job that is released in the slot would be due after the end of the life
+abbrev pub late_for : (life deadline slot : ℕ) → Option AskRefusal
+late_for life deadline slot = if nat_lt life (slot + deadline) then Some because.LifeEnd else None
+
+-- What the plan says of an ask as at slot `slot`, where it says this of it now: what it has too much of it still has, there is
+-- room from slot `next` on, and then the end of the life decides.
+abbrev pub said_later : (life deadline slot : ℕ) → Option AskRefusal → Option AskRefusal
+said_later life deadline slot None = late_for life deadline slot
+said_later life deadline slot (Some because.LifeEnd) = late_for life deadline slot
+said_later life deadline slot (Some (because.TooSoon next)) =
+    if nat_le next slot then late_for life deadline slot else Some (because.TooSoon next)
+said_later life deadline slot (Some refusal) = Some refusal
 
 -- each collection of the task that comes in a life of `life` slots is due by its end: the life ends where the task's
 -- collections come again, or no sooner after the last one than that is due

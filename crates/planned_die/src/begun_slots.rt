@@ -39,6 +39,7 @@ impl<N: Nand> PlannedDie<N> {
             alloc,
             caller,
             self.life,
+            self.quiet,
             &mut self.entered,
         );
         Ok(())

@@ -6,6 +6,7 @@ ghost use Rattle.die_log.specs.Model.Lives.{Lives};
 ghost use Rattle.planned_log.specs.KeptLogs.{comes_at};
 ghost use Rattle.planned_log.specs.Laws.{IsKept};
 ghost use Rattle.planned_die.specs.Planned.{IsReservedFor};
+ghost use Rattle.planned_die.specs.OwnCollections.{AreQuiet};
 ghost use Rattle.planned_die.specs.PlannedCalls.{with_own};
 
 use crate::terms::terms_at;
@@ -63,8 +64,9 @@ fn enter_own<N: Nand>(
     }
 }
 
-/// Enters the collections of the present slot that haven't come yet. It takes no memory.
-pub(crate) fn enter_rest<N: Nand>(
+/// Enters the collections of the present slot that haven't come yet, task by task. It takes no memory.
+#[inline(never)]
+fn enter_each<N: Nand>(
     core: &mut DieCore<N>,
     terms: &Terms,
     alloc: Global,
@@ -91,4 +93,38 @@ pub(crate) fn enter_rest<N: Nand>(
         enter_own(core, terms, alloc, caller, life, *entered);
         *entered += 1;
     }
+}
+
+/// Enters the collections of the present slot that haven't come yet. It takes no memory. Before slot `quiet` none comes, and
+/// no task is looked at.
+#[inline(always)]
+pub(crate) fn enter_rest<N: Nand>(
+    core: &mut DieCore<N>,
+    terms: &Terms,
+    alloc: Global,
+    caller: u32,
+    life: u32,
+    quiet: u32,
+    entered: &mut u32,
+)
+    requires lived { (earlier : Lives)
+        × IsKept core.old.start terms.now earlier life entered.old core.old.log }
+    requires runs { core.old.stopped ≡ false }
+    requires early { now core.old.log < life }
+    requires reserved { IsReservedFor terms.now life core.old }
+    requires quiet { AreQuiet terms.now.tasks (now core.old.log) quiet }
+    ensures entered { core.new ≡ with_own caller terms.now core.old entered.old entered.new }
+    ensures kept { (earlier : Lives)
+        → IsKept core.old.start terms.now earlier life entered.old core.old.log
+        → IsKept core.new.start terms.now earlier life entered.new core.new.log }
+    ensures all { entered.new ≡ length core.old.start.plan.caps }
+    ensures slot_stays { now core.new.log ≡ now core.old.log }
+    ensures reserved { IsReservedFor terms.now life core.new }
+{
+    if core.now() >= quiet {
+        enter_each(core, terms, alloc, caller, life, entered);
+        return;
+    }
+    core.promises();
+    *entered = core.plan().caps.len() as u32;
 }

@@ -42,6 +42,8 @@ pub struct PlannedDie<N: Nand> {
     pub(crate) life: u32,
     /// Of how many tasks, the first ones, the collections of the present slot have come.
     pub(crate) entered: u32,
+    /// The first slot in which a collection comes, or an earlier one.
+    pub(crate) quiet: u32,
     /// The slot of the clock of all lives in which the present life began.
     pub(crate) first: u64,
     /// By task what it asked for.
@@ -53,6 +55,7 @@ impl<N: Nand> Model for PlannedDie<N> {
     ghost use Rattle.die_log.specs.Model.Log.{now};
     ghost use Rattle.planned_die.specs.Planned.{Planned, IsPlanned};
     ghost use Rattle.planned_die.specs.Remembered.{jobs_of, AreKept, HaveMemory};
+    ghost use Rattle.planned_die.specs.OwnCollections.{AreQuiet};
 
     ghost Value = { Planned N };
 
@@ -72,7 +75,8 @@ impl<N: Nand> Model for PlannedDie<N> {
       entered = d.entered;
       first = d.first;
       asked = map jobs_of d.asked.items;
-    }) × AreKept d.terms (d.first + now d.core.log) d.asked.items × HaveMemory d.terms d.asked.items };
+    }) × AreKept d.terms (d.first + now d.core.log) d.asked.items × HaveMemory d.terms d.asked.items
+        × AreQuiet d.terms.tasks (now d.core.log) d.quiet };
 }
 
 /// Takes the memory for `slots` slots, and for `most` jobs and collections with as many operations in all.
@@ -145,6 +149,7 @@ impl<N: Nand> PlannedDie<N> {
             terms,
             life,
             entered: 0,
+            quiet: 0,
             first: 0,
             asked,
         })

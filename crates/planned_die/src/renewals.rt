@@ -51,6 +51,7 @@ impl<N: Nand> PlannedDie<N> {
         match self.core.renew() {
             Ok(()) => {
                 self.entered = 0;
+                self.quiet = 0;
                 self.first = next;
                 Ok(())
             }

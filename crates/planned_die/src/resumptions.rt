@@ -156,6 +156,7 @@ impl<N: Nand> PlannedDie<N> {
             terms,
             life: made.life,
             entered: 0,
+            quiet: 0,
             first: 0,
             asked: made.asked,
         })

@@ -1,5 +1,5 @@
 -- What a task was answered, in the log of a shared die.
-use Rattle.std.proofs.Common.{◌≡◌, ℕ, ◌==◌, true, false, Bool, List, [], ◌∷◌, ◌++◌, Result, Ok, Err, refl, ap, sym, ◌∙◌, arith}
+use Rattle.std.proofs.Common.{◌≡◌, ℕ, ◌==◌, true, false, Bool, List, [], ◌∷◌, ◌++◌, Option, option_to_list, if◌then◌else◌, Result, Ok, Err, refl, ap, sym, ◌∙◌, arith}
 use Rattle.std.proofs.lemmas.Bool.Decides.{nat_tests}
 use Rattle.slot_types.specs.declared.events.Op.{Op}
 use Rattle.demand_rules.specs.declared.terms.Terms.{Terms}
@@ -8,14 +8,17 @@ use Rattle.planned_log.specs.declared.ask_kinds.AskKind.{AskKind}
 use Rattle.planned_log.specs.Laws.{Seen, Asks, Slots, seen_by}
 use Rattle.planned_log.specs.Moves.{Move, Ask, Slot}
 use Rattle.ongoing_log.specs.Ongoing.{Ongoing, Answer, answer_to, answers_to, ongoing_after, ongoing_after_move}
+use Rattle.task_outcomes.specs.declared.task_outcome.TaskOutcome.{TaskOutcome}
+use Rattle.task_outcomes.specs.Queues.{first_of as first_told}
+use Rattle.task_outcomes.specs.OutcomeMoves.{OutcomeMove, Takes, Told, told_after_move, taken_by}
 use Rattle.planned_ports.specs.declared.calls.Request.{Request}
 use Rattle.planned_ports.specs.declared.calls.Request.TheVariants as requests
 use Rattle.planned_ports.specs.declared.calls.Granted.{Granted}
 use Rattle.planned_ports.specs.declared.calls.Granted.TheVariants as granted
 use Rattle.planned_ports.specs.declared.calls.Refused.{Refused}
-use Rattle.planned_ports.specs.Calls.{PortCall, move_by, move_of, moves_of}
+use Rattle.planned_ports.specs.Calls.{PortCall, move_by, move_of, moves_of, die_move_by, die_moves, after_calls}
 use Rattle.planned_ports.specs.Replies.{WasGranted, WereGranted}
-use Rattle.planned_ports.specs.Laws.{answer_in, answers_in}
+use Rattle.planned_ports.specs.Laws.{answer_in, answers_in, outcome_in, outcomes_in}
 
 same_task : (task : ℕ) → (task == task) ≡ true
 same_task task = grind (arith, nat_tests)
@@ -39,12 +42,15 @@ module _ {A : Type 0} where
 
 module _ (first : Start) (terms : Terms) (life task : ℕ) where
   -- the answers in the log are those of the rules
-  one_answer : (d : Ongoing) (caller : ℕ) (request : Request) (reply : Result Granted Refused) (rest : List Move)
-      → WasGranted first terms life d caller request reply
-      → answers_to first terms life task d (move_by caller request ∷ rest)
-      ≡ answer_in task request reply ++ answers_to first terms life task (ongoing_after_move first terms life d (move_by caller request)) rest
-  one_answer d caller (requests.Ask kind other ops) (Ok (granted.Job answer)) rest h = by (other == task) refl
+  one_answer : (t : Told) (caller : ℕ) (request : Request) (reply : Result Granted Refused) (rest : List Move)
+      → WasGranted first terms life t caller request reply
+      → answers_to first terms life task t.ongoing (die_move_by caller request ++ rest)
+      ≡ answer_in task request reply ++ answers_to first terms life task (told_after_move first terms life t (move_by caller request)).ongoing rest
+  one_answer t caller (requests.Ask kind other ops) (Ok (granted.Job answer)) rest h = by (other == task) refl
     where
+      d : Ongoing
+      d = t.ongoing
+
       then_rest : List Answer
       then_rest = answers_to first terms life task (ongoing_after_move first terms life d (Ask kind caller other ops)) rest
 
@@ -53,18 +59,35 @@ module _ (first : Start) (terms : Terms) (life task : ℕ) where
           ≡ answer_in task (requests.Ask kind other ops) (Ok (granted.Job answer)) ++ then_rest
       by true e = rw e (ap (λ (a : Answer). a ∷ then_rest) (ap (λ n. answer_to first terms life d kind n ops) (sym (equal other task e)) ∙ h.0))
       by false e = rw e refl
-  one_answer d caller (requests.Ask kind other ops) (Ok (granted.Slot reply)) rest h = absurd h
-  one_answer d caller requests.Slot (Ok (granted.Slot reply)) rest h = refl
-  one_answer d caller requests.Slot (Ok (granted.Job answer)) rest h = absurd h
-  one_answer d caller request (Err refusal) rest h = absurd h
+  one_answer t caller (requests.Ask kind other ops) (Ok (granted.Slot reply)) rest h = absurd h
+  one_answer t caller (requests.Ask kind other ops) (Ok (granted.Outcome outcome)) rest h = absurd h
+  one_answer t caller requests.Slot (Ok (granted.Slot reply)) rest h = refl
+  one_answer t caller requests.Slot (Ok (granted.Job answer)) rest h = absurd h
+  one_answer t caller requests.Slot (Ok (granted.Outcome outcome)) rest h = absurd h
+  one_answer t caller (requests.Outcome other) (Ok answer) rest h = refl
+  one_answer t caller request (Err refusal) rest h = absurd h
 
-  pub answers_are : (d : Ongoing) (calls : List PortCall) → WereGranted first terms life d calls
-      → answers_in task calls ≡ answers_to first terms life task d (moves_of calls)
-  answers_are d [] all = refl
-  answers_are d (call ∷ calls) all =
+  pub answers_are : (t : Told) (calls : List PortCall) → WereGranted first terms life t calls
+      → answers_in task calls ≡ answers_to first terms life task t.ongoing (die_moves calls)
+  answers_are t [] all = refl
+  answers_are t (call ∷ calls) all =
       ap (λ (l : List Answer). answer_in task call.event call.reply ++ l)
-      (answers_are (ongoing_after_move first terms life d (move_of call)) calls all.1)
-      ∙ sym (one_answer d call.caller call.event call.reply (moves_of calls) all.0)
+      (answers_are (told_after_move first terms life t (move_of call)) calls all.1)
+      ∙ sym (one_answer t call.caller call.event call.reply (die_moves calls) all.0)
+
+  -- outcomes that are taken change nothing that answers depend on
+  one_move : (t : Told) (caller : ℕ) (request : Request) (moves : List Move)
+      → ongoing_after first terms life (told_after_move first terms life t (move_by caller request)).ongoing moves
+      ≡ ongoing_after first terms life t.ongoing (die_move_by caller request ++ moves)
+  one_move t caller (requests.Ask kind other ops) moves = refl
+  one_move t caller requests.Slot moves = refl
+  one_move t caller (requests.Outcome other) moves = refl
+
+  pub ongoing_is : (t : Told) (calls : List PortCall)
+      → (after_calls first terms life t calls).ongoing ≡ ongoing_after first terms life t.ongoing (die_moves calls)
+  ongoing_is t [] = refl
+  ongoing_is t (call ∷ calls) =
+      ongoing_is (told_after_move first terms life t (move_of call)) calls ∙ one_move t call.caller call.event (die_moves calls)
 
   -- with one ask more of the task
   pub answers_then : (kind : AskKind) (d : Ongoing) (moves : List Move) (caller : ℕ) (ops : List Op)
@@ -97,3 +120,34 @@ seen_then kind task (Ask its by other own ∷ moves) caller ops = either (other 
         → seen_by task (Ask its by other own ∷ (moves ++ Ask kind caller task ops ∷ [])) ≡ seen_by task (Ask its by other own ∷ moves) ++ Asks kind ops ∷ []
     either true e after = rw e (ap (λ (l : List Seen). Asks its own ∷ l) after)
     either false e after = rw e after
+
+-- Outcomes
+
+module _ (first : Start) (terms : Terms) (life task : ℕ) where
+  one_outcome : (t : Told) (caller : ℕ) (request : Request) (reply : Result Granted Refused) (rest : List OutcomeMove)
+      → WasGranted first terms life t caller request reply
+      → taken_by first terms life task t (move_by caller request ∷ rest)
+      ≡ outcome_in task request reply ++ taken_by first terms life task (told_after_move first terms life t (move_by caller request)) rest
+  one_outcome t caller (requests.Ask kind other ops) (Ok answer) rest h = refl
+  one_outcome t caller requests.Slot (Ok answer) rest h = refl
+  one_outcome t caller (requests.Outcome other) (Ok (granted.Outcome outcome)) rest h = by (other == task) refl
+    where
+      later : List TaskOutcome
+      later = taken_by first terms life task (told_after_move first terms life t (Takes other)) rest
+
+      by : (b : Bool) → (other == task) ≡ b
+          → (if b then option_to_list (first_told t.queues task) ++ later else later) ≡ (if b then outcome ∷ [] else []) ++ later
+      by true e = ap (λ (o : Option TaskOutcome). option_to_list o ++ later) (ap (first_told t.queues) (sym (equal other task e)) ∙ h)
+      by false e = refl
+  one_outcome t caller (requests.Outcome other) (Ok (granted.Job answer)) rest h = absurd h
+  one_outcome t caller (requests.Outcome other) (Ok (granted.Slot reply)) rest h = absurd h
+  one_outcome t caller request (Err refusal) rest h = absurd h
+
+  -- the outcomes in the log are those that the task takes
+  pub outcomes_are : (t : Told) (calls : List PortCall) → WereGranted first terms life t calls
+      → taken_by first terms life task t (moves_of calls) ≡ outcomes_in task calls
+  outcomes_are t [] all = refl
+  outcomes_are t (call ∷ calls) all =
+      one_outcome t call.caller call.event call.reply (moves_of calls) all.0
+      ∙ ap (λ (os : List TaskOutcome). outcome_in task call.event call.reply ++ os)
+      (outcomes_are (told_after_move first terms life t (move_of call)) calls all.1)

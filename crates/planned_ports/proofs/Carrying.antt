@@ -1,7 +1,7 @@
 -- What the die answers to a request, and how it stands then.
-use Rattle.std.proofs.Common.{◌≡◌, ℕ, ◌≤◌, ◌==◌, Bool, false, List, length, map, Result, Ok, Err, refl, ap, sym, subst, ◌∙◌, arith}
+use Rattle.std.proofs.Common.{◌≡◌, ℕ, ◌≤◌, ◌==◌, Bool, false, List, length, map, ◌≢◌, [], ◌∷◌, drop, set, slice_get, Option, Some, None, IsSomeAnd, IfOk, OnOk, OnErr, Result, Ok, Err, refl, ap, sym, subst, ◌∙◌, arith}
 use Rattle.std.proofs.lemmas.Bool.Decides.{nat_tests}
-use Rattle.std.proofs.lemmas.List.{take_all}
+use Rattle.std.proofs.lemmas.List.{take_all, set-get_or}
 use Rattle.slot_types.specs.declared.events.Op.{Op}
 use Rattle.slot_types.specs.declared.events.Event.{Event}
 use Rattle.slot_types.specs.declared.events.Event.TheVariants as events
@@ -25,14 +25,18 @@ use Rattle.ongoing_die.specs.declared.refusals.AskStop.{AskStop}
 use Rattle.ongoing_die.specs.declared.refusals.AskStop.TheVariants as asks
 use Rattle.ongoing_die.specs.declared.refusals.SlotStop.{SlotStop}
 use Rattle.ongoing_die.specs.declared.refusals.SlotStop.TheVariants as slots
-use Rattle.ongoing_die.specs.Standing.{OngoingParts, standing, StandsAs}
+use Rattle.ongoing_die.specs.Standing.{standing, StandsAs}
 use Rattle.ongoing_die.specs.OngoingCalls.{IsOngoingAsk, IsNumbered, IsOngoingSlot, HasCarried}
+use Rattle.task_outcomes.specs.declared.task_outcome.TaskOutcome.{TaskOutcome}
+use Rattle.task_outcomes.specs.Queues.{Queue, no_queue, queue_of, first_of, with_taken}
+use Rattle.task_outcomes.specs.OutcomeDies.{OutcomeParts, HasTold}
+use Rattle.task_outcomes.specs.OutcomeMoves.{Told}
 use Rattle.planned_ports.specs.declared.calls.Request.TheVariants as requests
 use Rattle.planned_ports.specs.declared.calls.Granted.{Granted}
 use Rattle.planned_ports.specs.declared.calls.Granted.TheVariants as granted
 use Rattle.planned_ports.specs.declared.calls.Refused.{Refused}
 use Rattle.planned_ports.specs.declared.calls.Refused.TheVariants as refused
-use Rattle.planned_ports.specs.Replies.{IsReply, IsSlotReply, TellsJobs, after_reply}
+use Rattle.planned_ports.specs.Replies.{IsReply, IsSlotReply, TellsJobs, after_reply, opened_as}
 
 -- a call of the die, as an answer to a request
 abbrev pub of_ask : Result Taken AskStop → Result Granted Refused
@@ -43,35 +47,73 @@ abbrev pub of_slot : Result SlotReply SlotStop → Result Granted Refused
 of_slot (Ok reply) = Ok (granted.Slot reply)
 of_slot (Err stop) = Err (refused.Slot stop)
 
-module _ {N : Type 0} (caller : ℕ) (first : Start) (d : Ongoing) (before after : OngoingParts N) (s : StandsAs first d before) where
+abbrev pub of_take : {E : Type 0} → Result (Option TaskOutcome) E → Result Granted Refused
+of_take (Ok (Some outcome)) = Ok (granted.Outcome outcome)
+of_take (Ok None) = Err refused.NoOutcome
+of_take (Err e) = Err refused.NoMemory
+
+-- where a task has no outcome to take, nothing goes
+none_first : (kept : List TaskOutcome) → slice_get kept 0 ≡ None → drop 1 kept ≡ kept
+none_first [] is = refl
+none_first (o ∷ kept) is = absurd cc
+
+nothing_goes : (queues : List Queue) (task : ℕ) → first_of queues task ≡ None → with_taken queues task ≡ queues
+nothing_goes queues task is =
+    ap (λ (os : List TaskOutcome). set queues task (record (queue_of queues task) { kept = os })) (none_first (queue_of queues task).kept is)
+    ∙ set-get_or queues task no_queue
+
+-- this stands of the die then, and these outcomes its tasks have to take
+abbrev pub IsLeft : {N : Type 0} → Start → Told → OutcomeParts N → Type 0
+IsLeft first t after = StandsAs first t.ongoing after.die × (t.queues ≡ after.queues)
+
+module _ {N : Type 0} (caller : ℕ) (first : Start) (d : Ongoing) (before after : OutcomeParts N) (s : StandsAs first d before.die) where
   abbrev terms : Terms
-  terms = before.die.terms
+  terms = before.die.die.terms
 
   abbrev life : ℕ
-  life = before.die.life
+  life = before.die.die.life
 
-  module _ (kind : AskKind) (task : ℕ) (ops : List Op) where
-    tells_jobs : (answer : Taken) → IsNumbered kind caller task ops d answer after → TellsJobs kind ops answer
+  abbrev t : Told
+  t = opened_as before d
+
+  module _ (kind : AskKind) (task : ℕ) (ops : List Op) (same : after.queues ≡ before.queues) where
+    tells_jobs : (answer : Taken) → IsNumbered kind caller task ops d answer after.die → TellsJobs kind ops answer
     tells_jobs (taken.Enters release due number jobs) h = h.0
     tells_jobs (taken.Waits release due) h = tt
 
-    pub ask_reply : (result : Result Taken AskStop) → IsOngoingAsk kind caller task ops first d result before after
-        → IsReply N first terms life d caller (requests.Ask kind task ops) (of_ask result)
+    pub ask_reply : (result : Result Taken AskStop) → IsOngoingAsk kind caller task ops first d result before.die after.die
+        → IsReply N first terms life t caller (requests.Ask kind task ops) (of_ask result)
     ask_reply (Ok answer) h = (h.answered, tells_jobs answer h.numbered)
-    ask_reply (Err (asks.Ended stop)) h = (before, s, h.0)
+    ask_reply (Err (asks.Ended stop)) h = (before.die, s, h.0)
     ask_reply (Err (asks.Plan refusal)) h = h.0
     ask_reply (Err asks.WaitsAlready) h = h.0
 
-    pub ask_stands : (result : Result Taken AskStop) → IsOngoingAsk kind caller task ops first d result before after
-        → StandsAs first (after_reply first terms life d caller (requests.Ask kind task ops) (of_ask result)) after
-    ask_stands (Ok answer) h = h.stands
-    ask_stands (Err (asks.Ended stop)) h = subst (StandsAs first d) (sym h.1) s
-    ask_stands (Err (asks.Plan refusal)) h = h.1.stands
-    ask_stands (Err asks.WaitsAlready) h = h.1.stands
+    pub ask_leaves : (result : Result Taken AskStop) → IsOngoingAsk kind caller task ops first d result before.die after.die
+        → IsLeft first (after_reply first terms life t caller (requests.Ask kind task ops) (of_ask result)) after
+    ask_leaves (Ok answer) h = (h.stands, sym same)
+    ask_leaves (Err (asks.Ended stop)) h = (subst (StandsAs first d) (sym h.1) s, sym same)
+    ask_leaves (Err (asks.Plan refusal)) h = (h.1.stands, sym same)
+    ask_leaves (Err asks.WaitsAlready) h = (h.1.stands, sym same)
+
+  -- an outcome is taken, or isn't
+  module _ (task : ℕ) {E : Type 0} (same : after.die ≡ before.die) where
+    pub take_reply : (result : Result (Option TaskOutcome) E) → IfOk result (λ outcome. first_of before.queues task ≡ outcome)
+        → OnErr result (IsSomeAnd (first_of before.queues task) (λ o. o.reads ≢ []))
+        → IsReply N first terms life t caller (requests.Outcome task) (of_take result)
+    take_reply (Ok (Some outcome)) is gave = is
+    take_reply (Ok None) is gave = is
+    take_reply (Err e) is gave = gave
+
+    pub take_leaves : (result : Result (Option TaskOutcome) E) → IfOk result (λ outcome. first_of before.queues task ≡ outcome)
+        → OnOk result (after.queues ≡ with_taken before.queues task) → OnErr result (after.queues ≡ before.queues)
+        → IsLeft first (after_reply first terms life t caller (requests.Outcome task) (of_take result)) after
+    take_leaves (Ok (Some outcome)) is left kept = (subst (StandsAs first d) (sym same) s, sym left)
+    take_leaves (Ok None) is left kept = (subst (StandsAs first d) (sym same) s, sym (left ∙ nothing_goes before.queues task is))
+    take_leaves (Err e) is left kept = (subst (StandsAs first d) (sym same) s, sym kept)
 
   module _ (ends : N → NandCall → Bool → N → Type 0) (failures : N → ℕ) (never : Bool) where
     -- the reply of a slot is that of the log with all its collections
-    module _ (reply : SlotReply) (h : HasCarried ends failures never caller first d reply before after) where
+    module _ (reply : SlotReply) (h : HasCarried ends failures never caller first d reply before.die after.die) where
       abbrev die : Planned N
       die = h.between.die
 
@@ -107,14 +149,15 @@ module _ {N : Type 0} (caller : ℕ) (first : Start) (d : Ongoing) (before after
           ∙ (ap (λ (t : Terms). answer die.core.start (after_own die.core.start t log caller) events.Slot) (sym h.begun.plan.terms)
           ∙ (ap (λ (l : Log). answer die.core.start l events.Slot) (sym own_log) ∙ h.carried.carried.ended.answered)))
 
-    pub slot_reply : (result : Result SlotReply SlotStop) → IsOngoingSlot ends failures never caller first d result before after
-        → IsReply N first terms life d caller requests.Slot (of_slot result)
+    pub slot_reply : (result : Result SlotReply SlotStop) → IsOngoingSlot ends failures never caller first d result before.die after.die
+        → IsReply N first terms life t caller requests.Slot (of_slot result)
     slot_reply (Ok reply) h = slot_granted reply h
-    slot_reply (Err (slots.Ended stop)) h = (before, s, h.0)
+    slot_reply (Err (slots.Ended stop)) h = (before.die, s, h.0)
     slot_reply (Err slots.DeviceFault) h = tt
 
-    pub slot_stands : (result : Result SlotReply SlotStop) → IsOngoingSlot ends failures never caller first d result before after
-        → StandsAs first (after_reply first terms life d caller requests.Slot (of_slot result)) after
-    slot_stands (Ok reply) h = h.stands
-    slot_stands (Err (slots.Ended stop)) h = subst (StandsAs first d) (sym h.1) s
-    slot_stands (Err slots.DeviceFault) h = h.stands
+    pub slot_leaves : (result : Result SlotReply SlotStop) → IsOngoingSlot ends failures never caller first d result before.die after.die
+        → OnOk result (HasTold caller before after) → OnErr result (after.queues ≡ before.queues)
+        → IsLeft first (after_reply first terms life t caller requests.Slot (of_slot result)) after
+    slot_leaves (Ok reply) h told kept = (h.stands, sym (told first d s))
+    slot_leaves (Err (slots.Ended stop)) h told kept = (subst (StandsAs first d) (sym h.1) s, sym kept)
+    slot_leaves (Err slots.DeviceFault) h told kept = (h.stands, sym kept)

@@ -1,5 +1,5 @@
 -- What a task is answered in two shared logs in which it sees the same.
-use Rattle.std.proofs.Common.{◌≡◌, ℕ, List, [], ◌∷◌, ◌++◌, ap, sym, subst, ◌∙◌}
+use Rattle.std.proofs.Common.{◌≡◌, ◌<◌, length, ℕ, List, [], ◌∷◌, ◌++◌, ap, sym, subst, ◌∙◌}
 use Rattle.slot_types.specs.declared.events.Op.{Op}
 use Rattle.demand_rules.specs.declared.terms.Terms.{Terms}
 use Rattle.die_log.specs.Model.Log.{now}
@@ -11,11 +11,13 @@ use Rattle.planned_log.specs.Laws.{Seen, Asks, seen_by, AreDoneInTime, ForKeptLo
 use Rattle.planned_log.specs.Moves.{Move, Ask}
 use Rattle.ongoing_log.specs.PastLives.{counted}
 use Rattle.ongoing_log.specs.Ongoing.{Ongoing, Answer, answer_to, answers_to, ongoing_after, waiting_of, ops_of, start_of, AreLongEnough, IsOngoing}
-use Rattle.ongoing_die.specs.Standing.{OngoingParts}
-use Rattle.planned_ports.specs.Calls.{PortCall, moves_of, after_calls}
-use Rattle.planned_ports.specs.Replies.{WereGranted}
-use Rattle.planned_ports.specs.Laws.{IsInTime, RanFrom, SeesTheSame, answers_in}
-use Rattle.planned_ports.proofs.Answering.{last_same, answers_are, answers_then, seen_then}
+use Rattle.task_outcomes.specs.OutcomeDies.{OutcomeParts}
+use Rattle.task_outcomes.specs.declared.task_outcome.TaskOutcome.{TaskOutcome}
+use Rattle.task_outcomes.specs.OutcomeMoves.{OutcomeMove, Told, told_after, taken_by, AreAccountedFor}
+use Rattle.planned_ports.specs.Calls.{PortCall, moves_of, die_moves, after_calls}
+use Rattle.planned_ports.specs.Replies.{WereGranted, opened_as}
+use Rattle.planned_ports.specs.Laws.{IsInTime, RanFrom, SeesTheSame, answers_in, outcomes_in}
+use Rattle.planned_ports.proofs.Answering.{last_same, answers_are, answers_then, seen_then, ongoing_is, outcomes_are}
 
 -- In time
 
@@ -23,17 +25,21 @@ abbrev pub GoesOn : Type 0
 GoesOn = (first : Start) (terms : Terms) (life : ℕ) → AreLongEnough terms life → (d : Ongoing) → IsOngoing first terms life d → (moves : List Move)
     → IsOngoing first terms life (ongoing_after first terms life d moves)
 
-module _ {N : Type 0} (law : GoesOn) (opened : OngoingParts N) (first : Start) (d : Ongoing) (calls : List PortCall) (ran : RanFrom opened first d calls) where
-  pub shared_goes_on : IsOngoing first opened.die.terms opened.die.life (after_calls first opened.die.terms opened.die.life d calls)
+module _ {N : Type 0} (law : GoesOn) (opened : OutcomeParts N) (first : Start) (d : Ongoing) (calls : List PortCall) (ran : RanFrom opened first d calls) where
+  abbrev t : Told
+  t = opened_as opened d
+
+  pub shared_goes_on : IsOngoing first opened.die.die.terms opened.die.die.life (after_calls first opened.die.die.terms opened.die.die.life t calls).ongoing
   shared_goes_on =
-      law first opened.die.terms opened.die.life ran.shared.is_die.long d (ran.stands.runs ran.runs).goes_on (moves_of calls)
+      subst (IsOngoing first opened.die.die.terms opened.die.die.life) (sym (ongoing_is first opened.die.die.terms opened.die.die.life 0 t calls))
+      (law first opened.die.die.terms opened.die.die.life ran.shared.is_die.long d (ran.stands.runs ran.runs).goes_on (die_moves calls))
 
   pub shared_in_time : ForKeptLogs (λ start terms earlier life entered log. AreDoneInTime start.plan log)
-      → IsInTime first opened.die.life (after_calls first opened.die.terms opened.die.life d calls)
+      → IsInTime first opened.die.die.life (after_calls first opened.die.die.terms opened.die.die.life t calls).ongoing
   shared_in_time jobs =
       let k = shared_goes_on in
-      let there : Ongoing = after_calls first opened.die.terms opened.die.life d calls in
-      (k.passed, jobs (start_of first there) opened.die.terms (counted there.earlier) opened.die.life 0 there.log k.kept)
+      let there : Ongoing = (after_calls first opened.die.die.terms opened.die.die.life t calls).ongoing in
+      (k.passed, jobs (start_of first there) opened.die.die.terms (counted there.earlier) opened.die.die.life 0 there.log k.kept)
 
 -- Isolation
 
@@ -44,21 +50,27 @@ Isolates = (first other : Start) (terms : Terms) (life task : ℕ) → AreLongEn
     → ops_of (waiting_of one task) ≡ ops_of (waiting_of two task) → (moves others : List Move) → seen_by task moves ≡ seen_by task others
     → answers_to first terms life task one moves ≡ answers_to other terms life task two others
 
-module _ {N : Type 0} (law : Isolates) (task : ℕ) (opened again : OngoingParts N) (first other : Start) (one two : Ongoing) (calls others : List PortCall)
+module _ {N : Type 0} (law : Isolates) (task : ℕ) (opened again : OutcomeParts N) (first other : Start) (one two : Ongoing) (calls others : List PortCall)
     (h : SeesTheSame task opened again first other one two calls others) where
   abbrev terms : Terms
-  terms = opened.die.terms
+  terms = opened.die.die.terms
 
   abbrev life : ℕ
-  life = opened.die.life
+  life = opened.die.die.life
 
   goes_on_again : IsOngoing other terms life two
   goes_on_again = subst (λ n. IsOngoing other terms n two) h.plan.life
-      (subst (λ (t : Terms). IsOngoing other t again.die.life two) h.plan.terms (h.ran_again.stands.runs h.ran_again.runs).goes_on)
+      (subst (λ (t : Terms). IsOngoing other t again.die.die.life two) h.plan.terms (h.ran_again.stands.runs h.ran_again.runs).goes_on)
 
-  granted_again : WereGranted other terms life two others
-  granted_again = subst (λ n. WereGranted other terms n two others) h.plan.life
-      (subst (λ (t : Terms). WereGranted other t again.die.life two others) h.plan.terms (h.ran_again.shared.granted other two h.ran_again.stands))
+  abbrev told_one : Told
+  told_one = opened_as opened one
+
+  abbrev told_two : Told
+  told_two = opened_as again two
+
+  granted_again : WereGranted other terms life told_two others
+  granted_again = subst (λ n. WereGranted other terms n told_two others) h.plan.life
+      (subst (λ (x : Terms). WereGranted other x again.die.die.life told_two others) h.plan.terms (h.ran_again.shared.granted other two h.ran_again.stands))
 
   same : (moves more : List Move) → seen_by task moves ≡ seen_by task more
       → answers_to first terms life task one moves ≡ answers_to other terms life task two more
@@ -67,18 +79,43 @@ module _ {N : Type 0} (law : Isolates) (task : ℕ) (opened again : OngoingParts
 
   pub same_granted : answers_in task calls ≡ answers_in task others
   same_granted =
-      answers_are first terms life task one calls (h.ran.shared.granted first one h.ran.stands)
-      ∙ (same (moves_of calls) (moves_of others) h.seen ∙ sym (answers_are other terms life task two others granted_again))
+      answers_are first terms life task told_one calls (h.ran.shared.granted first one h.ran.stands)
+      ∙ (same (die_moves calls) (die_moves others) h.seen ∙ sym (answers_are other terms life task told_two others granted_again))
 
-  pub same_next : (kind : AskKind) (ops : List Op) → answer_to first terms life (after_calls first terms life one calls) kind task ops
-      ≡ answer_to other terms life (after_calls other terms life two others) kind task ops
+  then_same : (kind : AskKind) (ops : List Op) → answer_to first terms life (ongoing_after first terms life one (die_moves calls)) kind task ops
+      ≡ answer_to other terms life (ongoing_after other terms life two (die_moves others)) kind task ops
+  then_same kind ops =
+      let x : Answer = answer_to first terms life (ongoing_after first terms life one (die_moves calls)) kind task ops in
+      let y : Answer = answer_to other terms life (ongoing_after other terms life two (die_moves others)) kind task ops in
+      let seen = seen_then kind task (die_moves calls) 0 ops
+      ∙ (ap (λ (l : List Seen). l ++ Asks kind ops ∷ []) h.seen ∙ sym (seen_then kind task (die_moves others) 0 ops)) in
+      last_same (answers_to first terms life task one (die_moves calls)) x y
+      (sym (answers_then first terms life task kind one (die_moves calls) 0 ops)
+      ∙ (same (die_moves calls ++ Ask kind 0 task ops ∷ []) (die_moves others ++ Ask kind 0 task ops ∷ []) seen
+      ∙ (answers_then other terms life task kind two (die_moves others) 0 ops
+      ∙ ap (λ (l : List Answer). l ++ y ∷ []) (sym (same (die_moves calls) (die_moves others) h.seen)))))
+
+  pub same_next : (kind : AskKind) (ops : List Op) → answer_to first terms life (after_calls first terms life told_one calls).ongoing kind task ops
+      ≡ answer_to other terms life (after_calls other terms life told_two others).ongoing kind task ops
   same_next kind ops =
-      let x : Answer = answer_to first terms life (after_calls first terms life one calls) kind task ops in
-      let y : Answer = answer_to other terms life (after_calls other terms life two others) kind task ops in
-      let seen = seen_then kind task (moves_of calls) 0 ops
-      ∙ (ap (λ (l : List Seen). l ++ Asks kind ops ∷ []) h.seen ∙ sym (seen_then kind task (moves_of others) 0 ops)) in
-      last_same (answers_to first terms life task one (moves_of calls)) x y
-      (sym (answers_then first terms life task kind one (moves_of calls) 0 ops)
-      ∙ (same (moves_of calls ++ Ask kind 0 task ops ∷ []) (moves_of others ++ Ask kind 0 task ops ∷ []) seen
-      ∙ (answers_then other terms life task kind two (moves_of others) 0 ops
-      ∙ ap (λ (l : List Answer). l ++ y ∷ []) (sym (same (moves_of calls) (moves_of others) h.seen)))))
+      ap (λ (x : Ongoing). answer_to first terms life x kind task ops) (ongoing_is first terms life task told_one calls)
+      ∙ (then_same kind ops ∙ sym (ap (λ (x : Ongoing). answer_to other terms life x kind task ops) (ongoing_is other terms life task told_two others)))
+
+-- Outcomes
+
+abbrev pub Accounts : Type 0
+Accounts = (first : Start) (terms : Terms) (life : ℕ) → AreLongEnough terms life → (t : Told) → IsOngoing first terms life t.ongoing → (task : ℕ)
+    → task < length t.queues → (moves : List OutcomeMove)
+    → AreAccountedFor first task t (taken_by first terms life task t moves) (told_after first terms life t moves)
+
+pub accounted : {N : Type 0} → Accounts → (task : ℕ) (opened : OutcomeParts N) (first : Start) (d : Ongoing) (calls : List PortCall)
+    → RanFrom opened first d calls → task < length opened.queues
+    → AreAccountedFor first task (opened_as opened d) (outcomes_in task calls)
+    (after_calls first opened.die.die.terms opened.die.die.life (opened_as opened d) calls)
+accounted law task opened first d calls ran lt =
+    let terms = opened.die.die.terms in
+    let life = opened.die.die.life in
+    let t : Told = opened_as opened d in
+    subst (λ (os : List TaskOutcome). AreAccountedFor first task t os (after_calls first terms life t calls))
+    (outcomes_are first terms life task t calls (ran.shared.granted first d ran.stands))
+    (law first terms life ran.shared.is_die.long t (ran.stands.runs ran.runs).goes_on task lt (moves_of calls))

@@ -3,7 +3,7 @@ use Rattle.std.proofs.Common.{◌≡◌, ℕ, suc, ◌+◌, List, [], ◌∷◌,
 use Rattle.std.proofs.lemmas.List.{length-append}
 use Rattle.std.specs.List.{AllByRecursion}
 use Rattle.atomic_table.specs.Seated.{TableId}
-use Rattle.ongoing_die.specs.Standing.{OngoingParts}
+use Rattle.task_outcomes.specs.OutcomeDies.{OutcomeParts}
 use Rattle.planned_ports.specs.declared.pages.PageRange.{PageRange}
 use Rattle.planned_ports.specs.Ports.{TaskParts}
 use Rattle.planned_ports.specs.Opening.{IsNewPort, AreNewFrom}
@@ -12,7 +12,7 @@ use Rattle.planned_ports.specs.Opening.{IsNewPort, AreNewFrom}
 pub one_longer : {X : Type 0} (xs longer : List X) (x : X) (n : ℕ) → longer ≡ xs ++ x ∷ [] → length xs ≡ n → length longer ≡ n + 1
 one_longer xs longer x n is count = rw (is, length-append xs (x ∷ []), count) refl
 
-module _ {N : Type 0} (lock : TableId) (opened : Option (OngoingParts N)) (ranges : List (Option PageRange)) where
+module _ {N : Type 0} (lock : TableId) (opened : Option (OutcomeParts N)) (ranges : List (Option PageRange)) where
   pub one_port_more : (from : ℕ) (ports : List (TaskParts N)) (port : TaskParts N) → AreNewFrom lock opened ranges from ports
       → IsNewPort lock opened ranges (from + length ports) port → AreNewFrom lock opened ranges from (ports ++ port ∷ [])
   one_port_more from [] port all one = (subst (λ n. IsNewPort lock opened ranges n port) none one, tt)

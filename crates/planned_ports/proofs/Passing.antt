@@ -1,5 +1,5 @@
 -- What a call in the turn tells its port.
-use Rattle.std.proofs.Common.{◌≡◌, ℕ, List, [], ◌∷◌, ◌++◌, Result, Ok, Err, IfOk, IfErr, None, if◌then◌else◌, refl, sym, ◌∙◌, subst}
+use Rattle.std.proofs.Common.{◌≡◌, ℕ, List, [], ◌∷◌, ◌++◌, Result, Ok, Err, IfOk, IfErr, Option, None, if◌then◌else◌, refl, sym, ◌∙◌, subst}
 use Rattle.std.proofs.lemmas.List.{append-nil}
 use Rattle.std.specs.Prelude.{is_ok}
 use Rattle.std.specs.List.{AllByRecursion}
@@ -16,11 +16,13 @@ use Rattle.planned_ports.specs.declared.calls.Refused.TheVariants as refused
 use Rattle.planned_ports.specs.Calls.{PortCall}
 use Rattle.planned_ports.specs.Replies.{IsSharedLog, MayReply}
 use Rattle.planned_ports.specs.declared.refusals.AskRefused.{AskRefused}
+use Rattle.task_outcomes.specs.declared.task_outcome.TaskOutcome.{TaskOutcome}
+use Rattle.planned_ports.specs.declared.refusals.OutcomeRefused.{OutcomeRefused}
 use Rattle.planned_ports.specs.declared.refusals.SlotRefused.{SlotRefused}
 use Rattle.planned_ports.specs.Pages.{foreign_page}
 use Rattle.planned_ports.specs.Ports.{PortView, TaskParts, ClockParts, AddsEntry, AddsNone, IsOwnAsk, IsSlotRequest, HasOwnAsks, HasOwnSlots}
-use Rattle.planned_ports.specs.Ports.{RefusesTask, RefusesClock}
-use Rattle.planned_ports.specs.Unwrapping.{IsJob, IsSlot, RefusesAsks, RefusesSlots, IsAskRefusal, IsSlotRefusal}
+use Rattle.planned_ports.specs.Ports.{RefusesTask, RefusesClock, TellsOutcome, RefusesOutcome}
+use Rattle.planned_ports.specs.Unwrapping.{IsJob, IsSlot, IsOutcome, RefusesAsks, RefusesSlots, RefusesOutcomes, IsAskRefusal, IsSlotRefusal, IsNoOutcome}
 
 pub all_push : {X : Type 0} (P : X → Type 0) (xs : List X) (x : X) → AllByRecursion P xs → P x → AllByRecursion P (xs ++ x ∷ [])
 all_push P [] x all one = (one, tt)
@@ -61,32 +63,80 @@ module _ {N : Type 0} where
   pub is_job : (v : PortView N) (kind : AskKind) (task : ℕ) (ops : List Op) (answer : Granted) (w : PortView N) → AddsEntry v (requests.Ask kind task ops) answer w → IsJob answer
   is_job v kind task ops (granted.Job answer) w a = tt
   is_job v kind task ops (granted.Slot reply) w a = let die = a.shared.is_die in a.granted die.first die.ongoing die.stands
+  is_job v kind task ops (granted.Outcome outcome) w a = let die = a.shared.is_die in a.granted die.first die.ongoing die.stands
 
   pub is_slot : (v : PortView N) (answer : Granted) (w : PortView N) → AddsEntry v requests.Slot answer w → IsSlot answer
   is_slot v (granted.Slot reply) w a = tt
   is_slot v (granted.Job answer) w a = let die = a.shared.is_die in a.granted die.first die.ongoing die.stands
+  is_slot v (granted.Outcome outcome) w a = let die = a.shared.is_die in a.granted die.first die.ongoing die.stands
+
+  pub is_outcome : (v : PortView N) (task : ℕ) (answer : Granted) (w : PortView N) → AddsEntry v (requests.Outcome task) answer w → IsOutcome answer
+  is_outcome v task (granted.Outcome outcome) w a = tt
+  is_outcome v task (granted.Job answer) w a = let die = a.shared.is_die in a.granted die.first die.ongoing die.stands
+  is_outcome v task (granted.Slot reply) w a = let die = a.shared.is_die in a.granted die.first die.ongoing die.stands
 
   pub refuses_asks : (v : PortView N) (kind : AskKind) (task : ℕ) (ops : List Op) (refusal : Refused) (w : PortView N) → AddsNone v (requests.Ask kind task ops) refusal w
       → RefusesAsks refusal
   refuses_asks v kind task ops (refused.Ask stop) w a = tt
   refuses_asks v kind task ops (refused.Slot stop) w a = let die = a.grown.fit.is_die in a.reason.1 die.first die.ongoing die.stands
+  refuses_asks v kind task ops refused.NoOutcome w a = let die = a.grown.fit.is_die in a.reason.1 die.first die.ongoing die.stands
+  refuses_asks v kind task ops refused.NoMemory w a = let die = a.grown.fit.is_die in a.reason.1 die.first die.ongoing die.stands
   refuses_asks v kind task ops refused.LockFull w a = tt
 
   pub refuses_slots : (v : PortView N) (refusal : Refused) (w : PortView N) → AddsNone v requests.Slot refusal w → RefusesSlots refusal
   refuses_slots v (refused.Ask stop) w a = let die = a.grown.fit.is_die in a.reason.1 die.first die.ongoing die.stands
   refuses_slots v (refused.Slot stop) w a = tt
+  refuses_slots v refused.NoOutcome w a = let die = a.grown.fit.is_die in a.reason.1 die.first die.ongoing die.stands
+  refuses_slots v refused.NoMemory w a = let die = a.grown.fit.is_die in a.reason.1 die.first die.ongoing die.stands
   refuses_slots v refused.LockFull w a = tt
+
+  pub refuses_outcomes : (v : PortView N) (task : ℕ) (refusal : Refused) (w : PortView N) → AddsNone v (requests.Outcome task) refusal w
+      → RefusesOutcomes refusal
+  refuses_outcomes v task (refused.Ask stop) w a = let die = a.grown.fit.is_die in a.reason.1 die.first die.ongoing die.stands
+  refuses_outcomes v task (refused.Slot stop) w a = let die = a.grown.fit.is_die in a.reason.1 die.first die.ongoing die.stands
+  refuses_outcomes v task refused.NoOutcome w a = tt
+  refuses_outcomes v task refused.NoMemory w a = tt
+  refuses_outcomes v task refused.LockFull w a = tt
+
+  -- what a port that takes no outcome is answered
+  pub tells_none : (p q : TaskParts N) (refusal : Refused) (result : Result (Option TaskOutcome) OutcomeRefused)
+      → AddsNone p.view (requests.Outcome p.task) refusal q.view → IsNoOutcome refusal result
+      → IfOk result (λ outcome. TellsOutcome p outcome q)
+  tells_none p q refused.NoOutcome result a is =
+      subst (λ (r : Result (Option TaskOutcome) OutcomeRefused). IfOk r (λ outcome. TellsOutcome p outcome q)) (sym is) a
+  tells_none p q refused.NoMemory result a is =
+      subst (λ (r : Result (Option TaskOutcome) OutcomeRefused). IfOk r (λ outcome. TellsOutcome p outcome q)) (sym is) tt
+  tells_none p q refused.LockFull result a is =
+      subst (λ (r : Result (Option TaskOutcome) OutcomeRefused). IfOk r (λ outcome. TellsOutcome p outcome q)) (sym is) tt
+  tells_none p q (refused.Ask stop) result a is = absurd is
+  tells_none p q (refused.Slot stop) result a is = absurd is
+
+  pub refuses_outcome : (p q : TaskParts N) (refusal : Refused) (result : Result (Option TaskOutcome) OutcomeRefused)
+      → AddsNone p.view (requests.Outcome p.task) refusal q.view → IsNoOutcome refusal result
+      → IfErr result (λ r. RefusesOutcome p r q)
+  refuses_outcome p q refused.NoOutcome result a is =
+      subst (λ (r : Result (Option TaskOutcome) OutcomeRefused). IfErr r (λ e. RefusesOutcome p e q)) (sym is) tt
+  refuses_outcome p q refused.NoMemory result a is =
+      subst (λ (r : Result (Option TaskOutcome) OutcomeRefused). IfErr r (λ e. RefusesOutcome p e q)) (sym is) a
+  refuses_outcome p q refused.LockFull result a is =
+      subst (λ (r : Result (Option TaskOutcome) OutcomeRefused). IfErr r (λ e. RefusesOutcome p e q)) (sym is) a
+  refuses_outcome p q (refused.Ask stop) result a is = absurd is
+  refuses_outcome p q (refused.Slot stop) result a is = absurd is
 
   pub refuses_task : (kind : AskKind) (p : TaskParts N) (ops : List Op) (refusal : Refused) (result : AskRefused) (q : TaskParts N) → foreign_page p.pages ops ≡ None
       → AddsNone p.view (requests.Ask kind p.task ops) refusal q.view → IsAskRefusal refusal result → RefusesTask kind p ops result q
   refuses_task kind p ops (refused.Ask stop) result q own a is = subst (λ (r : AskRefused). RefusesTask kind p ops r q) (sym is) (own, a)
   refuses_task kind p ops (refused.Slot stop) result q own a is = absurd is
+  refuses_task kind p ops refused.NoOutcome result q own a is = absurd is
+  refuses_task kind p ops refused.NoMemory result q own a is = absurd is
   refuses_task kind p ops refused.LockFull result q own a is = subst (λ (r : AskRefused). RefusesTask kind p ops r q) (sym is) (own, a)
 
   pub refuses_clock : (p : ClockParts N) (refusal : Refused) (result : SlotRefused) (q : ClockParts N) → AddsNone p.view requests.Slot refusal q.view
       → IsSlotRefusal refusal result → RefusesClock p result q
   refuses_clock p (refused.Ask stop) result q a is = absurd is
   refuses_clock p (refused.Slot stop) result q a is = subst (λ (r : SlotRefused). RefusesClock p r q) (sym is) a
+  refuses_clock p refused.NoOutcome result q a is = absurd is
+  refuses_clock p refused.NoMemory result q a is = absurd is
   refuses_clock p refused.LockFull result q a is = subst (λ (r : SlotRefused). RefusesClock p r q) (sym is) a
 
   -- the port's own requests, with one more
@@ -95,6 +145,12 @@ module _ {N : Type 0} where
   own_asks kind p q ops answer own page task pages number a =
       rw (task, pages, number, a.own) (all_push (λ (c : PortCall). IsOwnAsk p.task p.pages c.event) (calls_by p.view.number p.view.seen)
       (entry p.view.number (requests.Ask kind p.task ops) (Ok answer)) own (refl, page))
+
+  pub own_outcome : (p q : TaskParts N) (answer : Granted) → HasOwnAsks p → q.task ≡ p.task → q.pages ≡ p.pages
+      → q.view.number ≡ p.view.number → AddsEntry p.view (requests.Outcome p.task) answer q.view → HasOwnAsks q
+  own_outcome p q answer own task pages number a =
+      rw (task, pages, number, a.own) (all_push (λ (c : PortCall). IsOwnAsk p.task p.pages c.event) (calls_by p.view.number p.view.seen)
+      (entry p.view.number (requests.Outcome p.task) (Ok answer)) own refl)
 
   pub own_slots : (p q : ClockParts N) (answer : Granted) → HasOwnSlots p → q.view.number ≡ p.view.number → AddsEntry p.view requests.Slot answer q.view
       → HasOwnSlots q
@@ -107,6 +163,10 @@ module _ {N : Type 0} where
   pub same_asks : (kind : AskKind) (p q : TaskParts N) (ops : List Op) (refusal : Refused) → HasOwnAsks p → q.task ≡ p.task → q.pages ≡ p.pages
       → q.view.number ≡ p.view.number → AddsNone p.view (requests.Ask kind p.task ops) refusal q.view → HasOwnAsks q
   same_asks kind p q ops refusal own task pages number a = rw (task, pages, number, a.own) own
+
+  pub same_outcome : (p q : TaskParts N) (refusal : Refused) → HasOwnAsks p → q.task ≡ p.task → q.pages ≡ p.pages
+      → q.view.number ≡ p.view.number → AddsNone p.view (requests.Outcome p.task) refusal q.view → HasOwnAsks q
+  same_outcome p q refusal own task pages number a = rw (task, pages, number, a.own) own
 
   pub same_slots : (p q : ClockParts N) (refusal : Refused) → HasOwnSlots p → q.view.number ≡ p.view.number → AddsNone p.view requests.Slot refusal q.view
       → HasOwnSlots q

@@ -3,7 +3,7 @@ use Rattle.std.specs.Prelude.{ℕ, List, [], ◌∷◌, ◌++◌, map, Result, O
 use Rattle.demand_rules.specs.declared.terms.Terms.{Terms}
 use Rattle.die_log.specs.Model.Start.{Start}
 use Rattle.planned_log.specs.Moves.{Move, Ask, Slot}
-use Rattle.ongoing_log.specs.Ongoing.{Ongoing, ongoing_after}
+use Rattle.task_outcomes.specs.OutcomeMoves.{OutcomeMove, Does, Takes, Told, told_after}
 use Rattle.turn_lock.specs.declared.entry.Entry.{Entry}
 use Rattle.turn_lock.specs.Log.{entry}
 use Rattle.planned_ports.specs.declared.calls.Request.{Request}
@@ -15,19 +15,30 @@ use Rattle.planned_ports.specs.declared.calls.Refused.{Refused}
 abbrev pub PortCall : Type 0
 PortCall = Entry Request (Result Granted Refused)
 
-abbrev pub move_by : ℕ → Request → Move
-move_by caller (requests.Ask kind task ops) = Ask kind caller task ops
-move_by caller requests.Slot = Slot caller
+abbrev pub move_by : ℕ → Request → OutcomeMove
+move_by caller (requests.Ask kind task ops) = Does (Ask kind caller task ops)
+move_by caller requests.Slot = Does (Slot caller)
+move_by caller (requests.Outcome task) = Takes task
 
-abbrev pub move_of : PortCall → Move
+abbrev pub move_of : PortCall → OutcomeMove
 move_of call = move_by call.caller call.event
 
-abbrev pub moves_of : List PortCall → List Move
+abbrev pub moves_of : List PortCall → List OutcomeMove
 moves_of calls = map move_of calls
 
--- what stands after these calls, where `d` stood before the first
-abbrev pub after_calls : Start → Terms → ℕ → Ongoing → List PortCall → Ongoing
-after_calls first terms life d calls = ongoing_after first terms life d (moves_of calls)
+-- what stands after these calls, where this stood before the first
+abbrev pub after_calls : Start → Terms → ℕ → Told → List PortCall → Told
+after_calls first terms life t calls = told_after first terms life t (moves_of calls)
+
+-- the asks and slots among them
+abbrev pub die_move_by : ℕ → Request → List Move
+die_move_by caller (requests.Ask kind task ops) = Ask kind caller task ops ∷ []
+die_move_by caller requests.Slot = Slot caller ∷ []
+die_move_by caller (requests.Outcome task) = []
+
+abbrev pub die_moves : List PortCall → List Move
+die_moves [] = []
+die_moves (call ∷ calls) = die_move_by call.caller call.event ++ die_moves calls
 
 -- the calls with one more, where it is granted
 abbrev pub calls_after : List PortCall → ℕ → Request → Result Granted Refused → List PortCall

@@ -5,8 +5,8 @@ use Rattle.slot_types.specs.declared.refusals.Refusal.{Refusal}
 use Rattle.slot_types.specs.declared.refusals.Refusal.TheVariants.{PassesOut}
 use Rattle.turn_lock.specs.Log.{calls_by, StartsWith}
 use Rattle.turn_lock.specs.Passes.{IsOut}
-use Rattle.ongoing_die.specs.Standing.{OngoingParts}
 use Rattle.ongoing_die.specs.OngoingCalls.{HaveOnePlan}
+use Rattle.task_outcomes.specs.OutcomeDies.{OutcomeParts}
 use Rattle.planned_ports.specs.Calls.{PortCall}
 use Rattle.planned_ports.specs.Replies.{IsSharedLog}
 use Rattle.planned_ports.specs.Shared.{HasMoved}
@@ -14,13 +14,13 @@ use Rattle.planned_ports.specs.Ports.{PortView, PortPass, TaskParts}
 
 -- The die is given back: of this log its ports had all seen a beginning, it is the log of a die that was shared, and the
 -- die stands as after its calls.
-pub record IsGivenBack {N : Type 0} (clock : PortView N) (tasks : List (TaskParts N)) (die : OngoingParts N) : Type 0 where
-  pub opened : OngoingParts N
+pub record IsGivenBack {N : Type 0} (clock : PortView N) (tasks : List (TaskParts N)) (die : OutcomeParts N) : Type 0 where
+  pub opened : OutcomeParts N
   pub calls : List PortCall
   pub about : clock.about ≡ Some opened
   pub shared : IsSharedLog opened calls
   pub moved : HasMoved opened calls die
-  pub plan : HaveOnePlan opened die
+  pub plan : HaveOnePlan opened.die die.die
   pub clock_saw : StartsWith calls clock.seen
   pub tasks_saw : All (λ (port : TaskParts N). StartsWith calls port.view.seen) tasks
 

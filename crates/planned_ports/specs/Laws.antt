@@ -7,14 +7,16 @@ use Rattle.planned_log.specs.Asks.{asked_by}
 use Rattle.planned_log.specs.Laws.{AreDoneInTime, seen_by}
 use Rattle.ongoing_log.specs.PastLives.{counted, HavePassed}
 use Rattle.ongoing_log.specs.Ongoing.{Ongoing, Answer, start_of, waiting_of, ops_of}
-use Rattle.ongoing_die.specs.Standing.{OngoingParts, StandsAs}
+use Rattle.ongoing_die.specs.Standing.{StandsAs}
 use Rattle.ongoing_die.specs.OngoingCalls.{told, HaveOnePlan}
+use Rattle.task_outcomes.specs.declared.task_outcome.TaskOutcome.{TaskOutcome}
+use Rattle.task_outcomes.specs.OutcomeDies.{OutcomeParts}
 use Rattle.planned_ports.specs.declared.calls.Request.{Request}
 use Rattle.planned_ports.specs.declared.calls.Request.TheVariants as requests
 use Rattle.planned_ports.specs.declared.calls.Granted.{Granted}
 use Rattle.planned_ports.specs.declared.calls.Granted.TheVariants as granted
 use Rattle.planned_ports.specs.declared.calls.Refused.{Refused}
-use Rattle.planned_ports.specs.Calls.{PortCall, moves_of}
+use Rattle.planned_ports.specs.Calls.{PortCall, die_moves}
 use Rattle.planned_ports.specs.Replies.{IsSharedLog}
 
 -- In time
@@ -45,17 +47,29 @@ pub record AreAlikeFor (task : ℕ) (first other : Start) (one two : Ongoing) : 
   pub waits : ops_of (waiting_of one task) ≡ ops_of (waiting_of two task)
 
 -- the log of a die that ran when it was opened, of which this stood then
-pub record RanFrom {N : Type 0} (opened : OngoingParts N) (first : Start) (d : Ongoing) (calls : List PortCall) : Type 0 where
+pub record RanFrom {N : Type 0} (opened : OutcomeParts N) (first : Start) (d : Ongoing) (calls : List PortCall) : Type 0 where
   pub shared : IsSharedLog opened calls
-  pub runs : opened.die.core.stopped ≡ false
-  pub stands : StandsAs first d opened
+  pub runs : opened.die.die.core.stopped ≡ false
+  pub stands : StandsAs first d opened.die
 
 -- Of two such logs a task sees the same: both dies have one plan, and stood alike for it when they were opened, and it made
 -- the same asks at the same slots. What others asked is whatever it is.
-pub record SeesTheSame {N : Type 0} (task : ℕ) (opened again : OngoingParts N) (first other : Start) (one two : Ongoing) (calls others : List PortCall)
+pub record SeesTheSame {N : Type 0} (task : ℕ) (opened again : OutcomeParts N) (first other : Start) (one two : Ongoing) (calls others : List PortCall)
     : Type 0 where
   pub ran : RanFrom opened first one calls
   pub ran_again : RanFrom again other two others
-  pub plan : HaveOnePlan opened again
+  pub plan : HaveOnePlan opened.die again.die
   pub alike : AreAlikeFor task first other one two
-  pub seen : seen_by task (moves_of calls) ≡ seen_by task (moves_of others)
+  pub seen : seen_by task (die_moves calls) ≡ seen_by task (die_moves others)
+
+-- Outcomes
+
+-- the outcome that a task took with this call, if it did
+abbrev pub outcome_in : ℕ → Request → Result Granted Refused → List TaskOutcome
+outcome_in task (requests.Outcome other) (Ok (granted.Outcome outcome)) = if other == task then outcome ∷ [] else []
+outcome_in task _ _ = []
+
+-- and those by these calls, in order
+abbrev pub outcomes_in : ℕ → List PortCall → List TaskOutcome
+outcomes_in task [] = []
+outcomes_in task (call ∷ calls) = outcome_in task call.event call.reply ++ outcomes_in task calls

@@ -10,27 +10,35 @@ use Rattle.turn_lock.specs.declared.view.View.{View}
 use Rattle.turn_lock.specs.Log.{entry, calls_by}
 use Rattle.turn_lock.specs.Views.{PassView}
 use Rattle.turn_lock.specs.Passes.{SeesMore}
-use Rattle.ongoing_die.specs.Standing.{OngoingParts, StandsAs}
+use Rattle.ongoing_die.specs.Standing.{StandsAs}
+use Rattle.task_outcomes.specs.declared.task_outcome.TaskOutcome.{TaskOutcome}
+use Rattle.task_outcomes.specs.OutcomeDies.{OutcomeParts}
+use Rattle.task_outcomes.specs.OutcomeMoves.{Told}
+use Rattle.planned_ports.specs.declared.calls.Query.{Query}
+use Rattle.planned_ports.specs.declared.calls.Query.TheVariants as queries
 use Rattle.planned_ports.specs.declared.calls.Request.{Request}
 use Rattle.planned_ports.specs.declared.calls.Request.TheVariants as requests
 use Rattle.planned_ports.specs.declared.calls.Granted.{Granted}
+use Rattle.planned_ports.specs.declared.calls.Granted.TheVariants as granted
 use Rattle.planned_ports.specs.declared.calls.Refused.{Refused}
 use Rattle.planned_ports.specs.declared.calls.Refused.TheVariants as refused
 use Rattle.planned_ports.specs.declared.refusals.AskRefused.{AskRefused}
 use Rattle.planned_ports.specs.declared.refusals.AskRefused.TheVariants as asks
+use Rattle.planned_ports.specs.declared.refusals.OutcomeRefused.{OutcomeRefused}
+use Rattle.planned_ports.specs.declared.refusals.OutcomeRefused.TheVariants as outcomes
 use Rattle.planned_ports.specs.declared.refusals.SlotRefused.{SlotRefused}
 use Rattle.planned_ports.specs.declared.refusals.SlotRefused.TheVariants as slots
 use Rattle.planned_ports.specs.declared.pages.PageRange.{PageRange}
 use Rattle.planned_ports.specs.Pages.{foreign_page}
 use Rattle.planned_ports.specs.Calls.{PortCall, after_calls}
-use Rattle.planned_ports.specs.Replies.{IsGranted, IsSharedLog, MayReply, SaysClock}
+use Rattle.planned_ports.specs.Replies.{IsGranted, IsSharedLog, MayReply, Says, opened_as}
 
 -- what a port knows of its die
 abbrev pub PortView : (N : Type 0) → Type 0
-PortView N = View Request (Result Granted Refused) (OngoingParts N)
+PortView N = View Request (Result Granted Refused) (OutcomeParts N)
 
 abbrev pub PortPass : (N : Type 0) → Type 0
-PortPass N = PassView Request (Result Granted Refused) (OngoingParts N)
+PortPass N = PassView Request (Result Granted Refused) (OutcomeParts N)
 
 -- a task's port, as its callers see it: which lock it is of, what it knows, its task, and the pages that it may use
 pub record TaskParts (N : Type 0) : Type 0 where
@@ -41,12 +49,13 @@ pub record TaskParts (N : Type 0) : Type 0 where
 
 -- The port's own requests
 
--- an ask of this task, for a job or for a burst, on pages that the port may use
+-- an ask of this task, for a job or for a burst, on pages that the port may use; or an outcome of it
 abbrev pub IsOwnAsk : ℕ → Option PageRange → Request → Type 0
 IsOwnAsk task pages (requests.Ask kind other ops) = (other ≡ task) × (foreign_page pages ops ≡ None)
+IsOwnAsk task pages (requests.Outcome other) = other ≡ task
 IsOwnAsk task pages requests.Slot = ⊥
 
--- all that the port was granted are such asks
+-- all that the port was granted are such
 abbrev pub HasOwnAsks : {N : Type 0} → TaskParts N → Type 0
 HasOwnAsks port = AllByRecursion (λ call. IsOwnAsk port.task port.pages call.event) (calls_by port.view.number port.view.seen)
 
@@ -64,8 +73,8 @@ pub record ClockParts (N : Type 0) : Type 0 where
   pub view : PortView N
 
 abbrev pub IsSlotRequest : Request → Type 0
-IsSlotRequest (requests.Ask kind task ops) = ⊥
 IsSlotRequest requests.Slot = Unit {0}
+IsSlotRequest _ = ⊥
 
 -- all that it was granted are slots
 abbrev pub HasOwnSlots : {N : Type 0} → ClockParts N → Type 0
@@ -83,9 +92,9 @@ abbrev pub HasGrown : {N : Type 0} → PortView N → PortView N → Type 0
 HasGrown = SeesMore IsSharedLog
 
 -- what stands after these calls, of a die that was this when it was opened, whatever stood of it then
-abbrev pub StandsSo : {N : Type 0} → OngoingParts N → List PortCall → (Start → Ongoing → Type 0) → Type 0
-StandsSo opened calls Holds = (first : Start) (d : Ongoing) → StandsAs first d opened
-    → Holds first (after_calls first opened.die.terms opened.die.life d calls)
+abbrev pub StandsSo : {N : Type 0} → OutcomeParts N → List PortCall → (Start → Told → Type 0) → Type 0
+StandsSo opened calls Holds = (first : Start) (d : Ongoing) → StandsAs first d opened.die
+    → Holds first (after_calls first opened.die.die.terms opened.die.die.life (opened_as opened d) calls)
 
 -- a request that is granted: what was seen grows by what others were granted, and then by this call, as it is granted after
 -- those
@@ -93,7 +102,7 @@ pub record AddsEntry {N : Type 0} (v : PortView N) (request : Request) (answer :
   pub before : PortView N
   pub grown : HasGrown v before
   pub view_is : w ≡ record before { seen = before.seen ++ entry v.number request (Ok answer) ∷ [] }
-  pub granted : StandsSo grown.topic before.seen (λ first d. IsGranted first grown.topic.die.terms grown.topic.die.life d v.number request answer)
+  pub granted : StandsSo grown.topic before.seen (λ first t. IsGranted first grown.topic.die.die.terms grown.topic.die.die.life t v.number request answer)
   pub shared : IsSharedLog grown.topic w.seen
   pub own : calls_by v.number w.seen ≡ calls_by v.number v.seen ++ entry v.number request (Ok answer) ∷ []
 
@@ -103,9 +112,22 @@ pub record AddsNone {N : Type 0} (v : PortView N) (request : Request) (refusal :
   pub reason : MayReply grown.topic w.seen v.number request (Err refusal)
   pub own : calls_by v.number w.seen ≡ calls_by v.number v.seen
 
--- the present slot, of all that the port has then seen
+-- the answer to a question, of all that the port has then seen
+abbrev pub IsAnswer : {N : Type 0} → Query → PortView N → PortView N → Option ℕ → Type 0
+IsAnswer query v w n = (g : HasGrown v w) × Says g.topic w.seen query n
+
+-- the present slot
 abbrev pub IsClock : {N : Type 0} → PortView N → PortView N → Option ℕ → Type 0
-IsClock v w slot = (g : HasGrown v w) × SaysClock g.topic w.seen slot
+IsClock v w slot = IsAnswer queries.Clock v w slot
+
+-- an outcome that the task takes is granted as its first; where there is none, so it is after all that the port has then seen
+abbrev pub TellsOutcome : {N : Type 0} → TaskParts N → Option TaskOutcome → TaskParts N → Type 0
+TellsOutcome p (Some outcome) q = AddsEntry p.view (requests.Outcome p.task) (granted.Outcome outcome) q.view
+TellsOutcome p None q = AddsNone p.view (requests.Outcome p.task) refused.NoOutcome q.view
+
+abbrev pub RefusesOutcome : {N : Type 0} → TaskParts N → OutcomeRefused → TaskParts N → Type 0
+RefusesOutcome p outcomes.NoMemory q = AddsNone p.view (requests.Outcome p.task) refused.NoMemory q.view
+RefusesOutcome p outcomes.LockFull q = AddsNone p.view (requests.Outcome p.task) refused.LockFull q.view
 
 -- Why a task's ask is refused: it is on a page that isn't the port's, and the port knows no more than before; or it is on
 -- its own pages, and is refused behind the lock

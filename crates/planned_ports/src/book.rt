@@ -7,34 +7,28 @@ ghost use Rattle.planned_ports.specs.Replies.{MayReply};
 ghost use Rattle.planned_ports.specs.Shared.{IsSharedDie};
 
 use crate::as_opened::AsOpened;
-use crate::calls::{AskHead, Granted, Refused, Request};
+use crate::calls::{AskHead, Granted, Query, Refused, Request};
 use crate::history::History;
 use flash_die::Nand;
-use ongoing_die::{AskKind, OngoingDie};
+use ongoing_die::AskKind;
 use slot_types::{Op, TaskNo};
 use std::alloc::Global;
 use std::marker::Model;
+use task_outcomes::OutcomeDie;
 use turn_lock::{Book, NotingBook};
 
 /// The most entries that a lock takes.
 const MOST: u64 = 4_294_967_295;
-
-/// What may be asked of a die in its turn, and changes nothing.
-#[derive(Drop)]
-pub enum Query {
-    /// The present slot of the clock of all lives.
-    Clock,
-}
 
 /// A die, what it takes its memory from, and how many requests were granted. Contracts see the die as it was and as it is,
 /// and what was granted between.
 // The book is moved out of its slot and back at each turn, so the die itself lies in a box.
 #[derive(Drop)]
 pub struct PlannedBook<N: Nand> {
-    die: Box<OngoingDie<N>>,
+    die: Box<OutcomeDie<N>>,
     alloc: Global,
     count: u64,
-    opened: AsOpened<OngoingDie<N>>,
+    opened: AsOpened<OutcomeDie<N>>,
     history: History,
 }
 
@@ -56,12 +50,12 @@ impl<N: Nand> Model for PlannedBook<N> {
 
 impl<N: Nand> PlannedBook<N> {
     /// The book of a die for which nothing was granted yet.
-    pub(crate) fn new(alloc: Global, die: Box<OngoingDie<N>>) -> PlannedBook<N>
+    pub(crate) fn new(alloc: Global, die: Box<OutcomeDie<N>>) -> PlannedBook<N>
         ensures opened { result.opened ≡ box_value die }
         ensures none { result.calls ≡ [] }
         ensures die { result.die ≡ box_value die }
     {
-        die.goes_on();
+        die.die().goes_on();
         let opened = AsOpened::of(&*die);
         PlannedBook {
             die,
@@ -73,7 +67,7 @@ impl<N: Nand> PlannedBook<N> {
     }
 
     /// The die, which stands as what was granted says.
-    pub(crate) fn into_die(self) -> OngoingDie<N>
+    pub(crate) fn into_die(self) -> OutcomeDie<N>
         ensures die { result ≡ self.die }
         ensures shared { IsSharedDie self }
     {
@@ -127,11 +121,33 @@ impl<N: Nand> PlannedBook<N> {
             Err(stop) => Err(Refused::Slot(stop)),
         }
     }
+
+    /// Takes the first outcome of the task.
+    fn take_outcome(&mut self, caller: u32, task: TaskNo) -> Result<Granted, Refused>
+        ensures opened { self.new.opened ≡ self.old.opened }
+        ensures replied { MayReply self.old.opened self.old.calls caller (Request.Outcome task) result }
+        ensures calls { self.new.calls
+            ≡ calls_after self.old.calls caller (Request.Outcome task) result }
+    {
+        if self.count >= MOST {
+            return Err(Refused::LockFull);
+        }
+        match self.die.take_outcome(self.alloc, task) {
+            Ok(Some(outcome)) => {
+                let answer = Ok(Granted::Outcome(outcome));
+                self.history = self.history.with_outcome(caller, task, &answer);
+                self.count += 1;
+                answer
+            }
+            Ok(None) => Err(Refused::NoOutcome),
+            Err(_) => Err(Refused::NoMemory),
+        }
+    }
 }
 
 impl<N: Nand> Book for PlannedBook<N> {
     ghost use Rattle.std.specs.Prelude.{is_ok};
-    ghost use Rattle.planned_ports.specs.Replies.{MayReply, IsSharedLog, SaysClock};
+    ghost use Rattle.planned_ports.specs.Replies.{MayReply, IsSharedLog, Says};
 
     type Event = Request;
 
@@ -141,7 +157,7 @@ impl<N: Nand> Book for PlannedBook<N> {
 
     type Answer = Option<u64>;
 
-    type About = OngoingDie<N>;
+    type About = OutcomeDie<N>;
 
     ghost log = { λ shared. shared.calls };
 
@@ -151,7 +167,7 @@ impl<N: Nand> Book for PlannedBook<N> {
 
     ghost gives = { MayReply };
 
-    ghost says = { λ opened calls query slot. SaysClock opened calls slot };
+    ghost says = { Says };
 
     ghost fits = { IsSharedLog };
 
@@ -159,17 +175,20 @@ impl<N: Nand> Book for PlannedBook<N> {
         match event {
             Request::Ask { kind, task, ops } => self.ask_for(caller, kind, task, ops.as_slice()),
             Request::Slot => self.carry_slot(caller),
+            Request::Outcome { task } => self.take_outcome(caller, task),
         }
     }
 
     fn ask(&self, query: Query) -> Option<u64> {
         match query {
             Query::Clock => {
-                if self.die.die().core().is_stopped() {
+                if self.die.die().die().core().is_stopped() {
                     return None;
                 }
-                Some(self.die.clock())
+                Some(self.die.die().clock())
             }
+            Query::Outcomes { task } => Some(self.die.outcomes(task) as u64),
+            Query::Dropped { task } => Some(self.die.dropped_outcomes(task)),
         }
     }
 

@@ -2,6 +2,7 @@
 
 use ongoing_die::{AskKind, AskStop, SlotStop, Taken};
 use slot_types::{OpList, SlotReply, TaskNo};
+use task_outcomes::TaskOutcome;
 
 /// What a port asks of the die.
 #[derive(Drop)]
@@ -14,6 +15,21 @@ pub enum Request {
     },
     /// The present slot.
     Slot,
+    /// The first outcome that the task has to take.
+    Outcome {
+        task: TaskNo,
+    },
+}
+
+/// What may be asked of a die in its turn, and changes nothing.
+#[derive(Drop)]
+pub enum Query {
+    /// The present slot of the clock of all lives.
+    Clock,
+    /// How many outcomes the task has to take.
+    Outcomes { task: TaskNo },
+    /// How many outcomes of the task were dropped.
+    Dropped { task: TaskNo },
 }
 
 /// What an ask is for, without its operations.
@@ -30,6 +46,8 @@ pub enum Granted {
     Job(Taken),
     /// The slot is carried out.
     Slot(SlotReply),
+    /// The outcome is taken.
+    Outcome(TaskOutcome),
 }
 
 /// Why a request is refused.
@@ -39,6 +57,10 @@ pub enum Refused {
     Ask(AskStop),
     /// The die doesn't carry the slot out.
     Slot(SlotStop),
+    /// The task has no outcome to take.
+    NoOutcome,
+    /// Memory is refused for what the reads of the outcome's job gave.
+    NoMemory,
     /// 4,294,967,295 requests were granted since the ports were opened, and the lock takes no more. The die is as it was:
     /// once it is closed, it can be opened again.
     LockFull,

@@ -7,9 +7,9 @@ ghost use Rattle.planned_ports.specs.Closing.{IsGivenBack, StaysShared, HaveJoin
 use crate::book::PlannedBook;
 use crate::ports::{ClockPort, SharedPlannedDie, TaskPort};
 use flash_die::Nand;
-use ongoing_die::OngoingDie;
 use slot_types::Refusal;
 use std::sync::Wait;
+use task_outcomes::OutcomeDie;
 use turn_lock::{Closing, Pass};
 
 /// What a refused [`close`] hands back: the die, and the ports that it was given.
@@ -56,7 +56,7 @@ pub fn close<N: Nand, R: Wait>(
     die: SharedPlannedDie<N>,
     clock: ClockPort<N>,
     tasks: Vec<TaskPort<N>>,
-) -> Result<OngoingDie<N>, StillOpen<N>>
+) -> Result<OutcomeDie<N>, StillOpen<N>>
     requires clock { clock.lock ≡ die }
     requires tasks { All (λ port. port.lock ≡ die) tasks.items }
     ensures closed { IfOk result (IsGivenBack clock.view tasks.items) }

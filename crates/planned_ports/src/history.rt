@@ -60,6 +60,19 @@ impl History {
     {
         beside_slot(self, caller, answer)
     }
+
+    /// With an outcome more that was taken.
+    pub(crate) fn with_outcome(
+        &self,
+        caller: u32,
+        task: TaskNo,
+        answer: &Result<Granted, Refused>,
+    ) -> History
+        ensures { result.calls
+            ≡ self.now.calls ++ entry caller (Request.Outcome task) answer.now ∷ [] }
+    {
+        beside_outcome(self, caller, task, answer)
+    }
 }
 
 /// The calls that the caller picks by these.
@@ -79,6 +92,19 @@ fn beside_ask(
 
 /// The calls that the caller picks by these.
 fn beside_slot(_before: &History, _caller: u32, _answer: &Result<Granted, Refused>) -> History
+    ghost calls: { List PortCall }
+    ensures { result.calls ≡ calls }
+{
+    History::at()
+}
+
+/// The calls that the caller picks by these.
+fn beside_outcome(
+    _before: &History,
+    _caller: u32,
+    _task: TaskNo,
+    _answer: &Result<Granted, Refused>,
+) -> History
     ghost calls: { List PortCall }
     ensures { result.calls ≡ calls }
 {

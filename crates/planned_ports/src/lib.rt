@@ -14,9 +14,10 @@ mod pages;
 mod ports;
 mod refusals;
 
-pub use calls::{Granted, Refused, Request};
+pub use calls::{Granted, Query, Refused, Request};
 pub use closing::{StillOpen, close};
 pub use opening::{NotOpened, Opened, open};
 pub use pages::PageRange;
 pub use ports::{ClockPort, SharedPlannedDie, TaskPort};
-pub use refusals::{AskRefused, SlotRefused};
+pub use refusals::{AskRefused, OutcomeRefused, SlotRefused};
+pub use task_outcomes::{OutcomeDie, TaskOutcome};

@@ -9,10 +9,10 @@ use crate::book::PlannedBook;
 use crate::pages::PageRange;
 use crate::ports::{ClockPort, SharedPlannedDie, TaskPort};
 use flash_die::Nand;
-use ongoing_die::OngoingDie;
 use slot_types::{Refusal, TaskNo};
 use std::alloc::{AllocFailed, Global};
 use std::sync::Wait;
+use task_outcomes::OutcomeDie;
 use turn_lock::{NewLock, Pass};
 
 /// A die with its ports.
@@ -28,7 +28,7 @@ pub struct Opened<N: Nand> {
 #[derive(Drop)]
 pub enum NotOpened<N: Nand> {
     /// Memory is refused. The die is handed back.
-    NoMemory(OngoingDie<N>),
+    NoMemory(OutcomeDie<N>),
     /// The lock has made 65,536 ports. That no new lock has isn't proved; the die is given up then.
     PassesFull,
 }
@@ -36,8 +36,8 @@ pub enum NotOpened<N: Nand> {
 /// Puts a die behind a lock that nobody has used. Where memory is refused, the die is handed back.
 fn new_lock<N: Nand>(
     alloc: Global,
-    die: OngoingDie<N>,
-) -> Result<NewLock<PlannedBook<N>>, OngoingDie<N>>
+    die: OutcomeDie<N>,
+) -> Result<NewLock<PlannedBook<N>>, OutcomeDie<N>>
     ensures opened { IfOk result (λ lock. lock.opened ≡ die) }
     ensures back { IfErr result (λ kept. kept ≡ die) }
 {
@@ -92,8 +92,8 @@ fn new_port<N: Nand, R: Wait>(
 /// A die behind a lock, with its first pass. Where memory is refused, the die is handed back.
 fn share<N: Nand>(
     alloc: Global,
-    die: OngoingDie<N>,
-) -> Result<(SharedPlannedDie<N>, Pass<PlannedBook<N>>), OngoingDie<N>>
+    die: OutcomeDie<N>,
+) -> Result<(SharedPlannedDie<N>, Pass<PlannedBook<N>>), OutcomeDie<N>>
     ensures own { IfOk result (λ made. made.1.lock ≡ made.0) }
     ensures about { IfOk result (λ made. made.1.view.about ≡ Some die) }
     ensures none { IfOk result (λ made. made.1.view.seen ≡ []) }
@@ -141,7 +141,7 @@ fn make_ports<N: Nand, R: Wait>(
 pub fn open<N: Nand, R: Wait>(
     rt: &R,
     alloc: Global,
-    die: OngoingDie<N>,
+    die: OutcomeDie<N>,
     ranges: &[Option<PageRange>],
 ) -> Result<Opened<N>, NotOpened<N>>
     ensures clock { IfOk result (λ made. made.clock.lock ≡ made.die) }
@@ -150,12 +150,12 @@ pub fn open<N: Nand, R: Wait>(
         calls_by made.clock.view.number made.clock.view.seen ≡ []) }
     ensures own { IfOk result (λ made. All (λ port. port.lock ≡ made.die) made.tasks.items) }
     ensures tasks { IfOk result (λ made. AreNewFrom made.die (Some die) ranges.now 0 made.tasks.items) }
-    ensures one_each { IfOk result (λ made. length made.tasks.items ≡ length die.die.terms.tasks) }
+    ensures one_each { IfOk result (λ made. length made.tasks.items ≡ length die.die.die.terms.tasks) }
     ensures back { IfErr result (GivesBack die) }
 {
     // It says that there are 16 tasks at most.
-    die.goes_on();
-    let count = die.die().terms().tasks.len();
+    die.die().goes_on();
+    let count = die.die().die().terms().tasks.len();
     let mut tasks = match Vec::with_capacity(alloc, count) {
         Ok(tasks) => tasks,
         Err(_) => return Err(NotOpened::NoMemory(die)),

@@ -2,19 +2,20 @@
 
 ghost use Rattle.std.specs.Prelude.{◌≡◌, [], Some, None, IfOk, IfErr};
 ghost use Rattle.planned_ports.specs.Pages.{foreign_page};
-ghost use Rattle.planned_ports.specs.Unwrapping.{IsJob, IsSlot, RefusesAsks, RefusesSlots, IsAskRefusal, IsSlotRefusal};
+ghost use Rattle.planned_ports.specs.Unwrapping.{IsJob, IsSlot, IsOutcome, RefusesAsks, RefusesSlots, RefusesOutcomes, IsAskRefusal, IsSlotRefusal, IsNoOutcome};
 ghost use Rattle.turn_lock.specs.Views.{IsSamePass};
-ghost use Rattle.planned_ports.specs.Ports.{AddsEntry, AddsNone, IsSamePort, IsSameClock, HasOwnAsks, HasOwnSlots, IsClock, RefusesTask, RefusesClock};
+ghost use Rattle.planned_ports.specs.Ports.{AddsEntry, AddsNone, IsSamePort, IsSameClock, HasOwnAsks, HasOwnSlots, IsClock, IsAnswer, RefusesTask, RefusesClock, TellsOutcome, RefusesOutcome};
 
-use crate::book::{PlannedBook, Query};
-use crate::calls::{AskHead, Granted, Refused, Request};
+use crate::book::PlannedBook;
+use crate::calls::{AskHead, Granted, Query, Refused, Request};
 use crate::pages::{PageRange, first_foreign};
-use crate::refusals::{AskRefused, SlotRefused};
+use crate::refusals::{AskRefused, OutcomeRefused, SlotRefused};
 use flash_die::Nand;
 use ongoing_die::{AskKind, Taken};
 use slot_types::{Op, SlotReply, TaskNo};
 use std::marker::Model;
 use std::sync::Wait;
+use task_outcomes::TaskOutcome;
 use turn_lock::{Pass, Turned};
 
 /// A die that one port at a time uses. Contracts see which lock it has.
@@ -66,10 +67,27 @@ impl<N: Nand> SharedPlannedDie<N> {
     {
         self.turned.apply(rt, pass, Request::Slot)
     }
+
+    /// Takes the first outcome of the task.
+    fn take_outcome<R: Wait>(
+        &self,
+        rt: &R,
+        pass: &mut Pass<PlannedBook<N>>,
+        task: TaskNo,
+    ) -> Result<Granted, Refused>
+        requires { pass.old.lock ≡ self.now }
+        ensures same { IsSamePass pass.old pass.new }
+        ensures added { IfOk result (λ answer.
+            AddsEntry pass.old.view (Request.Outcome task) answer pass.new.view) }
+        ensures refused { IfErr result (λ refusal.
+            AddsNone pass.old.view (Request.Outcome task) refusal pass.new.view) }
+    {
+        self.turned.apply(rt, pass, Request::Outcome { task })
+    }
 }
 
-/// A task's port: the only value that asks for jobs and bursts of this task, and it asks for no other task's. There is one for each
-/// task of the plan. It goes to any thread, and isn't copied.
+/// A task's port: the only value that asks for jobs and bursts of this task and takes its outcomes, and it does so for no other
+/// task. There is one for each task of the plan. It goes to any thread, and isn't copied.
 #[derive(Drop)]
 pub struct TaskPort<N: Nand> {
     pub(crate) pass: Pass<PlannedBook<N>>,
@@ -115,7 +133,7 @@ fn job_of(granted: Granted) -> Taken
 {
     match granted {
         Granted::Job(answer) => answer,
-        Granted::Slot(_) => unreachable!(),
+        _ => unreachable!(),
     }
 }
 
@@ -126,7 +144,18 @@ fn slot_of(granted: Granted) -> SlotReply
 {
     match granted {
         Granted::Slot(reply) => reply,
-        Granted::Job(_) => unreachable!(),
+        _ => unreachable!(),
+    }
+}
+
+/// What became of a job.
+fn outcome_of(granted: Granted) -> TaskOutcome
+    requires { IsOutcome granted }
+    ensures { granted ≡ Granted.Outcome result }
+{
+    match granted {
+        Granted::Outcome(outcome) => outcome,
+        _ => unreachable!(),
     }
 }
 
@@ -138,7 +167,7 @@ fn ask_refusal(refused: Refused) -> AskRefused
     match refused {
         Refused::Ask(stop) => AskRefused::Die(stop),
         Refused::LockFull => AskRefused::LockFull,
-        Refused::Slot(_) => unreachable!(),
+        _ => unreachable!(),
     }
 }
 
@@ -150,7 +179,20 @@ fn slot_refusal(refused: Refused) -> SlotRefused
     match refused {
         Refused::Slot(stop) => SlotRefused::Die(stop),
         Refused::LockFull => SlotRefused::LockFull,
-        Refused::Ask(_) => unreachable!(),
+        _ => unreachable!(),
+    }
+}
+
+/// What a task is answered that takes no outcome.
+fn no_outcome(refused: Refused) -> Result<Option<TaskOutcome>, OutcomeRefused>
+    requires { RefusesOutcomes refused }
+    ensures { IsNoOutcome refused result }
+{
+    match refused {
+        Refused::NoOutcome => Ok(None),
+        Refused::NoMemory => Err(OutcomeRefused::NoMemory),
+        Refused::LockFull => Err(OutcomeRefused::LockFull),
+        _ => unreachable!(),
     }
 }
 
@@ -227,6 +269,65 @@ impl<N: Nand> TaskPort<N> {
         }
     }
 
+    /// Takes the first outcome of the port's task, as [`OutcomeDie::take_outcome`](task_outcomes::OutcomeDie::take_outcome) does:
+    /// what became of the job which was done first of those whose outcome the task has still to take, in whichever life; none
+    /// where it has none. May wait for the turn, and for nothing else.
+    ///
+    /// The refusals, and nothing changes: `LockFull`, where 4,294,967,295 requests were granted since the die was opened;
+    /// `NoMemory`, where memory is refused for what the job's reads gave, and the outcome stays the first.
+    pub fn take_outcome<R: Wait>(
+        &mut self,
+        rt: &R,
+        die: &SharedPlannedDie<N>,
+    ) -> Result<Option<TaskOutcome>, OutcomeRefused>
+        requires { self.old.lock ≡ die.now }
+        ensures same { IsSamePort self.old self.new }
+        ensures own { HasOwnAsks self.new }
+        ensures told { IfOk result (λ outcome. TellsOutcome self.old outcome self.new) }
+        ensures refused { IfErr result (λ refusal. RefusesOutcome self.old refusal self.new) }
+    {
+        match die.take_outcome(rt, &mut self.pass, self.task) {
+            Ok(granted) => Ok(Some(outcome_of(granted))),
+            Err(refused) => no_outcome(refused),
+        }
+    }
+
+    /// The answer to a question, which isn't known where there is none.
+    fn question<R: Wait>(&mut self, rt: &R, die: &SharedPlannedDie<N>, query: Query) -> Option<u64>
+        requires { self.old.lock ≡ die.now }
+        ensures same { IsSamePort self.old self.new }
+        ensures answer { IsAnswer query self.old.view self.new.view result }
+    {
+        // It says that no other pass has taken this one in.
+        let _ = self.pass.number();
+        die.turned.ask(rt, &mut self.pass, query)
+    }
+
+    /// How many outcomes the task has still to take. May wait for the turn.
+    pub fn outcomes<R: Wait>(&mut self, rt: &R, die: &SharedPlannedDie<N>) -> u64
+        requires { self.old.lock ≡ die.now }
+        ensures same { IsSamePort self.old self.new }
+        ensures outcomes { IsAnswer (Query.Outcomes self.old.task) self.old.view self.new.view (Some result) }
+    {
+        match self.question(rt, die, Query::Outcomes { task: self.task }) {
+            Some(count) => count,
+            None => unreachable!(),
+        }
+    }
+
+    /// How many outcomes of the task were dropped, since there was no room for a later one, up to 2 to the power of 64, less 1.
+    /// May wait for the turn.
+    pub fn dropped_outcomes<R: Wait>(&mut self, rt: &R, die: &SharedPlannedDie<N>) -> u64
+        requires { self.old.lock ≡ die.now }
+        ensures same { IsSamePort self.old self.new }
+        ensures dropped { IsAnswer (Query.Dropped self.old.task) self.old.view self.new.view (Some result) }
+    {
+        match self.question(rt, die, Query::Dropped { task: self.task }) {
+            Some(count) => count,
+            None => unreachable!(),
+        }
+    }
+
     /// The present slot of the clock of all lives; none once a fault of the device has stopped the die. May wait for the
     /// turn.
     pub fn clock<R: Wait>(&mut self, rt: &R, die: &SharedPlannedDie<N>) -> Option<u64>
@@ -234,9 +335,7 @@ impl<N: Nand> TaskPort<N> {
         ensures same { IsSamePort self.old self.new }
         ensures clock { IsClock self.old.view self.new.view result }
     {
-        // It says that no other pass has taken this one in.
-        let _ = self.pass.number();
-        die.turned.ask(rt, &mut self.pass, Query::Clock)
+        self.question(rt, die, Query::Clock)
     }
 
     /// The task that the port asks for.

@@ -13,6 +13,15 @@ pub enum AskRefused {
     Die(AskStop),
 }
 
+/// Why a task's outcome isn't taken.
+#[derive(Clone, Copy, PartialEq, Eq, Debug, Drop)]
+pub enum OutcomeRefused {
+    /// Memory is refused for what the reads of its job gave. It stays the first.
+    NoMemory,
+    /// As 4,294,967,295 requests were granted since the die was opened, the lock takes no more.
+    LockFull,
+}
+
 /// Why a slot isn't carried out.
 #[derive(Clone, Copy, PartialEq, Eq, Debug, Drop)]
 pub enum SlotRefused {

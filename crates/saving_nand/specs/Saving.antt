@@ -1,5 +1,6 @@
 -- What a clean shutdown saves of a die: when it stands for the cells of its part, and how long it stays saved.
 use Rattle.std.specs.Prelude.{◌≡◌, ◌⊎◌, ℕ, ◌+◌, ◌-◌, ◌<◌, List, length, map, replicate, ◌++◌, Option, Some, None}
+use Rattle.std.proofs.Common.{◌∙◌, inl, inr}
 use Rattle.slot_types.specs.declared.plans.Shape.{Shape}
 use Rattle.slot_types.specs.declared.refusals.Refusal.{Refusal}
 use Rattle.slot_types.specs.declared.refusals.Refusal.TheVariants as refusals
@@ -24,6 +25,13 @@ abbrev pub StaysSaved : NandCall → (before after : Option Saved) → Type 0
 StaysSaved (calls.Read place) before after = (after ≡ before) ⊎ (after ≡ None)
 StaysSaved (calls.Program place page bytes) before after = after ≡ None
 StaysSaved (calls.EraseSlot block) before after = after ≡ None
+
+-- so a call makes nothing saved
+pub void_stays : (call : NandCall) (before after : Option Saved) → StaysSaved call before after → before ≡ None → after ≡ None
+void_stays (calls.Read place) before after (inl same) void = same ∙ void
+void_stays (calls.Read place) before after (inr gone) void = gone
+void_stays (calls.Program place page bytes) before after gone void = gone
+void_stays (calls.EraseSlot block) before after gone void = gone
 
 -- programs are numbered from what was saved on
 abbrev pub numbered : Option Saved → Labels → Labels

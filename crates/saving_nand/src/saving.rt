@@ -16,12 +16,13 @@ use std::alloc::Global;
 ///
 /// Contracts see what is saved, if anything is. It is void before a program or a slot of an erase touches a cell,
 /// whoever calls it (the law `voids`); and who takes it voids it (`take_saved`), so that no call of the next life has to.
+/// Void it stays, whatever call comes but `save` (the law `stays_void`).
 ///
 /// Beside the six premises of [`LabelledNand`] such a device owes a seventh: what a part shows as saved when its power
 /// has come was saved whole, and its cells are as they were left then. A save that was cut is none, or the whole; and
 /// void is void from the end of the call on that voids it, whenever the power goes after that.
 pub trait SavingNand: LabelledNand {
-    ghost use Rattle.std.specs.Prelude.{Bool, Option};
+    ghost use Rattle.std.specs.Prelude.{◌≡◌, ◌↔◌, Bool, None, Option};
     ghost use Rattle.flash_die.specs.declared.nand.NandCall.{NandCall};
     ghost use Rattle.saving_nand.specs.declared.saved.Saved.{Saved};
     ghost use Rattle.saving_nand.specs.Saving.{StaysSaved};
@@ -77,4 +78,7 @@ pub trait SavingNand: LabelledNand {
     // what a call leaves of what is saved, whether it ends well or not
     ghost voids: { (before after : Self) (call : NandCall) (well : Bool) → Self.ends before call well after
         → StaysSaved call (saved before) (saved after) };
+
+    // what lasts: nothing is saved, until something is by `save`
+    ghost stays_void: { (device : Self) → Self.lasts device ↔ (saved device ≡ None) };
 }

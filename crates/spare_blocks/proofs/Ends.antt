@@ -122,7 +122,7 @@ module _ {N : Type 0} (shape_of : N → Shape) (blocks : N → List PartBlock) (
         whole_at k lt (inr other) = ap (λ (x : PartBlock). x.failed) (others k lt other) ∙ s.works works k lt
 
     pub changed : (call : NandCall) → IsFitFor call d.health → ((k : ℕ) → k ≡ b → MayChange call true k)
-        → IsLabelled keeps (next d.part) call (numbered blocks d) (λ k. part_block (blocks p) (on_part t k))
+        → IsLabelled keeps (next d.part) d.shape.erase_slots call (numbered blocks d) (λ k. part_block (blocks p) (on_part t k))
         → next p ≡ serial_after_call call (next d.part)
         → ((x : ℕ) → use_of d.table x ≡ use_as.Bad → use_of t x ≡ use_as.Bad)
         → cost_with d.shape.pages t (spent p) ≤ cost_with d.shape.pages d.table (spent d.part) + 1

@@ -19,6 +19,11 @@ use Rattle.spare_blocks.proofs.Ends.{change_sound, changed, worn_sound, worn_out
 after_partly : (slots : ℕ) (b : Block) → false ≡ (b.erasing + 1 == slots) → record b { erasing = b.erasing + 1 } ≡ block_after_erase_slot slots b
 after_partly slots b e = ap (λ (v : Bool). cond v (record { pages = []; erasing = 0; erases = b.erases + 1 }) (record b { erasing = b.erasing + 1 })) e
 
+after_slot_cells : (how : Erased) (b : PartBlock) → (block_after_slot how b).cells ≡ cond (is_last_slot how) [] b.cells
+after_slot_cells erased.Partly b = refl
+after_slot_cells erased.Wholly b = refl
+after_slot_cells erased.Failed b = refl
+
 after_wholly : (slots : ℕ) (b : Block) → true ≡ (b.erasing + 1 == slots)
     → record { pages = []; erasing = 0; erases = b.erases + 1 } ≡ block_after_erase_slot slots b
 after_wholly slots b e = ap (λ (v : Bool). cond v (record { pages = []; erasing = 0; erases = b.erases + 1 }) (record b { erasing = b.erasing + 1 })) e
@@ -79,6 +84,13 @@ module _ {N : Type 0} (shape_of : N → Shape) (blocks : N → List PartBlock) (
     slot_free : (x : ℕ) → IsSpare d.table x → part_block (blocks p) x ≡ free_part_block
     slot_free x is = slot_other x (λ same. numbered_apart d.table t b x (numbered_lt b here.lt) is (sym same)) ∙ s.free works_on x is
 
+    slot_cells : is_last_slot how ≡ (old.erasing + 1 == (shape_of d.part).erase_slots)
+        → (part_block (blocks p) on).cells ≡ cond (old.erasing + 1 == d.shape.erase_slots) [] old.cells
+    slot_cells last =
+        ap (λ (x : PartBlock). x.cells) slot_here
+        ∙ (after_slot_cells how old
+        ∙ ap (λ (v : Bool). cond v [] old.cells) (last ∙ ap (λ (n : ℕ). old.erasing + 1 == n) s.slots))
+
     -- the block didn't fail
     module _ (erases : List ℕ) (counted : length erases ≡ d.shape.blocks) (unfailed : (block_after_slot how old).failed ≡ false) where
       pub slot_sound : faulted p ≡ false → shape_of p ≡ shape_of d.part
@@ -87,11 +99,11 @@ module _ {N : Type 0} (shape_of : N → Shape) (blocks : N → List PartBlock) (
           change_sound shape_of blocks faulted next spent keeps d s b p d.table erases works slot_others well shape s.count counted slot_free
           (ap (λ (x : PartBlock). x.failed) slot_here ∙ unfailed)
 
-      pub slot_ends : next p ≡ next d.part → spent p ≤ spent d.part + 1
+      pub slot_ends : is_last_slot how ≡ (old.erasing + 1 == (shape_of d.part).erase_slots) → next p ≡ next d.part → spent p ≤ spent d.part + 1
           → EndsSpared blocks next spent keeps d (calls.EraseSlot b) true (record d { part = p; erases = erases })
-      slot_ends serial cost =
+      slot_ends last serial cost =
           changed shape_of blocks faulted next spent keeps d s b p d.table erases works slot_others (calls.EraseSlot b) works
-          (λ k same. same) tt serial (λ x e. e) (cost_later d.shape.pages d.table (spent p) (spent d.part) 1 cost)
+          (λ k same. same) (slot_cells last) serial (λ x e. e) (cost_later d.shape.pages d.table (spent p) (spent d.part) 1 cost)
 
     -- the block failed, and no spare one is left
     module _ (lost : how ≡ erased.Failed) (none : (x : ℕ) → IsSpare d.table x → ⊥) (n : ℕ) where
@@ -177,11 +189,17 @@ module _ {N : Type 0} (shape_of : N → Shape) (blocks : N → List PartBlock) (
         (λ x has. slot_free erased.Failed p after x (replaced_spares d.table t b spare (numbered_lt b here.lt) is x has).1)
         (ap (λ (x : PartBlock). x.failed) spare_here)
 
-    pub spare_ends : next p ≡ next d.part → spent p ≤ spent d.part + 1
+    spare_cells : true ≡ (old.erasing + 1 == (shape_of d.part).erase_slots)
+        → (part_block (blocks p) (on_part v b)).cells ≡ cond (old.erasing + 1 == d.shape.erase_slots) [] old.cells
+    spare_cells last =
+        ap (λ (x : PartBlock). x.cells) spare_here
+        ∙ ap (λ (w : Bool). cond w [] old.cells) (last ∙ ap (λ (n : ℕ). old.erasing + 1 == n) s.slots)
+
+    pub spare_ends : true ≡ (old.erasing + 1 == (shape_of d.part).erase_slots) → next p ≡ next d.part → spent p ≤ spent d.part + 1
         → EndsSpared blocks next spent keeps d (calls.EraseSlot b) true (record d { part = p; table = v; erases = erases })
-    spare_ends serial cost =
+    spare_ends last serial cost =
         changed shape_of blocks faulted next spent keeps d s b p v erases works spare_others (calls.EraseSlot b) works
-        (λ k same. same) tt serial (replaced_bad d.table t b spare (numbered_lt b here.lt) is)
+        (λ k same. same) (spare_cells last) serial (replaced_bad d.table t b spare (numbered_lt b here.lt) is)
         (omega (
           arith,
           cost_less d.shape.pages (spent p) d.table v (spares_replaced d.table t b spare (numbered_lt b here.lt) is),

@@ -1,5 +1,5 @@
 -- A device on the blocks of a part that have a number in the plan, while others stand by for those that fail.
-use Rattle.std.specs.Prelude.{◌≡◌, ℕ, ◌+◌, ◌*◌, ◌<◌, ◌≤◌, ◌↔◌, Bool, true, false, List, [], ◌∷◌, ◌++◌, length, map, slice_index}
+use Rattle.std.specs.Prelude.{◌≡◌, ℕ, ◌+◌, ◌*◌, ◌<◌, ◌≤◌, ◌==◌, ◌↔◌, if◌then◌else◌, Bool, true, false, List, [], ◌∷◌, ◌++◌, length, map, slice_index}
 use Rattle.std.specs.Prelude.{⊤, Contains}
 use Rattle.std.specs.List.{range_with_len}
 use Rattle.slot_types.specs.declared.plans.Shape.{Shape}
@@ -82,12 +82,14 @@ MayChange (calls.Read place) well b = ⊥
 MayChange (calls.Program place page bytes) well b = (well ≡ true) × (b ≡ place.block)
 MayChange (calls.EraseSlot x) well b = b ≡ x
 
--- a program leaves one cell more in the block of its number, with the label that it would have had on one that doesn't fail
-abbrev pub IsLabelled : (keeps : Bool) → (next : ℕ) → NandCall → (before after : ℕ → PartBlock) → Type 0
-IsLabelled keeps next (calls.Read place) before after = ⊤
-IsLabelled keeps next (calls.Program place page bytes) before after =
+-- a program leaves one cell more in the block of its number, with the label that it would have had on one that doesn't
+-- fail; a slot of an erase leaves none if it was the last
+abbrev pub IsLabelled : (keeps : Bool) → (next slots : ℕ) → NandCall → (before after : ℕ → PartBlock) → Type 0
+IsLabelled keeps next slots (calls.Read place) before after = ⊤
+IsLabelled keeps next slots (calls.Program place page bytes) before after =
     (after place.block).cells ≡ (before place.block).cells ++ programmed_cell keeps next page bytes ∷ []
-IsLabelled keeps next (calls.EraseSlot b) before after = ⊤
+IsLabelled keeps next slots (calls.EraseSlot b) before after =
+    (after b).cells ≡ (if (before b).erasing + 1 == slots then [] else (before b).cells)
 
 -- the next serial after a call that ended well
 abbrev pub serial_after_call : NandCall → ℕ → ℕ
@@ -104,7 +106,7 @@ pub record EndsSpared {N : Type 0} (blocks : N → List PartBlock) (next spent :
   pub fit : (well ≡ true) ↔ IsFitFor call after.health
   pub kept : ¬ (after.health ≡ health.Faulted) → (b : ℕ) → b < before.shape.blocks → ¬ (MayChange call well b)
       → (numbered blocks after b).cells ≡ (numbered blocks before b).cells
-  pub labelled : well ≡ true → IsLabelled keeps (next before.part) call (numbered blocks before) (numbered blocks after)
+  pub labelled : well ≡ true → IsLabelled keeps (next before.part) before.shape.erase_slots call (numbered blocks before) (numbered blocks after)
   pub serial : well ≡ true → next after.part ≡ serial_after_call call (next before.part)
   pub bad : (x : ℕ) → use_of before.table x ≡ use_as.Bad → use_of after.table x ≡ use_as.Bad
   pub cost : ¬ (after.health ≡ health.Faulted) → cost_with before.shape.pages after.table (spent after.part)

@@ -6,7 +6,7 @@ ghost use Rattle.flash_die.specs.Calls.{FailsByFault};
 ghost use Rattle.flash_die.specs.declared.nand.NandCall.TheVariants as calls;
 ghost use Rattle.slot_types.specs.Shapes.{IsShape};
 ghost use Rattle.spare_blocks.specs.Preparing.{IsWholePart, IsNewRefusal};
-ghost use Rattle.spare_blocks.specs.Tables.{use_of, spares_in};
+ghost use Rattle.spare_blocks.specs.Tables.{on_part, use_of, spares_in};
 
 use crate::cells::{BlockUse, Ended, Erased};
 use crate::fill::fill_a_spare;
@@ -40,15 +40,15 @@ pub enum Health {
 /// Which block stands aside for a mount is no matter of this layer: it is one of the plan's blocks here.
 #[derive(Drop)]
 pub struct SpareBlocks<D: WearingNand> {
-    part: D,
+    pub(crate) part: D,
     /// The shape of the plan.
-    shape: Shape,
-    table: BlockTable,
+    pub(crate) shape: Shape,
+    pub(crate) table: BlockTable,
     /// By number of the plan how many erases it has had.
-    erases: Vec<u32>,
-    health: Health,
+    pub(crate) erases: Vec<u32>,
+    pub(crate) health: Health,
     /// How many calls were refused.
-    failures: u32,
+    pub(crate) failures: u32,
 }
 
 impl<D: WearingNand> Model for SpareBlocks<D> {
@@ -129,9 +129,25 @@ impl<D: WearingNand> SpareBlocks<D> {
         self.table.use_of(block)
     }
 
+    /// How many calls were refused.
+    pub fn failures(&self) -> u32
+        ensures { result ≡ self.now.failures }
+    {
+        self.failures
+    }
+
+    /// The part, to be asked.
+    pub fn part(&self) -> &D
+        ensures { result.now ≡ self.now.part }
+    {
+        &self.part
+    }
+
     /// The part's block that has this number; none where the plan doesn't.
     pub fn on_part(&self, block: u32) -> Option<u32>
+        ensures number { IfSome result (λ x. x ≡ on_part self.now.table block) }
         ensures block { IfSome result (λ x. use_of self.now.table x ≡ BlockUse.InPlan block) }
+        ensures in_plan { IfSome result (λ _. block < self.now.shape.blocks) }
         ensures none { IsNone result → self.now.shape.blocks ≤ block }
     {
         if block < self.shape.blocks {

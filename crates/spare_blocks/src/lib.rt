@@ -4,6 +4,8 @@
 mod blocks;
 mod cells;
 mod fill;
+mod labelled;
+mod labels;
 mod memory;
 mod part;
 mod prepare;
@@ -11,6 +13,7 @@ mod table;
 
 pub use blocks::{Health, SpareBlocks};
 pub use cells::{BlockUse, Cell, Ended, Erased, Mark};
+pub use labelled::LabelledWearing;
 pub use memory::{Failures, WearingMemory};
 pub use part::WearingNand;
 pub use table::BlockTable;

@@ -1,11 +1,12 @@
 //! A part in memory whose blocks fail.
 
-ghost use Rattle.std.specs.Prelude.{◌≡◌, ◌∷◌, ◌++◌, ◌+◌, ◌<◌, ◌≤◌, [], length, slice_set, IfOk, true, false, vec_capacity};
+ghost use Rattle.std.specs.Prelude.{◌≡◌, ◌∷◌, ◌++◌, ◌+◌, ◌<◌, ◌≤◌, [], length, slice_set, IfOk, true, false, slice_get, vec_capacity};
 ghost use Rattle.slot_types.specs.Refusal.{FailsForMemory};
 ghost use Rattle.spare_blocks.specs.Parts.{FaultsAlone, IsCell, IsFreeCell, part_block, cell_on, blocks_after_program, blocks_after_erase};
 ghost use Rattle.spare_blocks.specs.Wearing.{fresh_wearing};
 
 use crate::cells::{Cell, Ended, Erased, Mark};
+use crate::labelled::LabelledWearing;
 use crate::part::WearingNand;
 use slot_types::{PageData, Place, Refusal, Shape};
 use std::alloc::Global;
@@ -147,11 +148,27 @@ impl WearingMemory {
         })
     }
 
-    /// What a cell holds, if it is programmed.
-    pub fn look(&self, place: Place) -> Option<Cell> {
-        match self.blocks.get(place.block as usize) {
-            Some(block) => block.cells.get(place.page as usize).copied(),
-            None => None,
+    /// What a cell holds, if it is programmed and there.
+    pub fn held(&self, place: Place) -> Option<Cell>
+        ensures { result ≡ slice_get (part_block self.now.blocks place.block).cells place.page }
+    {
+        let block = place.block as usize;
+        if block < self.blocks.len() {
+            self.blocks[block].cells.get(place.page as usize).copied()
+        } else {
+            None
+        }
+    }
+
+    /// How many slots the running erase of a block has had; 0 where none runs, or there is no such block.
+    pub fn slots_done(&self, block: u32) -> u32
+        ensures { result ≡ (part_block self.now.blocks block).erasing }
+    {
+        let block = block as usize;
+        if block < self.blocks.len() {
+            self.blocks[block].erasing
+        } else {
+            0
         }
     }
 
@@ -404,5 +421,20 @@ impl WearingNand for WearingMemory {
 
     fn erase(&mut self, block: u32) -> Result<Ended, Refusal> {
         self.empty(block)
+    }
+}
+
+impl LabelledWearing for WearingMemory {
+    ghost use Rattle.std.specs.Prelude.{refl};
+
+    ghost is_labelled = { refl };
+
+    fn number_from(&mut self, serial: u64) {
+        self.next = serial;
+    }
+
+    fn look(&mut self, place: Place) -> Result<Option<Cell>, Refusal> {
+        self.spend(1);
+        Ok(self.held(place))
     }
 }

@@ -27,9 +27,9 @@ use Rattle.planned_log.specs.AskKinds.{jobs_as, refusal_as, with_jobs}
 use Rattle.planned_log.specs.Asks.{asked_job}
 use Rattle.planned_log.specs.KeptLogs.{collections_at, comes_at}
 use Rattle.planned_log.specs.Moves.{Ask, Slot, after_ask, after_moves}
-use Rattle.ongoing_log.specs.PastLives.{PastLife, Renewed, counted, starts_after}
-use Rattle.ongoing_log.specs.Ongoing.{Answer, Ongoing, WaitingAsk, after_answer, answer_to, asks_of, going_on, new_ongoing, next_life, ongoing_after_move, start_of}
-use Rattle.ongoing_log.specs.Ongoing.{Enters, Waits, Refused, WaitsAlready}
+use Rattle.ongoing_log.specs.PastLives.{PastLife, counted}
+use Rattle.ongoing_log.specs.Ongoing.{Answer, Ongoing, WaitingAsk, after_answer, answer_to, asks_of, clock_of, due_at, going_on, let_in, living_on, new_ongoing, next_life, ongoing_after_move, start_of}
+use Rattle.ongoing_log.specs.Ongoing.{Enters, Waits, Refused, WaitsAlready, Past, TooFarAhead}
 use Rattle.planned_die.specs.Planned.{Planned}
 use Rattle.ongoing_die.specs.BegunSlots.{BegunParts, HasBegunSlot}
 use Rattle.ongoing_die.specs.Standing.{OngoingParts, standing}
@@ -107,13 +107,15 @@ by_answer first l d part terms kind caller task ops (Enters release due) is =
 by_answer first l d part terms kind caller task ops (Waits release due) is = is
 by_answer first l d part terms kind caller task ops (Refused refusal) is = is
 by_answer first l d part terms kind caller task ops WaitsAlready is = is
+by_answer first l d part terms kind caller task ops Past is = is
+by_answer first l d part terms kind caller task ops (TooFarAhead last) is = is
 
 pub asked_on : (first : Start) (l : Labels) (d : Ongoing) (part : Part) (terms : Terms) (life : ℕ) (kind : AskKind) (caller task : ℕ) (ops : List Op)
     → NumbersPlanned first l d part → NumbersPlanned first l (ongoing_after_move first terms life d (Ask kind caller task ops)) part
 asked_on first l d part terms life kind caller task ops is =
     by_answer first l d part terms kind caller task ops (answer_to first terms life d kind task ops) is
 
--- where a life has ended the next one begins
+-- where a life has ended the next one begins, and what waits for the slot enters
 module _ (first : Start) (terms : Terms) (life : ℕ) (l : Labels) (d : Ongoing) (part : Part) (is : NumbersPlanned first l d part) where
   abbrev left : Labels
   left = labels (start_of first d) l d.log
@@ -121,17 +123,20 @@ module _ (first : Start) (terms : Terms) (life : ℕ) (l : Labels) (d : Ongoing)
   abbrev MayBegin : Ongoing → Type 0
   MayBegin next = (own : Labels) × ((own ≡ l) ⊎ (own ≡ left)) × NumbersPlanned first own next part
 
-  going : (b : Bool) → MayBegin (if b then next_life first terms life d else d)
-  going true =
-      let earlier : List PastLife = record { log = d.log; ended = Renewed } ∷ d.earlier in (
-        left,
-        inr refl,
-        is ∙ sym (ap (λ (x : Labels). x.next) (waited_come (starts_after first earlier) left terms (counted earlier) life d.waiting 0 [])),
-      )
+  going : (b : Bool) → MayBegin (if b then next_life d else d)
+  going true = (left, inr refl, is)
   going false = (l, inl refl, is)
 
+  entered : (n : Ongoing) → MayBegin n → MayBegin (let_in first terms life n)
+  entered n (own, which, numbers) = (
+    own,
+    which,
+    numbers ∙ sym (ap (λ (x : Labels). x.next)
+        (waited_come (start_of first n) own terms (counted n.earlier) life (map (due_at (clock_of n)) n.waiting) 0 n.log)),
+  )
+
   gone : MayBegin (going_on first terms life d)
-  gone = going (now d.log == life)
+  gone = entered (living_on life d) (going (now d.log == life))
 
 -- a slot
 module _ (first : Start) (l : Labels) (d : Ongoing) (part : Part) (before after : OngoingParts MirrorNand) (within : BegunParts MirrorNand) (begun : Begun)
@@ -149,15 +154,9 @@ module _ (first : Start) (l : Labels) (d : Ongoing) (part : Part) (before after 
   starts : start ≡ between.die.core.start
   starts = ap (λ (die : Planned MirrorNand). die.core.start) h.came.came
 
-  -- whose life goes on
+  -- whose life goes on, and which has let in what waited for the slot
   d_is : d ≡ standing between h.begun.stands.past
-  d_is = (h.begun.stands.runs h.begun.runs).stands ∙ goes_on
-    where
-      goes_on : going_on first between.die.terms between.die.life (standing between h.begun.stands.past) ≡ standing between h.begun.stands.past
-      goes_on =
-          let early = h.begun.early in
-          let away : (now between.die.core.log == between.die.life) ≡ false = grind (arith, nat_tests, early) in
-          rw away refl
+  d_is = h.begun.settled
 
   start_is : start_of first d ≡ between.die.core.start
   start_is = ap (λ (x : Ongoing). start_of first x) d_is ∙ sym h.begun.stands.starts

@@ -163,12 +163,28 @@ const DESIGN: Texts<'static> = Texts {
 fn a_fault_of_a_designers_text_is_followed_by_the_file_and_what_to_do(rt: HostRuntime) {
     let table = [
         (
-            "error: the datasheet isn't TOML\n",
+            "error: line 8, column 1: the datasheet has the key `Logical`, which no datasheet has\n",
+            "/nowhere/d.toml, line 8: man maulgreen-texts has the form\n",
+        ),
+        (
+            "error: the datasheet isn't UTF-8\n",
             "/nowhere/d.toml: man maulgreen-texts has the form\n",
         ),
         (
             "error: [[task]] 2: `reads` and `writes` have to sum to 1 to 64\n",
             "/nowhere/d.toml: man maulgreen-texts has the form\n",
+        ),
+        (
+            "error: the checkpoint has 2 dies, and the plan has 1\n",
+            "/nowhere/c.csv: it was saved of the dies of another plan\n",
+        ),
+        (
+            "error: line 3: only version 3 of fio's logs is read\n",
+            "/nowhere/a.log, line 3: flashplan import --help has the form\n",
+        ),
+        (
+            "error: the trace has no read, write or trim\n",
+            "/nowhere/a.log: flashplan import --help has the form\n",
         ),
         (
             "error: the checkpoint, record 5 field 2: Number\n",

@@ -10,6 +10,8 @@
 #[cfg(test)]
 mod again;
 #[cfg(test)]
+mod asking_ahead;
+#[cfg(test)]
 mod bursts;
 #[cfg(test)]
 mod dies;

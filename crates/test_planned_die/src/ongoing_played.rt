@@ -43,7 +43,7 @@ fn taken_as(taken: &Taken) -> Answer {
 }
 
 /// The same, or the refusal.
-fn numbered(answer: Result<Taken, AskStop>) -> Result<Answer, AskStop> {
+fn numbered<E: Drop>(answer: Result<Taken, E>) -> Result<Answer, E> {
     match answer {
         Ok(taken) => Ok(taken_as(&taken)),
         Err(refusal) => Err(refusal),
@@ -216,6 +216,24 @@ fn goes<N: Nand, R: Abort>(
         }
         Turn::AsksAll { task, ops, want } => said.same(
             &numbered(die.ask_all(alloc, *task, TaskNo(*task), *ops)),
+            want,
+        ),
+        Turn::AsksAt {
+            task,
+            ops,
+            at,
+            want,
+        } => said.same(
+            &numbered(die.ask_at(alloc, *task, TaskNo(*task), *ops, *at)),
+            want,
+        ),
+        Turn::AsksAllAt {
+            task,
+            ops,
+            at,
+            want,
+        } => said.same(
+            &numbered(die.ask_all_at(alloc, *task, TaskNo(*task), *ops, *at)),
             want,
         ),
         Turn::Carries { jobs } => carries(said, die, alloc, *jobs),

@@ -1,6 +1,6 @@
 //! The words of a test of a die that goes on by itself.
 
-use ongoing_die::{AskStop, OngoingCheckpointRefusal, SlotStop};
+use ongoing_die::{AskAtStop, AskStop, OngoingCheckpointRefusal, SlotStop};
 use slot_types::{Op, PageData};
 
 /// What an ask is answered that isn't refused, with the numbers of its jobs in their life.
@@ -39,6 +39,20 @@ pub(crate) enum Turn<'a> {
         task: u32,
         ops: &'a [Op],
         want: Result<Answer, AskStop>,
+    },
+    /// A task asks for a job that is released in slot `at` of the clock.
+    AsksAt {
+        task: u32,
+        ops: &'a [Op],
+        at: u64,
+        want: Result<Answer, AskAtStop>,
+    },
+    /// And for such a burst.
+    AsksAllAt {
+        task: u32,
+        ops: &'a [Op],
+        at: u64,
+        want: Result<Answer, AskAtStop>,
     },
     /// The next slots carry out these jobs or collections, one a slot, or are idle.
     Carries {

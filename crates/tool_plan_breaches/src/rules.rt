@@ -71,7 +71,7 @@ fn are_on_die(ops: &[Op], logical: u32) -> bool
 }
 
 /// How many operations write.
-pub fn writes(ops: &[Op]) -> usize
+fn writes(ops: &[Op]) -> usize
     ensures { result ≡ count_by is_write ops.now }
 {
     ops.iter().filter(|op| op.is_write()).count()

@@ -32,6 +32,7 @@ loop-page-preserved g c =
           (c.in-Ok-true.ensures.kept c.in-Ok-true.field-0-test));
       same = looked g.N.Nand.shape_of g.N.Nand.failures g.N.Nand.blocks g.N.LabelledNand.labels c.args.part.now c.loop-page.part c.keeps_page.new.part
           inv.same c.in-Ok-true.ensures.same;
+      lasts = λ had. c.keeps_page.ensures.lasts (inv.lasts had);
     }
 
 pub returns-in-Ok-false-clause-lost : goal.returns-in-Ok-false-clause-lost

@@ -10,4 +10,5 @@ invariant-loop-page g l = record {
   kept : (k : ℕ) → k < l.page → FitPlan (part_of l.plan) (g.N.LabelledNand.labels l.initial.part).blocks
       → KeepsPage (g.N.LabelledNand.labels l.initial.part).blocks l.without k;
   same : IsSamePart g.N.Nand.shape_of g.N.Nand.failures g.N.Nand.blocks g.N.LabelledNand.labels l.initial.part l.part;
+  lasts : g.N.LabelledNand.lasts l.initial.part → g.N.LabelledNand.lasts l.part;
 }

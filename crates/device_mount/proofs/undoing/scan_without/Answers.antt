@@ -27,6 +27,7 @@ loop-block-preserved g c =
       room = omega (arith, c.tell_again.ensures.room, inv.room);
       same = looked g.N.Nand.shape_of g.N.Nand.failures g.N.Nand.blocks g.N.LabelledNand.labels c.args.part.now c.loop-block.part c.tell_again.new.part
           inv.same (of_ok c.tell_again.result (sym c.is_err.ensures.value ∙ c.if-is_err.false) c.tell_again.ensures.same);
+      lasts = λ had. c.tell_again.ensures.lasts (inv.lasts had);
     }
 
 pub returns-clause-scanned : goal.returns-clause-scanned

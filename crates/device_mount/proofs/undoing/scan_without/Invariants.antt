@@ -11,4 +11,5 @@ invariant-loop-block g l = record {
   scan : IsScanOf (part_of l.plan) l.scan (take l.block (without_block l.without (g.N.LabelledNand.labels l.initial.part).blocks));
   room : l.plan.shape.pages ≤ vec_capacity l.cells;
   same : IsSamePart g.N.Nand.shape_of g.N.Nand.failures g.N.Nand.blocks g.N.LabelledNand.labels l.initial.part l.part;
+  lasts : g.N.LabelledNand.lasts l.initial.part → g.N.LabelledNand.lasts l.part;
 }

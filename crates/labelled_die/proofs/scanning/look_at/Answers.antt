@@ -42,4 +42,5 @@ loop-page-preserved g c =
             blocks_are = c.in-Ok.ensures.blocks;
             labels_are = c.in-Ok.ensures.labels;
           });
+      lasts = λ had. c.look.ensures.lasts (inv.lasts had);
     }

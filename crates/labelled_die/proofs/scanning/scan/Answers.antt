@@ -44,6 +44,7 @@ loop-block-preserved g c =
       room = omega (arith, c.in_ok-tell_block.ensures.room, inv.room);
       same = looked g.N.Nand.shape_of g.N.Nand.failures g.N.Nand.blocks g.N.LabelledNand.labels c.args.part.now c.loop-block.part c.tell_block.new.part
           inv.same c.in_ok-tell_block.ensures.same;
+      lasts = λ had. c.tell_block.ensures.lasts (inv.lasts had);
     }
 
 pub returns-clause-whole : goal.returns-clause-whole

@@ -13,4 +13,5 @@ invariant-loop-block g l = record {
       → HaveFitLabels l.plan.logical (told_cells (cells_shown (g.N.LabelledNand.labels l.initial.part).blocks b l.plan.shape.pages));
   room : l.plan.shape.pages ≤ vec_capacity l.cells;
   same : IsSamePart g.N.Nand.shape_of g.N.Nand.failures g.N.Nand.blocks g.N.LabelledNand.labels l.initial.part l.part;
+  lasts : g.N.LabelledNand.lasts l.initial.part → g.N.LabelledNand.lasts l.part;
 }

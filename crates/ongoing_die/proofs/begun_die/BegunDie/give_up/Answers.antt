@@ -3,6 +3,7 @@ use Rattle.ongoing_log.specs.PastLives.{counted}
 use Rattle.planned_die.specs.Planned.{Planned}
 use Rattle.ongoing_die.specs.Standing.{OngoingParts, ask_in}
 use Rattle.ongoing_die.proofs.BegunSlots.{given_up, given_goes_on}
+use Rattle.ongoing_die.proofs.Quiet.{quiet_same}
 use Rattle.ongoing_die.proofs.Rooms.{have_room}
 use Rattle.ongoing_die.proofs.begun_die.BegunDie.give_up.Goals as goal
 
@@ -15,6 +16,8 @@ invariant_of-result g c =
           (c.stop.ensures.lived (counted b.begins.begun.stands.past) b.begins.lived) b.long,
       have_room within.die.terms after.die.terms c.self.inside.waiting.items c.self.inside.waiting.items
           (ap (λ (p : Planned g.row.N.Denot). p.terms) c.stop.ensures.stops) refl (λ task d. refl) c.self.invariant.1,
+      quiet_same c.self.inside.quiet within after (ap (λ (p : Planned g.row.N.Denot). p.first) c.stop.ensures.stops)
+          (ap (λ (p : Planned g.row.N.Denot). p.life) c.stop.ensures.stops) c.self.invariant.2 refl,
     )
 
 pub returns-clause-stands : goal.returns-clause-stands

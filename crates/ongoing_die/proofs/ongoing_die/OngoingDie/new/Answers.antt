@@ -8,6 +8,7 @@ use Rattle.ongoing_die.specs.Standing.{ask_in, HaveRoom}
 use Rattle.ongoing_die.specs.OngoingPlans.{IsFirstTooLate}
 use Rattle.ongoing_die.proofs.Lasting.{long_enough}
 use Rattle.ongoing_die.proofs.NewDies.{starts_full, waits_as, new_stands}
+use Rattle.ongoing_die.proofs.Quiet.{quiet_none}
 use Rattle.ongoing_die.proofs.ongoing_die.OngoingDie.new.Goals as goal
 
 pub invariant_of-result : goal.invariant_of-result
@@ -22,6 +23,7 @@ invariant_of-result g c =
     let stands = new_stands c.args.plan die c.in-Ok.ensures.lived starts c.in-Ok.ensures.begins.1 empty (map ask_in c.in-Ok-none_waiting.waiting.items) none k in (
       record { long = long; first = fresh c.args.plan; ongoing = _; stands = stands },
       subst (λ (t : Terms). HaveRoom t c.in-Ok-none_waiting.waiting.items) c.terms-2.ensures c.in-Ok-none_waiting.ensures.room,
+      quiet_none (record { die = die; waiting = map ask_in c.in-Ok-none_waiting.waiting.items }),
     )
 
 pub returns-clause-stands : goal.returns-clause-stands

@@ -9,6 +9,7 @@ use Rattle.ongoing_die.specs.Standing.{ask_in, HaveRoom}
 use Rattle.ongoing_die.specs.OngoingPlans.{IsFirstTooLate}
 use Rattle.ongoing_die.proofs.Lasting.{long_enough}
 use Rattle.ongoing_die.proofs.ResumedDies.{begun_stands, alone}
+use Rattle.ongoing_die.proofs.Quiet.{quiet_none}
 use Rattle.ongoing_die.proofs.ongoing_die.OngoingDie.resume.Goals as goal
 
 pub invariant_of-result : goal.invariant_of-result
@@ -23,6 +24,7 @@ invariant_of-result g c =
     c.in-Ok.ensures.lived in (
       record { long = long; first = die.core.start; ongoing = _; stands = stands },
       subst (λ (t : Terms). HaveRoom t c.in-Ok-none_waiting.waiting.items) c.terms-2.ensures c.in-Ok-none_waiting.ensures.room,
+      quiet_none (record { die = die; waiting = map ask_in c.in-Ok-none_waiting.waiting.items }),
     )
 
 pub returns-clause-stands : goal.returns-clause-stands

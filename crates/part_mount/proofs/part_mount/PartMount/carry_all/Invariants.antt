@@ -11,6 +11,7 @@ invariant-loop g l = record {
   well : l.initial.self.failed ≡ false → l.self.failed ≡ false;
   goes_on : (pages : List PageData) (seen : Shown) → GoesBySeen g.N.LabelledNand.labels pages seen l.initial.self
       → GoesBySeen g.N.LabelledNand.labels pages seen l.self;
+  lasts : g.N.LabelledNand.lasts l.initial.self.part → g.N.LabelledNand.lasts l.self.part;
 }
 
 abbrev pub decreases-loop : goal.decreases-loop

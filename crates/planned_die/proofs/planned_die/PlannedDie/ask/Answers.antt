@@ -11,8 +11,9 @@ use Rattle.planned_die.specs.declared.task_asks.TaskAsks.{TaskAsks}
 use Rattle.planned_die.specs.Remembered.{jobs_of, AreKept, HasRoomFor, HasRoomForOne}
 use Rattle.planned_die.specs.Planned.{Planned, HasLived}
 use Rattle.planned_die.specs.PlannedCalls.{refusal_in}
-use Rattle.planned_die.proofs.Asked.{refusal_is, asked_same, IsUnrefused, has_asked, asked_lived, asked_planned, asked_kept, asked_stands, some_of}
+use Rattle.planned_die.proofs.Asked.{refusal_is, asked_same, IsUnrefused, has_asked, asked_lived, asked_planned, asked_kept, asked_now, asked_stands, some_of}
 use Rattle.planned_die.proofs.Lists.{room_for}
+use Rattle.planned_die.specs.OwnCollections.{AreQuiet}
 use Rattle.planned_die.proofs.planned_die.PlannedDie.ask.Goals as goal
 
 pub returns-in-Some-clause-ask : goal.returns-in-Some-clause-ask
@@ -138,6 +139,11 @@ invariant_of-self-in-Ok g c =
           (λ d. subst (λ n. (get_or kept n d).operations + c.job_of.result.operations ≤ (terms_of die.terms n).work) (sym c.task.view_is)
           (omega (arith, c.in-None.ensures.few d, ap (λ (k : AskedJob). k.operations) c.job_of.ensures)))
           (c.why_refused.ensures.memory c.self.invariant.2),
+      subst (λ n. AreQuiet die.terms.tasks n c.self.inside.quiet)
+          (sym (asked_now g.N.Nand.ends g.N.Nand.failures g.N.Nand.never_fails die c.args.caller c.args.task c.now-now.result
+          c.terms_at-deadline.result.deadline c.args.ops.now unrefused c.submit_lent.new.self (map jobs_of c.note_job.new.asked.items) c.in-Ok.number
+          c.in-Ok.ensures kept same (c.self.inside.first + c.from.result) at sums_at known some c.job_of.result c.job_of.ensures noted
+          c.self.invariant.0)) c.self.invariant.3,
     )
 
 pub returns-clause-ask : goal.returns-clause-ask
@@ -223,6 +229,7 @@ invariant_of-self g c = (
   rw c.why_refused.ensures.jobs c.self.invariant.0,
   subst (λ n. AreKept c.self.inside.terms (c.self.inside.first + n) c.why_refused.new.asked.items) c.now-now.ensures c.why_refused.ensures.kept,
   c.why_refused.ensures.memory c.self.invariant.2,
+  c.self.invariant.3,
 )
 
 pub returns-then-is_stopped-clause-ask : goal.returns-then-is_stopped-clause-ask

@@ -1,4 +1,4 @@
-use Rattle.std.proofs.Common.{map, ◌≡◌, ◌+◌, length, ap, sym, ◌∙◌, arith}
+use Rattle.std.proofs.Common.{map, ◌≡◌, ◌+◌, length, ap, sym, subst, ◌∙◌, arith}
 use Rattle.die_log.specs.Model.Log.{now}
 use Rattle.die_log.specs.Model.Lives.{Lives}
 use Rattle.slot_core.specs.Core.{Core}
@@ -7,6 +7,7 @@ use Rattle.planned_die.specs.Planned.{Planned, HasLived}
 use Rattle.planned_die.specs.PlannedCalls.{with_own, with_all_own}
 use Rattle.planned_die.proofs.Passing.{kept_later}
 use Rattle.planned_die.proofs.Lived.{own_lived}
+use Rattle.planned_die.specs.OwnCollections.{AreQuiet}
 use Rattle.planned_die.proofs.planned_die.PlannedDie.enter_collections.Goals as goal
 
 pub returns-clause-entered : goal.returns-clause-entered
@@ -65,4 +66,5 @@ invariant_of-self g c =
       },
       kept_later die.terms (die.first + now die.core.log) _ c.self.inside.asked.items (omega (arith, c.enter_rest.ensures.slot_stays)) c.self.invariant.1,
       c.self.invariant.2,
+      subst (λ n. AreQuiet die.terms.tasks n c.self.inside.quiet) (sym c.enter_rest.ensures.slot_stays) c.self.invariant.3,
     )

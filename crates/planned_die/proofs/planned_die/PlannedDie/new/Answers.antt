@@ -19,6 +19,7 @@ use Rattle.planned_die.specs.NewPlans.{IsSomeLife, RefusesDie}
 use Rattle.planned_die.specs.Planned.{HasLived, with_life}
 use Rattle.planned_die.proofs.Beginning.{new_lived}
 use Rattle.planned_die.proofs.Reserved.{life_reserved}
+use Rattle.planned_die.proofs.Quiet.{quiet_at_once}
 use Rattle.planned_die.proofs.planned_die.PlannedDie.new.Goals as goal
 
 -- as the die below refuses
@@ -77,6 +78,7 @@ invariant_of-result g c = (
   },
   c.in-Ok-new_asks.ensures.kept c.args.terms _,
   c.in-Ok-new_asks.ensures.memory,
+  quiet_at_once c.args.terms.tasks _,
 )
 
 pub most_arrivals-most-requires-clause-life : goal.most_arrivals-most-requires-clause-life

@@ -54,6 +54,7 @@ invariant_of-self g c = (
   rw c.why_refused.ensures.jobs c.self.invariant.0,
   subst (λ n. AreKept c.self.inside.terms (c.self.inside.first + n) c.why_refused.new.asked.items) c.now-now.ensures c.why_refused.ensures.kept,
   c.why_refused.ensures.memory c.self.invariant.2,
+  c.self.invariant.3,
 )
 
 pub returns-clause-unchanged : goal.returns-clause-unchanged

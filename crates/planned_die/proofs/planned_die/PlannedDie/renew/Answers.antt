@@ -8,6 +8,7 @@ use Rattle.slot_core.specs.Core.{Core}
 use Rattle.planned_die.proofs.Passing.{kept_later}
 use Rattle.planned_die.proofs.Lived.{next_lived}
 use Rattle.planned_die.proofs.Reserved.{renewed_reserved}
+use Rattle.planned_die.proofs.Quiet.{quiet_at_once}
 use Rattle.planned_die.proofs.planned_die.PlannedDie.renew.Goals as goal
 
 pub invariant_of-self : goal.invariant_of-self
@@ -34,6 +35,7 @@ invariant_of-self g c =
       kept_later die.terms (die.first + now die.core.log) _ c.self.inside.asked.items
           (omega (arith, c.from.ensures, c.now-now.ensures, ap (λ (core : Core g.row.N.Denot). now core.log) c.in-Ok.ensures.ok)) c.self.invariant.1,
       c.self.invariant.2,
+      quiet_at_once die.terms.tasks _,
     )
 
 pub unreachable-requires : goal.unreachable-requires

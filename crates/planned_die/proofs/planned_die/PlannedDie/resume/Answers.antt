@@ -22,6 +22,7 @@ use Rattle.planned_die.specs.Planned.{HasLived, with_life}
 use Rattle.planned_die.specs.Resuming.{HaveEnough, lacked, lacks_of, RefusesPlanned, RefusesPlanResume}
 use Rattle.planned_die.proofs.Resuming.{resumed_lived, full_lived, early_lacks, one_each}
 use Rattle.planned_die.proofs.Reserved.{life_reserved}
+use Rattle.planned_die.proofs.Quiet.{quiet_at_once}
 use Rattle.planned_die.proofs.planned_die.PlannedDie.resume.Goals as goal
 
 -- what preparing refuses, resuming refuses
@@ -133,6 +134,7 @@ invariant_of-result g c =
       },
       c.in-Ok-prepare.ensures.kept _,
       c.in-Ok-prepare.ensures.memory,
+      quiet_at_once c.args.terms.tasks _,
     )
 
 pub returns-clause-begins : goal.returns-clause-begins

@@ -60,7 +60,10 @@ returns-in-Ok-Partly-clause-ends g c =
     let after : g.D.WearingNand.blocks c.erase_slot.new.self ≡ blocks_after_slot erased.Partly (g.D.WearingNand.blocks c.self.inside.part) (on_part c.self.inside.table c.args.block) =
     c.in-Ok-Partly.ensures.blocks ∙ (ap (λ (e : Erased). blocks_after_slot e (g.D.WearingNand.blocks c.self.inside.part) c.on_part-on.result) c.in-Ok-Partly.field-0-is
     ∙ ap (λ (x : ℕ). blocks_after_slot erased.Partly (g.D.WearingNand.blocks c.self.inside.part) x) number) in
-    rw (← c.self.view_is) (slot_ends g.D.WearingNand.shape_of g.D.WearingNand.blocks g.D.WearingNand.faulted g.D.WearingNand.next g.D.WearingNand.spent g.D.WearingNand.keeps_labels (record { part = c.self.inside.part; shape = c.self.inside.shape; table = c.self.inside.table; erases = c.self.inside.erases.items; health = c.self.inside.health; failures = c.self.inside.failures }) c.self.invariant c.on_part-on.ensures.sound c.in-Working.is c.args.block here erased.Partly c.erase_slot.new.self after c.self.inside.erases.items c.self.invariant.counted (whole g.D.WearingNand.shape_of g.D.WearingNand.blocks g.D.WearingNand.faulted g.D.WearingNand.next g.D.WearingNand.spent g.D.WearingNand.keeps_labels (record { part = c.self.inside.part; shape = c.self.inside.shape; table = c.self.inside.table; erases = c.self.inside.erases.items; health = c.self.inside.health; failures = c.self.inside.failures }) c.self.invariant c.on_part-on.ensures.sound c.in-Working.is c.args.block here) c.in-Ok-Partly.ensures.next c.erase_slot.ensures.spent)
+    let last : false ≡ ((numbered g.D.WearingNand.blocks (record { part = c.self.inside.part; shape = c.self.inside.shape; table = c.self.inside.table; erases = c.self.inside.erases.items; health = c.self.inside.health; failures = c.self.inside.failures }) c.args.block).erasing + 1 == (g.D.WearingNand.shape_of c.self.inside.part).erase_slots) =
+    ap is_last_slot (sym c.in-Ok-Partly.field-0-is) ∙ (c.in-Ok-Partly.ensures.last
+    ∙ ap (λ (x : ℕ). (part_block (g.D.WearingNand.blocks c.self.inside.part) x).erasing + 1 == (g.D.WearingNand.shape_of c.self.inside.part).erase_slots) number) in
+    rw (← c.self.view_is) (slot_ends g.D.WearingNand.shape_of g.D.WearingNand.blocks g.D.WearingNand.faulted g.D.WearingNand.next g.D.WearingNand.spent g.D.WearingNand.keeps_labels (record { part = c.self.inside.part; shape = c.self.inside.shape; table = c.self.inside.table; erases = c.self.inside.erases.items; health = c.self.inside.health; failures = c.self.inside.failures }) c.self.invariant c.on_part-on.ensures.sound c.in-Working.is c.args.block here erased.Partly c.erase_slot.new.self after c.self.inside.erases.items c.self.invariant.counted (whole g.D.WearingNand.shape_of g.D.WearingNand.blocks g.D.WearingNand.faulted g.D.WearingNand.next g.D.WearingNand.spent g.D.WearingNand.keeps_labels (record { part = c.self.inside.part; shape = c.self.inside.shape; table = c.self.inside.table; erases = c.self.inside.erases.items; health = c.self.inside.health; failures = c.self.inside.failures }) c.self.invariant c.on_part-on.ensures.sound c.in-Working.is c.args.block here) last c.in-Ok-Partly.ensures.next c.erase_slot.ensures.spent)
 
 pub count_erase-requires-clause-block : goal.count_erase-requires-clause-block
 count_erase-requires-clause-block g c =
@@ -111,8 +114,11 @@ returns-in-Ok-Wholly-clause-ends g c =
     let after : g.D.WearingNand.blocks c.erase_slot.new.self ≡ blocks_after_slot erased.Wholly (g.D.WearingNand.blocks c.self.inside.part) (on_part c.self.inside.table c.args.block) =
     c.in-Ok-Wholly.ensures.blocks ∙ (ap (λ (e : Erased). blocks_after_slot e (g.D.WearingNand.blocks c.self.inside.part) c.on_part-on.result) c.in-Ok-Wholly.field-0-is
     ∙ ap (λ (x : ℕ). blocks_after_slot erased.Wholly (g.D.WearingNand.blocks c.self.inside.part) x) number) in
+    let last : true ≡ ((numbered g.D.WearingNand.blocks (record { part = c.self.inside.part; shape = c.self.inside.shape; table = c.self.inside.table; erases = c.self.inside.erases.items; health = c.self.inside.health; failures = c.self.inside.failures }) c.args.block).erasing + 1 == (g.D.WearingNand.shape_of c.self.inside.part).erase_slots) =
+    ap is_last_slot (sym c.in-Ok-Wholly.field-0-is) ∙ (c.in-Ok-Wholly.ensures.last
+    ∙ ap (λ (x : ℕ). (part_block (g.D.WearingNand.blocks c.self.inside.part) x).erasing + 1 == (g.D.WearingNand.shape_of c.self.inside.part).erase_slots) number) in
     rw (← c.self.view_is) (subst (λ (l : List ℕ). EndsSpared g.D.WearingNand.blocks g.D.WearingNand.next g.D.WearingNand.spent g.D.WearingNand.keeps_labels (record { part = c.self.inside.part; shape = c.self.inside.shape; table = c.self.inside.table; erases = c.self.inside.erases.items; health = c.self.inside.health; failures = c.self.inside.failures }) (calls.EraseSlot c.args.block) true (record { part = c.erase_slot.new.self; shape = c.self.inside.shape; table = c.self.inside.table; erases = l; health = c.self.inside.health; failures = c.self.inside.failures })) (sym c.count_erase.ensures)
-    (slot_ends g.D.WearingNand.shape_of g.D.WearingNand.blocks g.D.WearingNand.faulted g.D.WearingNand.next g.D.WearingNand.spent g.D.WearingNand.keeps_labels (record { part = c.self.inside.part; shape = c.self.inside.shape; table = c.self.inside.table; erases = c.self.inside.erases.items; health = c.self.inside.health; failures = c.self.inside.failures }) c.self.invariant c.on_part-on.ensures.sound c.in-Working.is c.args.block here erased.Wholly c.erase_slot.new.self after (set c.self.inside.erases.items c.args.block (get_or c.self.inside.erases.items c.args.block 0 + 1)) (length-set c.self.inside.erases.items c.args.block (get_or c.self.inside.erases.items c.args.block 0 + 1) ∙ c.self.invariant.counted) refl c.in-Ok-Wholly.ensures.next c.erase_slot.ensures.spent))
+    (slot_ends g.D.WearingNand.shape_of g.D.WearingNand.blocks g.D.WearingNand.faulted g.D.WearingNand.next g.D.WearingNand.spent g.D.WearingNand.keeps_labels (record { part = c.self.inside.part; shape = c.self.inside.shape; table = c.self.inside.table; erases = c.self.inside.erases.items; health = c.self.inside.health; failures = c.self.inside.failures }) c.self.invariant c.on_part-on.ensures.sound c.in-Working.is c.args.block here erased.Wholly c.erase_slot.new.self after (set c.self.inside.erases.items c.args.block (get_or c.self.inside.erases.items c.args.block 0 + 1)) (length-set c.self.inside.erases.items c.args.block (get_or c.self.inside.erases.items c.args.block 0 + 1) ∙ c.self.invariant.counted) refl last c.in-Ok-Wholly.ensures.next c.erase_slot.ensures.spent))
 
 pub replace-requires-clause-block : goal.replace-requires-clause-block
 replace-requires-clause-block g c =
@@ -168,8 +174,11 @@ returns-in-Some-clause-ends g c =
     let after : g.D.WearingNand.blocks c.erase_slot.new.self ≡ blocks_after_slot erased.Failed (g.D.WearingNand.blocks c.self.inside.part) (on_part c.self.inside.table c.args.block) =
     c.in-Ok-Failed.ensures.blocks ∙ (ap (λ (e : Erased). blocks_after_slot e (g.D.WearingNand.blocks c.self.inside.part) c.on_part-on.result) c.in-Ok-Failed.field-0-is
     ∙ ap (λ (x : ℕ). blocks_after_slot erased.Failed (g.D.WearingNand.blocks c.self.inside.part) x) number) in
+    let last : true ≡ ((numbered g.D.WearingNand.blocks (record { part = c.self.inside.part; shape = c.self.inside.shape; table = c.self.inside.table; erases = c.self.inside.erases.items; health = c.self.inside.health; failures = c.self.inside.failures }) c.args.block).erasing + 1 == (g.D.WearingNand.shape_of c.self.inside.part).erase_slots) =
+    ap is_last_slot (sym c.in-Ok-Failed.field-0-is) ∙ (c.in-Ok-Failed.ensures.last
+    ∙ ap (λ (x : ℕ). (part_block (g.D.WearingNand.blocks c.self.inside.part) x).erasing + 1 == (g.D.WearingNand.shape_of c.self.inside.part).erase_slots) number) in
     rw (← c.self.view_is) (subst (λ (l : List ℕ). EndsSpared g.D.WearingNand.blocks g.D.WearingNand.next g.D.WearingNand.spent g.D.WearingNand.keeps_labels (record { part = c.self.inside.part; shape = c.self.inside.shape; table = c.self.inside.table; erases = c.self.inside.erases.items; health = c.self.inside.health; failures = c.self.inside.failures }) (calls.EraseSlot c.args.block) true (record { part = c.erase_slot.new.self; shape = c.self.inside.shape; table = c.replace.new.self; erases = l; health = c.self.inside.health; failures = c.self.inside.failures })) (sym c.count_erase-in-Some.ensures)
-    (subst (λ (t : Table). EndsSpared g.D.WearingNand.blocks g.D.WearingNand.next g.D.WearingNand.spent g.D.WearingNand.keeps_labels (record { part = c.self.inside.part; shape = c.self.inside.shape; table = c.self.inside.table; erases = c.self.inside.erases.items; health = c.self.inside.health; failures = c.self.inside.failures }) (calls.EraseSlot c.args.block) true (record { part = c.erase_slot.new.self; shape = c.self.inside.shape; table = t; erases = (set c.self.inside.erases.items c.args.block (get_or c.self.inside.erases.items c.args.block 0 + 1)); health = c.self.inside.health; failures = c.self.inside.failures })) (sym c.replace.ensures.replaced) (spare_ends g.D.WearingNand.shape_of g.D.WearingNand.blocks g.D.WearingNand.faulted g.D.WearingNand.next g.D.WearingNand.spent g.D.WearingNand.keeps_labels (record { part = c.self.inside.part; shape = c.self.inside.shape; table = c.self.inside.table; erases = c.self.inside.erases.items; health = c.self.inside.health; failures = c.self.inside.failures }) c.self.invariant c.on_part-on.ensures.sound c.in-Working.is c.args.block here c.erase_slot.new.self after c.in-Some.spare c.in-Some.ensures.spare c.in-Ok-Failed.ensures.next c.erase_slot.ensures.spent)))
+    (subst (λ (t : Table). EndsSpared g.D.WearingNand.blocks g.D.WearingNand.next g.D.WearingNand.spent g.D.WearingNand.keeps_labels (record { part = c.self.inside.part; shape = c.self.inside.shape; table = c.self.inside.table; erases = c.self.inside.erases.items; health = c.self.inside.health; failures = c.self.inside.failures }) (calls.EraseSlot c.args.block) true (record { part = c.erase_slot.new.self; shape = c.self.inside.shape; table = t; erases = (set c.self.inside.erases.items c.args.block (get_or c.self.inside.erases.items c.args.block 0 + 1)); health = c.self.inside.health; failures = c.self.inside.failures })) (sym c.replace.ensures.replaced) (spare_ends g.D.WearingNand.shape_of g.D.WearingNand.blocks g.D.WearingNand.faulted g.D.WearingNand.next g.D.WearingNand.spent g.D.WearingNand.keeps_labels (record { part = c.self.inside.part; shape = c.self.inside.shape; table = c.self.inside.table; erases = c.self.inside.erases.items; health = c.self.inside.health; failures = c.self.inside.failures }) c.self.invariant c.on_part-on.ensures.sound c.in-Working.is c.args.block here c.erase_slot.new.self after c.in-Some.spare c.in-Some.ensures.spare last c.in-Ok-Failed.ensures.next c.erase_slot.ensures.spent)))
 
 pub invariant_of-self-in-None : goal.invariant_of-self-in-None
 invariant_of-self-in-None g c =
