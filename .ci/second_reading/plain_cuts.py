@@ -205,7 +205,7 @@ class Run:
 
 
 def kind_of(call, act, begun):
-    """What a call is that is made while so many blocks are in erase."""
+    """What a call is that is made while a number of blocks are in erase."""
     if begun > 1:
         return "with two blocks in erase"
     programs = "a write" if act[0] == "W" else "a copy"

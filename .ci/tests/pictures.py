@@ -46,7 +46,7 @@ class Pictures(unittest.TestCase):
         return done.stdout.decode()
 
     def plan(self, name, tasks, front=""):
-        """A die with so many tasks that all have the same cap."""
+        """A die with a number of tasks that all have the same cap."""
         lines = [front, "version = 1", "dies = 1", "blocks = 64", "pages = 4", "erase_slots = 3", "logical = 12", "alpha = 2"]
         lines += ["[[task]]", "die = 0", "cap = 4"] * tasks
         (self.at / name).write_text("\n".join(lines) + "\n")

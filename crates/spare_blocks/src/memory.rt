@@ -25,7 +25,7 @@ enum Fate {
 }
 
 /// When the blocks of a part in memory fail: at these of its programs, copies, last slots of an erase and whole erases,
-/// from 0; or at one in so many of them, by a seed; and when the part itself has a fault.
+/// from 0; or at one in `one_in` of them, by a seed; and when the part itself has a fault.
 #[derive(Drop)]
 pub struct Failures {
     /// How many such calls there were.
@@ -35,7 +35,7 @@ pub struct Failures {
     /// Whether that call is carried out nevertheless.
     done: bool,
     seed: u64,
-    /// One call in so many fails; 0 for none.
+    /// One call in this number fails; 0 for none.
     one_in: u64,
 }
 
@@ -65,7 +65,7 @@ impl Failures {
         }
     }
 
-    /// One call in so many fails, by a seed; none for 0.
+    /// One call in `one_in` fails, by a seed; none for 0.
     pub fn seeded(alloc: Global, seed: u64, one_in: u64) -> Self {
         Failures {
             calls: 0,

@@ -112,7 +112,7 @@ one_taken q = by q.kept
 -- All queues
 
 module _ (task : ℕ) where
-  -- an outcome that is told comes to its task
+  -- an outcome that is reported comes to its task
   told_to : (queues : List Queue) → task < length queues → (o : Option TaskOutcome)
       → Accounts (queue_of queues task) (own_of task (option_to_list o)) [] (queue_of (with_told queues o) task)
   told_to queues lt None = nothing (queue_of queues task)

@@ -66,8 +66,8 @@ dropped_among (Taken o ∷ gone) = dropped_among gone
 dropped_among (Dropped o ∷ gone) = 1 + dropped_among gone
 
 -- With these moves some jobs of the task were done. What had been kept and what became of these, in order, is what has gone,
--- and then what is kept now. What has gone was taken, as the task was told, or dropped, and that was counted, as far as the count
--- goes.
+-- and then what is kept now. What has gone was taken, as it was reported to the task, or dropped, and that was counted, as
+-- far as the count goes.
 pub record AreAccountedFor (first : Start) (task : ℕ) (before : Told) (taken : List TaskOutcome) (after : Told) : Type 0 where
   pub new : List TaskOutcome
   pub done : own_of task (told_of first after.ongoing) ≡ own_of task (told_of first before.ongoing) ++ new

@@ -1,4 +1,4 @@
--- What became of the jobs of tasks, as they are told it: in slots of the clock of all lives.
+-- What became of the jobs of tasks, as it is reported to them: in slots of the clock of all lives.
 use Rattle.std.specs.Prelude.{ℕ, ◌+◌, ◌==◌, if◌then◌else◌, List, [], ◌∷◌, ◌++◌, filter, Option, Some, None, option_and_then, option_to_list}
 use Rattle.slot_types.specs.declared.events.JobHead.{JobHead}
 use Rattle.slot_types.specs.declared.replies.Reply.{Reply}

@@ -8,7 +8,7 @@ use Rattle.tool_script_runs.specs.ScriptRuns.{IsRunOf, RanScript}
 use Rattle.tool_script_runs.specs.declared.counted.RefusedRows.{RefusedRows}
 use Rattle.tool_script_runs.specs.declared.refused.RefusedRow.{RefusedRow}
 
--- these dies ran their rows of a script, of which so many were refused
+-- these dies ran their rows of a script, of which those were refused that `counts` has
 pub record RanCounting (script : Option Script) (slots : ℕ) (counts : RefusedRows) (dies : List RunningDie) : Type 0 where
   pub refused : List RefusedRow
   pub ran : RanScript script slots refused dies

@@ -27,7 +27,7 @@ abbrev pub cells_with_all : Shape → List PageData → List SavedPage → List 
 cells_with_all shape cells [] = cells
 cells_with_all shape cells (page ∷ pages) = cells_with_all shape (cells_with shape cells page.place page.bytes) pages
 
--- a page lies nowhere, or in one of so many cells
+-- a page lies nowhere, or in one of the first `count` cells
 abbrev pub LiesBelow : Shape → ℕ → SavedPage → Type 0
 LiesBelow shape count page = IfSome page.place (λ place. cell_index shape place < count)
 

@@ -46,8 +46,8 @@ HaveCalls {N} fail dies = (number : ℕ) → IfSome (slice_get dies number) (λ 
 abbrev pub NoneStopped : List RunningDie → Type 0
 NoneStopped dies = All (λ (die : RunningDie). die.stopped ≡ false) dies
 
--- Dies that start so ran the whole of a script of this text, and so many slots, and so many of its rows were refused; and then
--- each went on for some more, if they were to.
+-- Dies that start so ran the whole of a script of this text, and `slots` slots, and of its rows those were refused that
+-- `counts` has; and then each went on for some more, if they were to.
 pub record RanAndWentOn (starts : List Start) (text : Option (List ℕ)) (slots : ℕ) (more : Bool) (counts : RefusedRows)
     (dies : List RunningDie) : Type 0 where
   pub came : List RunningDie

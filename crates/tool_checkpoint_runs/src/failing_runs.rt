@@ -34,7 +34,7 @@ pub struct FailingRun {
     pub failure: Failure,
 }
 
-/// A die on which nothing was done, whose device makes so many calls well and fails from then on. The only refusal is
+/// A die on which nothing was done, whose device makes `calls` calls well and fails from then on. The only refusal is
 /// NoMemory.
 fn fresh_die(alloc: Global, plan: DiePlan, calls: u64) -> Result<DieCore<RunNand>, Refusal>
     requires { MeetsBound plan }

@@ -31,7 +31,7 @@ use tool_watched_runs::{
     push_started, report_of, wear_of,
 };
 
-/// A die that goes on as it was saved, on a device in memory that is as it was left, and makes so many calls well.
+/// A die that goes on as it was saved, on a device in memory that is as it was left, and makes a number of calls well.
 fn saved_core(
     alloc: Global,
     plan: DiePlan,

@@ -4,7 +4,7 @@ use Rattle.std.specs.Prelude.{if◌then◌else◌}
 use Rattle.tool_command_words.specs.RequestTexts.{CommandText, Arrivals, Report, Draw, Compare, Cut, RequestText, One}
 use Rattle.tool_command_words.specs.declared.asked.FailingDie.{FailingDie}
 
--- slots from `first` on, of so many that are run, if there are any or none is named
+-- a run of `slots` slots has slot `first`, or none is named
 abbrev pub has_slots : (first slots : ℕ) → Bool
 has_slots first slots = first == 0 || nat_lt first slots
 

@@ -7,7 +7,7 @@ ghost use Rattle.tool_command_words.specs.Together.{fails_drawn, goes_together, 
 use crate::asked::{Command, FailingDie};
 use slot_types::MAX_SLOT;
 
-/// Whether slots from `first` on, of so many that are run, are any, or none is named.
+/// Whether a run of `slots` slots has slot `first`, or none is named.
 fn has_slots(first: u32, slots: u32) -> bool
     ensures { result ≡ has_slots first slots }
 {

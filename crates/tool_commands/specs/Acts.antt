@@ -184,7 +184,7 @@ pub record BreaksTerms (plan script : Option (List ℕ)) (slots : ℕ) : Type 0 
   pub before : KeepsBelow store slots text die
 
 -- what dies wore is printed that began fresh by the plans of the store that was read, or as they were saved, if that was asked
--- for, and ran the whole script that was read and so many slots
+-- for, and ran the whole script that was read and `slots` slots
 pub record PrintsWear (plan script : Option (List ℕ)) (slots : ℕ) (begins_fresh : Bool) (old new : Option (List ℕ)) : Type 0 where
   pub store : List DiePlan
   pub read : ReadsStore plan store
@@ -273,9 +273,9 @@ explained_status (Err fault) = 1
 abbrev pub PrintsReport : {N : Type 0} → Option (List ℕ) → Option (List ℕ) → List (Core N) → Type 0
 PrintsReport old new dies = Appends old new (report_text (reports_of 0 dies))
 
--- The report is printed of as many dies as the store has that was read. They ran the whole script that was read, and so many
--- slots; began fresh by the store's plans, or as they were saved, if that was asked for; and went on for some slots more, if their
--- end was. None stopped.
+-- The report is printed of the dies of the store that was read. They began fresh by the store's plans, or as they were
+-- saved, if that was asked for; ran the whole script that was read and `slots` slots; and went on for some slots more,
+-- if their end was asked for. None stopped.
 pub record PrintsRun (plan script : Option (List ℕ)) (slots : ℕ) (begins_fresh saves : Bool) (old new : Option (List ℕ)) : Type 0 where
   pub store : List DiePlan
   pub read : ReadsStore plan store
@@ -372,7 +372,7 @@ abbrev pub EndsRun : {W : Type 0} → (W → Option (List ℕ)) → (W → Optio
 EndsRun contents has_failed prints alone old new status =
     (prints (contents old) (contents new) × IsRunStatus alone status) ⊎ IsRefused contents has_failed prints old new status
 
--- what stands on full dies of the plans that were read, after so many lives at least, is printed
+-- what stands on full dies of the plans that were read, after `lives` lives at least, is printed
 pub record PrintsFilled (plan : Option (List ℕ)) (lives : ℕ) (old new : Option (List ℕ)) : Type 0 where
   pub store : List DiePlan
   pub read : ReadsStore plan store

@@ -26,7 +26,7 @@ abbrev pub ReadsKept : Option (List ℕ) → List DieTerms → Type 0
 ReadsKept plan kept = ByKind plan (IsTermsStoreOf plan kept) (KeepsTimes plan kept)
 
 -- The report is printed of dies that began fresh by the plans that were read, and kept them while they ran the script
--- that was read, and so many slots: each of their jobs that is due by then was done by its deadline.
+-- that was read and `slots` slots: each of their jobs that is due by then was done by its deadline.
 pub record PrintsKeptRun (plan script : Option (List ℕ)) (slots : ℕ) (old new : Option (List ℕ)) : Type 0 where
   pub plans : List DieTerms
   pub read : ReadsKept plan plans

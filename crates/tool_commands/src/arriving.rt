@@ -79,7 +79,7 @@ struct Made {
 }
 
 /// The option of these that a plan with terms has no use for: it says where a die is filled, or that less is asked for than
-/// the plan allows. The load is so many of a hundred jobs, or more.
+/// the plan allows. `load` is a percentage: less is asked for where it is below 100.
 fn of_times_alone(manner: Manner) -> Option<&'static str> {
     if manner.fills {
         Some("--fill")
@@ -191,13 +191,13 @@ fn print_arrivals<R: Read + Drop, C: Read + Drop, W: Output>(
     Ok(made.store)
 }
 
-/// So many slots, with their time where it is known how many us one takes.
+/// A number of slots, with their time where the length of one is known.
 fn timed(count: u64, slot_us: Option<u32>) -> Slots {
     Slots { count, slot_us }
 }
 
-/// Says from which slot on a die is full in so many slots; or that it isn't, and what would be needed. A writer that fails is
-/// passed over.
+/// Says from which of `slots` slots on a die is full; or that it isn't, and what would be needed. A writer that fails
+/// is passed over.
 fn report_filling<E: Write>(
     err: &mut E,
     die: usize,
@@ -234,7 +234,7 @@ fn report_filling<E: Write>(
     };
 }
 
-/// Reports of each die from which slot on it is full in so many slots. Lack of memory is passed over.
+/// Reports of each die from which of `slots` slots on it is full. Lack of memory is passed over.
 fn report_full<E: Write>(alloc: Global, err: &mut E, plan: &HeldStore, slots: u32) {
     let Ok(fillings) = fillings_from(alloc, &plan.store, plan.held.as_slice()) else {
         return;

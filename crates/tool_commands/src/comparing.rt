@@ -123,7 +123,7 @@ struct Beside {
     slot_us: Option<u32>,
 }
 
-/// What is measured, where a slot takes so long, if that is known.
+/// What is measured, with the length of a slot, if that is known.
 fn timed_measure(measure: Measure, slot_us: Option<u32>) -> Measure
     ensures { result.slots ≡ measure.slots }
 {

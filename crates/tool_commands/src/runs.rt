@@ -81,7 +81,7 @@ struct Figured {
     slot_us: Option<u32>,
 }
 
-/// How long a part lives, where a slot takes so long, if that is known.
+/// How long a part lives, with the length of a slot, if that is known.
 fn life_of(endurance: u32, slot_us: Option<u32>) -> Life {
     Life {
         endurance,
@@ -187,7 +187,7 @@ struct Drawn {
     slot_us: Option<u32>,
 }
 
-/// Which slots are drawn, and in which units, where a slot takes so long, if that is known.
+/// Which slots are drawn, and in which units, with the length of a slot, if that is known.
 fn shown_with(shown: Shown, slot_us: Option<u32>) -> Shown {
     Shown {
         units: units_with(shown.units, slot_us),

@@ -28,7 +28,7 @@ pub(crate) fn slot_for(
     }
 }
 
-/// What is asked for of a slot and of a page, where a slot takes so many us, if that is known.
+/// What is asked for of a slot and of a page, with the length of a slot in microseconds, if that is known.
 pub(crate) fn units_with(asked: Units, slot_us: Option<u32>) -> Units
     ensures { result.slot_us ≡ slot_us }
 {

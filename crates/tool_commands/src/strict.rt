@@ -18,9 +18,9 @@ pub const STRICT_STATUS: u8 = 4;
 pub enum Amiss {
     /// Rows were refused.
     Refused,
-    /// So many jobs and collections weren't done by their deadline.
+    /// How many jobs and collections weren't done by their deadline.
     Late(u32),
-    /// So many jobs weren't done by their deadlines.
+    /// How many jobs weren't done by their deadline.
     LateJobs(u32),
     /// The worst of a die is late.
     WorstLate,
@@ -47,7 +47,8 @@ impl Display for Amiss {
     }
 }
 
-/// Whether a job or a collection wasn't done by its deadline, in so many slots.
+/// Whether a job or a collection is late in a run of `slots` slots: done after its deadline, or not done and due by the
+/// run's end.
 fn is_late(row: &JobRow, slots: u32) -> bool {
     match row.completion {
         Some(completion) => row.due < completion,
@@ -55,7 +56,7 @@ fn is_late(row: &JobRow, slots: u32) -> bool {
     }
 }
 
-/// How many of the jobs and collections of dies weren't done by their deadlines, in so many slots.
+/// How many of the jobs and collections of dies are late in a run of `slots` slots.
 fn late_in(work: &ReportWork, slots: u32) -> u32 {
     let mut count: u32 = 0;
     for die in work.as_slice() {
@@ -68,7 +69,7 @@ fn late_in(work: &ReportWork, slots: u32) -> u32 {
     count
 }
 
-/// What isn't as it is wanted in the report of a run of so many slots.
+/// What isn't as it is wanted in the report of a run of `slots` slots.
 fn amiss_in_report(alloc: Global, report: &[u8], slots: u32) -> Result<Option<Amiss>, Refusal> {
     let work = ReportReader::new(alloc, report).work()?;
     let late = late_in(&work, slots);

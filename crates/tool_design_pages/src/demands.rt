@@ -33,7 +33,7 @@ fn put_times(text: &mut Vec<u8>, design: &Design<'_>, demand: u64, common: u32) 
     );
     write!(text, "Of each {slots}, all tasks take at most ")?;
     write!(text, "{taken}: {spare} to spare. ")?;
-    put(text, "By task, of so many slots:</p>\n")
+    put(text, "By task, of these slots:</p>\n")
 }
 
 /// Adds how much a plan with terms asks for in the long run.

@@ -56,7 +56,7 @@ fn suspends_text(suspends: Suspends) -> &'static str {
     }
 }
 
-/// So much of a slot a command takes.
+/// Which part of a slot a command takes.
 fn held(part: &Part, slot_us: u32, command_us: u32) -> PartOfSlot {
     PartOfSlot {
         us: command_us

@@ -57,7 +57,7 @@ struct LifeScript {
     slots: u32,
 }
 
-/// So often a script that has too many bytes is halved: 1,048,576 slots to one.
+/// How often a script that has too many bytes is halved at most: from 1,048,576 slots to none.
 const HALVINGS: u32 = 21;
 
 /// The script of all that the tasks of a plan ask for in a life: for `most` slots, or half of them, and so on, until it

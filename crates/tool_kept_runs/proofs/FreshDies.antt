@@ -53,6 +53,6 @@ pub as_many : {D P : Type 0} (f : D → KeptDie) (R : P → KeptStart → Type 0
 as_many f R plans dies all =
     zip_length R plans (begins_of (map f dies)) all ∙ (length-map (map f dies) (λ (d : KeptDie). d.begun) ∙ length-map dies f)
 
--- what holds for so many slots holds for fewer
+-- what is within a number of slots is within fewer
 pub fewer_slots : (fewer slots : ℕ) (dies : List KeptDie) → fewer ≤ slots → AreWithin slots dies → AreWithin fewer dies
 fewer_slots fewer slots dies le all = λ k d lt. omega (arith, le, all k d lt)

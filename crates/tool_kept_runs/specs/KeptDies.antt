@@ -34,7 +34,7 @@ cores_of {N} dies = map (λ (die : Planned N). die.core) dies
 abbrev pub HasEmptyLog : KeptDie → Type 0
 HasEmptyLog die = die.log ≡ []
 
--- each has a life of so many slots at least
+-- each has a life of at least `slots` slots
 abbrev pub AreWithin : ℕ → List KeptDie → Type 0
 AreWithin slots dies = All (λ (begun : KeptStart). slots ≤ begun.life) (begins_of dies)
 

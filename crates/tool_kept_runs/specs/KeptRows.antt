@@ -34,7 +34,7 @@ row_moves terms slot (events.Submit task release due ops) =
     if has_other_times terms slot task release due then [] else Ask kinds.Job 0 task ops ∷ []
 row_moves terms slot _ = []
 
--- so many slots
+-- a number of slots, one after the other
 abbrev pub slot_moves : ℕ → List Move
 slot_moves zero = []
 slot_moves (suc more) = Slot 0 ∷ slot_moves more

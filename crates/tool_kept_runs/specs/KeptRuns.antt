@@ -23,7 +23,7 @@ pub record RanKept (script : Option Script) (slots : ℕ) (dies : List KeptDie) 
   pub read : IfSome script (λ all. all ≡ Ok items)
   pub ran : (number : ℕ) → IfSome (slice_get dies number) (HasKept (items_of_die items number) slots)
 
--- dies that began fresh by these plans ran a script of this text, and so many slots
+-- dies that began fresh by these plans ran a script of this text, and `slots` slots
 pub record IsKeptRun (plans : List DieTerms) (text : Option (List ℕ)) (slots : ℕ) (dies : List KeptDie) : Type 0 where
   pub begin : AllZip BeginsBy plans (begins_of dies)
   pub ran : RanKept (script_in (length plans) slots text) slots dies

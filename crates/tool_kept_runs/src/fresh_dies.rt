@@ -19,9 +19,9 @@ fn fault_of(die: u32, refusal: PlanRefusal) -> KeptFault {
     }
 }
 
-/// A die in memory on which nothing was done, of a number in its store, that keeps a plan with its terms and may run so many
-/// slots. BadPlan where the plan doesn't pass its tests, NoLife where it has no life, LongerThanLife where a life has fewer
-/// slots; or NoMemory.
+/// A die in memory on which nothing was done, of a number in its store, that keeps a plan with its terms and may run
+/// `slots` slots. BadPlan where the plan doesn't pass its tests, NoLife where it has no life, LongerThanLife where a
+/// life has fewer slots; or NoMemory.
 pub fn fresh_die(
     alloc: Global,
     number: u32,

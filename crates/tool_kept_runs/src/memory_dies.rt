@@ -37,7 +37,7 @@ impl Model for MemoryDie {
     ghost invariant = { λ d. RunsInFirstLife d.die };
 }
 
-/// Whether these are the release and the deadline of a job that comes in slot `now` and has so many slots.
+/// Whether these are the release and the deadline of a job that comes in slot `now` and is due `deadline` slots later.
 fn are_times(now: u32, release: u32, due: u32, deadline: u32) -> bool
     ensures { result ≡ ((release == now) && (due == now + deadline)) }
 {

@@ -111,7 +111,7 @@ pub enum KeptFault {
     Refused(Refusal),
     /// No number of slots is a life of this die.
     NoLife { die: u32 },
-    /// A life of this die has so many slots at most, and more are to be run.
+    /// A life of this die has at most `life` slots, and more are to be run.
     LongerThanLife { die: u32, life: u32 },
 }
 

@@ -49,7 +49,7 @@ fn read_rows<R: Read + Drop, D: KeptScriptDie>(
     Err(too_many_rows())
 }
 
-/// Runs the rows that a reader has left on the dies of a store, which keep their plans, and then so many slots, which each
+/// Runs the rows that a reader has left on the dies of a store, which keep their plans, up to slot `slots`, which each
 /// die's life has: a row comes on its die once the slots before its `at` were carried out. One that its die refuses is
 /// counted, and is no job; one of a collection is passed over and counted, since a die enters its collections itself.
 ///

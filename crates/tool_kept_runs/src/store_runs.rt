@@ -32,7 +32,7 @@ pub struct KeptRun {
     pub rows: RowCounts,
 }
 
-/// Dies on which nothing was done, one of each plan, that may run so many slots.
+/// Dies on which nothing was done, one of each plan, that may run `slots` slots.
 fn fresh_store(alloc: Global, plans: StoreTerms, slots: u32) -> Result<Vec<MemoryDie>, KeptFault>
     ensures begin { IfOk result (λ dies. AllZip BeginsBy plans (begins_of (map kept_of dies.items))) }
     ensures empty { IfOk result (λ dies. All HasEmptyLog (map kept_of dies.items)) }

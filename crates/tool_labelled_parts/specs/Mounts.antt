@@ -56,7 +56,7 @@ abbrev pub costs_of : MountCosts → List Mounting → MountCosts
 costs_of first [] = first
 costs_of first (m ∷ earlier) = costs_with m (costs_of first earlier)
 
--- so many labels, and nothing else
+-- the costs of `labels` labels, and of nothing else
 abbrev pub labels_alone : ℕ → MountCosts
 labels_alone labels = record { labels = labels; reads = 0; copies = 0; erase_slots = 0; erases = 0 }
 

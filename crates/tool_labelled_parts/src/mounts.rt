@@ -280,8 +280,8 @@ pub fn mount_part(alloc: Global, plan: &DiePlan, part: &mut Part) -> Result<Moun
     mount.finish(alloc, part)
 }
 
-/// Mounts a part up to the call after so many of the mount's, during which its power goes, and comes again; of the
-/// call this is left. Answers whether the mount has such a call; where it doesn't, the part was mounted.
+/// Mounts a part up to the call after the mount's first `calls`. During that call its power goes, and comes again; of
+/// the call this is left. Answers whether the mount has such a call; where it doesn't, the part was mounted.
 pub fn cut_mount(
     alloc: Global,
     plan: &DiePlan,

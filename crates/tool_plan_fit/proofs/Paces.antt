@@ -1,4 +1,4 @@
--- How many pages come in so many slots.
+-- The pages that come in a number of slots.
 use Rattle.std.proofs.Common.{ℕ, ◌*◌, ◌≤◌, subst}
 use Rattle.std.proofs.Math.Nat.{mul_left_comm}
 

@@ -28,14 +28,15 @@ use Rattle.tool_plan_fit.specs.declared.datasheets.Suspends.TheVariants as suspe
 abbrev pub erasing : Part → ℕ → ℕ
 erasing part slot_us = slot_us - (part.suspend_us + part.resume_us + part.margin_us)
 
--- a slot of this length holds a read and a program, each with its transfer and the margin, and so many of them hold an erase
+-- a slot of this length holds a read and a program, each with its transfer and the margin, and `erase_slots` slots hold
+-- an erase
 pub record HoldsCommands (part : Part) (slot_us erase_slots : ℕ) : Type 0 where
   pub read : part.read_us + part.transfer_us + part.margin_us ≤ slot_us
   pub program : part.program_us + part.transfer_us + part.margin_us ≤ slot_us
   pub erase : part.erase_us ≤ erase_slots * erasing part slot_us
 
--- so many tasks collect on a part that suspends erases so: where it suspends none, a slot holds a whole erase; where one
--- at a time, there is one task, whose collections follow each other, or a slot holds a whole erase
+-- a part that suspends erases so allows `tasks` tasks that collect: where it suspends none, a slot holds a whole erase;
+-- where one at a time, there is one task, whose collections follow each other, or a slot holds a whole erase
 abbrev pub AllowsErases : Suspends → (erase_slots tasks : ℕ) → Type 0
 AllowsErases suspends.Any erase_slots tasks = ⊤
 AllowsErases suspends.One erase_slots tasks = (tasks ≤ 1) ⊎ (erase_slots ≤ 1)
@@ -52,13 +53,14 @@ pub record IsPeriodic (slot_us period_us reads writes : ℕ) (t : TaskTerms) : T
   pub work : t.work ≡ reads + writes
   pub writing : t.writes ≡ writes
 
--- of one that writes so many pages once in so long
+-- of one that writes `pages` pages once in `every_us` microseconds
 pub record IsBurst (slot_us pages every_us : ℕ) (t : TaskTerms) : Type 0 where
   pub period : t.period * slot_us ≤ every_us
   pub work : t.work ≡ pages
   pub writing : t.writes ≡ pages
 
--- and of one that writes so many millionths of a page a second: its period is at most the time in which as many come
+-- and of one that writes `micropages_per_s` millionths of a page a second: its period is at most the time in which its
+-- writes come
 pub record IsPaced (slot_us micropages_per_s : ℕ) (t : TaskTerms) : Type 0 where
   pub period : micropages_per_s * (t.period * slot_us) ≤ t.writes * 1000000000000
   pub work : t.work ≡ t.writes
@@ -68,7 +70,7 @@ DoesWork slot_us (asked.Periodic period_us reads writes) t = IsPeriodic slot_us 
 DoesWork slot_us (asked.Burst pages every_us) t = IsBurst slot_us pages every_us t
 DoesWork slot_us (asked.Rate micropages_per_s) t = IsPaced slot_us micropages_per_s t
 
--- a deadline of so many slots is at most the one that is asked for; where none is, at most until the task asks again
+-- a deadline of `deadline` slots is at most the one that is asked for; where none is, at most until the task asks again
 abbrev pub IsDue : ℕ → Asked → Option ℕ → ℕ → Type 0
 IsDue slot_us asks (Some deadline_us) deadline = deadline * slot_us ≤ deadline_us
 IsDue slot_us (asked.Periodic period_us reads writes) None deadline = deadline * slot_us ≤ period_us

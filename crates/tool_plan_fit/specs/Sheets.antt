@@ -20,11 +20,11 @@ whole_of d = option_and_then small_of (as_integer d)
 abbrev pub number_at : Members → List ℕ → Option ℕ
 number_at ms k = option_and_then whole_of (get_member k ms)
 
--- the number nearest to so many parts of a unit that has so many of them: 2.5 of 2,500 parts of a thousand
+-- the number nearest to `parts` parts, where a unit has `unit` of them: 2.5 for 2,500 parts of a thousand
 abbrev pub fraction : (unit parts : ℕ) → Float
 fraction unit parts = div binary64 (of_int binary64 (pos parts)) (of_int binary64 (pos unit))
 
--- a value says so many parts of a unit that has so many of them: by a whole number of units, or by a decimal number
+-- a value says `parts` parts, where a unit has `unit` of them: by a whole number of units, or by a decimal number
 abbrev pub SaysParts : (unit : ℕ) → Data → (parts : ℕ) → Type 0
 SaysParts unit d parts = IsSomeAnd (whole_of d) (λ n. parts ≡ n * unit) ⊎ IsSomeAnd (as_float d) (λ x. T (eq x (fraction unit parts)))
 

@@ -8,7 +8,7 @@ use crate::terms_searches::search_terms;
 use slot_types::{MAX_BLOCKS, MAX_SLOT, Refusal};
 use std::alloc::Global;
 
-/// So many times as long as it is a time is tried.
+/// A time is tried up to this many times as long as it is.
 const MOST_TIMES: u32 = 1024;
 
 /// How many microseconds a millisecond and a second have.
@@ -83,11 +83,12 @@ impl Time {
 enum Changed {
     Logical,
     Blocks,
-    /// A time of the task of this place, the first being 0: so many units longer than this, in microseconds.
+    /// A time of the task at `place`, the first being 0, that is longer than its present `us` microseconds by a number
+    /// of its units.
     Longer { place: usize, time: Time, us: u32 },
 }
 
-/// A time that is longer by so many of its units.
+/// A time of `us` microseconds, made longer by `units` of its units.
 fn longer(time: Time, us: u32, units: u32) -> u32 {
     us.saturating_add(units.saturating_mul(time.unit()))
 }

@@ -7,7 +7,7 @@ ghost use Rattle.tool_plan_fit.specs.Fits.{AllowsErases, DoesWork, HoldsCommands
 use crate::faults::WholeErase;
 use slot_types::{Items, MAX_ERASE_SLOTS, MAX_SLOT};
 
-/// So many millionths of a page in so many microseconds are a page in a second.
+/// A rate in millionths of a page a second, times a time in microseconds, makes a page where it comes to this.
 const PAGE_SECOND: u64 = 1_000_000_000_000;
 
 /// The most pages of a job.
@@ -50,7 +50,7 @@ pub struct Part {
 }
 
 impl Part {
-    /// Whether the part allows erases of so many slots, where so many tasks collect.
+    /// Whether the part allows erases of `erase_slots` slots, where `tasks` tasks collect.
     pub fn allows_erases(&self, erase_slots: u32, tasks: usize) -> bool
         ensures { IsTrue result → AllowsErases self.now.suspends erase_slots tasks }
     {
@@ -71,7 +71,7 @@ impl Part {
         }
     }
 
-    /// The shortest slot that holds each single command, and so much of an erase beside suspending and resuming it.
+    /// The shortest slot that holds each single command, and `erase_us` of an erase with suspending and resuming it.
     fn shortest_slot(&self, erase_us: u32) -> u32 {
         let command = self
             .read_us
@@ -94,7 +94,7 @@ impl Part {
             .saturating_sub(self.margin_us)
     }
 
-    /// Whether a slot of a length holds a command of so many microseconds, its transfer and the margin.
+    /// Whether a slot of `slot_us` microseconds holds a command of `command_us`, its transfer and the margin.
     pub fn holds(&self, slot_us: u32, command_us: u32) -> bool
         ensures { IsTrue result → command_us + self.now.transfer_us + self.now.margin_us ≤ slot_us }
     {
@@ -120,18 +120,18 @@ impl Part {
 /// What a task asks for.
 #[derive(Clone, Copy, Drop)]
 pub enum Asked {
-    /// So many reads and writes at most once in so many microseconds.
+    /// A job of `reads` reads and `writes` writes, at most once in `period_us` microseconds.
     Periodic {
         period_us: u32,
         reads: u8,
         writes: u8,
     },
-    /// So many writes at most once in so many microseconds, in any number of jobs.
+    /// `pages` writes, at most once in `every_us` microseconds, in any number of jobs.
     Burst {
         pages: u32,
         every_us: u32,
     },
-    /// So many writes a second, in millionths, one as long after the other as any two.
+    /// Writes at a steady rate, in millionths of a page a second: the same time lies between any two.
     Rate {
         micropages_per_s: u32,
     },
@@ -155,7 +155,7 @@ pub struct Need {
     pub deadline_us: Option<u32>,
 }
 
-/// How many slots of a length there are in so many microseconds.
+/// How many slots of `slot_us` microseconds there are in `us` microseconds.
 fn slots_in(us: u32, slot_us: u32) -> u32
     ensures { (slots : ℕ) → slots ≤ result → slots * slot_us ≤ us }
 {
@@ -169,7 +169,7 @@ fn times_in(amount: u64, each: u64) -> u32
     u32::try_from(amount / each.max(1)).unwrap_or(u32::MAX)
 }
 
-/// How many slots of a length there are in the time in which so many pages come.
+/// How many slots of `slot_us` microseconds there are in the time in which `pages` pages come.
 #[tactic(auto, using(crate::proofs::Paces::paced))]
 fn slots_of_pages(micropages_per_s: u32, slot_us: u32, pages: u32) -> u32
     requires { pages ≤ 64 }

@@ -3,7 +3,7 @@
 use std::fmt;
 use std::fmt::{Display, Formatter, Write};
 
-/// So many parts of a unit that has so many of them: 1, 1,000 or 1,000,000.
+/// A number of units, said in parts: `parts` of them, where a unit has `unit`, which is 1, 1,000 or 1,000,000.
 #[derive(Clone, Copy, Drop)]
 pub struct Decimal {
     pub parts: u32,

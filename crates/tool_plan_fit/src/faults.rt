@@ -28,18 +28,18 @@ pub enum Reason {
     },
     /// No alpha meets the bound.
     Bound,
-    /// With the least demand that was found so many of `common` slots are taken.
+    /// The least demand that was found is `demand` of `common` slots.
     Demand {
         demand: u64,
         common: u32,
         slot_us: u32,
     },
-    /// In the long run so many of a million slots are asked for.
+    /// In the long run `load` of a million slots are asked for.
     Load {
         load: u64,
         slot_us: u32,
     },
-    /// An interval of so many slots may be asked for so many more.
+    /// An interval of `slots` slots may be asked for `excess` slots more than it has.
     Overfull {
         slots: u32,
         excess: u64,
@@ -56,7 +56,7 @@ pub enum Reason {
 pub enum WholeErase {
     /// The part suspends no erase.
     No,
-    /// It suspends one at a time, and so many tasks collect.
+    /// It suspends one at a time, and `tasks` tasks collect.
     One { tasks: usize },
 }
 
@@ -113,7 +113,7 @@ impl From<Refusal> for FitFault {
     }
 }
 
-/// So many slots that are taken of each so many.
+/// Of each `common` slots, `demand` are taken.
 #[derive(Clone, Copy, Drop)]
 struct Over {
     demand: u64,
@@ -138,7 +138,7 @@ impl Display for Over {
     }
 }
 
-/// So many slots that an interval of so many lacks.
+/// An interval of `slots` slots lacks `excess`.
 #[derive(Clone, Copy, Drop)]
 struct Lacking {
     slots: u32,

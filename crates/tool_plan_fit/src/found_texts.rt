@@ -94,7 +94,7 @@ fn put_share(text: &mut Vec<u8>, share: Share, slot_us: Option<u32>) -> io::Resu
     put_spare(text, u64::from(common).saturating_sub(demand), slot_us)
 }
 
-/// Adds that periods end in no life, which has so many slots.
+/// Adds that periods end in no life, which has `life` slots.
 fn put_no_end(text: &mut Vec<u8>, life: u32, slot_us: Option<u32>) -> io::Result<()>
     ensures { OnOk result (text.new.items ≡ text.old.items ++ no_end_text slot_us life) }
 {

@@ -8,7 +8,8 @@ use tool_plan_lives::{are_tasks, life_of};
 #[derive(Clone, Copy, PartialEq, Eq, Debug, Drop)]
 pub enum Life {
     Ends,
-    /// So many slots of a life are fewer than the least multiple of each collect period, if this is one of a run's.
+    /// The `life` slots of a life are fewer than the least number that each collect period divides. That number is
+    /// `end`, where a run can have that many.
     EndsNowhere { life: u32, end: Option<u32> },
 }
 

@@ -63,7 +63,8 @@ pub fn place_of(text: &str, wrong: &Wrong) -> Option<Position> {
     }
 }
 
-/// Where a text goes on after so many of its bytes. A column counts characters: each has one byte that continues none.
+/// Where a text goes on after its first `bytes` bytes. A column counts characters: each has one byte that continues
+/// none.
 pub fn place_after(text: &[u8], bytes: usize) -> Position {
     let (mut line, mut column) = (1u64, 1u64);
     for byte in &text[..bytes.min(text.len())] {

@@ -9,10 +9,10 @@ use demand_rules::TaskTerms;
 use slot_types::{DiePlan, TaskTimes};
 use terms_texts::DieTerms;
 
-/// So many millionths of a page in so many microseconds are a page in a second.
+/// A rate in millionths of a page a second, times a time in microseconds, makes a page where it comes to this.
 const PAGE_SECOND: u64 = 1_000_000_000_000;
 
-/// Whether a slot of a length holds a read and a program, and so many of them an erase.
+/// Whether a slot of `slot_us` microseconds holds a read and a program, and `erase_slots` of them an erase.
 fn holds_commands(part: &Part, slot_us: u32, erase_slots: u32) -> bool
     ensures { IsTrue result → HoldsCommands part.now slot_us erase_slots }
 {
@@ -22,14 +22,14 @@ fn holds_commands(part: &Part, slot_us: u32, erase_slots: u32) -> bool
         && u64::from(part.erase_us) <= u64::from(erase_slots) * erasing
 }
 
-/// Whether so many slots of a length are at most so many microseconds.
+/// Whether `slots` slots of `slot_us` microseconds take at most `us` microseconds.
 fn is_within(slots: u32, slot_us: u32, us: u32) -> bool
     ensures { IsTrue result → slots * slot_us ≤ us }
 {
     u64::from(slots) * u64::from(slot_us) <= u64::from(us)
 }
 
-/// Whether at most so many pages come in so many slots.
+/// Whether at most `pages` pages come in `slots` slots.
 fn is_paced(micropages_per_s: u32, slots: u32, slot_us: u32, pages: u32) -> bool
     ensures { IsTrue result → micropages_per_s * (slots * slot_us) ≤ pages * 1000000000000 }
 {

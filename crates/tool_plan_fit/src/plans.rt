@@ -72,7 +72,7 @@ fn tasks_of(
     Ok(Some(tasks))
 }
 
-/// The least caps that do for so much given by a collection: each covers two jobs and two collections.
+/// The least caps that do where a collection gives `alpha` pages: each covers two jobs and two collections.
 pub fn caps_of(alloc: Global, needs: &[Need], slot_us: u32, alpha: u32) -> Result<Caps, Refusal> {
     let mut caps = Caps::new(alloc);
     for need in needs {

@@ -14,12 +14,12 @@ use plan_rules::{bound, plan_test};
 use slot_types::{DiePlan, MAX_ERASE_SLOTS, MAX_SLOT, Refusal};
 use std::alloc::Global;
 
-/// So many times the least hyperperiod is tried.
+/// Multiples of the least hyperperiod are tried, up to this one.
 const MOST_TIMES: u32 = 16;
 
 const MILLION: u64 = 1_000_000;
 
-/// How many of so many slots all tasks take at most.
+/// Of `common` slots all tasks take at most `demand`.
 #[derive(Clone, Copy, Drop)]
 pub struct Share {
     pub demand: u64,
@@ -268,7 +268,7 @@ impl Tries<'_> {
         }
     }
 
-    /// Whether the part allows erases of so many slots.
+    /// Whether the part allows erases of `erase_slots` slots.
     fn allows(&self, erase_slots: u32) -> bool {
         let tasks = self.sheet.needs.len();
         self.sheet.part.allows_erases(erase_slots, tasks)

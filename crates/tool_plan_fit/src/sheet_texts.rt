@@ -33,8 +33,8 @@ const HALF: f64 = 0.5;
 /// The most tasks of a die.
 const MAX_TASKS: usize = 16;
 
-/// How many parts a unit has: a microsecond one, a millisecond so many microseconds, a second so many, and a page a second
-/// so many millionths.
+/// How many parts each unit has. The part of a time is a microsecond: a microsecond has 1, a millisecond `MILLI`, a
+/// second `UNIT`. The part of a rate is a millionth of a page a second: a page a second has `UNIT`.
 const MICROSECOND: u32 = 1;
 
 const MILLI: u32 = 1_000;
@@ -110,7 +110,8 @@ fn number_of(value: &Value) -> Option<u32>
     }
 }
 
-/// How many parts of a unit, which has so many of them, a decimal number is the nearest number to.
+/// The number of parts that a decimal number stands for, where a unit has `unit` parts: the decimal number is the
+/// nearest number to them.
 fn decimal_parts(decimal: f64, unit: u32) -> Option<u32>
     ensures { IfSome result (λ parts. T (eq decimal (fraction unit parts))) }
 {

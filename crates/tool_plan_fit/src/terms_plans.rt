@@ -12,11 +12,12 @@ use slot_types::{Caps, DiePlan, MAX_SLOT, Refusal, Shape};
 use std::alloc::Global;
 use terms_texts::DieTerms;
 
-/// A collection is due so many sixteenths of its period after it comes, where it may take the whole of it.
+/// A collection's time to its deadline is chosen in sixteenths of its period. With 16 of them it may take the whole
+/// period.
 pub const SIXTEENTHS: u32 = 16;
 
-/// In so many slots a collection is due of a task that writes nothing, where it may take the whole of it. One comes in the
-/// first slot of a life alone, and the life goes on until it is due.
+/// The slots from a collection's arrival to its deadline, of a task that writes nothing, where it may take its whole
+/// period. One comes in the first slot of a life alone, and the life goes on until it is due.
 const RARE_DUE: u32 = 16_384;
 
 /// What is chosen for a part and its tasks.
@@ -38,7 +39,7 @@ fn longest_collect_period(alpha: u32, wanted: &InSlots) -> u32 {
     }
 }
 
-/// So many sixteenths of a number of slots, at least 1.
+/// `due` sixteenths of `slots` slots, at least 1.
 fn part_of(slots: u32, due: u32) -> u32 {
     let part = u64::from(slots).saturating_mul(u64::from(due)) / u64::from(SIXTEENTHS);
     u32::try_from(part).unwrap_or(u32::MAX).max(1)

@@ -16,7 +16,7 @@ use slot_types::{MAX_ERASE_SLOTS, Refusal};
 use std::alloc::Global;
 use terms_texts::DieTerms;
 
-/// So many lengths of a slot are tried, beside the shortest.
+/// How many lengths of a slot are tried, in addition to the shortest.
 const MOST: usize = 4;
 
 /// The fewest sixteenths of its period in which a collection is due.

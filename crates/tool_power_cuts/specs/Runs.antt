@@ -16,8 +16,8 @@ use Rattle.tool_labelled_parts.specs.Mounts.{HasMounted}
 use Rattle.tool_power_cuts.specs.Said.{SaysAll}
 use Rattle.tool_power_cuts.specs.Writes.{writes_of}
 
--- the die of this number of a store whose dies began fresh ran a script of this text and so many slots, or ended on the way;
--- and these rows were refused
+-- the die of this number of a store whose dies began fresh ran a script of this text and `slots` slots, or ended on the
+-- way; and these rows were refused
 pub record RanCutting (store : List DiePlan) (text : Option (List ℕ)) (slots number : ℕ) (refused : RefusedRows) (before : Cutting) : Type 0 where
   pub rows : List RefusedRow
   pub ran : IsRunAs (map fresh store) text slots number rows (running_of before)

@@ -31,7 +31,7 @@ pub enum CutFault {
     Refused(Refusal),
     /// The die has 1,024 blocks, which leaves none of a part's aside.
     TooManyBlocks,
-    /// The run has fewer calls than the one in which the power was to go: so many.
+    /// The run has `calls` calls, and the power was to go in a later one.
     FewerCalls { calls: u64 },
     /// The part wasn't mounted, or did not do what the die asked.
     Unmounted(Unmounted),
@@ -130,7 +130,7 @@ fn fresh_die(
     Ok(CutDie::new(alloc, die, part, Vec::new(alloc), at, trials))
 }
 
-/// Runs a script on a die, and then so many slots.
+/// Runs a script on a die, and then the rest of `slots` slots.
 #[tactic(auto, using(crate::proofs::TextRuns::ran_cutting))]
 fn run<R: Read + Drop>(
     alloc: Global,

@@ -276,7 +276,7 @@ impl Trials {
         Ok(())
     }
 
-    /// Tries a cut of the mount of a part, after so many of its calls.
+    /// Tries a cut of the mount of a part, after its first `calls` calls.
     fn try_mount(
         &mut self,
         alloc: Global,

@@ -1,4 +1,4 @@
-//! Numbers of slots as times: how long a slot is, and what so many of them come to, as texts.
+//! Numbers of slots as times: how long a slot is, and how long a number of slots, as texts.
 #![tactic(auto)]
 
 mod comments;

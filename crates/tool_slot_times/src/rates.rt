@@ -7,8 +7,8 @@ use crate::times::Parts;
 use std::fmt;
 use std::fmt::{Display, Formatter, Write};
 
-/// So many pages of so many bytes, once in so many slots of so many us: in millions of bytes a second, rounded down to the
-/// thousandth. A time of 0 counts as 1 us.
+/// `pages` pages of `page_bytes` bytes, once in `slots` slots of `slot_us` us: in millions of bytes a second, rounded
+/// down to the thousandth. A time of 0 counts as 1 us.
 #[derive(Clone, Copy, PartialEq, Eq, Debug, Drop)]
 pub struct Rate {
     pub pages: u32,
@@ -32,7 +32,7 @@ impl Display for Rate {
     }
 }
 
-/// So much of so much, in hundredths, rounded down to the thousandth of one. A whole of 0 counts as 1.
+/// A part of a whole, in hundredths, rounded down to the thousandth of one. A whole of 0 counts as 1.
 #[derive(Clone, Copy, PartialEq, Eq, Debug, Drop)]
 pub struct Share {
     pub part: u64,

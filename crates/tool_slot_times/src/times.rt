@@ -37,7 +37,7 @@ impl Display for Thousandths {
     }
 }
 
-/// So many parts of a unit, of which a unit has so many, and at least one: in units, rounded down to the thousandth.
+/// `parts` parts in units, where a unit has `unit` parts, and at least one: rounded down to the thousandth.
 #[derive(Clone, Copy, Drop)]
 pub(crate) struct Parts {
     pub(crate) parts: u128,
@@ -55,7 +55,7 @@ impl Display for Parts {
     }
 }
 
-/// So many us, in the greatest unit that goes with them: us below 1 ms, ms below 10 s, s below 10 min, min below 10 h, and
+/// A number of microseconds in a unit by its size: us below 1 ms, ms below 10 s, s below 10 min, min below 10 h, and
 /// else h. It is rounded down to the thousandth of its unit, so that us and ms are exact.
 #[derive(Clone, Copy, PartialEq, Eq, Debug, Drop)]
 pub struct Time {
@@ -91,7 +91,7 @@ impl Display for Time {
     }
 }
 
-/// So many slots, and, where it is known how many us one takes, then in brackets how long they take.
+/// A number of slots, and, where the length of one is known, then in brackets how long they take.
 #[derive(Clone, Copy, PartialEq, Eq, Debug, Drop)]
 pub struct Slots {
     pub count: u64,

@@ -20,7 +20,7 @@ impl Units {
         page_bytes: None,
     };
 
-    /// So many slots.
+    /// A number of slots, with their time where the length of one is known.
     pub fn slots(self, count: u64) -> Slots
         ensures { result ≡ record { count = count; slot_us = self.slot_us } }
     {

@@ -19,8 +19,9 @@ running die = running_of (box_value (box_value (box_value die).store).core)
 abbrev pub begun : Box (Core Memory) → RunningDie
 begun core = running_of (box_value core)
 
--- dies that started so ran a script, where its text is known, and so many slots: the store's rows are of these. So many of the
--- script's rows were refused. No device failed, so all rows came, and all slots were carried out.
+-- Dies that started so ran a script, where its text is known, and `slots` slots: the store's rows are of these. Of the
+-- script's rows those were refused that `counts` has. No device failed, so all rows came, and all slots were carried
+-- out.
 pub record HasStoreRun (starts : List Start) (script : Option (List ℕ)) (slots : ℕ) (counts : RefusedRows) : Type 0 where
   pub dies : List RunningDie
   pub refused : List RefusedRow

@@ -415,13 +415,13 @@ fn wanted_dies(
 
 /// Runs a script on a store of dies in memory, as `flashrec run` does, on dies that keep these plans, if there are some,
 /// and its jobs once more by each plain policy; and tells how late they were, as a table or records by policy, die and
-/// task, or as a picture: what the store did is that of dies that started so, and ran the script and so many slots. None
-/// of them stopped, since no device in memory fails. A plain
-/// layer begins with the pages that lie in cells of its die of the store, one after the other, so that no cell of it is
-/// stale. A die that keeps its plan begins fresh: there should be plans to keep only where the store does. Counted are the
-/// jobs that are released from the first measured slot on and due within the slots of the run, and that the store takes or
-/// refuses for lack of tokens; those of them that a die refuses that keeps its plan are refused there. Where such a die
-/// can't run for so many slots, none is compared. The rows that the store refused are counted by their refusals, too.
+/// task, or as a picture: what the store did is that of dies that started so, and ran the script and all slots of the
+/// measure. None of them stopped, since no device in memory fails. A plain layer begins with the pages that lie in
+/// cells of its die of the store, one after the other, so that no cell of it is stale. A die that keeps its plan begins
+/// fresh: there should be plans to keep only where the store does. Counted are the jobs that are released from the
+/// first measured slot on and due within the slots of the run, and that the store takes or refuses for lack of tokens;
+/// those of them that a die refuses that keeps its plan are refused there. Where such a die can't run for that long,
+/// none is compared. The rows that the store refused are counted by their refusals, too.
 ///
 /// A picture of a die or a task that isn't there is UnknownDie or UnknownTask.
 pub fn compare_started<R: Read + Drop>(

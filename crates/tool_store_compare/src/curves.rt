@@ -1,4 +1,4 @@
-//! Curves: which share of some jobs is later than so many slots, on an axis of lateness and a logarithmic one of shares.
+//! Curves: above each lateness the share of some jobs that are later. The axis of shares is logarithmic.
 
 use crate::shares::Share;
 use std::io;
@@ -13,7 +13,7 @@ pub(crate) const HEIGHT: u64 = 2800;
 /// How long a decade is, in tenths of a pixel.
 pub(crate) const DECADE: u64 = 700;
 
-/// So many parts has a doubling.
+/// How many parts a doubling has.
 const PARTS: u64 = 1024;
 
 /// A decade in parts of a doubling, times 1,000.
@@ -161,7 +161,7 @@ impl Curve {
         }
     }
 
-    // Of the jobs, of which so many are known not to be later, how many are not.
+    // How many of the jobs are not later than `lateness`, where `known` of them are known not to be.
     fn passed(&self, known: usize, lateness: i64) -> usize {
         let mut passed = known;
         for place in known..self.rising.len() {

@@ -25,8 +25,8 @@ impl End {
         }
     }
 
-    /// How late a job was that is due then: completion minus deadline. What isn't done after so many slots counts as completed
-    /// one slot later, which is the least that it can be.
+    /// How late a job was that is due then: completion minus deadline. What isn't done in a run of `slots` slots counts
+    /// as completed one slot after it, which is the least that it can be.
     pub(crate) fn lateness(self, due: u32, slots: u32) -> i64 {
         let completion = match self {
             End::Refused => return REFUSED,
@@ -55,7 +55,7 @@ pub(crate) struct Figures {
     pub(crate) p999: Option<i64>,
 }
 
-/// The figures of jobs that were so late, of which so many weren't done.
+/// The figures of jobs by their lateness, of which `unfinished` weren't done.
 pub(crate) fn figures_from(
     alloc: Global,
     mut lateness: Vec<i64>,

@@ -1,5 +1,5 @@
-//! The picture of a comparison, as SVG: of a task's jobs the share that was done later than so many slots after their deadline,
-//! a curve a policy.
+//! The picture of a comparison, as SVG: a curve for each policy, which has above each lateness the share of a task's
+//! jobs that were later.
 
 use crate::curves::{Axis, Corner, Curve, DECADE, HEIGHT, WIDTH};
 use crate::shares::Share;
@@ -133,7 +133,7 @@ fn put_head(text: &mut Vec<u8>, caption: Caption, jobs: usize) -> io::Result<()>
     )?;
     writeln!(
         text,
-        "<text class=\"s\" x=\"16\" y=\"44\">share that was done later than so many slots after its deadline, or refused; pool \
+        "<text class=\"s\" x=\"16\" y=\"44\">share whose lateness was greater than the one below, or that was refused; pool \
          of {pool} blocks</text>"
     )
 }

@@ -100,7 +100,7 @@ impl PlannedDie {
     }
 }
 
-/// A fresh die that keeps its plan for so many slots.
+/// A fresh die that keeps its plan for `slots` slots.
 fn planned_die(
     alloc: Global,
     number: u32,
@@ -115,8 +115,8 @@ fn planned_die(
     }
 }
 
-/// Fresh dies that keep these plans for so many slots, the last one first. Refused where a plan doesn't pass its tests, has no
-/// life, or a shorter one.
+/// Fresh dies that keep these plans for `slots` slots, the last one first. Refused where a plan doesn't pass its tests,
+/// has no life, or a shorter one.
 pub(crate) fn planned_dies(
     alloc: Global,
     plans: StoreTerms,

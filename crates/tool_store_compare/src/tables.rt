@@ -58,7 +58,7 @@ pub(crate) struct Sheet {
 }
 
 impl Sheet {
-    /// An empty one, whose pages are counted in so many slots.
+    /// An empty one, whose pages are counted in `slots` slots.
     pub(crate) fn new(alloc: Global, as_csv: bool, units: Units, slots: u32) -> Sheet {
         Sheet {
             text: Vec::new(alloc),

@@ -75,7 +75,7 @@ fn load<'a>(alloc: Global) -> Arg<'a>
         "load",
         "L",
         "100",
-        "Let so many of a hundred jobs come, from 0 to 1048576; 100 and more are all",
+        "Let L of a hundred jobs come, from 0 to 1048576; 100 and more are all",
     )
 }
 
