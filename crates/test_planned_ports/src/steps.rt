@@ -7,11 +7,11 @@ use crate::heard::{Heard, as_heard};
 use crate::shared::{Ports, close_two, open_two};
 use crate::wrong::Wrong;
 use flash_die::Nand;
-use ongoing_die::OngoingDie;
 use planned_ports::{PageRange, SharedPlannedDie, TaskPort};
 use slot_types::Op;
 use std::alloc::Global;
 use std::sync::Wait;
+use task_outcomes::OutcomeDie;
 
 /// Which of the two tasks.
 #[derive(Clone, Copy, Drop)]
@@ -130,10 +130,10 @@ fn play<N: Nand, R: Wait>(
 pub(crate) fn plays<N: Nand, R: Wait>(
     rt: &R,
     alloc: Global,
-    die: Box<OngoingDie<N>>,
+    die: Box<OutcomeDie<N>>,
     ranges: &[Option<PageRange>],
     steps: &[Step],
-) -> Result<Box<OngoingDie<N>>, Wrong> {
+) -> Result<Box<OutcomeDie<N>>, Wrong> {
     let mut shared = open_two(rt, alloc, die, ranges)?;
     let played = play(rt, &shared.die, &mut shared.ports, steps);
     let closed = close_two(rt, alloc, shared);
