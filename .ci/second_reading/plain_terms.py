@@ -396,7 +396,7 @@ def explained(text):
 
 
 def time_text(us):
-    """A number of us, in the unit that crates/tool_slot_times/README.md says, rounded down to its thousandth."""
+    """A number of us, in the unit that crates/flashplan_slot_times/README.md says, rounded down to its thousandth."""
     for below, unit, name in ((10**3, 1, "us"), (10**7, 10**3, "ms"), (6 * 10**8, 10**6, "s"), (36 * 10**9, 6 * 10**7, "min"), (None, 36 * 10**8, "h")):
         if below is None or us < below:
             whole, rest = us // unit, us % unit * 1000 // unit

@@ -22,7 +22,7 @@ sys.path.insert(0, str(Path(__file__).resolve().parents[1]))
 from second_reading import plain_terms
 
 TOP = Path(__file__).resolve().parents[2]
-SHEETS = TOP / "crates/tool_plan_fit/datasheets"
+SHEETS = TOP / "crates/flashplan_fit/datasheets"
 PROGRAM = None
 
 

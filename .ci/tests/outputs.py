@@ -19,7 +19,7 @@ import unittest
 from pathlib import Path
 
 TOP = Path(__file__).resolve().parents[2]
-DATA = TOP / "crates/demo_examples/data"
+DATA = TOP / "crates/test_plays/data"
 PROGRAM = None
 IS_ROOT = os.geteuid() == 0
 
@@ -306,7 +306,7 @@ class Planned(Case):
         return [line.split(",")[1:] for line in lines if line.startswith(f"{kind},")]
 
     def test_a_fault_of_a_datasheet_is_reported_with_its_file_and_line(self):
-        sheet = (TOP / "crates/tool_plan_fit/datasheets/recorder.toml").read_text()
+        sheet = (TOP / "crates/flashplan_fit/datasheets/recorder.toml").read_text()
         (self.at / "part.toml").write_text(sheet.replace("\nlogical", "\nLogical"))
         (self.at / "few.toml").write_text(sheet.replace("reads = 8", "reads = 65"))
         for words in ("fit part.toml", "design part.toml -o page.html"):

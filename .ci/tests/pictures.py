@@ -14,7 +14,7 @@ import unittest
 from pathlib import Path
 
 TOP = Path(__file__).resolve().parents[2]
-DATA = TOP / "crates/demo_examples/data"
+DATA = TOP / "crates/test_plays/data"
 PROGRAM = None
 
 # By character in parts of the size; all others are narrower than the last.

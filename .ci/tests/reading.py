@@ -339,7 +339,7 @@ class Releases(unittest.TestCase):
         self.assertEqual(version.stated("# Log\n\n## 1.3.0-dev, soon\n\n## 1.2.0\n", forms["CHANGELOG.md"]), ["1.3.0-dev"])
         self.assertEqual(version.stated('[package]\nname = "x"\nversion = "1.2.3"\n[d]\nversion = "9.9.9"\n',
                                         forms["bindings/rust/Cargo.toml"]), ["1.2.3"])
-        self.assertEqual(version.stated("0|flashrec 1.2.0~|\n0|flashplan 1.2.1~|\n", forms["crates/demo_examples/data/commands.txt"]),
+        self.assertEqual(version.stated("0|flashrec 1.2.0~|\n0|flashplan 1.2.1~|\n", forms["crates/test_plays/data/commands.txt"]),
                          ["1.2.0", "1.2.1"])
         self.assertEqual(version.stated("INTERFACE = 1.2\nVERSION = 1.2.3\n", forms["bindings/c/Makefile"]), ["1.2.3"])
 
