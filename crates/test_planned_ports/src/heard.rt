@@ -34,7 +34,7 @@ pub(crate) fn as_heard(answer: Result<Taken, AskRefused>) -> Heard {
     }
 }
 
-/// What a task is told of a job that is done: all of its outcome, but of each page that its reads gave the first byte.
+/// What a task hears of a job that is done: all of its outcome, but of each page that its reads gave the first byte.
 #[derive(Clone, Copy, PartialEq, Eq, Debug, Drop)]
 pub(crate) struct Told {
     pub(crate) task: u32,
