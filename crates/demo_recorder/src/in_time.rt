@@ -1,4 +1,4 @@
-//! Which jobs were late, by what the tasks were told of them.
+//! Which jobs were late, by the outcomes that their tasks took.
 
 use crate::tasks::Diary;
 use crate::timer::Ticked;

@@ -33,7 +33,7 @@ fn given(outcome: &TaskOutcome) -> Option<[PageData; 2]> {
     }
 }
 
-/// What the job gave that the port's task was told of next.
+/// What the reads gave of the job whose outcome the port takes next.
 fn taken<N: Nand, R: Wait>(
     rt: &R,
     die: &SharedPlannedDie<N>,

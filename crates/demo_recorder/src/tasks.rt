@@ -99,7 +99,7 @@ fn next_after(accepted: &Option<Accepted>, slot: u64, period: u32) -> u64 {
     }
 }
 
-/// What a task was answered, which of its asks were accepted, and what it was told of their jobs.
+/// What a task was answered, which of its asks were accepted, and how many of their outcomes it took.
 #[derive(Drop)]
 pub(crate) struct Diary {
     pub(crate) answers: Answers,
