@@ -58,12 +58,7 @@ impl<D: LabelledWearing> LabelledSpares<D> {
     }
 
     /// A device on a part whose power has come, as [`SpareBlocks::power_up`] makes it: it may be mounted.
-    pub fn power_up(
-        alloc: Global,
-        part: D,
-        blocks: u32,
-        bad: &[u32],
-    ) -> Result<Self, NotPowered<D>>
+    pub fn power_up(alloc: Global, part: D, blocks: u32, bad: &[u32]) -> Result<Self, NotPowered<D>>
         requires well { D.faulted part ≡ false }
         requires powered { IsPoweredPart (D.shape_of part) (D.blocks part) }
         ensures powered { IfOk result (IsPoweredSpared D.blocks
