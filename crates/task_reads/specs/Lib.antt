@@ -1,0 +1,3 @@
+pub mod Asked
+pub mod OwnPages
+pub mod Runs
