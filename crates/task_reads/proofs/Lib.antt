@@ -1,0 +1,4 @@
+mod Lists
+mod Turns
+mod Doing
+mod Settled
