@@ -2,3 +2,5 @@ mod Lists
 mod Turns
 mod Doing
 mod Settled
+mod Standing
+mod Alike

@@ -94,14 +94,14 @@ by_number f g js m j numbered at below above =
 
     before : flat_map f (take m js) ≡ flat_map g (take m js)
     before = flat_map_same f g (take m js) (λ i is. below i (in_all i (Contains-append_left (take m js) (j ∷ drop (suc m) js) i is))
-        (All-contains (λ (x : Job). x.number < m) (take m js) i
-        (All-from_recursion (λ (x : Job). x.number < m) (take m js) (numbers_below 0 js m numbered)) is))
+        (omega (arith, All-contains (λ (x : Job). x.number < 0 + m) (take m js) i
+        (All-from_recursion (λ (x : Job). x.number < 0 + m) (take m js) (numbers_below 0 js m numbered)) is)))
 
     after : flat_map f (drop (suc m) js) ≡ []
     after = flat_map_same f (λ i. []) (drop (suc m) js) (λ i is. above i
         (in_all i (Contains-append_right (take m js) (j ∷ drop (suc m) js) i (Contains-append_right (j ∷ []) (drop (suc m) js) i is)))
-        (All-contains (λ (x : Job). m < x.number) (drop (suc m) js) i
-        (All-from_recursion (λ (x : Job). m < x.number) (drop (suc m) js) (numbers_above 0 js m numbered)) is)) ∙ flat_map_none (drop (suc m) js)
+        (omega (arith, All-contains (λ (x : Job). 0 + m < x.number) (drop (suc m) js) i
+        (All-from_recursion (λ (x : Job). 0 + m < x.number) (drop (suc m) js) (numbers_above 0 js m numbered)) is))) ∙ flat_map_none (drop (suc m) js)
 
 -- the operations of a job of the task, and of these the ones that it has had
 abbrev pub whole_part : ℕ → Job → List Op
@@ -300,7 +300,7 @@ module _ (start : Start) (opens : IsOpening start) (task page : ℕ) where
         ∙ (sym (left_append page had (d.op ∷ []) at_first)
         ∙ sym (ap (λ (l : List Op). left_on page l at_first) parts))))
 
-  own_before : (past : Log) (new : Job) → ((j : Job) → Contains (jobs past ++ new ∷ []) j → IsFalse (is_job_of task j)
+  pub own_before : (past : Log) (new : Job) → ((j : Job) → Contains (jobs past ++ new ∷ []) j → IsFalse (is_job_of task j)
       → IsFalse (list_any (changes page) j.ops)) → IsOwnPage task page past
   own_before past new h j js = h j (Contains-append_left (jobs past) (new ∷ []) j js)
 

@@ -209,7 +209,7 @@ module _ (start : Start) (opens : IsOpening start) (task : ℕ) where
       rests : is_done start.plan past i ≡ true → is_done start.plan (slot_entry start past caller ∷ past) i ≡ true
       rests done = ap (are_all start.plan i) (done_rests start past (numbered_of past exact) caller i is done) ∙ done
 
-  order_before : (past : Log) (new : Job) → ((i j : Job) → Contains (jobs past ++ new ∷ []) i → is_job_of task i ≡ true
+  pub order_before : (past : Log) (new : Job) → ((i j : Job) → Contains (jobs past ++ new ∷ []) i → is_job_of task i ≡ true
       → Contains (jobs past ++ new ∷ []) j → is_job_of task j ≡ true → i.number < j.number → (i.release ≤ j.release) × (i.due ≤ j.due))
       → InOrder past
   order_before past new h i j is own js theirs less =

@@ -1,8 +1,5 @@
-use Rattle.task_reads.proofs.Settled.{stands_as_had}
+use Rattle.task_reads.proofs.Standing.{reads_as_asked, ends_as_asked}
 use Rattle.task_reads.proofs.laws.own_pages_stand_as_asked.Goals as goal
 
-pub returns-clause-reads : goal.returns-clause-reads
-returns-clause-reads c = ?
-
-pub returns-clause-ended : goal.returns-clause-ended
-returns-clause-ended c = ?
+pub returns : goal.returns
+returns c = record { reads = reads_as_asked; ended = ends_as_asked }
