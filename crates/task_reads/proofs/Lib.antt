@@ -4,3 +4,5 @@ mod Doing
 mod Settled
 mod Standing
 mod Alike
+mod Calls
+mod Running

@@ -67,11 +67,14 @@ pub fn tasks_read_for_their_own_asks()
 {}
 
 /// Of two runs that agree on their slots and on one task's asks, from dies of one plan that keep it themselves, the task's
-/// jobs come in order and ask for the same in both (`asked`), and each has the same release and the same deadline (`times`).
+/// jobs come in order and ask for the same in both (`asked`), and each has the same release and the same deadline.
 /// So its reads give the same bytes of its own pages, by the law above, whatever the others ask for in either.
 pub fn runs_read_alike()
     ensures asked { ForRunsSeenAlike AreAskedAlike }
-    ensures times { ForRunsSeenAlike (λ task first one other two.
-        map (λ (j : Job). (j.release, j.due)) (task_jobs task one)
-        ≡ map (λ (j : Job). (j.release, j.due)) (task_jobs task two)) }
+    ensures releases { ForRunsSeenAlike (λ task first one other two.
+        map (λ (j : Job). j.release) (task_jobs task one)
+        ≡ map (λ (j : Job). j.release) (task_jobs task two)) }
+    ensures deadlines { ForRunsSeenAlike (λ task first one other two.
+        map (λ (j : Job). j.due) (task_jobs task one)
+        ≡ map (λ (j : Job). j.due) (task_jobs task two)) }
 {}
