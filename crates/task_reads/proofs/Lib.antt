@@ -6,3 +6,4 @@ mod Standing
 mod Alike
 mod Calls
 mod Running
+mod LivingOn

@@ -1,6 +1,6 @@
 //! What a task's reads give. Each law is a function that does nothing.
 
-ghost use Rattle.std.specs.Prelude.{◌≡◌, ◌++◌, ◌<◌, ℕ, [], Some, Contains, MatchOption, IsTrue, slice_get, take, map};
+ghost use Rattle.std.specs.Prelude.{◌≡◌, ◌++◌, ◌<◌, ℕ, List, [], Some, Contains, MatchOption, IsTrue, slice_get, take, map};
 ghost use Rattle.slot_types.specs.declared.pages.PageData.{PageData};
 ghost use Rattle.slot_types.specs.declared.acts.Act.{Act};
 ghost use Rattle.slot_types.specs.declared.acts.Act.TheVariants as does;
@@ -15,7 +15,12 @@ ghost use Rattle.die_log.specs.Results.Laws.{ForEveryExactLog};
 ghost use Rattle.die_log.specs.Results.Legal.{Does};
 ghost use Rattle.task_reads.specs.Asked.{task_jobs, operations, ComeInOrder, left_on};
 ghost use Rattle.task_reads.specs.OwnPages.{IsOwnPage, AreAskedAlike, IsOwnInBoth, ForAskedAlike};
-ghost use Rattle.task_reads.specs.Runs.{ForRunsSeenAlike};
+ghost use Rattle.demand_rules.specs.declared.terms.Terms.{Terms};
+ghost use Rattle.die_log.specs.Model.Lives.{start_after};
+ghost use Rattle.planned_log.specs.Laws.{seen_by};
+ghost use Rattle.planned_log.specs.Moves.{Move, lives_after};
+ghost use Rattle.task_reads.specs.Runs.{AreSeenAlike, ForRunsSeenAlike};
+ghost use Rattle.task_reads.specs.Lives.{IsOwnInLives, AreLivesSeenAlike};
 
 /// Where a task's jobs come in order, a job of the task isn't begun before all that were taken before it are done. The acts
 /// of a job are its operations, in order. So the task's operations are carried out in the order in which it asked for them,
@@ -77,4 +82,26 @@ pub fn runs_read_alike()
     ensures deadlines { ForRunsSeenAlike (λ task first one other two.
         map (λ (j : Job). j.due) (task_jobs task one)
         ≡ map (λ (j : Job). j.due) (task_jobs task two)) }
+{}
+
+/// So it is life after life. Where the task sees the same in each life of two dies that start full, each next life begins
+/// alike for it (`next`), and the same stands on each page that was its own in all lives before, if it did at first
+/// (`pages`): so its reads give the same bytes in that life, too, by the laws above.
+pub fn lives_read_alike()
+    ensures next { (task life : ℕ) (terms : Terms) (first : Start) (all : List (List Move))
+        (other : Start) (others : List (List Move)) →
+        AreLivesSeenAlike task life terms first all other others → (moves more : List Move) →
+        seen_by task moves ≡ seen_by task more →
+        let lives = lives_after first terms life all in
+        let twins = lives_after other terms life others in
+        AreSeenAlike task life terms (start_after first lives) lives moves
+        (start_after other twins) twins more }
+    ensures pages { (task life : ℕ) (terms : Terms) (first : Start) (all : List (List Move))
+        (other : Start) (others : List (List Move)) →
+        AreLivesSeenAlike task life terms first all other others → (page : ℕ) →
+        content first [] page ≡ content other [] page →
+        let lives = lives_after first terms life all in
+        let twins = lives_after other terms life others in
+        IsOwnInLives task page lives → IsOwnInLives task page twins →
+        content (start_after first lives) [] page ≡ content (start_after other twins) [] page }
 {}
