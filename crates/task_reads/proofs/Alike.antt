@@ -1,9 +1,9 @@
 -- Of two logs in which a task asked for the same, its reads of its own pages give the same.
-use Rattle.std.proofs.Common.{◌≡◌, ◌⊎◌, ℕ, zero, suc, ◌+◌, ◌<◌, ◌≤◌, ◌==◌, Bool, true, false, List, [], ◌∷◌, ◌++◌, length, map, Option, Some, None}
-use Rattle.std.proofs.Common.{refl, ap, sym, subst, ◌∙◌, arith, slice_get, take, option_map}
+use Rattle.std.proofs.Common.{◌≡◌, ℕ, zero, suc, ◌==◌, false, List, [], ◌∷◌, ◌++◌, length, map, Some}
+use Rattle.std.proofs.Common.{refl, ap, sym, subst, ◌∙◌, arith, slice_get, take}
 use Rattle.std.specs.Prelude.{Contains, IsTrue}
 use Rattle.std.specs.List.{flat_map}
-use Rattle.std.proofs.lemmas.Bool.{true≢false, eqb-true}
+use Rattle.std.proofs.lemmas.Bool.{eqb-true}
 use Rattle.std.proofs.lemmas.List.Folds.{flat_map-map}
 use Rattle.std.proofs.lemmas.Option.{same_Some, none-some, slice_get_within, get_or_from_slice_get}
 use Rattle.slot_types.specs.Operations.{is_read, page_of}
@@ -17,10 +17,9 @@ use Rattle.die_log.specs.Model.Flash.{content}
 use Rattle.die_log.specs.Model.Start.{Start}
 use Rattle.die_log.specs.Model.Work.{are_all, is_done}
 use Rattle.die_log.specs.Model.Opening.{IsOpening, IsQuiet}
-use Rattle.die_log.specs.Model.Answers.{IsExact}
 use Rattle.die_log.specs.Results.Legal.{Does}
 use Rattle.die_log.proofs.LogInvariants.OneMoreEntry.{contained}
-use Rattle.task_reads.specs.Asked.{is_job_of, task_jobs, asks_of, operations, left_on}
+use Rattle.task_reads.specs.Asked.{is_job_of, task_jobs, operations, left_on}
 use Rattle.task_reads.specs.OwnPages.{AreAskedAlike, IsOwnInBoth}
 use Rattle.task_reads.proofs.Lists.{in_filter}
 use Rattle.task_reads.proofs.Turns.{job_kind}

@@ -1,6 +1,6 @@
 -- The jobs of a task in the log of a die that keeps its plan itself: they come in order, and by what the task sees.
-use Rattle.std.proofs.Common.{◌≡◌, ◌⊎◌, ℕ, ◌+◌, ◌<◌, ◌≤◌, ◌==◌, ◌&&◌, not, Bool, true, false, cond, List, [], ◌∷◌, ◌++◌, length, map, Option, Some, None}
-use Rattle.std.proofs.Common.{refl, ap, sym, subst, ◌∙◌, inl, inr, arith, filter, append_assoc, append-nil}
+use Rattle.std.proofs.Common.{◌≡◌, ◌⊎◌, ℕ, ◌+◌, ◌<◌, ◌≤◌, ◌==◌, not, Bool, true, false, cond, List, [], ◌∷◌, ◌++◌, length, map, Option, Some, None}
+use Rattle.std.proofs.Common.{refl, ap, sym, subst, ◌∙◌, inl, inr, arith, filter, append-nil}
 use Rattle.std.specs.Prelude.{Contains}
 use Rattle.std.proofs.lemmas.Bool.{true≢false, and_parts, eqb-true}
 use Rattle.std.proofs.lemmas.List.{length_push}
@@ -14,7 +14,7 @@ use Rattle.demand_rules.specs.declared.terms.Terms.{Terms}
 use Rattle.demand_rules.specs.Demand.{terms_of}
 use Rattle.die_log.specs.Model.Log.{Log, Job, jobs, carried_slots, now}
 use Rattle.die_log.specs.Model.Start.{Start}
-use Rattle.die_log.specs.Model.Answers.{IsExact, answer, refusal_of, reply_if_accepted, with_answer, after_call, run, choice, slot_reply}
+use Rattle.die_log.specs.Model.Answers.{IsExact, refusal_of, reply_if_accepted, with_answer, after_call, run, choice, slot_reply}
 use Rattle.die_log.proofs.Known.{known}
 use Rattle.die_log.proofs.Legality.{entry, refused_answer, accepted_answer}
 use Rattle.die_log.proofs.Runs.{call_exact}
@@ -113,8 +113,11 @@ module _ (start : Start) (terms : Terms) (task : ℕ) where
   pub slot_ordered : (log : Log) (caller : ℕ) → IsOrdered start terms task log → IsOrdered start terms task (after_call start log (caller, events.Slot))
   slot_ordered log caller h = ordered_call log caller events.Slot h (λ exact. record {
     exact = exact;
-    released = λ j js mine. omega (arith, h.released j js mine,
-        length_push (carried_slots log) (slot_reply start log (choice start log).waived (choice start log).head).ran);
+    released = λ j js mine. omega (
+      arith,
+      h.released j js mine,
+      length_push (carried_slots log) (slot_reply start log (choice start log).waived (choice start log).head).ran,
+    );
     due_is = h.due_is;
     risen = h.risen;
   })

@@ -1,10 +1,10 @@
 -- What a job does is what it asked for, in order.
-use Rattle.std.proofs.Common.{◌≡◌, ◌⊎◌, ℕ, ◌<◌, ◌≤◌, ◌==◌, Bool, true, false, cond, List, [], ◌∷◌, ◌++◌, length, Option, Some, None}
+use Rattle.std.proofs.Common.{◌≡◌, ◌⊎◌, ℕ, ◌<◌, ◌==◌, Bool, true, false, cond, List, [], ◌∷◌, ◌++◌, length, Option, Some, None}
 use Rattle.std.proofs.Common.{refl, ap, sym, subst, ◌∙◌, inl, inr, arith, slice_get, get_or, set}
 use Rattle.std.specs.Prelude.{Contains}
 use Rattle.std.specs.List.{AllByRecursion, last_or}
-use Rattle.std.proofs.lemmas.Bool.{true≢false, cases_eq, eq-eqb, ne_eqb}
-use Rattle.std.proofs.lemmas.Option.{same_Some, none-some, slice_get_within, get_or_from_slice_get}
+use Rattle.std.proofs.lemmas.Bool.{cases_eq, eq-eqb, ne_eqb}
+use Rattle.std.proofs.lemmas.Option.{same_Some, none-some}
 use Rattle.std.proofs.lemmas.List.{get_or-set_same, get_or-set_other}
 use Rattle.std.proofs.lemmas.List.Elements.{Contains-push_cases}
 use Rattle.slot_types.specs.Operations.{page_of}
@@ -17,7 +17,7 @@ use Rattle.slot_types.specs.declared.events.Event.TheVariants as events
 use Rattle.slot_types.specs.declared.pages.PageData.{PageData}
 use Rattle.slot_types.specs.declared.plans.DiePlan.{DiePlan}
 use Rattle.die_log.specs.Model.Log.{Log, Job, jobs, act_of, acts, work}
-use Rattle.die_log.specs.Model.Flash.{Cells, cells, contents, content, contents_after}
+use Rattle.die_log.specs.Model.Flash.{Cells, cells, content, contents_after}
 use Rattle.die_log.specs.Model.Start.{Start, blank_page}
 use Rattle.die_log.specs.Model.Opening.{IsOpening}
 use Rattle.die_log.specs.Model.Answers.{IsExact, act_of_op, act_for, collect_act, buffer_after, block_for, is_placed_in, read_or_erase, reply_if_accepted, refusals}
@@ -145,7 +145,7 @@ module _ (start : Start) (opens : IsOpening start) where
           elim (cases_eq n (work j.number past)) [
             | inl newest ↦
                 let same : a ≡ act = same_Some a act (sym (at_end (acts j.number past) a)
-                    ∙ (sym (ap (slice_get (acts j.number past ++ a ∷ [])) newest) ∙ longer)) in
+                ∙ (sym (ap (slice_get (acts j.number past ++ a ∷ [])) newest) ∙ longer)) in
                 inr (subst (λ (x : Act). Carries start past j x) same (carries start past (numbered_of start opens 0 past exact) j stands a is), newest)
             | inr other ↦ inl (sym (elsewhere (acts j.number past) a n other) ∙ longer)
           ]
@@ -161,7 +161,7 @@ module _ (start : Start) (opens : IsOpening start) where
     | inl before ↦ h j before kind n act e
     | inr same ↦
         let none : acts j.number past ≡ [] = ap (λ (i : Job). acts i.number past) (sym same)
-            ∙ (ap (λ (k : ℕ). acts k past) number ∙ no_acts start past exact) in
+        ∙ (ap (λ (k : ℕ). acts k past) number ∙ no_acts start past exact) in
         absurd (none-some act (sym (ap (λ (l : List Act). slice_get l n) none) ∙ e))
   ]
 

@@ -1,5 +1,5 @@
 -- Life after life a task finds the same, where it sees the same.
-use Rattle.std.proofs.Common.{◌≡◌, ℕ, ◌+◌, ◌==◌, nat_lt, Bool, true, false, cond, List, [], ◌∷◌, map, Option, Some, None}
+use Rattle.std.proofs.Common.{◌≡◌, ℕ, ◌+◌, ◌==◌, nat_lt, Bool, true, false, cond, List, [], ◌∷◌, map, Option}
 use Rattle.std.proofs.Common.{refl, ap, sym, ◌∙◌, arith}
 use Rattle.std.proofs.lemmas.Bool.{eqb-true}
 use Rattle.std.proofs.lemmas.List.Sums.{sum_by-cons}
@@ -13,8 +13,8 @@ use Rattle.die_log.proofs.Life.Starting.{plan_same}
 use Rattle.planned_log.specs.declared.refusals.AskRefusal.{AskRefusal}
 use Rattle.planned_log.specs.Asks.{Asked, asked_by}
 use Rattle.planned_log.specs.AskKinds.{refusal_as, jobs_as}
-use Rattle.planned_log.specs.Laws.{IsKept, Seen, Asks, Slots, StartsFull, seen_by}
-use Rattle.planned_log.specs.Moves.{Move, Ask, Slot, after_move, after_moves, lives_after, ReachTheEnd}
+use Rattle.planned_log.specs.Laws.{IsKept, Seen, Asks, Slots, seen_by}
+use Rattle.planned_log.specs.Moves.{Move, Ask, Slot, after_move, after_moves, lives_after}
 use Rattle.planned_log.proofs.Answered.{then_asked, refused_now, other_ask, own_ask, a_slot}
 use Rattle.planned_log.proofs.Kept.{begun}
 use Rattle.planned_log.proofs.Moving.{move_keeps, lives_go_on}

@@ -1,14 +1,11 @@
 -- The jobs of a task in a run are what it asked for, by what it sees of the run.
-use Rattle.std.proofs.Common.{◌≡◌, ℕ, ◌+◌, ◌<◌, ◌≤◌, ◌==◌, nat_lt, Bool, true, false, cond, List, [], ◌∷◌, ◌++◌, length, map, Option, Some, None}
-use Rattle.std.proofs.Common.{refl, ap, sym, subst, ◌∙◌, arith, append_assoc, append-nil}
-use Rattle.std.specs.Prelude.{Contains}
+use Rattle.std.proofs.Common.{◌≡◌, ℕ, ◌+◌, ◌≤◌, ◌==◌, nat_lt, Bool, true, false, cond, List, [], ◌∷◌, ◌++◌, map, Option, Some, None}
+use Rattle.std.proofs.Common.{refl, ap, sym, ◌∙◌, arith, append_assoc, append-nil}
 use Rattle.std.proofs.lemmas.Bool.{eqb-true, eq-eqb}
 use Rattle.slot_types.specs.declared.events.Op.{Op}
-use Rattle.slot_types.specs.declared.events.Event.{Event}
 use Rattle.slot_types.specs.declared.events.Event.TheVariants as events
 use Rattle.slot_types.specs.declared.plans.DiePlan.{DiePlan}
 use Rattle.demand_rules.specs.declared.terms.Terms.{Terms}
-use Rattle.demand_rules.specs.Demand.{terms_of}
 use Rattle.die_log.specs.Model.Log.{Log, Job, jobs, now}
 use Rattle.die_log.specs.Model.Start.{Start}
 use Rattle.die_log.specs.Model.Lives.{Lives, all_slots}
@@ -24,11 +21,11 @@ use Rattle.planned_log.proofs.AskJobs.{unrefused_as}
 use Rattle.planned_log.proofs.Answered.{then_asked, refused_now, other_ask, own_ask, a_slot}
 use Rattle.planned_log.proofs.Kept.{after_accepted, ask_accepted, ask_goes_on}
 use Rattle.planned_log.proofs.Moving.{move_keeps}
-use Rattle.task_reads.specs.Asked.{is_job_of, task_jobs, asks_of, ComeInOrder}
+use Rattle.task_reads.specs.Asked.{is_job_of, task_jobs, ComeInOrder}
 use Rattle.task_reads.specs.OwnPages.{AreAskedAlike}
 use Rattle.task_reads.specs.Runs.{AreSeenAlike}
 use Rattle.task_reads.proofs.Lists.{in_filter}
-use Rattle.task_reads.proofs.Calls.{accepted_is, call_keeps, IsOrdered, ask_ordered, slot_ordered, own_ordered}
+use Rattle.task_reads.proofs.Calls.{call_keeps, IsOrdered, ask_ordered, slot_ordered, own_ordered}
 use Rattle.task_reads.proofs.Calls.{unnumbered, keys, new_key, keys_other, keys_own, slot_keys, own_keys}
 
 -- Order
@@ -197,7 +194,7 @@ module _ (start : Start) (terms : Terms) (earlier : Lives) (life task : ℕ) whe
           let then : List Asked = then_asked (first + now log) (jobs_as kind ops) (asked_by task (log ∷ earlier)) refused_mine in
           let came : keys task next ≡ keys task log ++ here =
           ap (λ i. keys task (after_ask start terms log kind caller i ops (refusal_as kind start.plan terms life earlier log i ops))) mine
-              ∙ own_asked log k kind caller ops refused_mine refl in
+          ∙ own_asked log k kind caller ops refused_mine refl in
           rest
           ∙ (ap (λ n. keys task next ++ told n (asked_by task (next ∷ earlier)) moves) o.0
           ∙ (ap (λ (l : List Asked). keys task next ++ told (now log) l moves) o.1

@@ -1,30 +1,28 @@
 -- What a task's jobs have left on a page of its own: all operations of those before the one that is carried out, and of that
 -- one the operations that it has had.
-use Rattle.std.proofs.Common.{◌≡◌, ◌≢◌, ◌⊎◌, ℕ, zero, suc, ◌+◌, ◌<◌, ◌≤◌, ◌==◌, Bool, true, false, cond, List, [], ◌∷◌, ◌++◌, length, Option}
-use Rattle.std.proofs.Common.{Some, None, refl, ap, sym, subst, ◌∙◌, inl, inr, arith, slice_get, filter, take, drop, append_assoc, append-nil}
+use Rattle.std.proofs.Common.{◌≡◌, ◌⊎◌, ℕ, zero, suc, ◌+◌, ◌<◌, ◌≤◌, ◌==◌, Bool, true, false, cond, List, [], ◌∷◌, ◌++◌, length, Option}
+use Rattle.std.proofs.Common.{Some, None, refl, ap, sym, subst, ◌∙◌, inl, inr, arith, slice_get, take, drop, append_assoc, append-nil}
 use Rattle.std.specs.Prelude.{Contains, IsFalse}
 use Rattle.std.specs.List.{AllByRecursion, flat_map, list_any, last_or}
 use Rattle.std.proofs.lemmas.Bool.{true≢false, cases_Bool, eqb-true}
 use Rattle.std.proofs.lemmas.Grind.{flat_map-append}
 use Rattle.std.proofs.lemmas.Option.{same_Some, none-some, slice_get_within, get_or_from_slice_get}
-use Rattle.std.proofs.lemmas.List.{take-append-le, length_push}
-use Rattle.std.proofs.lemmas.List.Elements.{Contains-append_left, Contains-append_right, Contains-push_cases, All-contains, All-from_recursion}
+use Rattle.std.proofs.lemmas.List.{length_push}
+use Rattle.std.proofs.lemmas.List.Elements.{Contains-append_left, Contains-append_right, All-contains, All-from_recursion}
 use Rattle.slot_types.specs.Operations.{page_of}
 use Rattle.slot_types.specs.declared.acts.Act.{Act}
-use Rattle.slot_types.specs.declared.acts.Act.TheVariants as does
 use Rattle.slot_types.specs.declared.events.Op.{Op}
 use Rattle.slot_types.specs.declared.events.Event.{Event}
 use Rattle.slot_types.specs.declared.events.Event.TheVariants as events
 use Rattle.slot_types.specs.declared.pages.PageData.{PageData}
 use Rattle.die_log.specs.Model.Log.{Log, Job, Carried, jobs, act_of, acts, work}
 use Rattle.die_log.specs.Model.Flash.{cells, contents, content, contents_after}
-use Rattle.die_log.specs.Model.Start.{Start, blank_page}
+use Rattle.die_log.specs.Model.Start.{Start}
 use Rattle.die_log.specs.Model.Work.{are_all, is_done}
 use Rattle.die_log.specs.Model.Opening.{IsOpening}
 use Rattle.die_log.specs.Model.Answers.{IsExact, act_of_op, collect_act, buffer_after, block_for, reply_if_accepted, refusals}
 use Rattle.die_log.specs.Invariants.RunningCollections.{AreNumbered}
 use Rattle.die_log.proofs.Collecting.{no_acts}
-use Rattle.die_log.proofs.Known.{known}
 use Rattle.die_log.proofs.Legality.{entry, exact_induction}
 use Rattle.die_log.proofs.Limits.{keeps_limits}
 use Rattle.die_log.proofs.Renewal.{contents_len}
@@ -35,7 +33,7 @@ use Rattle.task_reads.specs.OwnPages.{IsOwnPage}
 use Rattle.task_reads.proofs.Lists.{flat_map_same, flat_map_none, split_at, take_next, take_whole}
 use Rattle.task_reads.proofs.Turns.{Carries, own_act, carries, carried_of, carries_first, slot_entry, next_ran, slot_stays, slot_grows, done_rests}
 use Rattle.task_reads.proofs.Turns.{InOrder, in_turn, numbered_of, job_kind, order_before}
-use Rattle.task_reads.proofs.Doing.{DoesOp, does_next, collection_leaves, op_leaves, changes_nothing, page_in, act_cases}
+use Rattle.task_reads.proofs.Doing.{DoesOp, does_next, collection_leaves, op_leaves, changes_nothing, page_in}
 
 -- what operations leave, one after the other
 pub left_append : (page : ℕ) (xs ys : List Op) (before : PageData) → left_on page (xs ++ ys) before ≡ left_on page ys (left_on page xs before)
@@ -94,14 +92,20 @@ by_number f g js m j numbered at below above =
 
     before : flat_map f (take m js) ≡ flat_map g (take m js)
     before = flat_map_same f g (take m js) (λ i is. below i (in_all i (Contains-append_left (take m js) (j ∷ drop (suc m) js) i is))
-        (omega (arith, All-contains (λ (x : Job). x.number < 0 + m) (take m js) i
-        (All-from_recursion (λ (x : Job). x.number < 0 + m) (take m js) (numbers_below 0 js m numbered)) is)))
+        (omega (
+          arith,
+          All-contains (λ (x : Job). x.number < 0 + m) (take m js) i
+              (All-from_recursion (λ (x : Job). x.number < 0 + m) (take m js) (numbers_below 0 js m numbered)) is,
+        )))
 
     after : flat_map f (drop (suc m) js) ≡ []
     after = flat_map_same f (λ i. []) (drop (suc m) js) (λ i is. above i
         (in_all i (Contains-append_right (take m js) (j ∷ drop (suc m) js) i (Contains-append_right (j ∷ []) (drop (suc m) js) i is)))
-        (omega (arith, All-contains (λ (x : Job). 0 + m < x.number) (drop (suc m) js) i
-        (All-from_recursion (λ (x : Job). 0 + m < x.number) (drop (suc m) js) (numbers_above 0 js m numbered)) is))) ∙ flat_map_none (drop (suc m) js)
+        (omega (
+          arith,
+          All-contains (λ (x : Job). 0 + m < x.number) (drop (suc m) js) i
+              (All-from_recursion (λ (x : Job). 0 + m < x.number) (drop (suc m) js) (numbers_above 0 js m numbered)) is,
+        ))) ∙ flat_map_none (drop (suc m) js)
 
 -- the operations of a job of the task, and of these the ones that it has had
 abbrev pub whole_part : ℕ → Job → List Op
@@ -293,7 +297,7 @@ module _ (start : Start) (opens : IsOpening start) (task page : ℕ) where
         let had : List Op = asked_before past j.number ++ take (work j.number past) j.ops in
         let parts : flat_map (done_part task log) (jobs past) ≡ had ++ d.op ∷ [] =
         parts_log ∙ (ap (λ (l : List Op). asked_before past j.number ++ l) next
-            ∙ sym (append_assoc (asked_before past j.number) (take (work j.number past) j.ops) (d.op ∷ []))) in
+        ∙ sym (append_assoc (asked_before past j.number) (take (work j.number past) j.ops) (d.op ∷ []))) in
         ap (λ (r : Carried). page_in (contents_after r (contents start past)) page) ran
         ∙ (op_leaves page j.number d.op act (contents start past) d.does_it (op_within past exact j c.stands (work j.number past) d.op d.at)
         ∙ (ap (left_by page d.op) (h ∙ ap (λ (l : List Op). left_on page l at_first) parts_past)

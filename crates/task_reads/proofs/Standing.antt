@@ -1,6 +1,6 @@
 -- Each read of a page of its own gives what the task itself left on it; and so does what stands once all is done.
-use Rattle.std.proofs.Common.{◌≡◌, ◌⊎◌, ℕ, zero, suc, ◌<◌, ◌≤◌, Bool, true, false, cond, List, [], ◌∷◌, ◌++◌, length, Option, Some, None}
-use Rattle.std.proofs.Common.{refl, ap, sym, subst, ◌∙◌, inl, inr, arith, slice_get, filter, take}
+use Rattle.std.proofs.Common.{◌≡◌, ℕ, zero, suc, ◌<◌, Bool, true, false, cond, List, [], ◌∷◌, ◌++◌, length, Some}
+use Rattle.std.proofs.Common.{refl, ap, sym, ◌∙◌, inl, inr, arith, slice_get, filter, take}
 use Rattle.std.specs.Prelude.{Contains}
 use Rattle.std.specs.List.{AllByRecursion, flat_map}
 use Rattle.std.proofs.lemmas.List.{take-append-le}
@@ -12,7 +12,7 @@ use Rattle.slot_types.specs.declared.events.Op.{Op}
 use Rattle.slot_types.specs.declared.events.Event.{Event}
 use Rattle.slot_types.specs.declared.events.Event.TheVariants as events
 use Rattle.slot_types.specs.declared.pages.PageData.{PageData}
-use Rattle.die_log.specs.Model.Log.{Log, Job, jobs, acts, work}
+use Rattle.die_log.specs.Model.Log.{Log, Job, jobs, acts}
 use Rattle.die_log.specs.Model.Flash.{content}
 use Rattle.die_log.specs.Model.Start.{Start}
 use Rattle.die_log.specs.Model.Work.{is_done}
@@ -25,7 +25,7 @@ use Rattle.die_log.proofs.LogInvariants.OneMoreEntry.{number_at, contained}
 use Rattle.task_reads.specs.Asked.{is_job_of, task_jobs, operations, ComeInOrder, left_on}
 use Rattle.task_reads.specs.OwnPages.{IsOwnPage}
 use Rattle.task_reads.proofs.Lists.{flat_map_same, in_filter}
-use Rattle.task_reads.proofs.Turns.{Carries, slot_entry, InOrder, in_order, numbered_of, job_kind, order_before, unwaived}
+use Rattle.task_reads.proofs.Turns.{Carries, InOrder, in_order, numbered_of, job_kind, order_before, unwaived}
 use Rattle.task_reads.proofs.Doing.{does_next, act_cases}
 use Rattle.task_reads.proofs.Settled.{whole_part, done_part, at_first, asked_before, part_done, parts_past, own_before, stands_as_had}
 
@@ -48,13 +48,13 @@ module _ (start : Start) (opens : IsOpening start) (task page : ℕ) where
   taken past new exact number h j js own n bytes e = elim (Contains-push_cases (jobs past) new j js) [
     | inl before ↦
         let low : j.number < length (jobs past) = All-contains (λ (x : Job). x.number < length (jobs past)) (jobs past) j
-            (All-from_recursion (λ (x : Job). x.number < length (jobs past)) (jobs past) (known start past exact).of_jobs) before in
+        (All-from_recursion (λ (x : Job). x.number < length (jobs past)) (jobs past) (known start past exact).of_jobs) before in
         h j before own n bytes e
         ∙ ap (λ (l : List Job). left_on page (flat_map (whole_part task) l ++ take n j.ops) first_bytes)
         (sym (take-append-le j.number (jobs past) (new ∷ []) (omega (arith, low))))
     | inr same ↦
         let none : acts j.number past ≡ [] = ap (λ (i : Job). acts i.number past) (sym same)
-            ∙ (ap (λ (k : ℕ). acts k past) number ∙ no_acts start past exact) in
+        ∙ (ap (λ (k : ℕ). acts k past) number ∙ no_acts start past exact) in
         absurd (none-some (does.Read page bytes) (sym (ap (λ (l : List Act). slice_get l n) none) ∙ e))
   ]
 

@@ -1,6 +1,6 @@
 -- Where a task's jobs come in order, one is begun only when all that were taken before it are done.
-use Rattle.std.proofs.Common.{◌≡◌, ◌≢◌, ℕ, ◌<◌, ◌≤◌, ◌==◌, ◌&&◌, ◌||◌, not, nat_le, nat_lt, Bool, true, false, cond, List, [], ◌∷◌, ◌++◌}
-use Rattle.std.proofs.Common.{length, Option, Some, None, refl, ap, sym, subst, ◌∙◌, inl, inr, arith, slice_get}
+use Rattle.std.proofs.Common.{◌≡◌, ℕ, ◌<◌, ◌≤◌, ◌==◌, ◌&&◌, not, nat_le, Bool, true, false, cond, List, [], ◌∷◌, ◌++◌}
+use Rattle.std.proofs.Common.{length, Option, Some, None, refl, ap, sym, subst, ◌∙◌, inl, inr, arith}
 use Rattle.std.specs.Prelude.{Contains}
 use Rattle.std.specs.List.{AllByRecursion}
 use Rattle.std.proofs.lemmas.Bool.{true≢false, cases_Bool, cases_eq, eq-eqb, ne_eqb, and_parts, and_from, or_right, le-leb, leb-true}
@@ -11,10 +11,8 @@ use Rattle.std.proofs.lemmas.List.Folds.{list_any-append}
 use Rattle.slot_types.specs.declared.acts.Act.{Act}
 use Rattle.slot_types.specs.declared.events.Event.{Event}
 use Rattle.slot_types.specs.declared.events.Event.TheVariants as events
-use Rattle.slot_types.specs.declared.replies.Reply.TheVariants as replies
 use Rattle.slot_types.specs.declared.replies.Entry.{Entry}
 use Rattle.die_log.specs.Model.Log.{Log, Job, Carried, jobs, job_at, now, act_of, acts, work, is_waived, waived_collections}
-use Rattle.die_log.specs.Model.Flash.{ran_by}
 use Rattle.die_log.specs.Model.Start.{Start}
 use Rattle.die_log.specs.Model.Work.{are_all, is_done, is_ready, goes_first}
 use Rattle.die_log.specs.Model.Opening.{IsOpening}
@@ -138,13 +136,13 @@ module _ (start : Start) (opens : IsOpening start) (task : ℕ) where
   taken past new exact number h i j is own js theirs less more = elim (Contains-push_cases (jobs past) new j js) [
     | inr same ↦
         let none : work j.number past ≡ 0 = ap (λ (i : Job). work i.number past) (sym same)
-            ∙ (ap (λ (n : ℕ). work n past) number ∙ ap (λ (l : List Act). length l) (no_acts start past exact)) in
+        ∙ (ap (λ (n : ℕ). work n past) number ∙ ap (λ (l : List Act). length l) (no_acts start past exact)) in
         absurd (omega (arith, none, more))
     | inl before ↦ elim (Contains-push_cases (jobs past) new i is) [
       | inl earlier ↦ h i j earlier own before theirs less more
       | inr same ↦
           let low : j.number < length (jobs past) = All-contains (λ (x : Job). x.number < length (jobs past)) (jobs past) j
-              (All-from_recursion (λ (x : Job). x.number < length (jobs past)) (jobs past) (known start past exact).of_jobs) before in
+          (All-from_recursion (λ (x : Job). x.number < length (jobs past)) (jobs past) (known start past exact).of_jobs) before in
           absurd (omega (arith, low, less, number, ap (λ (x : Job). x.number) same))
     ]
   ]

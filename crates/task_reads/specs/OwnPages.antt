@@ -1,8 +1,6 @@
 -- Pages that are a task's own, and two logs in which it asked for the same.
-use Rattle.std.specs.Prelude.{◌≡◌, ℕ, List, [], Contains, IsFalse}
+use Rattle.std.specs.Prelude.{◌≡◌, ℕ, [], Contains, IsFalse}
 use Rattle.std.specs.List.{list_any}
-use Rattle.slot_types.specs.declared.pages.PageData.{PageData}
-use Rattle.slot_types.specs.declared.acts.Act.TheVariants as does
 use Rattle.die_log.specs.Model.Log.{Log, Job, jobs}
 use Rattle.die_log.specs.Model.Flash.{content}
 use Rattle.die_log.specs.Model.Start.{Start}
