@@ -153,7 +153,7 @@ module _ (start : Start) (terms : Terms) (earlier : Lives) (life task : ℕ) whe
   abbrev after : Log → List Move → Log
   after log moves = after_moves start terms earlier life log moves
 
-  -- so a task's jobs in a run are told by what it sees
+  -- so a task's jobs in a run follow from what it sees
   pub keys_told : (moves : List Move) (log : Log) → IsKept start terms earlier life 0 log
       → keys task (after log moves) ≡ keys task log ++ told (now log) (asked_by task (log ∷ earlier)) moves
   keys_told [] log k = sym (append-nil (keys task log))
