@@ -8,7 +8,8 @@ OVER = {"Log": "log", "Lives": "lives", "List Calls": "lives", "List (List Move)
         "Slots": "slots", "List Event": "events", "Calls": "calls", "List (ℕ × Event)": "calls", "List Move": "moves"}
 MARKS = {"log": "●", "lives": "●"}
 OTHER_MARK = "○"
-# A module without a mark isn't shown where it has fewer lines, or where so many modules of the proof import it.
+# A module without a mark isn't shown where it has fewer than `FEW_LINES` lines, or where `MANY_IMPORTS` modules of the
+# proof import it.
 FEW_LINES, MANY_IMPORTS = 100, 6
 USE = re.compile(r"^\s*(?:pub )?use Rattle\.(\w+)\.proofs\.([\w.'-]+?)(?:\.\{(.*)\}| as .*)?\s*$", flags=re.M)
 SIGNATURE = re.compile(r"( *)(?:abbrev |unfoldable |postulate )?(?:pub )?([\w'-]+) : (.*)")
@@ -164,7 +165,7 @@ def inductions(modules, key):
 # The map
 
 def cut(text, most):
-    """A text of at most so many letters: a longer one ends at a mark, else at a word, and with two dots."""
+    """A text of at most a number of letters: a longer one ends at a mark, else at a word, and with two dots."""
     if len(text) <= most:
         return text
     front = text[:most - 3]

@@ -228,14 +228,14 @@ def layer_run(plan, load, policy, slots, first, pool, standing=()):
 # The table
 
 def parts(number, of, digits):
-    """A quotient cut to so many digits."""
+    """A quotient cut to a number of digits."""
     scaled = number * 10**digits // of
     sign, scaled = ("-", -scaled) if scaled < 0 else ("", scaled)
     return f"{sign}{scaled // 10**digits}.{scaled % 10**digits:0{digits}}"
 
 
 def rank(lateness, share):
-    """The least lateness that so many of a thousand don't exceed, by nearest rank."""
+    """The least lateness that a number of a thousand don't exceed, by nearest rank."""
     at = -(-len(lateness) * share // 1000)
     return lateness[at - 1]
 

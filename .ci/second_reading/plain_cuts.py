@@ -1,6 +1,6 @@
 #!/usr/bin/env -S python3 -B
 """Losses of power, a second time: the die by the rules (plain_die.py), and the part with its labels, the mount and what
-is said of each page by the pages of crates/power_loss, crates/die_mount, crates/tool_labelled_parts and
+is said of each page by the pages of crates/power_loss, crates/die_mount, crates/flashplan_labelled_parts and
 crates/flashplan ("cut") alone. It reads nothing of the program.
 
     .ci/second_reading/plain_cuts.py PLAN SCRIPT SLOTS K LEAVES SEED    what has to be said of a cut of die 0
@@ -205,7 +205,7 @@ class Run:
 
 
 def kind_of(call, act, begun):
-    """What a call is that is made while so many blocks are in erase."""
+    """What a call is that is made while a number of blocks are in erase."""
     if begun > 1:
         return "with two blocks in erase"
     programs = "a write" if act[0] == "W" else "a copy"

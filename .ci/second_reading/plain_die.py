@@ -51,7 +51,7 @@ class Block:
 
 
 class Flash:
-    """Blocks and pages on a device that fails after so many calls."""
+    """Blocks and pages on a device that fails after a number of calls."""
 
     def __init__(self, blocks, pages, erase_slots, logical, calls):
         self.erase_slots, self.calls = erase_slots, calls

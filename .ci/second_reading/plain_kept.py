@@ -33,12 +33,12 @@ def terms_in(text):
 
 
 def come(period, deadline, slots):
-    """How often what comes each period may come in so many slots and be due by their end."""
+    """How often what comes each period may come in a number of slots and be due by their end."""
     return (slots - deadline) // period + 1 if deadline <= slots else 0
 
 
 def all_due(die, slots):
-    """Whether each collection that comes in so many slots is due by their end."""
+    """Whether each collection that comes in a number of slots is due by their end."""
     return all((slots - 1) // task["collect_period"] * task["collect_period"] + task["collect_deadline"] <= slots
                for task in die["tasks"])
 

@@ -127,7 +127,7 @@ def timed(slots, slot_us):
 
 
 def time_of(us):
-    """So many us, in us below 1 ms, in ms below 10 s, in s below 10 min, in min below 10 h, and else in h."""
+    """A number of us: in us below 1 ms, in ms below 10 s, in s below 10 min, in min below 10 h, and else in h."""
     for below, unit, name in ((1_000, 1, "us"), (10 ** 7, 10 ** 3, "ms"), (600 * 10 ** 6, 10 ** 6, "s"),
                               (36_000 * 10 ** 6, 60 * 10 ** 6, "min"), (math.inf, 3_600 * 10 ** 6, "h")):
         if us < below:
@@ -135,7 +135,7 @@ def time_of(us):
 
 
 def decimals(parts, unit):
-    """So many parts of a unit, rounded down to its thousandth, without zeros at the end."""
+    """A number of parts in units, rounded down to the thousandth, without zeros at the end."""
     thousandths = parts * 1000 // unit
     return f"{thousandths // 1000}.{thousandths % 1000:03}".rstrip("0").rstrip(".")
 

@@ -133,7 +133,7 @@ def bound_text(die):
 
 
 def last_deadline(die, below):
-    """The greatest deadline below so many slots of what comes back to back from slot 0 on; 0 where there is none."""
+    """The greatest deadline below a number of slots, of what comes back to back from slot 0 on; 0 where there is none."""
     last = 0
     for task in die["tasks"]:
         for period, deadline in ((task["period"], task["deadline"]), (task["collect_period"], task["collect_deadline"])):
@@ -352,12 +352,12 @@ def passing_text(at, die):
 
 
 def comings(period, due, slots):
-    """How many multiples of a period lie below so many slots, where what comes there is due by the last slot of all."""
+    """How many multiples of a period lie below a number of slots, where what comes there is due by the last slot of all."""
     return len(range(0, min(slots, LAST_SLOT - due + 1), period))
 
 
 def numbers_taken(die, slots):
-    """How many jobs and collections come in so many slots, where tasks ask for all that they may, in as few jobs as may be."""
+    """How many jobs and collections come in a number of slots, where tasks ask for all that they may, in as few jobs as may be."""
     return sum(comings(task["period"], task["deadline"], slots) * -(-task["work"] // 64)
                + comings(task["collect_period"], task["collect_deadline"], slots) for task in die["tasks"])
 
@@ -396,7 +396,7 @@ def explained(text):
 
 
 def time_text(us):
-    """So many us, in the unit that crates/tool_slot_times/README.md says, rounded down to its thousandth."""
+    """A number of us, in the unit that crates/flashplan_slot_times/README.md says, rounded down to its thousandth."""
     for below, unit, name in ((10**3, 1, "us"), (10**7, 10**3, "ms"), (6 * 10**8, 10**6, "s"), (36 * 10**9, 6 * 10**7, "min"), (None, 36 * 10**8, "h")):
         if below is None or us < below:
             whole, rest = us // unit, us % unit * 1000 // unit
@@ -416,7 +416,7 @@ OF_CHANGES = re.compile(r"(change: .*: (?:period|deadline|held|collect_period|co
 
 
 def with_times(said, slot_us):
-    """What `explain` says of a plan with terms, where a slot is so long: periods, deadlines and held jobs, a collection, a life, and
+    """What `explain` says of a plan with terms, where a slot's length is known: periods, deadlines and held jobs, a collection, a life, and
     the tightest interval or an overfull one are followed by their times, and so are the periods and deadlines that would do, that go
     with an alpha, or are changed."""
     def timed(number):

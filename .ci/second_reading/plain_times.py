@@ -27,7 +27,7 @@ def dies_of(text):
 # Arrivals
 
 def comes(period, slots):
-    """How often what comes at each multiple of its period, and is due by the last slot, comes in so many slots."""
+    """How often what comes at each multiple of its period, and is due by the last slot, comes in a number of slots."""
     return min(-(-slots // period), LAST_SLOT // period)
 
 
@@ -79,7 +79,7 @@ def askers_of(dies, fills, held):
 
 
 def arrivals(dies, slots, seed=0, fills=False, phases=False, jitter=0, load=100, held=()):
-    """The script of what all tasks ask for in so many slots. While a task fills its pages all its jobs come, and none late. By die
+    """The script of what all tasks ask for in a number of slots. While a task fills its pages all its jobs come, and none late. By die
     the pages that lie in cells already."""
     shortest = min(range(len(dies)), key=lambda at: life_of(dies[at]))
     if life_of(dies[shortest]) < slots:

@@ -65,7 +65,7 @@ def burst(draws, task, number, pages, slot):
 
 
 def arrivals(dies, slots, seed):
-    """The script of the heaviest use in so many slots."""
+    """The script of the heaviest use in a number of slots."""
     draws, rows = Draws(seed), [HEADER]
     for slot in range(slots):
         for at, die in enumerate(dies):
@@ -179,7 +179,7 @@ def keeps(dies, script, slots):
 # What may be asked for
 
 def curve(die, marked):
-    """The curve of a picture whose marked interval has so many slots, as its path has it: both axes go up to half as many slots
+    """The curve of a picture whose marked interval has `marked` slots, as its path has it: both axes go up to half as many slots
     again, 10 at least, on 700 by 320 pixels; what is cut off is below a tenth of one."""
     end = min(max(marked + marked // 2, 10), LAST_SLOT)
     step = -(-end // 700)

@@ -1,4 +1,4 @@
-"""Reads the tables of crates/demo_examples/data; crates/demo_examples/README.md has their form."""
+"""Reads the tables of crates/test_plays/data; crates/test_plays/README.md has their form."""
 import re
 import sys
 from pathlib import Path
@@ -6,12 +6,12 @@ from pathlib import Path
 sys.path.insert(0, str(Path(__file__).resolve().parents[1]))
 from common.repository import CRATES
 
-DATA = CRATES / "demo_examples/data"
+DATA = CRATES / "test_plays/data"
 
 
 def names():
     """The tables that the gate plays."""
-    return (CRATES / "demo_examples/args").read_text().split()
+    return (CRATES / "test_plays/args").read_text().split()
 
 
 def plain(text):

@@ -22,7 +22,7 @@ sys.path.insert(0, str(Path(__file__).resolve().parents[1]))
 from second_reading import plain_terms
 
 TOP = Path(__file__).resolve().parents[2]
-SHEETS = TOP / "crates/tool_plan_fit/datasheets"
+SHEETS = TOP / "crates/flashplan_fit/datasheets"
 PROGRAM = None
 
 
@@ -194,6 +194,12 @@ class Page(unittest.TestCase):
             for selectors in re.findall(r"([^{}]+)\{", bare):
                 for selector in selectors.split(","):
                     self.assertTrue(selector.strip().startswith(f"#{figure.get('id')} "), selector)
+
+    def test_on_paper_a_cell_goes_on_in_a_next_line(self):
+        """As on a screen it doesn't, where a table may be moved: paper would cut off a wide one at its edge."""
+        screen, paper = self.text.split("@media print{")[0], self.text.split("@media print{")[1].split("</style>")[0]
+        self.assertIn(".wide td{white-space:nowrap}", screen)
+        self.assertIn(".wide td{white-space:normal}", paper)
 
     def test_the_plan_is_that_of_fit(self):
         self.assertEqual(self.blocks[0], self.run_words(["fit", "sheet.toml"]).stdout)

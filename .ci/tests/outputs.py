@@ -19,7 +19,7 @@ import unittest
 from pathlib import Path
 
 TOP = Path(__file__).resolve().parents[2]
-DATA = TOP / "crates/demo_examples/data"
+DATA = TOP / "crates/test_plays/data"
 PROGRAM = None
 IS_ROOT = os.geteuid() == 0
 
@@ -306,7 +306,7 @@ class Planned(Case):
         return [line.split(",")[1:] for line in lines if line.startswith(f"{kind},")]
 
     def test_a_fault_of_a_datasheet_is_reported_with_its_file_and_line(self):
-        sheet = (TOP / "crates/tool_plan_fit/datasheets/recorder.toml").read_text()
+        sheet = (TOP / "crates/flashplan_fit/datasheets/recorder.toml").read_text()
         (self.at / "part.toml").write_text(sheet.replace("\nlogical", "\nLogical"))
         (self.at / "few.toml").write_text(sheet.replace("reads = 8", "reads = 65"))
         for words in ("fit part.toml", "design part.toml -o page.html"):
@@ -400,8 +400,10 @@ writes = 1
         spare = [row.split(",")[names.index("least_spare")] for row in figures[1:] if row.split(",")[1] == ""]
         self.assertEqual(spare, [spare for _, spare in self.records("end.ck", "die")])
         self.assertIn("slots 0 to 7", self.text("draw planned.toml none.csv --slots 7 --text --checkpoint end.ck").decode())
-        self.refused("report one_die.toml none.csv --slots 7 --from end.ck", "error: the checkpoint has 2 dies, and the plan has 1")
-        self.refused("draw one_die.toml none.csv --slots 7 --checkpoint end.ck", "error: the checkpoint has 2 dies, and the plan has 1")
+        self.refused("report one_die.toml none.csv --slots 7 --from end.ck", "error: the checkpoint has 2 dies, and the plan has 1",
+                     "end.ck: it was saved of the dies of another plan")
+        self.refused("draw one_die.toml none.csv --slots 7 --checkpoint end.ck", "error: the checkpoint has 2 dies, and the plan has 1",
+                     "end.ck: it was saved of the dies of another plan")
 
     def test_a_name_of_a_die_is_reported_with_how_many_there_are(self):
         self.refused("draw two_dies.toml two_dies.csv --slots 5 --die 3", "error 4 UnknownDie",

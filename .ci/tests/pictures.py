@@ -14,7 +14,7 @@ import unittest
 from pathlib import Path
 
 TOP = Path(__file__).resolve().parents[2]
-DATA = TOP / "crates/demo_examples/data"
+DATA = TOP / "crates/test_plays/data"
 PROGRAM = None
 
 # By character in parts of the size; all others are narrower than the last.
@@ -46,7 +46,7 @@ class Pictures(unittest.TestCase):
         return done.stdout.decode()
 
     def plan(self, name, tasks, front=""):
-        """A die with so many tasks that all have the same cap."""
+        """A die with a number of tasks that all have the same cap."""
         lines = [front, "version = 1", "dies = 1", "blocks = 64", "pages = 4", "erase_slots = 3", "logical = 12", "alpha = 2"]
         lines += ["[[task]]", "die = 0", "cap = 4"] * tasks
         (self.at / name).write_text("\n".join(lines) + "\n")
@@ -111,6 +111,16 @@ class Pictures(unittest.TestCase):
         for place, (wide, dash) in enumerate(drawn):
             for other_wide, other_dash in drawn[:place]:
                 self.assertTrue(wide < other_wide or (wide == other_wide and dash < other_dash), (place, drawn))
+
+    def test_numbers_in_cells_are_as_wide_as_their_cells_at_most(self):
+        """Six digits in a cell of 40 pixels, three in one of 20, and none in one of 10."""
+        (self.at / "large.toml").write_text("version = 1\ndies = 1\nblocks = 1024\npages = 256\nerase_slots = 3\nlogical = 200000\n"
+                                            "alpha = 2\n[[task]]\ndie = 0\ncap = 70\n")
+        pages = (9, 99, 999, 1000, 12345, 199999)
+        (self.at / "reads.csv").write_text(HEAD + "0,0,0,job,0,9," + " ".join(f"R{page}" for page in pages) + "\n")
+        for slots, shown in ((25, pages), (50, pages[:3]), (100, ())):
+            svg = self.picture(f"draw large.toml reads.csv --slots {slots}")
+            self.assertEqual([int(page) for page in re.findall(r'<text class="p[^>]*>(\d+)<', svg)], list(shown))
 
     def test_a_die_that_failed_is_marked(self):
         self.plan("plan.toml", 1)

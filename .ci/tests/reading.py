@@ -336,15 +336,16 @@ class Helps(unittest.TestCase):
 class Releases(unittest.TestCase):
     def test_versions(self):
         forms = dict(version.PLACES)
-        self.assertEqual(version.stated("# Log\n\n## 0.3.0-dev, soon\n\n## 0.2.0\n", forms["CHANGELOG.md"]), ["0.3.0-dev"])
+        self.assertEqual(version.stated("# Log\n\n## 1.3.0-dev, soon\n\n## 1.2.0\n", forms["CHANGELOG.md"]), ["1.3.0-dev"])
         self.assertEqual(version.stated('[package]\nname = "x"\nversion = "1.2.3"\n[d]\nversion = "9.9.9"\n',
                                         forms["bindings/rust/Cargo.toml"]), ["1.2.3"])
-        self.assertEqual(version.stated("0|flashrec 0.2.0~|\n0|flashplan 0.2.1~|\n", forms["crates/demo_examples/data/commands.txt"]),
-                         ["0.2.0", "0.2.1"])
+        self.assertEqual(version.stated("0|flashrec 1.2.0~|\n0|flashplan 1.2.1~|\n", forms["crates/test_plays/data/commands.txt"]),
+                         ["1.2.0", "1.2.1"])
+        self.assertEqual(version.stated("INTERFACE = 1.2\nVERSION = 1.2.3\n", forms["bindings/c/Makefile"]), ["1.2.3"])
 
     def test_the_number_of_the_interface_for_c(self):
         texts = ["#define MG_VERSION_MAJOR 1u\n#define MG_VERSION_MINOR 2u\n", '"1.2"; "of a library', 'return "1.2, not proved";',
-                 "VERSION = 1.2\n", "find_package(Maulgreen 1.2 REQUIRED CONFIG)\n", "const VERSION: u32 = 1 << 16 | 2;\n",
+                 "VERSION = 1.2.3\nINTERFACE = 1.2\n", "find_package(Maulgreen 1.2 REQUIRED CONFIG)\n", "const VERSION: u32 = 1 << 16 | 2;\n",
                  "if _lib.mg_version() >> 16 != 1 or _lib.mg_version() & 0xFFFF < 2:\n"]
         for (path, form), text in zip(version.INTERFACE, texts, strict=True):
             self.assertEqual(version.stated(text, form), [("1", "2")], path)

@@ -40,7 +40,7 @@ class Limits(unittest.TestCase):
         return used.ru_utime + used.ru_stime, used.ru_maxrss * 1024
 
     def waiting_jobs(self, jobs, slots):
-        """A script whose jobs of 64 reads come faster than they are done, over so many slots."""
+        """A script whose jobs of 64 reads come faster than they are done, over a number of slots."""
         operations = " ".join(f"R{page % 12}" for page in range(64))
         comings = (at * slots // jobs for at in range(jobs))
         (self.at / "wide.csv").write_text(HEAD + "".join(f"{at},0,0,job,{at},{at + 20},{operations}\n" for at in comings))

@@ -1,6 +1,6 @@
 """The pages of wrong bodies: reads them, applies one to a copy of the repository, and tells what `rt must-fail` says of them.
 
-A section is a heading, maybe a line `fails: CRATE TEST..`, `fails: demo_examples TABLE..`, `fails: flashrec TEST..` of
+A section is a heading, maybe a line `fails: CRATE TEST..`, `fails: test_plays TABLE..`, `fails: flashrec TEST..` of
 .ci/tests/outputs.py or `fails: test_die_plays HISTORY..`, and the lines of an edit between two fences: `file:` names a
 file of the crate, and each `old:` text, which stands there once, becomes the `new:` text below it."""
 

@@ -6,7 +6,7 @@
 #include <stdlib.h>
 #include <string.h>
 
-static uint32_t left = UINT32_MAX; /* so many calls of the heap are granted */
+static uint32_t left = UINT32_MAX; /* how many more calls of the heap are granted */
 
 void *mg_alloc(size_t size, size_t align) {
     if (size == 0 || align == 0 || align > 16 || (align & (align - 1))) { puts("wrong: a size or an alignment"); exit(1); }
@@ -229,7 +229,7 @@ static void show_reserves(void) {
     }
     check(tried > 3, "some were refused, each time later");
     left = 0;
-    check(mg_reserve_jobs(&die, 10, 30) == MG_OK && mg_reserve_jobs(&die, 11, 0) == MG_NO_MEMORY, "so many are reserved, and no more");
+    check(mg_reserve_jobs(&die, 10, 30) == MG_OK && mg_reserve_jobs(&die, 11, 0) == MG_NO_MEMORY, "10 are reserved, and no more");
     check(mg_reserve(&die, 0) == MG_OK && mg_reserve(&die, 1) == MG_NO_MEMORY && mg_begin(&die, 9, &call) == MG_NO_MEMORY, "and no slot is");
     left = UINT32_MAX;
     check(mg_reserve(&die, 20) == MG_OK, "20 are");

@@ -15,7 +15,7 @@ static void check(int holds, const char *what) {
 /* ---- The chip ---------------------------------------------------------------------------------------------------- */
 
 static uint8_t cells[BLOCKS][PAGES][PAYLOAD];
-static uint32_t programs_left = UINT32_MAX; /* so many programs go well, the next one fails */
+static uint32_t programs_left = UINT32_MAX; /* how many more programs go well: the next one fails */
 
 /* ---- Names and buffers ------------------------------------------------------------------------------------------- */
 

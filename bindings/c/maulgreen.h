@@ -651,7 +651,7 @@ struct mg_unresumed { uint32_t first, second, third; };
 /* Makes a die in an empty handle that goes on from a checkpoint, as mg_resume does: at slot 0 of the longest life of at most `longest`
  * slots, with the clock of all lives at 0, and with all memory that it ever needs. Its promises go on. Terms and `longest` may be others
  * than before. What tasks asked for before isn't in a checkpoint: what a task lacks to its cap beyond alpha pages counts as asked to
- * write in slot 0, so until its period is over it may ask for so much less.
+ * write in slot 0, so until its period is over it may ask for that much less.
  *
  * The first that stands: NO_MEMORY, which may come at any time; as of mg_resume OTHER_SHAPE, BAD_PLAN, OVERFULL, SECOND_OPEN, WORN_OUT,
  * UNPROGRAMMED, ABOVE_CAP, OTHER_SUM, SHARED_CELL; BAD_TERMS; TOO_MUCH_DEMAND; TOO_FEW_PAGES; NO_LIFE; NOT_STOCKED; SHORT_LIFE. The

@@ -16,7 +16,7 @@ static void check(int holds, const char *what) {
 /* ---- The heap ---------------------------------------------------------------------------------------------------- */
 
 static uint64_t held, top, asked;
-static int refuses; /* one of so many calls is refused; 0: none; 1: each */
+static int refuses; /* one call in this number is refused; 0: none; 1: each */
 
 static uint64_t state = 1;
 
@@ -99,7 +99,7 @@ static void arrive(mg_die *die, uint32_t least, uint32_t most_ops, struct life *
     had->jobs++, had->operations += count;
 }
 
-/* Slots and arrivals, some between begin and end, until so much is left or all slots are over. */
+/* Slots and arrivals, some between begin and end, until `left` is used up or all slots are over. */
 static struct life play(mg_die *die, struct life left, uint32_t most_ops) {
     struct life had = {0, 0, 0};
     while (left.slots > 0) {

@@ -47,7 +47,7 @@ static void put_names(struct out *out, const struct mg_name *names, uint32_t cou
     }
 }
 
-/* Room for so many items, of at least one. */
+/* Room for `count` items, and for one at least. */
 static void *room(size_t count, size_t size) { return mg_alloc((count ? count : 1) * size, 4); }
 
 static void put_job(struct out *out, size_t die, uint32_t number, const struct mg_job_head *head,

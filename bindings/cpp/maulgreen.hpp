@@ -288,7 +288,7 @@ public:
         return said.block == MG_NOWHERE ? std::nullopt : std::optional<cell>(said);
     }
 
-    // The entries of the log from this one on, so many at most.
+    // At most `count` entries of the log, from entry `from` on.
     std::vector<entry> log(std::uint32_t from, std::size_t count) const {
         const std::uint64_t there = entries() > from ? entries() - from : 0;
         std::vector<::mg_entry> read(static_cast<std::size_t>(std::min<std::uint64_t>(there, count)));

@@ -193,7 +193,7 @@ def plan_by(dice):
 
 
 def life_within(plan, longest):
-    """The longest life of at most so many slots."""
+    """The longest life of at most `longest` slots."""
     return next((slots for slots in range(longest, 0, -1)
                  if plain_kept.arrivals_in(plan, slots) <= plain_kept.MOST_ARRIVALS and plain_kept.all_due(plan, slots)), None)
 

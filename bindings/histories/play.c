@@ -27,7 +27,7 @@ static void check(int holds, const char *what) {
 /* ---- The heap ---------------------------------------------------------------------------------------------------- */
 
 static uint64_t held;                  /* bytes in blocks that aren't given back */
-static uint32_t grants = UINT32_MAX;   /* so many calls are granted */
+static uint32_t grants = UINT32_MAX;   /* how many more calls are granted */
 static uint32_t asked, refused_calls, covered_calls; /* over all histories */
 
 void *mg_alloc(size_t size, size_t align) {
@@ -358,7 +358,7 @@ static void ask(mg_die *die) {
     fputc('\n', answers);
 }
 
-/* Slots or jobs are reserved, within a slot and of a stopped die, too. Where so many are already, no memory is needed. */
+/* Slots or jobs are reserved, within a slot and of a stopped die, too. Where as many are reserved already, no memory is needed. */
 static void reserve(mg_die *die) {
     uint32_t slots = random_below(6), to_come = random_below(4), operations = random_below(10), code;
     int covered = slots <= kept.slots, covers = to_come <= kept.jobs && operations <= kept.operations;

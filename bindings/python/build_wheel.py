@@ -11,7 +11,7 @@ import zipfile
 from pathlib import Path
 
 HERE = Path(__file__).resolve().parent
-NAME, VERSION = "maulgreen", "0.2.0"
+NAME, VERSION = "maulgreen", "0.3.0"
 TAG = "py3-none-" + sysconfig.get_platform().replace("-", "_").replace(".", "_")
 METADATA = f"""Metadata-Version: 2.1
 Name: {NAME}

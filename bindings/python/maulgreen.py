@@ -84,9 +84,9 @@ class Task(NamedTuple):
 
 
 class Terms(NamedTuple):
-    """What a task asks for of a die that keeps its plan: in any `period` slots `work` operations and `writes` writes at most, jobs due
-    `deadline` slots after their release, `held` as long or longer, a collection at each multiple of `collect_period`, due so many slots
-    later."""
+    """What a task asks for of a die that keeps its plan: in any `period` slots at most `work` operations and `writes` writes. A job is
+    due `deadline` slots after its release, and may hold its tokens for `held` slots, which are no fewer. A collection comes at each
+    multiple of `collect_period`, and is due `collect_deadline` slots later."""
     period: int
     deadline: int
     held: int
@@ -128,8 +128,9 @@ class Load(NamedTuple):
 
 
 class Memory(NamedTuple):
-    """How many bytes a die asks of the heap at most: at its birth; with so much reserved; by the end of a life in which nothing was;
-    what a question takes beside, and gives back; and what a die takes until it has gone on from a checkpoint."""
+    """How many bytes a die asks of the heap at most: at its birth; with what was asked about reserved; by the end of a life with that in
+    which nothing was reserved; what a question takes in addition, and gives back; and what a die takes until it has gone on from a
+    checkpoint."""
     birth: int
     reserved: int
     life: int
@@ -328,7 +329,7 @@ def plan_test(plan: Plan, tasks: Iterable[Task]) -> Load:
 
 
 def memory(plan: Plan, tasks: Iterable[Task], slots: int = 0, jobs: int = 0, operations: int = 0) -> Memory:
-    """How many bytes a die asks of the heap at most, for so many slots, jobs and operations."""
+    """How many bytes a die asks of the heap at most, where `slots`, `jobs` and `operations` are reserved or come."""
     said = _Bytes()
     _must(_lib.mg_memory(*_plan(plan, tasks), U32(_u32(slots)), U32(_u32(jobs)), U32(_u32(operations)), c.byref(said)))
     return Memory(said.birth, said.reserved, said.life, said.question, said.resume)
@@ -430,7 +431,7 @@ def _as_arrays(checkpoint: Checkpoint):
 
 
 def _checkpoint_by(call, plan: Plan, tasks: int) -> Checkpoint:
-    """What stands, as this call says it of a die of this plan and of so many tasks."""
+    """What stands, as this call says it of a die of this plan and of `tasks` tasks."""
     places, names, blocks = (_Place * plan.logical)(), (_Name * plan.logical)(), (_Block * plan.blocks)()
     balances, spare, why = (U32 * tasks)(), U32(), _Why()
     _must(call("checkpoint", places, c.c_size_t(plan.logical), names, c.c_size_t(plan.logical), blocks, c.c_size_t(plan.blocks),
@@ -536,7 +537,7 @@ class Die:
         _must(self._call("reserve", U32(_u32(slots))))
 
     def reserve_jobs(self, jobs: int, operations: int) -> None:
-        """Takes the memory for so many later jobs and collections, with so many operations in all; slots are reserved after it."""
+        """Takes the memory for `jobs` later jobs and collections, with `operations` operations in all; slots are reserved after it."""
         _must(self._call("reserve_jobs", U32(_u32(jobs)), U32(_u32(operations))))
 
     def renew(self) -> None:
@@ -579,7 +580,7 @@ class Die:
         return None if at.block == _NOWHERE else (at.block, at.page)
 
     def log(self, start: int = 0, count: int = 2**32 - 1) -> List[Entry]:
-        """The entries of the log from this one on, so many at most."""
+        """At most `count` entries of the log, from entry `start` on."""
         _u32(start), _u32(count)
         with self._lock:
             there = max(0, min(len(self) - start, count))

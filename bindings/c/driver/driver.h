@@ -43,7 +43,7 @@ struct driver {
 uint32_t driver_open(struct driver *driver);
 
 /* Asks for a write, which is done in some later slot. A die that keeps a plan says by which slot of its clock, and `slots` isn't
- * looked at; another one is asked for it within so many slots. */
+ * looked at; of another one the write is due within `slots` slots. */
 uint32_t driver_write(struct driver *driver, uint32_t task, uint32_t page, const uint8_t *payload, uint32_t slots, uint64_t *due);
 
 /* Asks for a page to be blank, as driver_write. */

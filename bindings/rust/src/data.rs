@@ -50,7 +50,7 @@ pub struct Times {
 /// What a task asks for.
 #[derive(Clone, Copy, PartialEq, Eq, Debug)]
 pub struct TaskTimes {
-    /// Its jobs come at most once in so many slots, and have as long: 1 to 1,048,576.
+    /// The slots from one job to the next, at least; a job is due as many slots after its release: 1 to 1,048,576.
     pub period: u32,
     /// Its collections come at each multiple of this, and have as long: 1 to 1,048,576.
     pub collect_period: u32,
@@ -255,9 +255,9 @@ impl Entered {
 pub struct Memory {
     /// From its birth on. Exact.
     pub birth: u64,
-    /// That, and with so much reserved at once, jobs first. Exact.
+    /// That, and with what was asked about reserved at once, jobs first. Exact.
     pub reserved: u64,
-    /// By the end of a life of so many slots, jobs and operations in which nothing was reserved.
+    /// By the end of a life with the slots, jobs and operations that were asked about, in which nothing was reserved.
     pub life: u64,
     /// What a question takes beside that, and gives back.
     pub question: u64,
@@ -361,7 +361,7 @@ pub struct Place {
     pub page: u32,
 }
 
-/// Of a block how many pages are programmed since its last erase, the first so many, and how often it was erased.
+/// Of a block how many pages are programmed since its last erase, which are its first ones, and how often it was erased.
 #[derive(Clone, Copy, PartialEq, Eq, Debug)]
 pub struct BlockCounts {
     pub filled: u32,

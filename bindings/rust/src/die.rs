@@ -37,8 +37,8 @@ impl Plan {
         Ok(Load { demand: load.demand, common: load.common })
     }
 
-    /// How many bytes a die asks of the heap at most, with so much reserved, or by the end of a life with so much in it. Refused as
-    /// [`Plan::bound`].
+    /// How many bytes a die asks of the heap at most: with these slots, jobs and operations reserved, and by the end of a life that
+    /// has them. Refused as [`Plan::bound`].
     pub fn memory(&self, slots: u32, jobs: u32, operations: u32) -> Result<Memory, Refusal> {
         let (plan, tasks) = self.raw();
         let mut said = raw::Bytes::default();
@@ -111,7 +111,7 @@ type TakeCheckpoint = unsafe extern "C" fn(
     *mut raw::Handle, *mut raw::Place, usize, *mut Name, usize, *mut raw::Block, usize, *mut u32, usize, *mut u32, *mut raw::Why,
 ) -> u32;
 
-/// What stands, as this call says it of a die of so many logical pages, blocks and tasks.
+/// What stands, as this call says it of a die with these counts of logical pages, blocks and tasks.
 ///
 /// # Safety
 /// The handle is full, and the call is one of its kind of die.
@@ -148,9 +148,9 @@ impl Die {
         Ok(Die { handle, counts })
     }
 
-    /// A die that goes on from a checkpoint, at slot 0 with an empty log. The chip has to be as that says: so many pages of each
-    /// block are programmed, and no block is in erase. What it has changed meanwhile is found: a read that gives another name
-    /// than the page has here is a fault.
+    /// A die that goes on from a checkpoint, at slot 0 with an empty log. The chip has to be as the checkpoint says: of each
+    /// block as many pages are programmed, and none is in erase. Where a page was changed meanwhile, its read is a fault, since
+    /// it gives another name than the page has here.
     ///
     /// Refused with the first that stands: `NoMemory`, which may come at any time; `Checkpoint` with what is wrong first with
     /// it, `BadPlan` coming behind [`Misfit::OtherShape`], and `WornOut` behind [`Misfit::SecondOpen`].
@@ -228,14 +228,14 @@ impl Die {
         Ok(Reply::of(&said, &waived))
     }
 
-    /// Takes the memory for so many later jobs and collections, with so many operations in all: while that lasts,
+    /// Takes the memory for `jobs` later jobs and collections, with `operations` operations in all: while that lasts,
     /// [`Die::submit`] and [`Die::collect`] ask the library's heap for nothing, and are never refused for it. `NoMemory` where it
     /// isn't there. Reserve slots after them: the other way round takes more.
     pub fn reserve_jobs(&mut self, jobs: u32, operations: u32) -> Result<(), Refusal> {
         plain(unsafe { raw::mg_reserve_jobs(&mut self.handle, jobs, operations) })
     }
 
-    /// Takes the memory for so many later slots, which then take none. `NoMemory` where it isn't there.
+    /// Takes the memory for `slots` later slots, which then take none. `NoMemory` where it isn't there.
     pub fn reserve(&mut self, slots: u32) -> Result<(), Refusal> {
         plain(unsafe { raw::mg_reserve(&mut self.handle, slots) })
     }
@@ -265,8 +265,8 @@ impl Die {
         (code == 0 && said.block != NOWHERE).then_some(Place { block: said.block, page: said.page })
     }
 
-    /// The entries of the log from this one on, counted from 0, so many at most. To find the first takes a step for each record
-    /// before it.
+    /// At most `count` entries of the log, from entry `from` on, counted from 0. To find the first takes a step for each
+    /// record before it.
     pub fn log(&self, from: u32, count: usize) -> Vec<Entry> {
         let there = self.entries().saturating_sub(u64::from(from)).min(count as u64) as usize;
         let mut said = vec![raw::Entry::default(); there];

@@ -9,11 +9,11 @@ use alloc::vec::Vec;
 /// What a task asks for of a die that keeps its plan. All times are in slots; `maulgreen.h` says the ranges.
 #[derive(Clone, Copy, PartialEq, Eq, Debug)]
 pub struct Terms {
-    /// In any so many slots the task asks for `work` operations in all at most, and for `writes` writes.
+    /// In any `period` slots the task asks for at most `work` operations in all, and for at most `writes` writes.
     pub period: u32,
-    /// A job is due so many slots after its release.
+    /// The slots from a job's release to its deadline.
     pub deadline: u32,
-    /// So long a job may hold the tokens for what it writes: `deadline`, or more.
+    /// The most slots for which a job may hold the tokens for what it writes: `deadline`, or more.
     pub held: u32,
     pub work: u32,
     pub writes: u32,

@@ -8,4 +8,4 @@ pub use arguments::{defaulted, flag, needed, option, plan_file, required, script
 pub use words::{value_at, value_in};
 
 /// The version of the programs.
-pub const VERSION: &str = "0.2.0";
+pub const VERSION: &str = "0.3.0";

@@ -15,7 +15,7 @@ pub divides_more : (period common more : ℕ) → common % period ≡ 0 → more
 divides_more period common more once again =
     mod-eq-zero_of_dvd period (dvd_trans period (dvd_of_mod-eq-zero period once) (dvd_of_mod-eq-zero common again))
 
--- a number is its quotient by a divisor so often
+-- a number is its quotient by a divisor, times the divisor
 parts_of : (n divisor : ℕ) → divisor ∣ n → n / divisor * divisor ≡ n
 parts_of n divisor divides = omega (arith, div-add-mod' n divisor, mod-eq-zero_of_dvd divisor divides)
 

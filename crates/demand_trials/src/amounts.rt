@@ -1,4 +1,4 @@
-//! What tasks may ask of so many slots, and of all slots in the long run.
+//! What tasks may ask of a number of slots, and of all slots in the long run.
 
 ghost use Rattle.std.specs.Prelude.{◌≡◌, ◌≤◌, length, sum_by, All};
 ghost use Rattle.plan_rules.specs.Bound.{MeetsBound};
@@ -35,7 +35,7 @@ fn one_load(plan: &DiePlan, task: &TaskTerms) -> u64
         + u64::from(collection) * MILLION / u64::from(task.collect_period)
 }
 
-// What all tasks may ask of so many slots: at most 16 times 1,049,152 times 1,048,577.
+// What all tasks may ask of `slots` slots: at most 16 times 1,049,152 times 1,048,577.
 pub(crate) fn total_demand(plan: &DiePlan, tasks: &[TaskTerms], slots: u32) -> u64
     requires bound { MeetsBound plan.now }
     requires few { length tasks.now ≤ 16 }

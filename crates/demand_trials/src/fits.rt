@@ -1,7 +1,7 @@
 //! Whether each interval has room for what may be asked of it.
 //!
-//! What may be asked of so many slots grows with their number. So it is looked at from above: where less is asked of so
-//! many slots than these, any fewer slots down to what is asked have room for it (Zhang and Burns 2009).
+//! What may be asked of `n` slots grows with `n`. So it is looked at from above: where less than `n` is asked of `n`
+//! slots, any fewer slots down to what is asked have room for it (Zhang and Burns 2009).
 
 ghost use Rattle.std.specs.Prelude.{◌↔◌, IsTrue};
 ghost use Rattle.plan_rules.specs.Bound.{MeetsBound};

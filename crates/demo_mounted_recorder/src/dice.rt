@@ -27,7 +27,7 @@ impl Dice {
 /// How a life ends.
 #[derive(Clone, Copy, PartialEq, Eq, Drop)]
 pub(crate) enum End {
-    /// Its start is cut: where what was saved is voided, or else in its mount, at the write after so many. A mount has
+    /// Its start is cut: where what was saved is voided, or else in its mount, after this number of writes. A mount has
     /// more.
     Start(u32),
     /// It works up to this slot, and then the next program is cut.

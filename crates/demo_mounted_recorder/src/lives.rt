@@ -21,7 +21,7 @@ use std::fs::OpenOptions;
 use std::io::Write;
 use std::rt::Files;
 
-/// In so many slots each die writes and erases.
+/// Within this number of slots each die writes and erases.
 const WAIT: u32 = 512;
 
 /// How a life begins.
@@ -134,7 +134,7 @@ impl Lives {
         self.tally.late = self.tally.late.saturating_add(late);
     }
 
-    /// A life after its start: all pages are looked at, and the recorder works for so many slots.
+    /// A life after its start: all pages are looked at, and the recorder works for `slots` slots.
     fn work<N: Nand>(
         &mut self,
         alloc: Global,
@@ -229,7 +229,7 @@ fn ended(end: Result<(), Stop>, power: &Cell<Power>, fate: &Fate) -> Result<(), 
     }
 }
 
-/// So many lives on the file of this name, each of which ends as the dice say.
+/// `count` lives on the file of this name, each of which ends as the dice say.
 pub(crate) fn run_lives<R: Files, W: Write>(
     rt: &R,
     alloc: Global,

@@ -1,8 +1,8 @@
 //! A recorder whose die lies in a file and is mounted from that: it survives each loss of power. After a clean shutdown it
 //! goes on from what was saved, without a mount.
 //!
-//! `demo_mounted_recorder FILE` records until it is ended. `demo_mounted_recorder FILE LIVES SEED` has so many lives, each of
-//! which ends by chance, with a loss of power or a clean shutdown.
+//! `demo_mounted_recorder FILE` records until it is ended. `demo_mounted_recorder FILE LIVES SEED` has `LIVES` lives,
+//! each of which ends by chance, with a loss of power or a clean shutdown.
 #![tactic(auto)]
 
 mod dice;

@@ -12,7 +12,7 @@ use std::io::ErrorKind;
 pub(crate) enum Cut {
     /// At none.
     Never,
-    /// In a start: where what was saved is voided, or else at the write of a cell after so many.
+    /// In a start: where what was saved is voided, or else after this number of writes of cells.
     Start(u32),
     /// At the next write of a program.
     Program,
@@ -120,7 +120,7 @@ fn no_power() -> io::Error {
     io::Error::from(ErrorKind::BrokenPipe)
 }
 
-/// What is left of a cell's write that is cut after so many bytes.
+/// What is left of a cell's write that is cut after `left` bytes.
 fn torn(old: &Record, new: &Record, left: u32) -> Record {
     let mut record = *old;
     for at in 0..36 {
@@ -131,7 +131,7 @@ fn torn(old: &Record, new: &Record, left: u32) -> Record {
     record
 }
 
-/// The first bytes, so many.
+/// The first `count` bytes.
 fn first_of(bytes: &[u8], count: u32) -> &[u8] {
     let (first, _) = bytes.split_at(bytes.len().min(count as usize));
     first

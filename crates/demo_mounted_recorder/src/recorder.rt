@@ -12,7 +12,7 @@ use std::alloc::Global;
 /// The recorder calls the die by this number.
 const CALLER: u32 = 0;
 
-/// No look at the pages takes more slots: the reader may ask for one in so many.
+/// No look at the pages takes more slots: the reader may ask for one once in as many.
 const LOOK: u32 = 128;
 
 /// Carries out a slot.

@@ -6,7 +6,7 @@ use crate::power::{CELL, Leaves, SEAL, TEXT};
 use std::io;
 use std::io::Write;
 
-/// Prints what is left of the write at which the power went, which has so many bytes.
+/// Prints what is left of the write at which the power went, which has `count` bytes.
 fn print_left<W: Write>(out: &mut W, leaves: Leaves, count: u32) -> io::Result<()> {
     match leaves {
         Leaves::Nothing => writeln!(out, "nothing of it is left"),

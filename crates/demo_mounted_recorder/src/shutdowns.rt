@@ -17,7 +17,7 @@ use saving_nand::SavingNand;
 use std::alloc::Global;
 use std::cell::Cell;
 
-/// In so many slots without an ask all is done, and the collections have filled each account.
+/// After this number of slots without an ask all is done, and the collections have filled each account.
 const QUIET: u32 = 1024;
 
 /// Whether each task has as many pages as it may have.

@@ -2,7 +2,6 @@
 
 use ongoing_die::{AskRefusal, AskStop, Taken};
 use planned_ports::AskRefused;
-use slot_types::JobNo;
 
 /// An ask that was accepted: slots are those of the clock of all lives.
 #[derive(Clone, Copy, Drop)]
@@ -11,29 +10,20 @@ pub(crate) struct Accepted {
     pub(crate) due: u64,
     /// It waited for the life of its release.
     pub(crate) waited: bool,
-    /// Its number in that life; 0 where it waited, since it had none yet.
-    pub(crate) job: JobNo,
 }
 
 /// What was accepted.
 fn accepted_as(taken: Taken) -> Accepted {
     match taken {
-        Taken::Enters {
-            release,
-            due,
-            first,
-            ..
-        } => Accepted {
+        Taken::Enters { release, due, .. } => Accepted {
             release,
             due,
             waited: false,
-            job: first,
         },
         Taken::Waits { release, due } => Accepted {
             release,
             due,
             waited: true,
-            job: JobNo(0),
         },
     }
 }

@@ -7,10 +7,9 @@ use crate::babbler::run_babbler;
 use crate::plan::OWN_PAGES;
 use crate::ports::{Ports, Shared, closed, opened};
 use crate::stops::Stop;
-use crate::tasks::{CONTROL_TASK, Diary, LOGGER_TASK, run_task};
+use crate::tasks::{CONTROL_TASK, Diary, LOGGER_TASK, run_task, take_outcomes};
 use crate::timer::{Ticked, run_timer};
 use flash_die::Nand;
-use ongoing_die::OngoingDie;
 use planned_ports::{ClockPort, SharedPlannedDie, TaskPort};
 use std::alloc::Global;
 use std::sync::Wait;
@@ -18,6 +17,7 @@ use std::sync::atomic::{AtomicBool, Ordering};
 use std::thread;
 use std::thread::Threads;
 use std::time::Clock;
+use task_outcomes::OutcomeDie;
 
 /// What the threads of a die were answered.
 #[derive(Drop)]
@@ -40,7 +40,7 @@ impl Diaries {
     /// Empty ones, with room for all jobs of a task, for a die whose lives have `life` slots.
     fn new(alloc: Global, life: u32) -> Result<Diaries, Stop> {
         Ok(Diaries {
-            ticked: Ticked::new(alloc, life),
+            ticked: Ticked::new(life),
             control: Diary::new(alloc, &CONTROL_TASK)?,
             logger: Diary::new(alloc, &LOGGER_TASK)?,
         })
@@ -179,11 +179,25 @@ fn run_threads<N: Nand + Send, R: Clock + Threads + Wait + Sync>(
 pub(crate) fn run_die<N: Nand + Send, R: Clock + Threads + Wait + Sync>(
     rt: &R,
     alloc: Global,
-    die: Box<OngoingDie<N>>,
-) -> Result<(Box<OngoingDie<N>>, Reported), Stop> {
-    let diaries = Diaries::new(alloc, die.die().life())?;
+    die: Box<OutcomeDie<N>>,
+) -> Result<(Box<OutcomeDie<N>>, Reported), Stop> {
+    let diaries = Diaries::new(alloc, die.die().die().life())?;
     let Shared { die, ports, list } = opened(rt, alloc, die, &OWN_PAGES)?;
-    let (ports, reported) = run_threads(rt, &die, ports, diaries);
+    let (mut ports, mut reported) = run_threads(rt, &die, ports, diaries);
+    take_outcomes(
+        rt,
+        &die,
+        &mut ports.control,
+        &CONTROL_TASK,
+        &mut reported.control,
+    );
+    take_outcomes(
+        rt,
+        &die,
+        &mut ports.logger,
+        &LOGGER_TASK,
+        &mut reported.logger,
+    );
     let die = closed(rt, alloc, Shared { die, ports, list })?;
     Ok((die, reported))
 }

@@ -21,7 +21,6 @@ use crate::pages::read_pages;
 use crate::plan::{Device, ENDURANCES, new_die};
 use crate::report::{print_die, print_pages};
 use crate::stops::Stop;
-use ongoing_die::OngoingDie;
 use slot_types::Refusal;
 use std::alloc::Global;
 use std::io::Write;
@@ -30,9 +29,10 @@ use std::sync::Wait;
 use std::thread;
 use std::thread::Threads;
 use std::time::Clock;
+use task_outcomes::OutcomeDie;
 
 /// A die that was closed, with what its threads were answered.
-type Closed = (Box<OngoingDie<Device>>, Reported);
+type Closed = (Box<OutcomeDie<Device>>, Reported);
 
 /// Runs both dies at once. Neither waits for the other.
 fn run_dies<R: Clock + Threads + Wait + Sync>(
@@ -47,7 +47,7 @@ fn run_dies<R: Clock + Threads + Wait + Sync>(
 
 /// Prints what the threads of a die were answered.
 fn print_closed<W: Write>(out: &mut W, number: usize, closed: &Closed) -> Result<(), Refusal> {
-    let tally = closed.0.die().core().device().tally();
+    let tally = closed.0.die().die().core().device().tally();
     print_die(out, number, &closed.1, tally)
 }
 

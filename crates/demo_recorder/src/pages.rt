@@ -6,12 +6,11 @@ use crate::answers::accepted_in;
 use crate::ports::{Shared, closed, opened};
 use crate::stops::Stop;
 use flash_die::Nand;
-use ongoing_die::OngoingDie;
 use planned_ports::{ClockPort, SharedPlannedDie, TaskPort};
-use slot_core::Outcome;
-use slot_types::{JobNo, Op, PageData};
+use slot_types::{Op, PageData};
 use std::alloc::Global;
 use std::sync::Wait;
+use task_outcomes::{OutcomeDie, TaskOutcome};
 
 /// A job reads two pages, and is done in as many slots as it may be asked for once.
 const SLOTS: u32 = 8;
@@ -26,53 +25,57 @@ fn carry<N: Nand, R: Wait>(rt: &R, die: &SharedPlannedDie<N>, timer: &mut ClockP
     }
 }
 
-/// Asks for two pages, and carries out the slots until they are read. It answers the number of the job; none where it
-/// isn't one of the present life.
+/// What the two reads of a job gave.
+fn given(outcome: &TaskOutcome) -> Option<[PageData; 2]> {
+    match (outcome.reads.get(0), outcome.reads.get(1)) {
+        (Some(one), Some(other)) => Some([*one, *other]),
+        _ => None,
+    }
+}
+
+/// What the reads gave of the job whose outcome the port takes next.
+fn taken<N: Nand, R: Wait>(
+    rt: &R,
+    die: &SharedPlannedDie<N>,
+    port: &mut TaskPort<N>,
+) -> Option<[PageData; 2]>
+    requires { port.old.lock ≡ die.now }
+    ensures { port.new.lock ≡ die.now }
+{
+    match port.take_outcome(rt, die) {
+        Ok(Some(outcome)) => given(&outcome),
+        _ => None,
+    }
+}
+
+/// Asks for two pages, and carries out the slots until they are read. It answers what they hold; none where the job isn't one
+/// of the present life, or isn't done.
 fn read_two<N: Nand, R: Wait>(
     rt: &R,
     die: &SharedPlannedDie<N>,
     timer: &mut ClockPort<N>,
     port: &mut TaskPort<N>,
     pages: [u32; 2],
-) -> Option<JobNo>
+) -> Option<[PageData; 2]>
     requires timer { timer.old.lock ≡ die.now }
     requires port { port.old.lock ≡ die.now }
     ensures timer { timer.new.lock ≡ die.now }
     ensures port { port.new.lock ≡ die.now }
 {
     let answer = port.ask(rt, die, &[Op::Read(pages[0]), Op::Read(pages[1])]);
-    let accepted = accepted_in(answer);
     carry(rt, die, timer);
-    match accepted {
-        Some(accepted) if !accepted.waited => Some(accepted.job),
+    match accepted_in(answer) {
+        Some(accepted) if !accepted.waited => taken(rt, die, port),
         _ => None,
     }
 }
 
-/// What the reads of a job gave.
-fn given<N: Nand>(
-    alloc: Global,
-    die: &OngoingDie<N>,
-    job: Option<JobNo>,
-) -> Result<[PageData; 2], Stop> {
-    let Some(job) = job else {
-        return Err(Stop::NotRead);
-    };
-    match die.die().core().outcome(alloc, job)? {
-        Outcome::Done { reads, .. } => match (reads.get(0), reads.get(1)) {
-            (Some(one), Some(other)) => Ok([*one, *other]),
-            _ => Err(Stop::NotRead),
-        },
-        _ => Err(Stop::NotRead),
-    }
-}
-
-/// Opens a die, reads its six pages through the control's port, which may now use all, and closes it. `NotRead`, where it
-/// takes no more jobs, or its life is over before these are done.
+/// Opens a die, whose control has taken all its outcomes, reads its six pages through the control's port, which may now use all,
+/// and closes it. `NotRead`, where it takes no more jobs, or its life is over before these are done.
 pub(crate) fn read_pages<N: Nand, R: Wait>(
     rt: &R,
     alloc: Global,
-    die: Box<OngoingDie<N>>,
+    die: Box<OutcomeDie<N>>,
 ) -> Result<[[PageData; 2]; 3], Stop> {
     let Shared {
         die,
@@ -82,10 +85,9 @@ pub(crate) fn read_pages<N: Nand, R: Wait>(
     let one = read_two(rt, &die, &mut ports.timer, &mut ports.control, [0, 1]);
     let two = read_two(rt, &die, &mut ports.timer, &mut ports.control, [2, 3]);
     let three = read_two(rt, &die, &mut ports.timer, &mut ports.control, [4, 5]);
-    let die = closed(rt, alloc, Shared { die, ports, list })?;
-    Ok([
-        given(alloc, &die, one)?,
-        given(alloc, &die, two)?,
-        given(alloc, &die, three)?,
-    ])
+    let _ = closed(rt, alloc, Shared { die, ports, list })?;
+    match (one, two, three) {
+        (Some(one), Some(two), Some(three)) => Ok([one, two, three]),
+        _ => Err(Stop::NotRead),
+    }
 }

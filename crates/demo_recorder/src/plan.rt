@@ -4,13 +4,14 @@ ghost use Rattle.std.specs.Prelude.{◌≡◌, IfOk};
 ghost use Rattle.flash_die.specs.Flash.{IsFresh};
 
 use crate::nand::WearNand;
-use crate::stops::{Stop, boxed};
+use crate::stops::{Stop, boxed, or_stop};
 use demand_rules::{TaskTerms, Terms, TermsList};
 use flash_die::{MemoryNand, Nand};
 use ongoing_die::OngoingDie;
 use planned_ports::PageRange;
 use slot_types::{Caps, DiePlan, Refusal, Shape};
 use std::alloc::Global;
+use task_outcomes::OutcomeDie;
 
 /// The device of each die.
 pub(crate) type Device = WearNand<MemoryNand>;
@@ -85,13 +86,16 @@ fn die_plan(alloc: Global) -> Result<DiePlan, Refusal> {
 }
 
 /// A die with this device. Refused where the plan doesn't pass its test.
-fn die_on<N: Nand>(alloc: Global, device: N) -> Result<OngoingDie<N>, Stop>
+fn die_on<N: Nand>(alloc: Global, device: N) -> Result<OutcomeDie<N>, Stop>
     requires { IsFresh (N.shape_of device) (N.blocks device) (N.failures device) }
 {
     let plan = die_plan(alloc)?;
     let terms = terms(alloc)?;
     match OngoingDie::new(alloc, plan, terms, LONGEST, device) {
-        Ok(die) => Ok(die),
+        Ok(die) => or_stop(
+            OutcomeDie::new(alloc, die),
+            Stop::Refused(Refusal::NoMemory),
+        ),
         Err(refusal) => Err(Stop::NoDie(refusal)),
     }
 }
@@ -106,7 +110,7 @@ fn device(alloc: Global, endurance: u32) -> Result<Device, Refusal>
 }
 
 /// A new die, whose blocks last for `endurance` erases.
-pub(crate) fn new_die(alloc: Global, endurance: u32) -> Result<Box<OngoingDie<Device>>, Stop> {
+pub(crate) fn new_die(alloc: Global, endurance: u32) -> Result<Box<OutcomeDie<Device>>, Stop> {
     let device = device(alloc, endurance)?;
     boxed(alloc, die_on(alloc, device)?)
 }

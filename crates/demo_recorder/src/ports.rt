@@ -4,10 +4,10 @@ ghost use Rattle.std.specs.Prelude.{◌≡◌, All, IfOk, IfSome};
 
 use crate::stops::{Stop, boxed, or_stop};
 use flash_die::Nand;
-use ongoing_die::OngoingDie;
 use planned_ports::{ClockPort, Opened, PageRange, SharedPlannedDie, TaskPort, close, open};
 use std::alloc::Global;
 use std::sync::Wait;
+use task_outcomes::OutcomeDie;
 
 /// The ports of a die: one for its timer, and one for each of its tasks.
 #[derive(Drop)]
@@ -81,7 +81,7 @@ fn of_three<N: Nand>(opened: Opened<N>) -> Option<Shared<N>>
 pub(crate) fn opened<N: Nand, R: Wait>(
     rt: &R,
     alloc: Global,
-    die: Box<OngoingDie<N>>,
+    die: Box<OutcomeDie<N>>,
     pages: &[Option<PageRange>],
 ) -> Result<Shared<N>, Stop>
     ensures timer { IfOk result (λ s. s.ports.timer.lock ≡ s.die) }
@@ -107,7 +107,7 @@ fn close_all<N: Nand, R: Wait>(
     die: SharedPlannedDie<N>,
     timer: ClockPort<N>,
     list: Vec<TaskPort<N>>,
-) -> Result<Box<OngoingDie<N>>, Stop>
+) -> Result<Box<OutcomeDie<N>>, Stop>
     requires timer { timer.lock ≡ die }
     requires list { All (λ port. port.lock ≡ die) list.items }
 {
@@ -122,7 +122,7 @@ pub(crate) fn closed<N: Nand, R: Wait>(
     rt: &R,
     alloc: Global,
     shared: Shared<N>,
-) -> Result<Box<OngoingDie<N>>, Stop>
+) -> Result<Box<OutcomeDie<N>>, Stop>
     requires timer { shared.ports.timer.lock ≡ shared.die }
     requires control { shared.ports.control.lock ≡ shared.die }
     requires logger { shared.ports.logger.lock ≡ shared.die }

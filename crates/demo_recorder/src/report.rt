@@ -1,6 +1,6 @@
 //! What the recorder prints of its dies, once they are closed. It prints nothing that depends on which thread was first.
 
-use crate::answers::{Accepted, Answers};
+use crate::answers::Answers;
 use crate::dies::Reported;
 use crate::in_time::late;
 use crate::nand::Tally;
@@ -103,11 +103,8 @@ fn print_reported<W: Write>(
     said: &Reported,
     tally: &Tally,
 ) -> io::Result<()> {
-    let control = said.control.accepted.as_slice();
-    let logger = said.logger.accepted.as_slice();
-    let none: &[Accepted] = &[];
-    let control_late = late(control, none, &said.ticked);
-    let logger_late = late(logger, control, &said.ticked);
+    let control_late = late(&said.control, &said.ticked);
+    let logger_late = late(&said.logger, &said.ticked);
     write!(out, "die {number}: ")?;
     print_lives(out, &said.ticked, tally)?;
     print_diary(out, "control", &said.control, control_late)?;

@@ -13,6 +13,7 @@ use std::alloc::{AllocError, Global};
 use std::sync::Wait;
 use std::thread;
 use std::time::{Clock, Duration};
+use task_outcomes::TaskOutcome;
 
 /// How far apart a task's looks at the clock are at least, in microseconds.
 const LOOK: u64 = 50;
@@ -57,6 +58,23 @@ impl Task {
     }
 }
 
+impl Task {
+    /// Whether this is the outcome of the job that was accepted so, after as many others: done by its deadline, and its read gave
+    /// what the task's job before on that page wrote, if there is one.
+    fn is_told(&self, before: usize, asked: &Accepted, outcome: &TaskOutcome) -> bool {
+        let job = u32::try_from(before).unwrap_or(u32::MAX).saturating_add(1);
+        let wrote = job.saturating_sub(self.pages);
+        let has_read = match outcome.reads.get(0) {
+            Some(page) => wrote == 0 || job_in(*page) == wrote,
+            None => false,
+        };
+        has_read
+            && outcome.release == asked.release
+            && outcome.due == asked.due
+            && outcome.completion <= asked.due
+    }
+}
+
 /// What the job of this number writes.
 fn sample(job: u32) -> PageData {
     let mut bytes = [0; 16];
@@ -81,11 +99,15 @@ fn next_after(accepted: &Option<Accepted>, slot: u64, period: u32) -> u64 {
     }
 }
 
-/// What a task was answered, and which of its asks were accepted.
+/// What a task was answered, which of its asks were accepted, and how many of their outcomes it took.
 #[derive(Drop)]
 pub(crate) struct Diary {
     pub(crate) answers: Answers,
     pub(crate) accepted: Vec<Accepted>,
+    /// How many outcomes it took. They come in the order of its asks.
+    pub(crate) told: usize,
+    /// How many of these weren't as they ought to be: of the ask, in time, and read from the page what was written there last.
+    pub(crate) wrong: u32,
 }
 
 impl Diary {
@@ -95,7 +117,21 @@ impl Diary {
         Ok(Diary {
             answers: NONE_YET,
             accepted,
+            told: 0,
+            wrong: 0,
         })
+    }
+
+    /// Notes what became of the task's next job.
+    fn note_outcome(&mut self, task: &Task, outcome: &TaskOutcome) {
+        let is_right = match self.accepted.get(self.told) {
+            Some(asked) => task.is_told(self.told, asked, outcome),
+            None => false,
+        };
+        if !is_right {
+            self.wrong = self.wrong.saturating_add(1);
+        }
+        self.told = self.told.saturating_add(1);
     }
 
     /// Notes what was accepted, if something was.
@@ -121,6 +157,25 @@ impl Diary {
     }
 }
 
+/// Takes all outcomes that there are, and notes them.
+pub(crate) fn take_outcomes<N: Nand, R: Wait>(
+    rt: &R,
+    die: &SharedPlannedDie<N>,
+    port: &mut TaskPort<N>,
+    task: &Task,
+    diary: &mut Diary,
+)
+    requires { port.old.lock ≡ die.now }
+    ensures { port.new.lock ≡ die.now }
+{
+    for _ in 0..u64::MAX {
+        match port.take_outcome(rt, die) {
+            Ok(Some(outcome)) => diary.note_outcome(task, &outcome),
+            _ => break,
+        }
+    }
+}
+
 /// Asks for the next job, where the clock has come to the slot `from`. It answers from which one on the task may ask then.
 fn ask_from<N: Nand, R: Clock + Wait>(
     rt: &R,
@@ -133,6 +188,7 @@ fn ask_from<N: Nand, R: Clock + Wait>(
     requires { port.old.lock ≡ die.now }
     ensures { port.new.lock ≡ die.now }
 {
+    take_outcomes(rt, die, port, task, diary);
     // A die that is stopped has no clock: then the task asks, and ends with the answer.
     let slot = port.clock(rt, die).unwrap_or(u64::MAX);
     if slot < from {

@@ -4,8 +4,6 @@ ghost use Rattle.std.specs.Prelude.{◌≡◌};
 
 use flash_die::Nand;
 use planned_ports::{ClockPort, SharedPlannedDie, SlotRefused};
-use slot_types::{JobNo, SlotReply};
-use std::alloc::Global;
 use std::sync::Wait;
 use std::sync::atomic::{AtomicBool, Ordering};
 use std::thread;
@@ -14,13 +12,6 @@ use std::time::{Clock, Duration};
 /// How far apart the ticks are at least, in microseconds.
 const TICK: u64 = 10;
 
-/// A job or a collection that was done in this slot of the clock of all lives, with its number in the life of that.
-#[derive(Clone, Copy, Drop)]
-pub(crate) struct Finished {
-    pub(crate) slot: u64,
-    pub(crate) job: JobNo,
-}
-
 /// What came of the ticks.
 #[derive(Drop)]
 pub(crate) struct Ticked {
@@ -28,17 +19,15 @@ pub(crate) struct Ticked {
     pub(crate) life: u32,
     /// How many slots were carried out.
     pub(crate) slots: u64,
-    pub(crate) finished: Vec<Finished>,
     /// Why a slot wasn't, where one wasn't.
     pub(crate) stop: Option<SlotRefused>,
 }
 
 impl Ticked {
-    pub(crate) fn new(alloc: Global, life: u32) -> Ticked {
+    pub(crate) fn new(life: u32) -> Ticked {
         Ticked {
             life,
             slots: 0,
-            finished: Vec::new(alloc),
             stop: None,
         }
     }
@@ -46,15 +35,6 @@ impl Ticked {
     /// How many lives were over in this slot of the clock of all lives.
     pub(crate) fn lives_before(&self, slot: u64) -> u64 {
         slot.checked_div(u64::from(self.life)).unwrap_or(0)
-    }
-
-    fn note(&mut self, reply: &SlotReply) {
-        if let Some(job) = reply.finished {
-            let slot = self.slots;
-            // Where memory is refused it isn't noted, and found late.
-            let _ = self.finished.push(Finished { slot, job }).is_ok();
-        }
-        self.slots = self.slots.saturating_add(1);
     }
 
     /// One tick: the die carries out its present slot.
@@ -68,7 +48,7 @@ impl Ticked {
         ensures { clock.new.lock ≡ die.now }
     {
         match clock.slot(rt, die) {
-            Ok(reply) => self.note(&reply),
+            Ok(_) => self.slots = self.slots.saturating_add(1),
             Err(refused) => self.stop = Some(refused),
         }
     }

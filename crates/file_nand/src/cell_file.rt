@@ -64,7 +64,8 @@ fn read_at<F: Read + Seek>(file: &mut F, position: u64, bytes: &mut [u8]) -> io:
     }
 }
 
-/// Where a cell of a block of so many pages lies in a file; that of the block past the last one is where the cells end.
+/// Where a cell lies in a file whose blocks have `pages` pages; that of the block past the last one is where the cells
+/// end.
 fn position_of(pages: u32, block: u32, page: u32) -> u64 {
     let first = u64::from(block).saturating_mul(u64::from(pages));
     let cell = first.saturating_add(u64::from(page));

@@ -45,7 +45,7 @@ impl<S: CellStore> Model for FileNand<S> {
     }) };
 }
 
-/// The first of the cells, of so many, that a slot of an erase wipes: so many slots were before, of so many.
+/// The first of a block's `pages` cells that a slot of an erase wipes, after `done` of its `slots` slots.
 fn first_wiped(pages: u32, done: u32, slots: u32) -> u32 {
     let before = u64::from(pages) * u64::from(done);
     let share = before.checked_div(u64::from(slots)).unwrap_or(0);

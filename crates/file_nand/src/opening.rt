@@ -56,7 +56,7 @@ fn put(mirror: &mut LabelledMemory, place: Place, cell: MarkedCell)
     }
 }
 
-/// Programs the first cells of a free block, so many, as the store has them.
+/// Programs the first `cells` cells of a free block, as the store has them.
 fn fill_block<S: CellStore>(
     mirror: &mut LabelledMemory,
     store: &mut S,

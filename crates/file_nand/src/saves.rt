@@ -152,7 +152,7 @@ fn sealed(bytes: &[u8]) -> Result<&[u8], NoSaved> {
     }
 }
 
-/// So many blocks, each with no more programmed pages than it has. Erases are counted anew from the power-up on.
+/// `blocks` blocks, each with at most `pages` programmed pages. Erases are counted anew from the power-up on.
 fn counts_in(
     alloc: Global,
     words: &mut Words<'_>,
@@ -173,7 +173,7 @@ fn counts_in(
     Ok(counts)
 }
 
-/// So many pages, each with its cell if it lies in one.
+/// `pages` pages, each with its cell if it lies in one.
 fn places_in(
     alloc: Global,
     words: &mut Words<'_>,
@@ -191,7 +191,7 @@ fn places_in(
     Ok(places)
 }
 
-/// So many numbers.
+/// The next `count` numbers.
 fn numbers_in(alloc: Global, words: &mut Words<'_>, count: u32) -> Result<Vec<u32>, NoSaved> {
     let mut numbers = Vec::new(alloc);
     for _ in 0..count {

@@ -75,7 +75,7 @@ pub record GoesBySeen (plan : DiePlan) (seen : Shown) (m : Mounting) : Type 0 wh
   pub above : IsAbove seen all_count next
   pub is : IsMountOf seen erased next acts m
 
--- so much was seen of the part of this plan: the blocks that were reported so far, or all of them
+-- what a mount has seen of the part of this plan: the blocks that were reported so far, or all of them
 abbrev pub HasSeen : DiePlan → Shown → Recovery → Type 0
 HasSeen plan seen (recovery.Scan own scan) = (own ≡ plan) × IsScanOf (part_of plan) scan seen
 HasSeen plan seen (recovery.Again own before again block) = (own ≡ plan) × IsScanOf (part_of plan) before seen

@@ -68,7 +68,7 @@ task_terms_in t = record {
 abbrev pub terms_in : List FlashTerms → Terms
 terms_in terms = record { tasks = map task_terms_in terms }
 
--- so many operations are as many as any ask may have, of a job or of a burst, and one more
+-- `room` operations are as many as any ask may have, of a job or of a burst, and one more
 pub record HasRoom (terms : Terms) (room : ℕ) : Type 0 where
   pub job : 65 ≤ room
   pub burst : All (λ t. t.work < room) terms.tasks

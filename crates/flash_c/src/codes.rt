@@ -94,7 +94,7 @@ pub const WAITS_ALREADY: u32 = 403;
 /// A job would be due after its die's life.
 pub const LIFE_END: u32 = 404;
 
-/// No life of so many slots or fewer.
+/// No life has at most the slots that were allowed.
 pub const NO_LIFE: u32 = 405;
 
 /// A life is shorter than a task's deadline.

@@ -262,7 +262,7 @@ pub extern "C" fn flash_end(
     }
 }
 
-/// Takes the memory for this many later slots. Each renewal reserves as many again.
+/// Takes the memory for `slots` later slots. Each renewal reserves as many again.
 #[unsafe(no_mangle)]
 pub extern "C" fn flash_reserve(alloc: Global, die: &mut Handle, slots: u32) -> u32
     ghost held: { Stepped }
@@ -282,8 +282,8 @@ pub extern "C" fn flash_reserve(alloc: Global, die: &mut Handle, slots: u32) -> 
     }
 }
 
-/// Takes the memory for this many later jobs and collections, with so many operations in all. Each renewal reserves as
-/// many again.
+/// Takes the memory for `jobs` later jobs and collections, with `operations` operations in all. Each renewal reserves
+/// as many again.
 #[unsafe(no_mangle)]
 pub extern "C" fn flash_reserve_jobs(
     alloc: Global,

@@ -2,29 +2,29 @@
 //! pointers where it is refused.
 #![tactic(auto)]
 
-pub mod audits;
-pub mod checkpoints;
+mod audits;
+mod checkpoints;
 mod codes;
 mod counts;
-pub mod entries;
-pub mod exports;
+mod entries;
+mod exports;
 mod handles;
 mod kept;
 mod lists;
 mod loose;
 mod mount_handles;
-pub mod mounts;
+mod mounts;
 mod names;
-pub mod planned;
+mod planned;
 mod planned_codes;
 mod planned_handles;
-pub mod planned_resumptions;
+mod planned_resumptions;
 mod planned_said;
 mod plans;
-pub mod queries;
+mod queries;
 mod recoveries;
 mod said;
-pub mod shapes;
+mod shapes;
 mod slots;
 mod texts;
 mod times;

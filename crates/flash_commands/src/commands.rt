@@ -46,14 +46,14 @@ fn value<'a>(met: &ArgMatches<'a>, id: &str) -> Option<&'a str>
     met.get_str(id)
 }
 
-/// So many slots as a text writes, if a run can have them.
+/// The number of slots that a text writes, if a run can have that many.
 fn slots_in(text: &str) -> Option<Slots>
     ensures { option_map (λ slots. slots.count) result ≡ number_between 0 1048576 text.now }
 {
     Slots::new(number(text.as_bytes())?)
 }
 
-/// So many workers as a text writes, if a run can have them.
+/// The number of workers that a text writes, if a run can have that many.
 fn workers_in(text: &str) -> Option<Workers>
     ensures { option_map (λ workers. workers.count) result ≡ number_between 1 16 text.now }
 {

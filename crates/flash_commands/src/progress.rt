@@ -177,7 +177,7 @@ impl<'a, R: Clock + Eprint, F> Watched<'a, R, F> {
         }
     }
 
-    /// How much of so many bytes is read at once.
+    /// How many of `len` bytes are read at once.
     fn at_once(&self, len: usize) -> usize
         ensures { result ≤ len }
     {

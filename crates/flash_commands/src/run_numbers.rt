@@ -14,7 +14,7 @@ pub struct Slots {
 }
 
 impl Slots {
-    /// So many slots, if they are no more than 1,048,576.
+    /// `count` slots, if that is at most 1,048,576.
     pub fn new(count: u32) -> Option<Slots>
         ensures { option_map (λ slots. slots.count) result ≡ number_within 0 1048576 count }
     {
@@ -36,7 +36,7 @@ pub struct Workers {
 }
 
 impl Workers {
-    /// So many workers, if there are 1 to 16.
+    /// `count` workers, if that is 1 to 16.
     pub fn new(count: u32) -> Option<Workers>
         ensures { option_map (λ workers. workers.count) result ≡ number_within 1 16 count }
     {

@@ -4,12 +4,14 @@
 mod places;
 mod whole_files;
 
-ghost use Rattle.tool_command_words.specs.RequestTexts.{RequestFits};
+ghost use Rattle.flashplan_words.specs.RequestTexts.{RequestFits};
 
 use flash_commands::{
     Fault, Heard, Noted, Shown, WatchedDisk, clears_lines, end, own_words, report_more,
     report_unwritten, show,
 };
+use flashplan_commands::{act_asked, slots_of, texts_of};
+use flashplan_words::{Asked, read_words};
 use slot_types::Refusal;
 use std::alloc::Global;
 use std::io;
@@ -17,8 +19,6 @@ use std::io::{ErrorKind, IsTerminal, Write};
 use std::process::ExitCode;
 use std::rt::{Clock, Files};
 use text_base::{Flagged, Output};
-use tool_command_words::{Asked, read_words};
-use tool_commands::{act_asked, slots_of, texts_of};
 use whole_files::DiskShelf;
 
 /// What is shown on a terminal of the files that are read: of a script how far it is run, of others how much was read.

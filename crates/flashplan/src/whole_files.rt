@@ -2,13 +2,13 @@
 //! device or a pipe.
 
 use crate::places::{Place, is_one_place, place_of};
+use flashplan_commands::{Shelf, Unput};
 use std::alloc::Global;
 use std::fs::{Metadata, OpenFile, OpenOptions};
 use std::io::{ErrorKind, Write};
 use std::os::unix::fs::{MetadataExt, OpenOptionsExt, lchown};
 use std::rt::Files;
 use std::{fs, io};
-use tool_commands::{Shelf, Unput};
 
 /// How many names a new file is tried by, if files of the others are there.
 const TRIES: u32 = 1_000;

@@ -11,11 +11,11 @@ use Rattle.labelled_die.specs.declared.scanning.PartFault.TheVariants as faults
 use Rattle.power_loss.specs.Aside.{part_of}
 use Rattle.power_loss.specs.Labels.{Label, Labels, Shown, label_at}
 
--- so many cells of a block, from the first one on
+-- the first `count` cells of a block
 abbrev pub cells_shown : Shown → (block count : ℕ) → List (Option Label)
 cells_shown blocks block count = map (λ page. label_at blocks (record { block = block; page = page })) (range_with_len 0 count)
 
--- each cell of so many blocks
+-- each cell of the first `count` blocks
 abbrev pub blocks_shown : Shown → (pages count : ℕ) → Shown
 blocks_shown blocks pages count = map (λ block. cells_shown blocks block pages) (range_with_len 0 count)
 

@@ -107,7 +107,7 @@ torn_block items b page r new lt is cells erasing erases =
     map-set cells_of items b new
     ∙ ap (set (map cells_of items) b) (own ∙ ap (torn_at page) (sym (get_or-map cells_of items b r no_cells lt ∙ ap cells_of (sym is))))
 
--- as many blocks as so many are closed, and the others are as they were
+-- the first `i + 1` blocks are closed, where the first `i` are and one more is; the others are as they were
 pub closed_more : (pages i : ℕ) (items start : List MarkedBlock) (old new : MarkedBlock) → i < length items → drop i items ≡ drop i start
     → old ≡ get_or items i old → cells_of new ≡ closed_cells pages (cells_of old)
     → map cells_of (take i items) ≡ map (closed_cells pages) (map cells_of (take i start))

@@ -13,7 +13,7 @@ serial_after serial = min (serial + 1) (2 ^ 64 - 1)
 abbrev pub labels_after_unnamed : ℕ → Labels → Labels
 labels_after_unnamed b l = record l { blocks = slice_set l.blocks b (labels_in l.blocks b ++ None ∷ []) }
 
--- where the blocks were these, and an erase takes so many slots: a program leaves the next label, and the last slot of
+-- where the blocks were these, and an erase takes `slots` slots: a program leaves the next label, and the last slot of
 -- an erase takes the block's away
 abbrev pub labels_after_call : (slots : ℕ) → List Block → NandCall → Labels → Labels
 labels_after_call slots blocks (calls.Read place) l = l

@@ -74,7 +74,7 @@ torn_at page b = record b { cells = slice_set b.cells page torn_cell }
 abbrev pub with_torn : Place → Marked → Marked
 with_torn place m = record m { blocks = slice_set m.blocks place.block (torn_at place.page (marked_at m.blocks place.block)) }
 
--- a block of so many pages counts as closed: each cell that wasn't programmed is one without a label
+-- a block of `pages` pages counts as closed: each cell that wasn't programmed is one without a label
 abbrev pub closed_cells : (pages : ℕ) → MarkedCells → MarkedCells
 closed_cells pages b = record { cells = b.cells ++ replicate (pages - length b.cells) torn_cell; erasing = 0; erases = 0 }
 

@@ -142,7 +142,7 @@ fn tear_cell(block: &mut MarkedBlock, page: usize)
     }
 }
 
-/// The block counts as closed, with so many pages, for which it has room.
+/// The block counts as closed, with `pages` pages, for which it has room.
 fn close_block(block: &mut MarkedBlock, pages: u32)
     requires within { length block.old.cells.items ≤ pages }
     requires room { pages ≤ vec_capacity block.old.cells }

@@ -1,3 +1,4 @@
 pub mod Lists
 pub mod Follows
 pub mod Looked
+pub mod Powered

@@ -1,13 +1,18 @@
 //! A device with spare blocks keeps labels where its part does.
 
-ghost use Rattle.std.specs.Prelude.{◌≡◌};
-ghost use Rattle.labelled_spares.specs.Labels.{look_of};
+ghost use Rattle.std.specs.Prelude.{◌≡◌, false, IfOk, IfErr};
+ghost use Rattle.labelled_nand.specs.PoweredUp.{IsPoweredUp};
+ghost use Rattle.spare_blocks.specs.Powering.{IsPoweredPart, IsPoweredSpared};
+ghost use Rattle.spare_blocks.specs.Preparing.{IsNewRefusal};
+ghost use Rattle.spare_blocks.specs.Spares.{plan_shape, spared_blocks};
+ghost use Rattle.labelled_spares.specs.Labels.{look_of, spared_labels};
 
 use die_mount::Label;
 use flash_die::Nand;
 use labelled_nand::{LabelledNand, Look};
 use slot_types::{PageData, Place, Refusal, Shape};
-use spare_blocks::{Cell, LabelledWearing, SpareBlocks};
+use spare_blocks::{Cell, LabelledWearing, NotPowered, SpareBlocks};
+use std::alloc::Global;
 use std::marker::Model;
 
 /// What a cell shows that holds this.
@@ -50,6 +55,22 @@ impl<D: LabelledWearing> LabelledSpares<D> {
         ensures { result ≡ spares }
     {
         LabelledSpares { spares }
+    }
+
+    /// A device on a part whose power has come, as [`SpareBlocks::power_up`] makes it: it may be mounted.
+    pub fn power_up(alloc: Global, part: D, blocks: u32, bad: &[u32]) -> Result<Self, NotPowered<D>>
+        requires well { D.faulted part ≡ false }
+        requires powered { IsPoweredPart (D.shape_of part) (D.blocks part) }
+        ensures powered { IfOk result (IsPoweredSpared D.blocks
+            (plan_shape blocks (D.shape_of part)) (D.shape_of part) (D.blocks part) bad.now) }
+        ensures mountable { IfOk result (λ d. IsPoweredUp d.shape (spared_blocks D.blocks d)
+            (spared_labels D.blocks D.next d) d.failures) }
+        ensures refused { IfErr result (λ no. IsNewRefusal no.refusal) }
+    {
+        match SpareBlocks::power_up(alloc, part, blocks, bad) {
+            Ok(spares) => Ok(LabelledSpares { spares }),
+            Err(no) => Err(no),
+        }
     }
 
     /// The device, to be asked how the part is, and what became of its blocks.
@@ -104,12 +125,16 @@ impl<D: LabelledWearing> Nand for LabelledSpares<D> {
 }
 
 impl<D: LabelledWearing> LabelledNand for LabelledSpares<D> {
-    ghost use Rattle.std.specs.Prelude.{refl};
+    ghost use Rattle.std.specs.Prelude.{refl, ⊤};
     ghost use Rattle.labelled_spares.specs.Labels.{spared_labels};
 
     ghost labels = { spared_labels D.blocks D.next };
 
+    ghost lasts = { λ _. ⊤ };
+
     ghost follows = { λ before after call ended. ended.labels refl };
+
+    ghost keeps = { λ before after call well ended lasts. lasts };
 
     fn number_from(&mut self, serial: u64) {
         self.spares.count_from(serial);

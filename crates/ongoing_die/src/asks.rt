@@ -27,9 +27,9 @@ impl<N: Nand> OngoingDie<N> {
     /// The refusals, of which the first that stands is answered, and the die stands as it did: `Ended`, where the whole die
     /// takes nothing more, as [`LifeStop`](crate::LifeStop) lists the causes; `Plan`, for what the task itself asks and has
     /// asked for, as [`PlannedDie::ask`](planned_die::PlannedDie::ask) lists the causes, without `DieStopped` and
-    /// `LifeEnd`; `WaitsAlready`, where an ask of the task waits. One that waits for the next life alone refuses only what would
-    /// wait, too: what isn't refused for `Plan` then would be due after the present life. There is no other refusal: tokens,
-    /// numbers, deadlines and memory are never lacking, and it takes no memory.
+    /// `LifeEnd`; `WaitsAlready`, where an ask of the task waits. Beside one that was asked for in the present slot or an earlier
+    /// one, and not for a later one, that comes only where this ask would wait, too. There is no other refusal: tokens, numbers,
+    /// deadlines and memory are never lacking, and it takes no memory.
     pub fn ask(
         &mut self,
         alloc: Global,

@@ -10,7 +10,7 @@ use Rattle.planned_log.specs.Asks.{asked_by}
 use Rattle.planned_log.specs.Laws.{Seen, Asks, seen_by, AreDoneInTime, ForKeptLogs}
 use Rattle.planned_log.specs.Moves.{Move, Ask}
 use Rattle.ongoing_log.specs.PastLives.{counted}
-use Rattle.ongoing_log.specs.Ongoing.{Ongoing, Answer, answer_to, answers_to, ongoing_after, waiting_of, ops_of, start_of, AreLongEnough, IsOngoing}
+use Rattle.ongoing_log.specs.Ongoing.{Ongoing, Answer, answer_to, answers_to, ongoing_after, waiting_of, awaited_of, start_of, AreLongEnough, IsOngoing}
 use Rattle.task_outcomes.specs.OutcomeDies.{OutcomeParts}
 use Rattle.task_outcomes.specs.declared.task_outcome.TaskOutcome.{TaskOutcome}
 use Rattle.task_outcomes.specs.OutcomeMoves.{OutcomeMove, Told, told_after, taken_by, AreAccountedFor}
@@ -47,7 +47,7 @@ abbrev pub Isolates : Type 0
 Isolates = (first other : Start) (terms : Terms) (life task : ℕ) → AreLongEnough terms life → first.plan ≡ other.plan → (one two : Ongoing)
     → IsOngoing first terms life one → IsOngoing other terms life two → all_slots (counted one.earlier) ≡ all_slots (counted two.earlier)
     → now one.log ≡ now two.log → asked_by task (one.log ∷ counted one.earlier) ≡ asked_by task (two.log ∷ counted two.earlier)
-    → ops_of (waiting_of one task) ≡ ops_of (waiting_of two task) → (moves others : List Move) → seen_by task moves ≡ seen_by task others
+    → awaited_of (waiting_of one task) ≡ awaited_of (waiting_of two task) → (moves others : List Move) → seen_by task moves ≡ seen_by task others
     → answers_to first terms life task one moves ≡ answers_to other terms life task two others
 
 module _ {N : Type 0} (law : Isolates) (task : ℕ) (opened again : OutcomeParts N) (first other : Start) (one two : Ongoing) (calls others : List PortCall)

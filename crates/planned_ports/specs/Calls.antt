@@ -3,6 +3,7 @@ use Rattle.std.specs.Prelude.{ℕ, List, [], ◌∷◌, ◌++◌, map, Result, O
 use Rattle.demand_rules.specs.declared.terms.Terms.{Terms}
 use Rattle.die_log.specs.Model.Start.{Start}
 use Rattle.planned_log.specs.Moves.{Move, Ask, Slot}
+use Rattle.ongoing_log.specs.Ahead.{Now}
 use Rattle.task_outcomes.specs.OutcomeMoves.{OutcomeMove, Does, Takes, Told, told_after}
 use Rattle.turn_lock.specs.declared.entry.Entry.{Entry}
 use Rattle.turn_lock.specs.Log.{entry}
@@ -16,8 +17,8 @@ abbrev pub PortCall : Type 0
 PortCall = Entry Request (Result Granted Refused)
 
 abbrev pub move_by : ℕ → Request → OutcomeMove
-move_by caller (requests.Ask kind task ops) = Does (Ask kind caller task ops)
-move_by caller requests.Slot = Does (Slot caller)
+move_by caller (requests.Ask kind task ops) = Does (Now (Ask kind caller task ops))
+move_by caller requests.Slot = Does (Now (Slot caller))
 move_by caller (requests.Outcome task) = Takes task
 
 abbrev pub move_of : PortCall → OutcomeMove

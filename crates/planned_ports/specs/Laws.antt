@@ -6,7 +6,7 @@ use Rattle.die_log.specs.Model.Start.{Start}
 use Rattle.planned_log.specs.Asks.{asked_by}
 use Rattle.planned_log.specs.Laws.{AreDoneInTime, seen_by}
 use Rattle.ongoing_log.specs.PastLives.{counted, HavePassed}
-use Rattle.ongoing_log.specs.Ongoing.{Ongoing, Answer, start_of, waiting_of, ops_of}
+use Rattle.ongoing_log.specs.Ongoing.{Ongoing, Answer, start_of, waiting_of, awaited_of}
 use Rattle.ongoing_die.specs.Standing.{StandsAs}
 use Rattle.ongoing_die.specs.OngoingCalls.{told, HaveOnePlan}
 use Rattle.task_outcomes.specs.declared.task_outcome.TaskOutcome.{TaskOutcome}
@@ -44,7 +44,7 @@ pub record AreAlikeFor (task : ℕ) (first other : Start) (one two : Ongoing) : 
   pub clock : all_slots (counted one.earlier) ≡ all_slots (counted two.earlier)
   pub slot : now one.log ≡ now two.log
   pub asked : asked_by task (one.log ∷ counted one.earlier) ≡ asked_by task (two.log ∷ counted two.earlier)
-  pub waits : ops_of (waiting_of one task) ≡ ops_of (waiting_of two task)
+  pub waits : awaited_of (waiting_of one task) ≡ awaited_of (waiting_of two task)
 
 -- the log of a die that ran when it was opened, of which this stood then
 pub record RanFrom {N : Type 0} (opened : OutcomeParts N) (first : Start) (d : Ongoing) (calls : List PortCall) : Type 0 where

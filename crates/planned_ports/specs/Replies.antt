@@ -14,7 +14,7 @@ use Rattle.planned_log.specs.AskKinds.{jobs_as}
 use Rattle.planned_log.specs.Moves.{after_own}
 use Rattle.ongoing_log.specs.PastLives.{counted}
 use Rattle.ongoing_log.specs.Ongoing as rules
-use Rattle.ongoing_log.specs.Ongoing.{Ongoing, start_of, answer_to}
+use Rattle.ongoing_log.specs.Ongoing.{Ongoing, start_of, clock_of, answer_to}
 use Rattle.ongoing_die.specs.declared.answers.Taken.{Taken}
 use Rattle.ongoing_die.specs.declared.answers.Taken.TheVariants as taken
 use Rattle.ongoing_die.specs.declared.refusals.AskStop.{AskStop}
@@ -132,9 +132,6 @@ MayReply {N} opened calls caller request reply =
 -- Questions
 
 -- the present slot of the clock of all lives; none where a fault has stopped the die
-abbrev pub clock_of : Ongoing → ℕ
-clock_of d = all_slots (counted d.earlier) + now d.log
-
 abbrev pub SaysClock : {N : Type 0} → OutcomeParts N → List PortCall → Option ℕ → Type 0
 SaysClock opened calls (Some slot) = (first : Start) (d : Ongoing) → StandsAs first d opened.die
     → slot ≡ clock_of (after_calls first opened.die.die.terms opened.die.die.life (opened_as opened d) calls).ongoing

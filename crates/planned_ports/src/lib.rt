@@ -8,7 +8,7 @@ mod book;
 mod calls;
 mod closing;
 mod history;
-pub mod laws;
+mod laws;
 mod opening;
 mod pages;
 mod ports;
@@ -16,6 +16,10 @@ mod refusals;
 
 pub use calls::{Granted, Query, Refused, Request};
 pub use closing::{StillOpen, close};
+pub use laws::{
+    ports_go_to_threads, shared_dies_are_in_time, tasks_are_answered_for_their_own_asks,
+    tasks_take_their_own_outcomes,
+};
 pub use opening::{NotOpened, Opened, open};
 pub use pages::PageRange;
 pub use ports::{ClockPort, SharedPlannedDie, TaskPort};

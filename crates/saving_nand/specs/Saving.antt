@@ -38,7 +38,7 @@ abbrev pub numbered : Option Saved → Labels → Labels
 numbered None labels = labels
 numbered (Some saved) labels = record labels { next = saved.next }
 
--- the labels of blocks that count as closed, with so many pages: the other cells are without a label
+-- the labels of blocks that count as closed, with `pages` pages: the other cells are without a label
 abbrev pub closed_labels : (pages : ℕ) → Shown → Shown
 closed_labels pages blocks = map (λ cells. cells ++ replicate (pages - length cells) None) blocks
 

@@ -4,5 +4,8 @@ pub mod Ends
 pub mod Programs
 pub mod Erases
 pub mod Prepared
+pub mod Seen
+pub mod Tabled
 pub mod Tries
 pub mod WearingBlocks
+pub mod WearingPower

@@ -27,7 +27,7 @@ module _ (blocks : List WearingBlock) (x : ℕ) where
     changed_seen new how e =
         map-set seen_block blocks x new ∙ ap (set (map seen_block blocks) x) (e ∙ ap how (sym seen_at))
 
-    pub changed_sound : (pages slots : ℕ) (new : WearingBlock) → All (IsSoundWearingBlock pages slots) blocks → pages ≤ vec_capacity new.cells
-        → new.erasing < slots → All (IsSoundWearingBlock pages slots) (set blocks x new)
-    changed_sound pages slots new all room few =
-        All-set (IsSoundWearingBlock pages slots) blocks x new (record { room = room; few_slots = few }) all
+    pub changed_sound : (pages slots : ℕ) (new : WearingBlock) → All (IsSoundWearingBlock pages slots) blocks → length new.cells.items ≤ pages
+        → pages ≤ vec_capacity new.cells → new.erasing < slots → All (IsSoundWearingBlock pages slots) (set blocks x new)
+    changed_sound pages slots new all within room few =
+        All-set (IsSoundWearingBlock pages slots) blocks x new (record { within = within; room = room; few_slots = few }) all

@@ -10,7 +10,7 @@ use Rattle.spare_blocks.specs.Tables.{Table, use_of}
 abbrev pub IsWholePart : ℕ → List PartBlock → Type 0
 IsWholePart count blocks = (x : ℕ) → x < count → (part_block blocks x).failed ≡ false
 
--- At most so many blocks have numbers. Each block that is in the plan or spare is free, and none is in this list.
+-- At most `limit` blocks have numbers. Each block that is in the plan or spare is free, and none is in this list.
 pub record IsPrepared (limit : ℕ) (bad : List ℕ) (t : Table) (blocks : List PartBlock) : Type 0 where
   pub few : length t.blocks ≤ limit
   pub free : (x : ℕ) → ¬ (use_of t x ≡ use_as.Bad) → part_block blocks x ≡ free_part_block

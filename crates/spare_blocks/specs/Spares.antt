@@ -58,7 +58,7 @@ pub record IsSoundSpared {N : Type 0} (shape_of : N → Shape) (blocks : N → L
   pub works : d.health ≡ health.Working → (b : ℕ) → b < d.shape.blocks → (numbered blocks d b).failed ≡ false
   pub worn : d.health ≡ health.WornOut → IsWornOut blocks d
 
--- the shape of a plan of so many blocks on a part
+-- the shape of a plan of `blocks` blocks on a part
 abbrev pub plan_shape : ℕ → Shape → Shape
 plan_shape blocks shape = record shape { blocks = blocks }
 

@@ -7,7 +7,7 @@ use Rattle.spare_blocks.specs.declared.cells.Ended.TheVariants as ended
 use Rattle.spare_blocks.specs.Parts.{PartBlock, part_block, free_part_block, serial_after}
 use Rattle.spare_blocks.specs.Tables.{Table, IsSpare, use_of, spares_in}
 
--- a block with so many cells, which may be read
+-- a block with `cells` cells, which may be read
 pub record IsSource (blocks : List PartBlock) (x cells : ℕ) : Type 0 where
   pub count : length (part_block blocks x).cells ≡ cells
   pub quiet : (part_block blocks x).erasing ≡ 0

@@ -11,11 +11,13 @@ seen_block b = record { cells = b.cells.items; erasing = b.erasing; failed = b.f
 abbrev pub wearing_of : Inside → Wearing
 wearing_of m = record { shape = m.shape; blocks = map seen_block m.blocks.items; next = m.next; spent = m.spent; faulted = m.faulted }
 
--- a block has room for its pages, and fewer slots of an erase than one takes
+-- a block has no more cells than its pages and room for these, and fewer slots of an erase than one takes
 pub record IsSoundWearingBlock (pages slots : ℕ) (b : WearingBlock) : Type 0 where
+  pub within : length b.cells.items ≤ pages
   pub room : pages ≤ vec_capacity b.cells
   pub few_slots : b.erasing < slots
 
 pub record IsSoundWearing (m : Inside) : Type 0 where
   pub some_slots : 0 < m.shape.erase_slots
+  pub count : length m.blocks.items ≡ m.shape.blocks
   pub each : All (IsSoundWearingBlock m.shape.pages m.shape.erase_slots) m.blocks.items

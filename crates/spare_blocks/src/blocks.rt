@@ -78,7 +78,7 @@ impl<D: WearingNand> Model for SpareBlocks<D> {
 impl<D: WearingNand> SpareBlocks<D> {
     ghost use Rattle.spare_blocks.specs.Spares.{spared_blocks, EndsSpared, IsFreshSpared, plan_shape};
 
-    /// A device of so many blocks on a part that has more. Each of the part's blocks that isn't listed as bad is
+    /// A device of `blocks` blocks on a part that has more. Each of the part's blocks that isn't listed as bad is
     /// erased, which takes a while; those whose erase fails are bad too. The first of the others get the plan's
     /// numbers, and the rest are spare. Refused with `BadShape` where the plan's shape is out of its limits, or too
     /// few blocks are left; with `DeviceFault` where the part had a fault; and with `NoMemory`.

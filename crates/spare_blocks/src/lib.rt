@@ -8,6 +8,7 @@ mod labelled;
 mod labels;
 mod memory;
 mod part;
+mod powering;
 mod prepare;
 mod table;
 
@@ -16,4 +17,5 @@ pub use cells::{BlockUse, Cell, Ended, Erased, Mark};
 pub use labelled::LabelledWearing;
 pub use memory::{Failures, WearingMemory};
 pub use part::WearingNand;
+pub use powering::NotPowered;
 pub use table::BlockTable;

@@ -3,7 +3,9 @@
 ghost use Rattle.std.specs.Prelude.{◌≡◌, ◌∷◌, ◌++◌, ◌+◌, ◌<◌, ◌≤◌, [], length, slice_set, IfOk, true, false, slice_get, vec_capacity};
 ghost use Rattle.slot_types.specs.Refusal.{FailsForMemory};
 ghost use Rattle.spare_blocks.specs.Parts.{FaultsAlone, IsCell, IsFreeCell, part_block, cell_on, blocks_after_program, blocks_after_erase};
-ghost use Rattle.spare_blocks.specs.Wearing.{fresh_wearing};
+ghost use Rattle.spare_blocks.specs.Wearing.{fresh_wearing, closed_part_block, powered_wearing, torn_cell, with_torn};
+ghost use Rattle.spare_blocks.specs.WearingView.{seen_block};
+ghost use Rattle.spare_blocks.specs.Powering.{IsPoweredPart, AreWithin};
 
 use crate::cells::{Cell, Ended, Erased, Mark};
 use crate::labelled::LabelledWearing;
@@ -18,18 +20,22 @@ enum Fate {
     Well,
     Fails,
     Faults,
+    /// The call is carried out, and the part has a fault then.
+    FaultsDone,
 }
 
 /// When the blocks of a part in memory fail: at these of its programs, copies, last slots of an erase and whole erases,
-/// from 0; or at one in so many of them, by a seed; and when the part itself has a fault.
+/// from 0; or at one in `one_in` of them, by a seed; and when the part itself has a fault.
 #[derive(Drop)]
 pub struct Failures {
     /// How many such calls there were.
     calls: u64,
     fails_at: Vec<u64>,
     faults_at: Option<u64>,
+    /// Whether that call is carried out nevertheless.
+    done: bool,
     seed: u64,
-    /// One call in so many fails; 0 for none.
+    /// One call in this number fails; 0 for none.
     one_in: u64,
 }
 
@@ -40,17 +46,32 @@ impl Failures {
             calls: 0,
             fails_at,
             faults_at,
+            done: false,
             seed: 0,
             one_in: 0,
         }
     }
 
-    /// One call in so many fails, by a seed; none for 0.
+    /// These calls fail, and in this one the power goes: it is carried out, or it isn't. The part has a fault until its
+    /// power comes again (`WearingMemory::power_comes`).
+    pub fn cut(fails_at: Vec<u64>, at: u64, done: bool) -> Self {
+        Failures {
+            calls: 0,
+            fails_at,
+            faults_at: Some(at),
+            done,
+            seed: 0,
+            one_in: 0,
+        }
+    }
+
+    /// One call in `one_in` fails, by a seed; none for 0.
     pub fn seeded(alloc: Global, seed: u64, one_in: u64) -> Self {
         Failures {
             calls: 0,
             fails_at: Vec::new(alloc),
             faults_at: None,
+            done: false,
             seed,
             one_in,
         }
@@ -61,7 +82,11 @@ impl Failures {
         let call = self.calls;
         self.calls = call.saturating_add(1);
         if self.faults_at == Some(call) {
-            return Fate::Faults;
+            return if self.done {
+                Fate::FaultsDone
+            } else {
+                Fate::Faults
+            };
         }
         if self.fails_at.contains(&call) {
             return Fate::Fails;
@@ -80,6 +105,12 @@ impl Failures {
         }
     }
 }
+
+/// A cell without a label, as a program or an erase leaves it that was cut.
+const TORN: Cell = Cell {
+    bytes: PageData::BLANK,
+    mark: None,
+};
 
 /// A block: its programmed cells, the slots of its running erase, and whether it failed.
 #[derive(Drop)]
@@ -172,6 +203,48 @@ impl WearingMemory {
         }
     }
 
+    /// A programmed cell loses its label and its bytes, as one whose program was cut, or of a block that was in erase.
+    /// Where the cell isn't programmed nothing changes.
+    pub fn tear(&mut self, place: Place)
+        ensures { self.new ≡ with_torn place self.old }
+    {
+        let block = place.block as usize;
+        if block < self.blocks.len() {
+            tear_cell(&mut self.blocks[block], place.page as usize);
+        }
+    }
+
+    /// The power went, and has come again. No cell counts as free: each block is closed, by cells without a label where
+    /// it had fewer than its pages, none is in erase, and none is known to fail. Programs are numbered from 0 on, until the
+    /// owner says otherwise. From now on the part's calls fail so.
+    pub fn power_comes(&mut self, failures: Failures)
+        ensures comes { self.new ≡ powered_wearing self.old }
+        ensures powered { IsPoweredPart self.new.shape self.new.blocks }
+    {
+        self.is_within();
+        self.close_all(failures);
+    }
+
+    /// Each block has no more cells than its pages. The body does nothing.
+    fn is_within(&self)
+        ensures count { length self.now.blocks ≡ self.now.shape.blocks }
+        ensures within { AreWithin self.now.shape.pages self.now.blocks }
+    {
+        let _ = &self.blocks;
+    }
+
+    fn close_all(&mut self, failures: Failures)
+        ensures { self.new ≡ powered_wearing self.old }
+    {
+        let pages = self.shape.pages;
+        for block in self.blocks.iter_mut() {
+            close_block(block, pages);
+        }
+        self.next = 0;
+        self.faulted = false;
+        self.failures = failures;
+    }
+
     /// How many cells were read or programmed, and slots of an erase done.
     pub fn spent(&self) -> u64
         ensures { result ≡ self.now.spent }
@@ -189,6 +262,32 @@ fn fill_cell(block: &mut WearingBlock, cell: Cell)
     ensures capacity { vec_capacity block.new.cells ≡ vec_capacity block.old.cells }
 {
     block.cells.push_reserved(cell);
+}
+
+/// A cell of a block loses its label and its bytes, if it is programmed.
+fn tear_cell(block: &mut WearingBlock, page: usize)
+    ensures cells { block.new.cells.items ≡ slice_set block.old.cells.items page torn_cell }
+    ensures erasing { block.new.erasing ≡ block.old.erasing }
+    ensures failed { block.new.failed ≡ block.old.failed }
+    ensures capacity { vec_capacity block.new.cells ≡ vec_capacity block.old.cells }
+{
+    if page < block.cells.len() {
+        block.cells[page] = TORN;
+    }
+}
+
+/// The block counts as closed, with so many pages, for which it has room.
+fn close_block(block: &mut WearingBlock, pages: u32)
+    requires within { length block.old.cells.items ≤ pages }
+    requires room { pages ≤ vec_capacity block.old.cells }
+    ensures closed { seen_block block.new ≡ closed_part_block pages (seen_block block.old) }
+    ensures capacity { vec_capacity block.new.cells ≡ vec_capacity block.old.cells }
+{
+    for _ in block.cells.len()..pages as usize {
+        block.cells.push_reserved(TORN);
+    }
+    block.erasing = 0;
+    block.failed = false;
 }
 
 /// A program of the block failed.
@@ -300,6 +399,11 @@ impl WearingMemory {
                 self.faulted = true;
                 Err(Refusal::DeviceFault)
             }
+            Fate::FaultsDone => {
+                self.fill(place, cell);
+                self.faulted = true;
+                Err(Refusal::DeviceFault)
+            }
             Fate::Fails => {
                 self.fail(place.block);
                 Ok(Ended::Failed)
@@ -324,6 +428,11 @@ impl WearingMemory {
     {
         match self.failures.next() {
             Fate::Faults => {
+                self.faulted = true;
+                Err(Refusal::DeviceFault)
+            }
+            Fate::FaultsDone => {
+                self.clear(block, false);
                 self.faulted = true;
                 Err(Refusal::DeviceFault)
             }

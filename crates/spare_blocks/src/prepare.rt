@@ -10,7 +10,7 @@ use crate::table::BlockTable;
 use slot_types::Refusal;
 use std::alloc::Global;
 
-/// Erases each block of a part that isn't listed as bad, and gives the first so many of them numbers of the plan; the
+/// Erases each block of a part that isn't listed as bad, and gives the first `blocks` of them numbers of the plan; the
 /// others are spare. One whose erase fails is bad.
 pub fn prepare<D: WearingNand>(
     alloc: Global,

@@ -107,6 +107,13 @@ impl BlockTable {
         self.blocks.len()
     }
 
+    /// How many blocks of the part are in it.
+    pub fn uses(&self) -> usize
+        ensures { result ≡ length self.now.uses }
+    {
+        self.uses.len()
+    }
+
     /// How many spare blocks there are.
     pub fn spares(&self) -> u32
         ensures { result ≡ spares_in self.now }

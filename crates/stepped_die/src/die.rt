@@ -249,7 +249,7 @@ impl SteppedDie {
         }
     }
 
-    /// Takes the memory for this many later slots, as [`DieCore::reserve`]. A slot that has begun is the first of them.
+    /// Takes the memory for `slots` later slots, as [`DieCore::reserve`]. A slot that has begun is the first of them.
     /// Each [renewal](SteppedDie::renew) reserves as many again.
     pub fn reserve(&mut self, slots: u32) -> Result<(), Refusal>
         ensures ok { OnOk result (self.new

@@ -40,8 +40,9 @@ impl SteppedPlan {
     /// A die on which nothing was done, over a device that is erased, as [`OngoingDie::new`] makes it: at slot 0, with lives of
     /// at most `longest` slots, of the longest such life, and with all memory that it ever needs.
     ///
-    /// Refused as that is: `Plan`, for the plan, its terms, memory, or since there is no life of at most so many slots; else
-    /// `ShortLife`, with the first task whose deadline is longer than a life. Plan and terms are given up then.
+    /// Refused as that is: `Plan`, for the plan, its terms, memory, or since there is no life of at most `longest`
+    /// slots; else `ShortLife`, with the first task whose deadline is longer than a life. Plan and terms are given up
+    /// then.
     pub fn new(
         alloc: Global,
         plan: DiePlan,

@@ -5,14 +5,15 @@ use Rattle.std.proofs.lemmas.Bool.{eqb-true, eqb-false}
 use Rattle.std.proofs.lemmas.List.{append-nil, append_assoc, map-append, length-append, length-set, get_or-set_same, get_or-set_other}
 use Rattle.demand_rules.specs.declared.terms.Terms.{Terms}
 use Rattle.die_log.specs.Model.Start.{Start}
-use Rattle.planned_log.specs.Moves.{Move, Ask, Slot}
-use Rattle.ongoing_log.specs.Ongoing.{Ongoing, ongoing_after, IsOngoing}
+use Rattle.planned_log.specs.Moves.{Ask, Slot}
+use Rattle.ongoing_log.specs.Ongoing.{Ongoing, IsOngoing}
+use Rattle.ongoing_log.specs.Ahead.{AheadMove, Now, AskAt, ahead_after}
 use Rattle.task_outcomes.specs.declared.task_outcome.TaskOutcome.{TaskOutcome}
 use Rattle.task_outcomes.specs.Told.{told_of, own_of, told_next}
 use Rattle.task_outcomes.specs.Queues.{Queue, queue_of, no_queue, counted, have_room, newest_in, with_outcome, with_told, first_of, without_first, with_taken}
 use Rattle.task_outcomes.specs.OutcomeMoves.{OutcomeMove, Does, Takes, Told, queues_after_move, told_after_move, told_after, taken_by}
 use Rattle.task_outcomes.specs.OutcomeMoves.{Gone, Taken, Dropped, outcome_gone, taken_among, dropped_among, AreAccountedFor}
-use Rattle.task_outcomes.proofs.Telling.{ask_tells, slot_tells}
+use Rattle.task_outcomes.proofs.Telling.{ask_tells, ask_at_tells, slot_tells}
 
 -- What has gone
 
@@ -111,7 +112,7 @@ one_taken q = by q.kept
 -- All queues
 
 module _ (task : ℕ) where
-  -- an outcome that is told comes to its task
+  -- an outcome that is reported comes to its task
   told_to : (queues : List Queue) → task < length queues → (o : Option TaskOutcome)
       → Accounts (queue_of queues task) (own_of task (option_to_list o)) [] (queue_of (with_told queues o) task)
   told_to queues lt None = nothing (queue_of queues task)
@@ -164,7 +165,7 @@ then_taken false xs ys = refl
 -- Over all moves
 
 module _ (first : Start) (terms : Terms) (life : ℕ)
-    (law : (d : Ongoing) → IsOngoing first terms life d → (moves : List Move) → IsOngoing first terms life (ongoing_after first terms life d moves))
+    (law : (d : Ongoing) → IsOngoing first terms life d → (moves : List AheadMove) → IsOngoing first terms life (ahead_after first terms life d moves))
     (task : ℕ) where
   accounts_of : (t u : Told) (new taken : List TaskOutcome)
       → own_of task (told_of first u.ongoing) ≡ own_of task (told_of first t.ongoing) ++ new
@@ -188,15 +189,20 @@ module _ (first : Start) (terms : Terms) (life : ℕ)
       (record { gone = b.gone; in_order = b.in_order; taken_are = b.taken_are; counts = b.counts }))
 
   -- a move
-  one_move : (t : Told) → IsOngoing first terms life t.ongoing → task < length t.queues → (move : Move)
+  one_move : (t : Told) → IsOngoing first terms life t.ongoing → task < length t.queues → (move : AheadMove)
       → AreAccountedFor first task t [] (told_after_move first terms life t (Does move))
-  one_move t k lt (Ask kind caller other ops) =
-      accounts_of t (told_after_move first terms life t (Does (Ask kind caller other ops))) [] []
+  one_move t k lt (AskAt kind caller other ops at) =
+      accounts_of t (told_after_move first terms life t (Does (AskAt kind caller other ops at))) [] []
+      (ap (own_of task) (ask_at_tells first terms life t.ongoing kind caller other ops at)
+      ∙ sym (append-nil (own_of task (told_of first t.ongoing))))
+      (nothing (queue_of t.queues task))
+  one_move t k lt (Now (Ask kind caller other ops)) =
+      accounts_of t (told_after_move first terms life t (Does (Now (Ask kind caller other ops)))) [] []
       (ap (own_of task) (ask_tells first terms life t.ongoing kind caller other ops) ∙ sym (append-nil (own_of task (told_of first t.ongoing))))
       (nothing (queue_of t.queues task))
-  one_move t k lt (Slot caller) =
+  one_move t k lt (Now (Slot caller)) =
       let o = told_next first terms life t.ongoing caller in
-      accounts_of t (told_after_move first terms life t (Does (Slot caller))) (own_of task (option_to_list o)) []
+      accounts_of t (told_after_move first terms life t (Does (Now (Slot caller)))) (own_of task (option_to_list o)) []
       (ap (own_of task) (slot_tells first terms life t.ongoing k caller) ∙ own_joined task (told_of first t.ongoing) (option_to_list o))
       (told_to task t.queues lt o)
 
@@ -207,9 +213,10 @@ module _ (first : Start) (terms : Terms) (life : ℕ)
       accounts_of t (told_after_move first terms life t (Takes other)) [] (cond (other == task) (option_to_list (first_of t.queues task)) [])
       (sym (append-nil (own_of task (told_of first t.ongoing)))) (taken_from task t.queues lt other (other == task) refl)
 
-  moved_one_each : (t : Told) (move : Move) → length (queues_after_move first terms life t move) ≡ length t.queues
-  moved_one_each t (Ask kind caller other ops) = refl
-  moved_one_each t (Slot caller) = still_one_each t.queues (told_next first terms life t.ongoing caller)
+  moved_one_each : (t : Told) (move : AheadMove) → length (queues_after_move first terms life t move) ≡ length t.queues
+  moved_one_each t (Now (Ask kind caller other ops)) = refl
+  moved_one_each t (AskAt kind caller other ops at) = refl
+  moved_one_each t (Now (Slot caller)) = still_one_each t.queues (told_next first terms life t.ongoing caller)
 
   pub accounted : (moves : List OutcomeMove) (t : Told) → IsOngoing first terms life t.ongoing → task < length t.queues
       → AreAccountedFor first task t (taken_by first terms life task t moves) (told_after first terms life t moves)

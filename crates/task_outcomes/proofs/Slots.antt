@@ -43,13 +43,7 @@ module _ {N : Type 0} (ends : N → NandCall → Bool → N → Type 0) (failure
   began = all_slots (counted past)
 
   here : d ≡ standing h.between past
-  here = (h.begun.stands.runs h.begun.runs).stands ∙ stays
-    where
-      away : (now log == die.life) ≡ false
-      away = let early = h.begun.early in grind (arith, nat_tests, early)
-
-      stays : going_on first die.terms die.life (standing h.between past) ≡ standing h.between past
-      stays = rw away refl
+  here = h.begun.settled
 
   one_each : length die.terms.tasks ≤ length die.core.start.plan.caps
   one_each = omega (arith, h.begun.stands.lived.kept.demand.has.one_each)

@@ -25,8 +25,9 @@ use Rattle.planned_log.specs.Moves.{Ask, Slot, after_ask, after_own, after_move,
 use Rattle.planned_log.proofs.Kept.{slot_accepted, after_accepted}
 use Rattle.planned_log.proofs.Moving.{come}
 use Rattle.ongoing_log.specs.PastLives.{PastLife, Renewed, starts_after, counted}
-use Rattle.ongoing_log.specs.Ongoing.{WaitingAsk, Ongoing, start_of, Answer, Refused, Enters, Waits, WaitsAlready}
-use Rattle.ongoing_log.specs.Ongoing.{answer_to, after_answer, asks_of, next_life, ongoing_after_move, IsOngoing}
+use Rattle.ongoing_log.specs.Ongoing.{WaitingAsk, Ongoing, start_of, clock_of, Answer, Refused, Enters, Waits, WaitsAlready, Past, TooFarAhead}
+use Rattle.ongoing_log.specs.Ongoing.{answer_to, after_answer, asks_of, due_at, let_in, next_life, living_on, going_on, carried, ongoing_after_move, IsOngoing}
+use Rattle.ongoing_log.specs.Ahead.{answer_at, AskAt, ahead_after_move}
 use Rattle.task_outcomes.specs.declared.task_outcome.TaskOutcome.{TaskOutcome}
 use Rattle.task_outcomes.specs.Told.{newest_told, told_in, told_over, told_of, told_next}
 
@@ -124,30 +125,35 @@ module _ (first : Start) (terms : Terms) (life : ℕ) where
   answer_tells d kind caller task ops (Waits release due) = refl
   answer_tells d kind caller task ops (Refused refusal) = refl
   answer_tells d kind caller task ops WaitsAlready = refl
+  answer_tells d kind caller task ops Past = refl
+  answer_tells d kind caller task ops (TooFarAhead last) = refl
 
   -- an ask adds none
   pub ask_tells : (d : Ongoing) (kind : AskKind) (caller task : ℕ) (ops : List Op)
       → told_of first (ongoing_after_move first terms life d (Ask kind caller task ops)) ≡ told_of first d
   ask_tells d kind caller task ops = answer_tells d kind caller task ops (answer_to first terms life d kind task ops)
 
-  -- nor does a life that begins
-  begins : (d : Ongoing) (b : Bool) → told_of first (cond b (next_life first terms life d) d) ≡ told_of first d
+  pub ask_at_tells : (d : Ongoing) (kind : AskKind) (caller task : ℕ) (ops : List Op) (at : ℕ)
+      → told_of first (ahead_after_move first terms life d (AskAt kind caller task ops at)) ≡ told_of first d
+  ask_at_tells d kind caller task ops at = answer_tells d kind caller task ops (answer_at first terms life d kind task ops at)
+
+  -- nor does a life that begins, or what waited for a slot
+  begins : (d : Ongoing) (b : Bool) → told_of first (cond b (next_life d) d) ≡ told_of first d
   begins d false = refl
-  begins d true =
-      ap (λ (os : List TaskOutcome). told_over first earlier ++ os)
-      (asks_none (starts_after first earlier) (all_slots (counted earlier)) terms (counted earlier) life d.waiting 0 [])
-      ∙ append-nil (told_over first earlier)
-    where
-      earlier : List PastLife
-      earlier = record { log = d.log; ended = Renewed } ∷ d.earlier
+  begins d true = append-nil (told_of first d)
+
+  enters : (d : Ongoing) → told_of first (let_in first terms life d) ≡ told_of first d
+  enters d =
+      ap (λ (os : List TaskOutcome). told_over first d.earlier ++ os)
+      (asks_none (start_of first d) (all_slots (counted d.earlier)) terms (counted d.earlier) life (map (due_at (clock_of d)) d.waiting) 0 d.log)
 
   -- and a slot the one that comes with it
   pub slot_tells : (d : Ongoing) → IsOngoing first terms life d → (caller : ℕ)
       → told_of first (ongoing_after_move first terms life d (Slot caller)) ≡ told_of first d ++ option_to_list (told_next first terms life d caller)
   slot_tells d k caller =
-      begins (record d { log = after_move (start_of first d) terms (counted d.earlier) life d.log (Slot caller) })
-      (now (after_move (start_of first d) terms (counted d.earlier) life d.log (Slot caller)) == life)
+      enters (living_on life (carried first terms life d caller))
+      ∙ (begins (carried first terms life d caller) (now (carried first terms life d caller).log == life)
       ∙ (ap (λ (os : List TaskOutcome). told_over first d.earlier ++ os)
       (slot_adds (start_of first d) (all_slots (counted d.earlier)) terms (counted d.earlier) life d.log k.kept caller k.goes_on)
       ∙ sym (append_assoc (told_over first d.earlier) (told_in (start_of first d) (all_slots (counted d.earlier)) d.log)
-      (option_to_list (told_next first terms life d caller))))
+      (option_to_list (told_next first terms life d caller)))))

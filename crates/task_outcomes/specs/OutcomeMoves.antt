@@ -2,14 +2,15 @@
 use Rattle.std.specs.Prelude.{◌≡◌, ℕ, ◌+◌, ◌==◌, if◌then◌else◌, List, [], ◌∷◌, ◌++◌, map, option_to_list}
 use Rattle.demand_rules.specs.declared.terms.Terms.{Terms}
 use Rattle.die_log.specs.Model.Start.{Start}
-use Rattle.planned_log.specs.Moves.{Move, Ask, Slot}
-use Rattle.ongoing_log.specs.Ongoing.{Ongoing, ongoing_after_move}
+use Rattle.planned_log.specs.Moves.{Ask, Slot}
+use Rattle.ongoing_log.specs.Ongoing.{Ongoing}
+use Rattle.ongoing_log.specs.Ahead.{AheadMove, Now, AskAt, ahead_after_move}
 use Rattle.task_outcomes.specs.declared.task_outcome.TaskOutcome.{TaskOutcome}
 use Rattle.task_outcomes.specs.Told.{told_of, own_of, told_next}
 use Rattle.task_outcomes.specs.Queues.{Queue, queue_of, counted, with_told, first_of, with_taken}
 
 pub data OutcomeMove : Type 0 where
-  Does : Move → OutcomeMove
+  Does : AheadMove → OutcomeMove
   Takes : (task : ℕ) → OutcomeMove
 
 -- what stands of the die, and by task what it has still to take
@@ -18,13 +19,14 @@ pub record Told : Type 0 where
   pub queues : List Queue
 
 -- an ask tells nothing, and a slot the outcome of the job that is done with it
-abbrev pub queues_after_move : Start → Terms → ℕ → Told → Move → List Queue
-queues_after_move first terms life t (Ask kind caller task ops) = t.queues
-queues_after_move first terms life t (Slot caller) = with_told t.queues (told_next first terms life t.ongoing caller)
+abbrev pub queues_after_move : Start → Terms → ℕ → Told → AheadMove → List Queue
+queues_after_move first terms life t (Now (Ask kind caller task ops)) = t.queues
+queues_after_move first terms life t (AskAt kind caller task ops at) = t.queues
+queues_after_move first terms life t (Now (Slot caller)) = with_told t.queues (told_next first terms life t.ongoing caller)
 
 abbrev pub told_after_move : Start → Terms → ℕ → Told → OutcomeMove → Told
 told_after_move first terms life t (Does move) = record {
-  ongoing = ongoing_after_move first terms life t.ongoing move;
+  ongoing = ahead_after_move first terms life t.ongoing move;
   queues = queues_after_move first terms life t move;
 }
 told_after_move first terms life t (Takes task) = record t { queues = with_taken t.queues task }
@@ -64,8 +66,8 @@ dropped_among (Taken o ∷ gone) = dropped_among gone
 dropped_among (Dropped o ∷ gone) = 1 + dropped_among gone
 
 -- With these moves some jobs of the task were done. What had been kept and what became of these, in order, is what has gone,
--- and then what is kept now. What has gone was taken, as the task was told, or dropped, and that was counted, as far as the count
--- goes.
+-- and then what is kept now. What has gone was taken, as it was reported to the task, or dropped, and that was counted, as
+-- far as the count goes.
 pub record AreAccountedFor (first : Start) (task : ℕ) (before : Told) (taken : List TaskOutcome) (after : Told) : Type 0 where
   pub new : List TaskOutcome
   pub done : own_of task (told_of first after.ongoing) ≡ own_of task (told_of first before.ongoing) ++ new

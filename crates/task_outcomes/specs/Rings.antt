@@ -29,7 +29,7 @@ pub record IsRing (jobs : List DoneJob) (pages : List PageData) (room capacity p
   pub memory : room ≤ capacity
   pub page_memory : room ≤ page_capacity
 
--- this is what is told of a job, if anything is, without these pages of its reads
+-- this is what is reported of a job, if anything is, without these pages of its reads
 abbrev pub TellsDone : List PageData → Option TaskOutcome → Option DoneJob → Type 0
 TellsDone reads None None = Unit {0}
 TellsDone reads (Some o) (Some j) = (o ≡ with_reads j reads) × (j.reads ≡ length reads)

@@ -1,4 +1,4 @@
--- What became of the jobs of tasks, as they are told it: in slots of the clock of all lives.
+-- What became of the jobs of tasks, as it is reported to them: in slots of the clock of all lives.
 use Rattle.std.specs.Prelude.{ℕ, ◌+◌, ◌==◌, if◌then◌else◌, List, [], ◌∷◌, ◌++◌, filter, Option, Some, None, option_and_then, option_to_list}
 use Rattle.slot_types.specs.declared.events.JobHead.{JobHead}
 use Rattle.slot_types.specs.declared.replies.Reply.{Reply}
@@ -10,9 +10,8 @@ use Rattle.die_log.specs.Model.Lives.{all_slots}
 use Rattle.slot_core.specs.declared.outcomes.Outcome.{Outcome}
 use Rattle.slot_core.specs.declared.outcomes.Outcome.TheVariants as outcomes
 use Rattle.slot_core.specs.Summaries.{summary_at}
-use Rattle.planned_log.specs.Moves.{Slot, after_move}
 use Rattle.ongoing_log.specs.PastLives.{PastLife, starts_after, counted}
-use Rattle.ongoing_log.specs.Ongoing.{Ongoing, start_of}
+use Rattle.ongoing_log.specs.Ongoing.{Ongoing, start_of, carried}
 use Rattle.task_outcomes.specs.declared.task_outcome.TaskOutcome.{TaskOutcome}
 
 -- the outcome of a job that is done, of a life that began in this slot of the clock; a collection is no task's job
@@ -64,5 +63,4 @@ own_of task told = filter (λ o. o.task == task) told
 -- the outcome that comes with the next slot
 abbrev pub told_next : Start → Terms → ℕ → Ongoing → (caller : ℕ) → Option TaskOutcome
 told_next first terms life d caller =
-    newest_told (start_of first d) (all_slots (counted d.earlier))
-    (after_move (start_of first d) terms (counted d.earlier) life d.log (Slot caller))
+    newest_told (start_of first d) (all_slots (counted d.earlier)) (carried first terms life d caller).log

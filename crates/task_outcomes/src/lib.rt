@@ -12,7 +12,7 @@ mod task_outcome;
 pub use die_outcomes::DieOutcomes;
 pub use done_job::DoneJob;
 pub use laws::outcomes_are_told_once;
-pub use ongoing_die::{AskKind, AskRefusal, AskStop, LifeStop, SlotStop, Taken};
+pub use ongoing_die::{AskAtStop, AskKind, AskRefusal, AskStop, LifeStop, SlotStop, Taken};
 pub use outcome_die::OutcomeDie;
 pub use outcome_queue::OutcomeQueue;
 pub use task_outcome::TaskOutcome;

@@ -5,14 +5,16 @@ ghost use Rattle.die_log.specs.Model.Start.{Start};
 ghost use Rattle.planned_log.specs.declared.ask_kinds.AskKind.{AskKind};
 ghost use Rattle.ongoing_log.specs.Ongoing.{Ongoing};
 ghost use Rattle.ongoing_die.specs.Standing.{StandsAs};
-ghost use Rattle.ongoing_die.specs.OngoingCalls.{IsOngoingAsk, IsOngoingSlot, HaveOnePlan};
+ghost use Rattle.slot_core.specs.WithinSlot.{idle_reply};
+ghost use Rattle.ongoing_die.specs.OngoingCalls.{IsOngoingAsk, IsOngoingAskAt, IsOngoingSlot, HaveOnePlan, filled};
 ghost use Rattle.task_outcomes.specs.Queues.{new_queues, queue_of, first_of, with_taken};
 ghost use Rattle.task_outcomes.specs.OutcomeDies.{HasTold};
 
 use crate::die_outcomes::DieOutcomes;
 use crate::task_outcome::TaskOutcome;
 use flash_die::Nand;
-use ongoing_die::{AskKind, AskStop, OngoingDie, SlotStop, Taken};
+use ongoing_die::{AskAtStop, AskKind, AskStop, OngoingDie, SlotStop, Taken};
+use slot_core::new_reply;
 use slot_types::{Op, SlotReply, TaskNo};
 use std::alloc::{AllocError, Global};
 use std::marker::Model;
@@ -102,6 +104,84 @@ impl<N: Nand> OutcomeDie<N> {
         self.die.ask_as(alloc, caller, kind, task, ops)
     }
 
+    /// Asks for a job of the task that is released in slot `at` of the clock, as [`OngoingDie::ask_at`] does. It tells nothing,
+    /// and takes no memory.
+    pub fn ask_at(
+        &mut self,
+        alloc: Global,
+        caller: u32,
+        task: TaskNo,
+        ops: &[Op],
+        at: u64,
+    ) -> Result<Taken, AskAtStop>
+        ensures ask { (first : Start) (d : Ongoing) → StandsAs first d self.old.die
+            → IsOngoingAskAt AskKind.Job caller task ops.now at first d result self.old.die self.new.die }
+        ensures plan { HaveOnePlan self.old.die self.new.die }
+        ensures queues { self.new.queues ≡ self.old.queues }
+    {
+        self.ask_at_as(alloc, caller, AskKind::Job, task, ops, at)
+    }
+
+    /// Asks for a burst of the task that is released in slot `at` of the clock, as [`OngoingDie::ask_all_at`] does. It tells
+    /// nothing, and takes no memory.
+    pub fn ask_all_at(
+        &mut self,
+        alloc: Global,
+        caller: u32,
+        task: TaskNo,
+        ops: &[Op],
+        at: u64,
+    ) -> Result<Taken, AskAtStop>
+        ensures ask { (first : Start) (d : Ongoing) → StandsAs first d self.old.die
+            → IsOngoingAskAt AskKind.Burst caller task ops.now at first d result self.old.die self.new.die }
+        ensures plan { HaveOnePlan self.old.die self.new.die }
+        ensures queues { self.new.queues ≡ self.old.queues }
+    {
+        self.ask_at_as(alloc, caller, AskKind::Burst, task, ops, at)
+    }
+
+    /// Asks for a job, as [`ask_at`](OutcomeDie::ask_at) does, or for a burst, as [`ask_all_at`](OutcomeDie::ask_all_at) does.
+    pub fn ask_at_as(
+        &mut self,
+        alloc: Global,
+        caller: u32,
+        kind: AskKind,
+        task: TaskNo,
+        ops: &[Op],
+        at: u64,
+    ) -> Result<Taken, AskAtStop>
+        ensures ask { (first : Start) (d : Ongoing) → StandsAs first d self.old.die
+            → IsOngoingAskAt kind caller task ops.now at first d result self.old.die self.new.die }
+        ensures plan { HaveOnePlan self.old.die self.new.die }
+        ensures queues { self.new.queues ≡ self.old.queues }
+    {
+        self.die.ask_at_as(alloc, caller, kind, task, ops, at)
+    }
+
+    /// As [`slot`](OutcomeDie::slot), into a reply as [`new_reply`](slot_core::new_reply) makes it, so that no reply is moved.
+    /// Where the slot is refused the reply is of no use any more.
+    pub fn fill_slot(
+        &mut self,
+        alloc: Global,
+        caller: u32,
+        reply: &mut SlotReply,
+    ) -> Result<(), SlotStop>
+        requires unfilled { reply.old ≡ idle_reply 0 [] }
+        ensures slot { (first : Start) (d : Ongoing) → StandsAs first d self.old.die
+            → IsOngoingSlot N.ends N.failures N.never_fails caller first d (filled reply.new result) self.old.die self.new.die }
+        ensures plan { HaveOnePlan self.old.die self.new.die }
+        ensures told { OnOk result (HasTold caller self.old self.new) }
+        ensures refused { OnErr result (self.new.queues ≡ self.old.queues) }
+    {
+        match self.die.fill_slot(alloc, caller, reply) {
+            Ok(()) => {
+                self.outcomes.note(self.die.die(), reply);
+                Ok(())
+            }
+            Err(stop) => Err(stop),
+        }
+    }
+
     /// Carries out the present slot, as [`OngoingDie::slot`] does. The outcome of the job that is done with it is the last one that
     /// its task has to take; where there is no room for it the task's oldest go, and are counted. It takes no memory, and where
     /// the slot is refused no outcome comes or goes.
@@ -112,11 +192,9 @@ impl<N: Nand> OutcomeDie<N> {
         ensures told { OnOk result (HasTold caller self.old self.new) }
         ensures refused { OnErr result (self.new.queues ≡ self.old.queues) }
     {
-        match self.die.slot(alloc, caller) {
-            Ok(reply) => {
-                self.outcomes.note(self.die.die(), &reply);
-                Ok(reply)
-            }
+        let mut reply = new_reply(alloc);
+        match self.fill_slot(alloc, caller, &mut reply) {
+            Ok(()) => Ok(reply),
             Err(stop) => Err(stop),
         }
     }

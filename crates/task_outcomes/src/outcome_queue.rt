@@ -112,7 +112,7 @@ impl OutcomeQueue {
         self.dropped
     }
 
-    /// Whether there is room for one more, whose reads gave so many pages.
+    /// Whether there is room for one more, whose reads gave `reads` pages.
     fn has_room(&self, reads: usize) -> bool
         ensures room { result ≡ (nat_lt (length self.now.kept) self.now.room
             && nat_le (pages_in self.now.kept + reads) self.now.room) }

@@ -1,8 +1,8 @@
-//! What became of a job, as its task is told.
+//! What became of a job, as it is reported to its task.
 
 use slot_types::{JobNo, Reads, TaskNo};
 
-/// What became of a job that is done, as its task is told. Slots are those of the clock of all lives.
+/// What became of a job that is done, as it is reported to its task. Slots are those of the clock of all lives.
 #[derive(Clone, PartialEq, Eq, Debug, Drop)]
 pub struct TaskOutcome {
     pub task: TaskNo,

@@ -1,5 +1,5 @@
 //! What no clause says of the program's commands, and needs types of its own: the order of files, readers and writers
-//! that fail at a call, and words that are no text. What commands print is in the plays of `crates/demo_examples`.
+//! that fail at a call, and words that are no text. What commands print is in the plays of `crates/test_plays`.
 #![tactic(auto)]
 
 #[cfg(test)]

@@ -72,7 +72,7 @@ fn first_wrong(alloc: Global, cases: &[Case]) -> Result<Option<usize>, Refusal> 
     Ok(None)
 }
 
-/// So much is asked for in the long run, and the tightest interval is this one.
+/// The plan passes: `load` is asked for in the long run, and this is the tightest interval.
 const fn passes(load: u32, tightest: u32, slack: u32) -> Result<DemandLoad, TermsFault> {
     Ok(DemandLoad {
         load,

@@ -1,7 +1,7 @@
 //! Plays of a die that keeps its plan itself: two tasks, of which each is answered by its own asks alone.
 //!
 //! What rows of a script show of it in one life is in plays of `flashplan run --keep` (`planned_dies.txt` of
-//! demo_examples). Here are bursts, renewals, faults, and dies that go on by themselves.
+//! test_plays). Here are bursts, renewals, faults, and dies that go on by themselves.
 //!
 //! `plans` has the plans and `steps` the words of a test; `played` carries a step out. What is wanted is worked out from
 //! the rules (planned_log's README.md).

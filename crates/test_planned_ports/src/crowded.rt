@@ -13,12 +13,12 @@ use crate::ports::{put_last, take_last};
 use crate::shared::{Ports, Shared, close_two, open_two};
 use crate::wrong::Wrong;
 use flash_die::Nand;
-use ongoing_die::OngoingDie;
 use planned_ports::SharedPlannedDie;
 use slot_types::{Op, PageData};
 use std::alloc::Global;
 use std::sync::Wait;
 use std::thread::Threads;
+use task_outcomes::OutcomeDie;
 
 /// How often each task asks: the second one in three lives at least.
 const ASKS: u32 = 50;
@@ -90,9 +90,9 @@ fn end_crowd<N: Nand, R: Wait>(
 fn crowd_die<N: Nand + Send, R: Threads + Wait + Sync>(
     rt: &R,
     alloc: Global,
-    die: Box<OngoingDie<N>>,
+    die: Box<OutcomeDie<N>>,
     crowd: &Crowd,
-) -> Result<(Box<OngoingDie<N>>, CrowdTold), Wrong> {
+) -> Result<(Box<OutcomeDie<N>>, CrowdTold), Wrong> {
     let Shared {
         die,
         ports,
@@ -151,11 +151,11 @@ fn check_crowd(told: &CrowdTold) -> Result<(), Wrong> {
 fn crowds<R: Threads + Wait + Sync>(rt: &R, alloc: Global) -> Result<bool, Wrong> {
     let (die, told) = crowd_die(rt, alloc, a_die(alloc, &CROWD.plan)?, &CROWD)?;
     check_crowd(&told)?;
-    let in_time = match die.die().worst() {
+    let in_time = match die.die().die().worst() {
         Some(worst) => worst.lateness <= 0,
         None => true,
     };
-    Ok(in_time && die.clock() == u64::from(told.carried))
+    Ok(in_time && die.die().clock() == u64::from(told.carried))
 }
 
 #[test]

@@ -1,7 +1,7 @@
 //! What a port is answered.
 
 use ongoing_die::{AskRefusal, AskStop, Taken};
-use planned_ports::AskRefused;
+use planned_ports::{AskRefused, OutcomeRefused, TaskOutcome};
 
 /// What a port is answered, without the number of its first job, which counts all tasks' jobs.
 #[derive(Clone, Copy, PartialEq, Eq, Debug, Drop)]
@@ -31,5 +31,49 @@ pub(crate) fn as_heard(answer: Result<Taken, AskRefused>) -> Heard {
         Err(AskRefused::ForeignPage { page }) => Heard::Foreign { page },
         Err(AskRefused::Die(AskStop::Plan(refusal))) => Heard::Plan(refusal),
         Err(refused) => Heard::Other(refused),
+    }
+}
+
+/// What a task hears of a job that is done: all of its outcome, but of each page that its reads gave the first byte.
+#[derive(Clone, Copy, PartialEq, Eq, Debug, Drop)]
+pub(crate) struct Told {
+    pub(crate) task: u32,
+    pub(crate) life: u64,
+    pub(crate) job: u32,
+    pub(crate) release: u64,
+    pub(crate) due: u64,
+    pub(crate) completion: u64,
+    pub(crate) lateness: i64,
+    /// By read, of at most two.
+    pub(crate) bytes: [Option<u8>; 2],
+}
+
+/// The first byte of what a read gave.
+fn byte_in(outcome: &TaskOutcome, read: usize) -> Option<u8> {
+    match outcome.reads.get(read) {
+        Some(page) => Some(page.0[0]),
+        None => None,
+    }
+}
+
+/// What an outcome tells.
+fn in_short(outcome: &TaskOutcome) -> Told {
+    Told {
+        task: outcome.task.0,
+        life: outcome.life,
+        job: outcome.job.0,
+        release: outcome.release,
+        due: outcome.due,
+        completion: outcome.completion,
+        lateness: outcome.lateness,
+        bytes: [byte_in(outcome, 0), byte_in(outcome, 1)],
+    }
+}
+
+/// What a port takes; none, too, where it is refused.
+pub(crate) fn as_told(answer: Result<Option<TaskOutcome>, OutcomeRefused>) -> Option<Told> {
+    match answer {
+        Ok(Some(outcome)) => Some(in_short(&outcome)),
+        _ => None,
     }
 }

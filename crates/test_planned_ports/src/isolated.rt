@@ -6,11 +6,11 @@ use crate::runs::{Run, check_told, run_die};
 use crate::threads::Told;
 use crate::wrong::Wrong;
 use flash_die::MemoryNand;
-use ongoing_die::OngoingDie;
 use slot_types::TaskNo;
 use std::alloc::Global;
 use std::sync::Wait;
 use std::thread::Threads;
+use task_outcomes::OutcomeDie;
 
 /// What threads tell of a new die that is shared over `lives` lives.
 fn told_of<R: Threads + Wait + Sync>(
@@ -29,7 +29,7 @@ fn told_of<R: Threads + Wait + Sync>(
     };
     let (die, told) = run_die(rt, alloc, a_die(alloc, plan)?, &run)?;
     check_told(&told, 0, &run)?;
-    if die.clock() == u64::from(run.slots) {
+    if die.die().clock() == u64::from(run.slots) {
         Ok(told)
     } else {
         Err(Wrong::Clock)
@@ -61,13 +61,13 @@ fn a_task_hears_the_same_beside_bursts(rt: HostRuntime) {
 }
 
 /// Nothing was late in the life of the die's log, and the careful task's last ask waits.
-fn check_life(die: &OngoingDie<MemoryNand>, life: u32) -> Result<(), Wrong> {
-    if let Some(worst) = die.die().worst() {
+fn check_life(die: &OutcomeDie<MemoryNand>, life: u32) -> Result<(), Wrong> {
+    if let Some(worst) = die.die().die().worst() {
         if worst.lateness > 0 {
             return Err(Wrong::Late { life });
         }
     }
-    match die.waiting(TaskNo(0)) {
+    match die.die().waiting(TaskNo(0)) {
         Some(ops) if ops.len() == 1 => Ok(()),
         _ => Err(Wrong::Waiting),
     }
@@ -78,9 +78,9 @@ fn check_life(die: &OngoingDie<MemoryNand>, life: u32) -> Result<(), Wrong> {
 fn lives_once<R: Threads + Wait + Sync>(
     rt: &R,
     alloc: Global,
-    die: Box<OngoingDie<MemoryNand>>,
+    die: Box<OutcomeDie<MemoryNand>>,
     life: u32,
-) -> Result<Box<OngoingDie<MemoryNand>>, Wrong> {
+) -> Result<Box<OutcomeDie<MemoryNand>>, Wrong> {
     let run = Run {
         plan: PLAN,
         slots: PLAN.life - 1,
@@ -88,7 +88,7 @@ fn lives_once<R: Threads + Wait + Sync>(
         rest: 1,
         at_end: false,
     };
-    let from = die.clock();
+    let from = die.die().clock();
     let (die, told) = run_die(rt, alloc, die, &run)?;
     check_told(&told, from, &run)?;
     check_life(&die, life)?;
@@ -101,7 +101,7 @@ fn lives_on<R: Threads + Wait + Sync>(rt: &R, alloc: Global, lives: u32) -> Resu
     for life in 0..lives {
         die = lives_once(rt, alloc, die, life)?;
     }
-    Ok(die.clock())
+    Ok(die.die().clock())
 }
 
 #[test]

@@ -28,6 +28,8 @@ mod isolated;
 #[cfg(test)]
 mod missing;
 #[cfg(test)]
+mod outcomes;
+#[cfg(test)]
 mod plans;
 #[cfg(test)]
 mod ports;

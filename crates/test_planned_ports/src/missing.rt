@@ -62,7 +62,7 @@ fn closes_then<N: Nand, R: Wait>(
     let back = tasks.len();
     put_last(&die, &mut tasks, missing);
     let die = close_all(rt, alloc, die, clock, tasks)?;
-    Ok((refusal, back, die.clock()))
+    Ok((refusal, back, die.die().clock()))
 }
 
 /// Closes a die first without a task's port, which hands all back, and then with it.

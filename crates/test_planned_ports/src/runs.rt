@@ -11,11 +11,11 @@ use crate::shared::{Ports, Shared, close_two, open_two};
 use crate::threads::{Told, alone, beside};
 use crate::wrong::Wrong;
 use flash_die::Nand;
-use ongoing_die::OngoingDie;
 use planned_ports::SharedPlannedDie;
 use std::alloc::Global;
 use std::sync::Wait;
 use std::thread::Threads;
+use task_outcomes::OutcomeDie;
 
 /// How the threads run.
 #[derive(Clone, Copy, Drop)]
@@ -77,9 +77,9 @@ fn end_run<N: Nand, R: Wait>(
 pub(crate) fn run_die<N: Nand + Send, R: Threads + Wait + Sync>(
     rt: &R,
     alloc: Global,
-    die: Box<OngoingDie<N>>,
+    die: Box<OutcomeDie<N>>,
     run: &Run,
-) -> Result<(Box<OngoingDie<N>>, Told), Wrong> {
+) -> Result<(Box<OutcomeDie<N>>, Told), Wrong> {
     let notes = Vec::with_capacity(alloc, (run.slots / 10) as usize + 1)?;
     let Shared { die, ports, list } = open_two(rt, alloc, die, &[])?;
     let (mut ports, mut told) = run_threads(rt, &die, ports, run, notes);

@@ -1,15 +1,15 @@
 //! A die that is opened for its two tasks and the clock, and closed again.
 
-ghost use Rattle.std.specs.Prelude.{◌≡◌, All, Ok, IfOk, IfSome};
+ghost use Rattle.std.specs.Prelude.{◌≡◌, All, IfOk, IfSome};
 
-use crate::dies::boxed;
+use crate::dies::{boxed, or_wrong};
 use crate::ports::{put_last, take_last};
 use crate::wrong::Wrong;
 use flash_die::Nand;
-use ongoing_die::OngoingDie;
 use planned_ports::{ClockPort, Opened, PageRange, SharedPlannedDie, TaskPort, close, open};
 use std::alloc::Global;
 use std::sync::Wait;
+use task_outcomes::OutcomeDie;
 
 /// The ports of a die with two tasks.
 #[derive(Drop)]
@@ -52,21 +52,11 @@ fn of_two<N: Nand>(opened: Opened<N>) -> Option<Shared<N>>
     Some(Shared { die, ports, list })
 }
 
-/// What is refused is wrong so. Of any types, since a die that is handed back would be proved through all its parts.
-fn or_wrong<T, E: Drop>(answer: Result<T, E>, wrong: Wrong) -> Result<T, Wrong>
-    ensures { IfOk result (λ value. answer ≡ Ok value) }
-{
-    match answer {
-        Ok(value) => Ok(value),
-        Err(_) => Err(wrong),
-    }
-}
-
 /// Opens a die with two tasks.
 pub(crate) fn open_two<N: Nand, R: Wait>(
     rt: &R,
     alloc: Global,
-    die: Box<OngoingDie<N>>,
+    die: Box<OutcomeDie<N>>,
     ranges: &[Option<PageRange>],
 ) -> Result<Shared<N>, Wrong>
     ensures clock { IfOk result (λ s. s.ports.clock.lock ≡ s.die) }
@@ -91,7 +81,7 @@ pub(crate) fn close_all<N: Nand, R: Wait>(
     die: SharedPlannedDie<N>,
     clock: ClockPort<N>,
     list: Vec<TaskPort<N>>,
-) -> Result<Box<OngoingDie<N>>, Wrong>
+) -> Result<Box<OutcomeDie<N>>, Wrong>
     requires clock { clock.lock ≡ die }
     requires list { All (λ port. port.lock ≡ die) list.items }
 {
@@ -107,7 +97,7 @@ pub(crate) fn close_two<N: Nand, R: Wait>(
     rt: &R,
     alloc: Global,
     shared: Shared<N>,
-) -> Result<Box<OngoingDie<N>>, Wrong>
+) -> Result<Box<OutcomeDie<N>>, Wrong>
     requires clock { shared.ports.clock.lock ≡ shared.die }
     requires first { shared.ports.first.lock ≡ shared.die }
     requires second { shared.ports.second.lock ≡ shared.die }

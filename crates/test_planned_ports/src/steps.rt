@@ -3,15 +3,15 @@
 ghost use Rattle.std.specs.Prelude.{◌≡◌};
 
 use crate::clocks::carry;
-use crate::heard::{Heard, as_heard};
+use crate::heard::{Heard, Told, as_heard, as_told};
 use crate::shared::{Ports, close_two, open_two};
 use crate::wrong::Wrong;
 use flash_die::Nand;
-use ongoing_die::OngoingDie;
 use planned_ports::{PageRange, SharedPlannedDie, TaskPort};
 use slot_types::Op;
 use std::alloc::Global;
 use std::sync::Wait;
+use task_outcomes::OutcomeDie;
 
 /// Which of the two tasks.
 #[derive(Clone, Copy, Drop)]
@@ -38,6 +38,17 @@ pub(crate) enum Step {
     /// `count` slots are carried out.
     Slots {
         count: u32,
+    },
+    /// A task takes its first outcome.
+    Takes {
+        task: Task,
+        want: Option<Told>,
+    },
+    /// So many outcomes a task has to take, and so many of its were dropped.
+    Counts {
+        task: Task,
+        kept: u64,
+        dropped: u64,
     },
 }
 
@@ -81,6 +92,67 @@ fn hears<N: Nand, R: Wait>(
     }
 }
 
+/// What this port takes.
+fn taken<N: Nand, R: Wait>(
+    rt: &R,
+    die: &SharedPlannedDie<N>,
+    port: &mut TaskPort<N>,
+) -> Option<Told>
+    requires { port.old.lock ≡ die.now }
+    ensures { port.new.lock ≡ die.now }
+{
+    as_told(port.take_outcome(rt, die))
+}
+
+/// What the port of this task takes.
+fn takes<N: Nand, R: Wait>(
+    rt: &R,
+    die: &SharedPlannedDie<N>,
+    ports: &mut Ports<N>,
+    task: Task,
+) -> Option<Told>
+    requires clock { ports.old.clock.lock ≡ die.now }
+    requires first { ports.old.first.lock ≡ die.now }
+    requires second { ports.old.second.lock ≡ die.now }
+    ensures clock { ports.new.clock.lock ≡ die.now }
+    ensures first { ports.new.first.lock ≡ die.now }
+    ensures second { ports.new.second.lock ≡ die.now }
+{
+    match task {
+        Task::First => taken(rt, die, &mut ports.first),
+        Task::Second => taken(rt, die, &mut ports.second),
+    }
+}
+
+/// How many outcomes this port has to take, and how many were dropped.
+fn counted<N: Nand, R: Wait>(rt: &R, die: &SharedPlannedDie<N>, port: &mut TaskPort<N>) -> [u64; 2]
+    requires { port.old.lock ≡ die.now }
+    ensures { port.new.lock ≡ die.now }
+{
+    let kept = port.outcomes(rt, die);
+    [kept, port.dropped_outcomes(rt, die)]
+}
+
+/// How many outcomes the port of this task has to take, and how many were dropped.
+fn counts<N: Nand, R: Wait>(
+    rt: &R,
+    die: &SharedPlannedDie<N>,
+    ports: &mut Ports<N>,
+    task: Task,
+) -> [u64; 2]
+    requires clock { ports.old.clock.lock ≡ die.now }
+    requires first { ports.old.first.lock ≡ die.now }
+    requires second { ports.old.second.lock ≡ die.now }
+    ensures clock { ports.new.clock.lock ≡ die.now }
+    ensures first { ports.new.first.lock ≡ die.now }
+    ensures second { ports.new.second.lock ≡ die.now }
+{
+    match task {
+        Task::First => counted(rt, die, &mut ports.first),
+        Task::Second => counted(rt, die, &mut ports.second),
+    }
+}
+
 /// Plays a step. It answers whether it went as it says.
 fn goes<N: Nand, R: Wait>(
     rt: &R,
@@ -99,6 +171,12 @@ fn goes<N: Nand, R: Wait>(
         Step::Asks { task, ops, want } => hears(rt, die, ports, *task, false, *ops) == *want,
         Step::AsksAll { task, ops, want } => hears(rt, die, ports, *task, true, *ops) == *want,
         Step::Slots { count } => carry(rt, die, &mut ports.clock, *count) == *count,
+        Step::Takes { task, want } => takes(rt, die, ports, *task) == *want,
+        Step::Counts {
+            task,
+            kept,
+            dropped,
+        } => counts(rt, die, ports, *task) == [*kept, *dropped],
     }
 }
 
@@ -130,10 +208,10 @@ fn play<N: Nand, R: Wait>(
 pub(crate) fn plays<N: Nand, R: Wait>(
     rt: &R,
     alloc: Global,
-    die: Box<OngoingDie<N>>,
+    die: Box<OutcomeDie<N>>,
     ranges: &[Option<PageRange>],
     steps: &[Step],
-) -> Result<Box<OngoingDie<N>>, Wrong> {
+) -> Result<Box<OutcomeDie<N>>, Wrong> {
     let mut shared = open_two(rt, alloc, die, ranges)?;
     let played = play(rt, &shared.die, &mut shared.ports, steps);
     let closed = close_two(rt, alloc, shared);

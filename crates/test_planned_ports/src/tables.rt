@@ -9,12 +9,13 @@ use crate::steps::{Step, plays};
 use crate::wrong::Wrong;
 use flash_die::MemoryNand;
 use ongoing_die::AskRefusal::{BadPage, EmptyJob, TooManyOps, TooSoon};
-use ongoing_die::{AskStop, OngoingDie};
+use ongoing_die::AskStop;
 use planned_ports::{AskRefused, PageRange};
 use slot_core::Outcome;
 use slot_types::{JobNo, Op, PageData, TaskNo};
 use std::alloc::Global;
 use std::sync::Wait;
+use task_outcomes::OutcomeDie;
 
 const WRITE: Op = Op::Write(4, PageData([7; 16]));
 
@@ -70,24 +71,24 @@ fn a_port_has_the_pages_of_its_range_alone(rt: HostRuntime) {
 }
 
 /// How many operations of each task wait, and the clock.
-fn standing(die: &OngoingDie<MemoryNand>) -> [u64; 3] {
+fn standing(die: &OutcomeDie<MemoryNand>) -> [u64; 3] {
     [
         waiting(die, TaskNo(0)),
         waiting(die, TaskNo(1)),
-        die.clock(),
+        die.die().clock(),
     ]
 }
 
-fn waiting(die: &OngoingDie<MemoryNand>, task: TaskNo) -> u64 {
-    match die.waiting(task) {
+fn waiting(die: &OutcomeDie<MemoryNand>, task: TaskNo) -> u64 {
+    match die.die().waiting(task) {
         Some(ops) => ops.len() as u64,
         None => 0,
     }
 }
 
 /// In which slot of the present life this job was done: 0 where it isn't, or nothing can be told of it.
-fn done_in(alloc: Global, die: &OngoingDie<MemoryNand>, job: u32) -> u32 {
-    match die.die().core().outcome(alloc, JobNo(job)) {
+fn done_in(alloc: Global, die: &OutcomeDie<MemoryNand>, job: u32) -> u32 {
+    match die.die().die().core().outcome(alloc, JobNo(job)) {
         Ok(Outcome::Done { completion, .. }) => completion,
         _ => 0,
     }

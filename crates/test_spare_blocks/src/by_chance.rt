@@ -12,7 +12,7 @@ const SPARES: u32 = 5;
 /// How many asks a die has: those that keep their plans write once in 20 slots.
 const ASKS: u32 = 700;
 
-/// One call in so many fails.
+/// One call in this number fails.
 const ONE_IN: u64 = 10;
 
 /// Each slot is watched, and each page is read at the end (`play`): the die has to go on until its part is worn out. A

@@ -19,7 +19,7 @@ pub(crate) enum Which {
     Ongoing,
 }
 
-/// How a die ends after so many asks, on a part with so many spare blocks whose calls fail so.
+/// How a die ends after some asks, on a part with `spares` spare blocks whose calls fail so.
 pub(crate) fn ends(
     alloc: Global,
     which: Which,

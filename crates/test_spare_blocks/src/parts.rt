@@ -16,7 +16,7 @@ pub(crate) const PAGES: u32 = 4;
 
 pub(crate) const ERASE_SLOTS: u32 = 3;
 
-/// A device of so many blocks on a part that has so many more, of which these fail.
+/// A device of `blocks` blocks on a part that has `spares` more, of which these fail.
 pub(crate) fn device(
     alloc: Global,
     blocks: u32,

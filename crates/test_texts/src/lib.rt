@@ -1,6 +1,6 @@
 //! What no clause says of reading, running and writing texts, and needs types of its own: readers and writers that
 //! fail, are interrupted or have no end, refused memory, and values that no command prints. What texts mean is in the
-//! plays of `crates/demo_examples`. Expected answers are worked out by hand.
+//! plays of `crates/test_plays`. Expected answers are worked out by hand.
 #![tactic(auto)]
 
 #[cfg(test)]

@@ -3,8 +3,8 @@ use Rattle.planned_ports.proofs.laws.tasks_are_answered_for_their_own_asks.Goals
 
 pub returns-clause-granted : goal.returns-clause-granted
 returns-clause-granted g c = λ task opened again first other one two calls others h.
-    same_granted c.ongoing_tasks_are_answered_for_their_own_asks.ensures task opened again first other one two calls others h
+    same_granted c.ongoing_tasks_are_answered_for_their_own_asks.ensures.asks task opened again first other one two calls others h
 
 pub returns-clause-next : goal.returns-clause-next
 returns-clause-next g c = λ task opened again first other one two calls others h.
-    same_next c.ongoing_tasks_are_answered_for_their_own_asks.ensures task opened again first other one two calls others h
+    same_next c.ongoing_tasks_are_answered_for_their_own_asks.ensures.asks task opened again first other one two calls others h

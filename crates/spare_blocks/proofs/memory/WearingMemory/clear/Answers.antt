@@ -1,4 +1,6 @@
-use Rattle.std.proofs.Common.{rules, ◌≡◌, ◌+◌, ◌<◌, ◌++◌, ◌∷◌, [], List, true, ap, sym, ◌∙◌, arith}
+use Rattle.std.proofs.Common.{rules, ◌≡◌, ◌+◌, ◌<◌, ◌++◌, ◌∷◌, [], List, length, true, ap, sym, ◌∙◌, arith}
+use Rattle.std.proofs.lemmas.List.{length-set}
+use Rattle.spare_blocks.specs.declared.cells.Cell.{Cell}
 use Rattle.spare_blocks.specs.Parts.{PartBlock}
 use Rattle.spare_blocks.specs.Wearing.{Wearing}
 use Rattle.spare_blocks.proofs.WearingBlocks.{within, seen_at, sound_at, changed_seen, changed_sound}
@@ -15,8 +17,9 @@ invariant_of-self c =
     let s = sound_at c.self.inside.blocks.items c.args.block c.index_mut.result.now c.index_mut.ensures.value lt c.self.inside.shape.pages c.self.inside.shape.erase_slots c.self.invariant.each in
     record {
       some_slots = c.self.invariant.some_slots;
+      count = length-set c.self.inside.blocks.items c.args.block c.empty_block.new.block ∙ c.self.invariant.count;
       each = changed_sound c.self.inside.blocks.items c.args.block c.index_mut.result.now c.index_mut.ensures.value lt c.self.inside.shape.pages
-          c.self.inside.shape.erase_slots c.empty_block.new.block c.self.invariant.each (omega (arith, s.room, c.empty_block.ensures.capacity))
+          c.self.inside.shape.erase_slots c.empty_block.new.block c.self.invariant.each (omega (arith, ap (λ (l : List Cell). length l) c.empty_block.ensures.cells)) (omega (arith, s.room, c.empty_block.ensures.capacity))
           (omega (arith, c.self.invariant.some_slots, c.empty_block.ensures.erasing));
     }
 

@@ -1,4 +1,6 @@
 use Rattle.std.proofs.Common.{rules, ◌≡◌, ◌+◌, ◌<◌, ◌++◌, ◌∷◌, [], List, length, true, ap, sym, ◌∙◌, arith}
+use Rattle.std.proofs.lemmas.List.{length-set, length_push}
+use Rattle.spare_blocks.specs.declared.cells.Cell.{Cell}
 use Rattle.spare_blocks.specs.Parts.{PartBlock}
 use Rattle.spare_blocks.specs.Wearing.{Wearing}
 use Rattle.spare_blocks.proofs.WearingBlocks.{within, seen_at, sound_at, changed_seen, changed_sound}
@@ -23,8 +25,9 @@ invariant_of-self c =
     let s = sound_at c.self.inside.blocks.items c.args.place.block c.index_mut.result.now c.index_mut.ensures.value lt c.self.inside.shape.pages c.self.inside.shape.erase_slots c.self.invariant.each in
     record {
       some_slots = c.self.invariant.some_slots;
+      count = length-set c.self.inside.blocks.items c.args.place.block c.fill_cell.new.block ∙ c.self.invariant.count;
       each = changed_sound c.self.inside.blocks.items c.args.place.block c.index_mut.result.now c.index_mut.ensures.value lt c.self.inside.shape.pages
-          c.self.inside.shape.erase_slots c.fill_cell.new.block c.self.invariant.each (omega (arith, s.room, c.fill_cell.ensures.capacity))
+          c.self.inside.shape.erase_slots c.fill_cell.new.block c.self.invariant.each (omega (arith, (rw (← c.self.view_is) at c.requires.free).next, (rw (← c.self.view_is) at c.requires.free).room, ap (λ (b : PartBlock). length b.cells) (seen_at c.self.inside.blocks.items c.args.place.block c.index_mut.result.now c.index_mut.ensures.value lt), ap (λ (l : List Cell). length l) c.fill_cell.ensures.cells, length_push c.index_mut.result.now.cells.items c.args.cell)) (omega (arith, s.room, c.fill_cell.ensures.capacity))
           (omega (arith, s.few_slots, c.fill_cell.ensures.erasing));
     }
 

@@ -1,0 +1,11 @@
+use Rattle.flashplan_breaches.proofs.Breaking.{not_both, there_is}
+use Rattle.flashplan_breaches.specs.Arrivals.{arrival_of}
+use Rattle.flashplan_breaches.proofs.breaches.breaks_collection.Goals as goal
+
+pub returns-then-a : goal.returns-then-a
+returns-then-a c broken = record {
+  arrival = arrival_of c.in-Some.a;
+  there = there_is c.args.all.now c.args.place c.in-Some.a c.in-Some.ensures;
+  collects = c.if-a.true;
+  broken = λ holds. not_both _ broken (c.collection_holds.ensures.1 holds);
+}

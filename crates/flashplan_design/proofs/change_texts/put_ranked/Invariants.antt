@@ -1,0 +1,6 @@
+use Rattle.std.proofs.Common.{◌≡◌, ◌++◌, take}
+use Rattle.flashplan_design.specs.Changes.{changes_text}
+use Rattle.flashplan_design.proofs.change_texts.put_ranked.Given as goal
+
+abbrev pub invariant-loop-change : goal.invariant-loop-change
+invariant-loop-change l = l.text.items ≡ l.initial.text.items ++ changes_text l.slot_us (take l.change-index l.changes)

@@ -1,0 +1,6 @@
+use Rattle.flashplan_words.proofs.syntax.draw.draw_files.Goals as goal
+
+pub returns : goal.returns
+returns c =
+    let planned = c.with_arg-planned.ensures _ _ c.command.ensures c.plan_file.ensures.rule in
+    c.with_arg.ensures _ _ planned c.script.ensures.rule

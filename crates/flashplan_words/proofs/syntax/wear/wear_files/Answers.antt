@@ -1,0 +1,4 @@
+use Rattle.flashplan_words.proofs.syntax.wear.wear_files.Goals as goal
+
+pub returns : goal.returns
+returns c = c.on_files.ensures _ c.command.ensures

@@ -1,6 +1,0 @@
-use Rattle.tool_script_runs.proofs.GoingOn.{all_stay}
-use Rattle.tool_checkpoint_runs.specs.Runs.{running}
-use Rattle.tool_checkpoint_runs.proofs.store_runs.settled.Goals as goal
-
-pub returns-then-not-saves-clause-went_on : goal.returns-then-not-saves-clause-went_on
-returns-then-not-saves-clause-went_on c = all_stay (running c.args.dies.now.items)

@@ -1,6 +1,0 @@
-use Rattle.tool_command_words.proofs.syntax.compare.compare_words.Goals as goal
-
-pub returns : goal.returns
-returns c =
-    let begun = c.with_arg-begun.ensures _ _ c.compare_of_task.ensures c.checkpoint.ensures.rule in
-    c.with_arg.ensures _ _ begun c.strict.ensures.rule

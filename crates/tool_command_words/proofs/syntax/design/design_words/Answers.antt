@@ -1,4 +1,0 @@
-use Rattle.tool_command_words.proofs.syntax.design.design_words.Goals as goal
-
-pub returns : goal.returns
-returns c = c.with_arg.ensures _ _ c.command.ensures c.required-sheet.ensures.rule

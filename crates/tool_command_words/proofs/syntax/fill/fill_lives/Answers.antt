@@ -1,6 +1,0 @@
-use Rattle.tool_command_words.proofs.syntax.fill.fill_lives.Goals as goal
-
-pub returns : goal.returns
-returns c =
-    let planned = c.with_arg-planned.ensures _ _ c.command-command.ensures c.plan_file.ensures.rule in
-    c.with_arg.ensures _ _ planned c.lives.ensures.rule

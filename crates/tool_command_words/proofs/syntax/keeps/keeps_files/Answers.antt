@@ -1,4 +1,0 @@
-use Rattle.tool_command_words.proofs.syntax.keeps.keeps_files.Goals as goal
-
-pub returns : goal.returns
-returns c = c.on_files.ensures _ c.command.ensures

@@ -1,7 +1,0 @@
-use Rattle.tool_command_words.proofs.syntax.run.run_saved.Goals as goal
-
-pub returns : goal.returns
-returns c =
-    let long = c.with_arg-long.ensures _ _ c.run_files.ensures c.slots.ensures.rule in
-    let begun = c.with_arg-begun.ensures _ _ long c.begun_from.ensures.rule in
-    c.with_arg.ensures _ _ begun c.saved_to.ensures.rule

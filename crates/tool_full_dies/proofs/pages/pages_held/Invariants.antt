@@ -1,6 +1,0 @@
-use Rattle.std.proofs.Common.{◌≡◌, map, take}
-use Rattle.tool_full_dies.specs.FullDies.{lies}
-use Rattle.tool_full_dies.proofs.pages.pages_held.Given as goal
-
-abbrev pub invariant-loop-page : goal.invariant-loop-page
-invariant-loop-page l = l.held.items ≡ map lies (take l.page-index l.pages)

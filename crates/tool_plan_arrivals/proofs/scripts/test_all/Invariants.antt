@@ -1,6 +1,0 @@
-use Rattle.std.proofs.Common.{All, take}
-use Rattle.tool_plan_arrivals.specs.PlannedScripts.{HasPassed}
-use Rattle.tool_plan_arrivals.proofs.scripts.test_all.Given as goal
-
-abbrev pub invariant-loop-plan : goal.invariant-loop-plan
-invariant-loop-plan l = All HasPassed (take l.plan-index l.plans)

@@ -1,6 +1,0 @@
-use Rattle.std.proofs.Common.{◌≡◌, ◌++◌, take}
-use Rattle.tool_plan_design.specs.Alphas.{periods_text}
-use Rattle.tool_plan_design.proofs.alpha_texts.put_periods.Given as goal
-
-abbrev pub invariant-loop-task : goal.invariant-loop-task
-invariant-loop-task l = l.text.items ≡ l.initial.text.items ++ periods_text l.slot_us (take l.task-index l.tasks)

@@ -1,6 +1,0 @@
-use Rattle.std.proofs.Common.{◌≡◌, ◌++◌, take}
-use Rattle.tool_plan_design.specs.Alphas.{rows_text}
-use Rattle.tool_plan_design.proofs.alpha_texts.put_rows.Given as goal
-
-abbrev pub invariant-loop-row : goal.invariant-loop-row
-invariant-loop-row l = l.text.items ≡ l.initial.text.items ++ rows_text l.slot_us (take l.row-index l.rows)

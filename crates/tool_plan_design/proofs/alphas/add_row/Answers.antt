@@ -1,8 +1,0 @@
-use Rattle.std.proofs.Common.{sym, subst, All}
-use Rattle.std.proofs.lemmas.List.Elements.{All-push}
-use Rattle.tool_plan_design.specs.Alphas.{IsRow}
-use Rattle.tool_plan_design.proofs.alphas.add_row.Goals as goal
-
-pub returns-clause-so : goal.returns-clause-so
-returns-clause-so c = subst (All (IsRow c.args.plan.now)) (sym c.in_ok-push.ensures.items)
-    (All-push (IsRow c.args.plan.now) c.args.rows.now.items c.args.row c.requires.so c.requires.row)

@@ -1,9 +1,0 @@
-use Rattle.std.proofs.Common.{All}
-use Rattle.tool_plan_design.specs.Alphas.{IsRow}
-use Rattle.tool_plan_design.proofs.alphas.alpha_rows.Given as goal
-
-abbrev pub invariant-loop-before : goal.invariant-loop-before
-invariant-loop-before l = All (IsRow l.plan) l.rows.items
-
-abbrev pub invariant-loop-die : goal.invariant-loop-die
-invariant-loop-die l = All (IsRow l.plan) l.rows.items

@@ -1,6 +1,0 @@
-use Rattle.std.proofs.Common.{◌≡◌, map, take}
-use Rattle.tool_plan_design.specs.Alphas.{least_cap}
-use Rattle.tool_plan_design.proofs.alphas.caps_with.Given as goal
-
-abbrev pub invariant-loop-i : goal.invariant-loop-i
-invariant-loop-i l = l.made ≡ map (least_cap l.alpha) (take l.i l.tasks)

@@ -1,6 +1,0 @@
-use Rattle.std.proofs.Common.{◌≡◌, ◌++◌, take}
-use Rattle.tool_plan_design.specs.Changes.{changes_text}
-use Rattle.tool_plan_design.proofs.change_texts.put_ranked.Given as goal
-
-abbrev pub invariant-loop-change : goal.invariant-loop-change
-invariant-loop-change l = l.text.items ≡ l.initial.text.items ++ changes_text l.slot_us (take l.change-index l.changes)

@@ -1,5 +1,0 @@
-use Rattle.std.proofs.Common.{rules, append_assoc}
-use Rattle.tool_plan_design.proofs.found.put_found.Goals as goal
-
-pub returns : goal.returns
-returns c = search (rules, append_assoc)

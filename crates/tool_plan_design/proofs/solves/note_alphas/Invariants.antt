@@ -1,6 +1,0 @@
-use Rattle.std.proofs.Common.{All}
-use Rattle.tool_plan_design.specs.Findings.{IsSo}
-use Rattle.tool_plan_design.proofs.solves.note_alphas.Given as goal
-
-abbrev pub invariant-loop-alpha : goal.invariant-loop-alpha
-invariant-loop-alpha l = All (IsSo l.plan) l.findings.items

@@ -1,6 +1,0 @@
-use Rattle.std.proofs.Common.{All}
-use Rattle.tool_plan_design.specs.Findings.{IsSo}
-use Rattle.tool_plan_design.proofs.solves.note_tasks.Given as goal
-
-abbrev pub invariant-loop-name : goal.invariant-loop-name
-invariant-loop-name l = All (IsSo l.plan) l.findings.items

@@ -1,9 +1,0 @@
-use Rattle.std.proofs.Common.{ℕ, ◌+◌, ◌<◌, ◌≤◌}
-use Rattle.tool_plan_design.specs.Numbers.{DieDoes, IsAlike}
-use Rattle.tool_plan_design.proofs.solving.greatest.Given as goal
-
-abbrev pub invariant-loop-back : goal.invariant-loop-back
-invariant-loop-back l = record {
-  same : IsAlike l.which l.trial l.fn.plan;
-  none : (more : ℕ) → l.to < more + l.back → more ≤ l.to → ¬ DieDoes l.which l.fn.plan more;
-}

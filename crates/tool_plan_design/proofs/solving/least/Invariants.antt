@@ -1,9 +1,0 @@
-use Rattle.std.proofs.Common.{ℕ, ◌<◌, ◌≤◌}
-use Rattle.tool_plan_design.specs.Numbers.{DieDoes, IsAlike}
-use Rattle.tool_plan_design.proofs.solving.least.Given as goal
-
-abbrev pub invariant-loop-n : goal.invariant-loop-n
-invariant-loop-n l = record {
-  same : IsAlike l.which l.trial l.fn.plan;
-  none : (fewer : ℕ) → l.from ≤ fewer → fewer < l.n → ¬ DieDoes l.which l.fn.plan fewer;
-}

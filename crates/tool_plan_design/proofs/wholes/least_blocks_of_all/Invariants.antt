@@ -1,8 +1,0 @@
-use Rattle.std.proofs.Common.{ℕ, ◌<◌, ◌≤◌}
-use Rattle.slot_types.specs.declared.limits.TheConstants.{MIN_BLOCKS}
-use Rattle.tool_plan_design.specs.Plans.{AllDo}
-use Rattle.tool_plan_design.specs.declared.numbers.Number.TheVariants as number
-use Rattle.tool_plan_design.proofs.wholes.least_blocks_of_all.Given as goal
-
-abbrev pub invariant-loop-n : goal.invariant-loop-n
-invariant-loop-n l = (fewer : ℕ) → MIN_BLOCKS ≤ fewer → fewer < l.n → ¬ AllDo number.Blocks l.plan fewer

@@ -1,5 +1,0 @@
-use Rattle.std.proofs.Common.{append_assoc}
-use Rattle.tool_plan_fit.proofs.faults.LackingDisplay.fmt.Goals as goal
-
-pub returns-clause-writes : goal.returns-clause-writes
-returns-clause-writes g c = simp append_assoc (rw c.from.ensures at c.write.ensures.writes)

@@ -1,8 +1,0 @@
-use Rattle.std.proofs.Common.{take}
-use Rattle.std.specs.List.{AllZip}
-use Rattle.toml.specs.View.{view}
-use Rattle.tool_plan_fit.specs.Sheets.{IsNeedIn}
-use Rattle.tool_plan_fit.proofs.sheet_texts.needs_of.Given as goal
-
-abbrev pub invariant-loop-i : goal.invariant-loop-i
-invariant-loop-i l = AllZip (λ v need. IsNeedIn (view v) need) (take l.i l.tables) l.needs

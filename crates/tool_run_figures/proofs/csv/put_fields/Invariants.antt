@@ -1,6 +1,0 @@
-use Rattle.std.proofs.Common.{◌≡◌, ◌++◌, drop}
-use Rattle.tool_run_figures.specs.Csv.{fields}
-use Rattle.tool_run_figures.proofs.csv.put_fields.Given as goal
-
-abbrev pub invariant-loop-figure : goal.invariant-loop-figure
-invariant-loop-figure l = l.text.items ++ fields (drop l.figure-index l.figures) ≡ l.initial.text.items ++ fields l.figures

@@ -1,6 +1,0 @@
-use Rattle.std.proofs.Common.{◌≡◌, take}
-use Rattle.tool_run_figures.specs.Ends.{lateness_in}
-use Rattle.tool_run_figures.proofs.ends.lateness_in.Given as goal
-
-abbrev pub invariant-loop-end : goal.invariant-loop-end
-invariant-loop-end l = l.found.items ≡ lateness_in l.task (take l.end-index l.ends)

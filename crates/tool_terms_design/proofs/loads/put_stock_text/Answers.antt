@@ -1,5 +1,0 @@
-use Rattle.std.proofs.Common.{append_assoc}
-use Rattle.tool_terms_design.proofs.loads.put_stock_text.Goals as goal
-
-pub returns : goal.returns
-returns c = simp append_assoc c.writeln.ensures.bytes
