@@ -2,3 +2,4 @@ pub mod Lists
 pub mod Follows
 pub mod Looked
 pub mod Powered
+pub mod Renumbered
