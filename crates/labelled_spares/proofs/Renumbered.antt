@@ -161,7 +161,7 @@ module _ (to back : ℕ → ℕ) (seen other : Shown) (there : HasAll to back se
 
 -- Whether a block has a label
 
-find_label : (cells : List (Option Label)) → ((k : ℕ) × (w : Label) × (get_or cells k None ≡ Some w)) ⊎ ((k : ℕ) → get_or cells k None ≡ None)
+pub find_label : (cells : List (Option Label)) → ((k : ℕ) × (w : Label) × (get_or cells k None ≡ Some w)) ⊎ ((k : ℕ) → get_or cells k None ≡ None)
 find_label [] = inr (λ k. get_or_past [] k None (omega arith))
 find_label (Some w ∷ cells) = inl (0, w, refl)
 find_label (None ∷ cells) = by_rest (find_label cells)
