@@ -235,15 +235,15 @@ module _ (part : Shape) (shape : Shape) (bad : List ℕ) (all : List (Option Lab
       hx : HasLabels (part_block before x) part.pages s
       hx = has_labels x s e
 
+      some_mark : {a b : Mark} → Some a ≡ Some b → a ≡ b
+      some_mark h = grind arith
+
       by_order : (s.first < first) ⊎ (first ≤ s.first) → (first < s.first) ⊎ (s.first ≤ first) → (s.first ≡ first) × (s.mark ≡ mark)
       by_order (inl less) q = absurd (none-some s.mark (sym (w.before s.first less) ∙ hx.starts.is))
       by_order (inr le) (inl more) = absurd (none-some mark (sym (hx.starts.before first more) ∙ w.is))
       by_order (inr le) (inr ge) =
           let same : s.first ≡ first = omega (arith, le, ge) in
           (same, some_mark (sym hx.starts.is ∙ (ap (mark_at (part_block before x)) same ∙ w.is)))
-
-      some_mark : {a b : Mark} → Some a ≡ Some b → a ≡ b
-      some_mark h = grind arith
 
   -- a block with a number that starts with a label holds it
   starts_own : (x first : ℕ) (mark : Mark) → HasNumber (use_of t x) → x < part.blocks → StartsWith (part_block before x) first mark
