@@ -1,5 +1,5 @@
 -- The blocks of a device that is made anew show what was seen of the one before, by other numbers.
-use Rattle.std.proofs.Common.{◌≡◌, ◌≢◌, ◌⊎◌, ℕ, suc, ◌+◌, ◌<◌, ◌≤◌, List, [], ◌∷◌, length, map, get_or, refl, ap, sym, ◌∙◌, subst, inl, inr, arith}
+use Rattle.std.proofs.Common.{◌≡◌, ◌≢◌, ◌⊎◌, ℕ, zero, suc, ◌+◌, ◌-◌, ◌<◌, ◌≤◌, List, [], ◌∷◌, length, map, get_or, refl, ap, sym, ◌∙◌, subst, inl, inr, arith}
 use Rattle.std.specs.Prelude.{Option, Some, None, option_map, Contains}
 use Rattle.std.proofs.lemmas.Bool.{cases_eq, cases_lt}
 use Rattle.std.proofs.lemmas.List.{get_or-map, get_or_past, length-map}
@@ -191,6 +191,12 @@ module _ (plan : DiePlan) (shape part : Shape) (bad : List ℕ) (t : Table) (see
   held : (b p : ℕ) (w : Label) → b < n → label (P (may.block b)) p ≡ Some w → IsHeld b
   held b p w lt e = by_use (use_of t (may.block b)) refl
     where
+      spare_none : HasNumber use_as.Spare → ⊥
+      spare_none (k, h) = cc
+
+      bad_none : HasNumber use_as.Bad → ⊥
+      bad_none (k, h) = cc
+
       unnumbered : (u : BlockUse) → (HasNumber u → ⊥) → use_of t (may.block b) ≡ u → IsHeld b
       unnumbered u none is = by_needless (table.rest (may.block b) (omega (arith, may.has b lt, count)) (λ has. none (subst HasNumber is has)))
         where
@@ -206,12 +212,6 @@ module _ (plan : DiePlan) (shape part : Shape) (bad : List ℕ) (t : Table) (see
           record { number = c; lt = omega (arith, l.0, table.count); alike = λ page. ap (λ (x : ℕ). label (P x) page) l.1 }
       by_use use_as.Spare is = unnumbered use_as.Spare (λ has. spare_none has) is
       by_use use_as.Bad is = unnumbered use_as.Bad (λ has. bad_none has) is
-
-      spare_none : HasNumber use_as.Spare → ⊥
-      spare_none (k, h) = cc
-
-      bad_none : HasNumber use_as.Bad → ⊥
-      bad_none (k, h) = cc
 
   -- two numbers of the table with the same labels are one
   one_held : (c k p : ℕ) (w : Label) → c < n → k < n → label (P (on_part t c)) p ≡ Some w → Alike (on_part t c) (on_part t k) → c ≡ k
@@ -312,6 +312,7 @@ module _ (plan : DiePlan) (shape part : Shape) (bad : List ℕ) (t : Table) (see
     back c = pick_back c (choose_back c)
 
     to_is : (b p : ℕ) (w : Label) → b < n → label (P (may.block b)) p ≡ Some w → (to b < n) × Alike (on_part t (to b)) (may.block b)
+    unfolding pick_to to choose_to
     to_is b p w lt e = by_choice (choose_to b)
       where
         by_choice : (d : IsHeld b ⊎ ((p : ℕ) (w : Label) → b < n → label (P (may.block b)) p ≡ Some w → ⊥))
@@ -320,6 +321,7 @@ module _ (plan : DiePlan) (shape part : Shape) (bad : List ℕ) (t : Table) (see
         by_choice (inr none) = absurd (none p w lt e)
 
     back_is : (c p : ℕ) (w : Label) → c < n → label (P (on_part t c)) p ≡ Some w → (back c < n) × Alike (on_part t c) (may.block (back c))
+    unfolding pick_back back choose_back
     back_is c p w lt e = by_choice (choose_back c)
       where
         by_choice : (d : IsShown c ⊎ ((p : ℕ) (w : Label) → c < n → label (P (on_part t c)) p ≡ Some w → ⊥))
@@ -390,7 +392,8 @@ module _ (plan : DiePlan) (shape part : Shape) (bad : List ℕ) (t : Table) (see
     empty b less none = elim (find_blank n (omega arith)) [
       | inl (c, lt, blank) ↦ (c, omega (arith, lt, other_count), blank)
       | inr all ↦ absurd (one_is_left n b back lt_b
-          (λ c lt. let f = all c lt in let k = back_is c f.0 f.1 lt f.2 in (k.0, λ same. apart c f.0 f.1 f.2 k.1 same))
+          (λ c lt. let f = all c lt in let k = back_is c f.0 f.1 lt f.2 in
+          let r : (back c < n) × (back c ≡ b → ⊥) = (k.0, λ same. apart c f.0 f.1 f.2 k.1 same) in r)
           (λ c e lc le same. one_back c e lc le same all))
     ]
       where
@@ -406,8 +409,8 @@ module _ (plan : DiePlan) (shape part : Shape) (bad : List ℕ) (t : Table) (see
         one_back c e lc le same all =
             let f = all c lc in
             let g = all e le in
-            let cq = record { block = c; page = f.0 } in
-            let eq = record { block = e; page = g.0 } in
+            let cq : Place = record { block = c; page = f.0 } in
+            let eq : Place = record { block = e; page = g.0 } in
             sym (here.back_again cq f.1 (other_at c f.0 lc ∙ f.2)) ∙ (ap to same ∙ here.back_again eq g.1 (other_at e g.0 le ∙ g.2))
 
     pub are_renumbered : AreRenumbered seen other

@@ -1,9 +1,9 @@
 -- Numbers below m that have as many below n, no two the same one, are no more than these.
-use Rattle.std.proofs.Common.{◌≡◌, ◌⊎◌, ℕ, suc, ◌+◌, ◌<◌, ◌≤◌, sym, ◌∙◌, inl, inr, arith}
+use Rattle.std.proofs.Common.{◌≡◌, ◌⊎◌, ℕ, zero, suc, ◌+◌, ◌<◌, ◌≤◌, sym, ◌∙◌, inl, inr, arith}
 use Rattle.std.proofs.lemmas.Bool.{cases_eq, cases_lt}
 
 -- x, and in its place z where it is i
-other_than : (x i z : ℕ) → (x ≡ i) ⊎ (x ≡ i → ⊥) → ℕ
+abbrev other_than : (x i z : ℕ) → (x ≡ i) ⊎ (x ≡ i → ⊥) → ℕ
 other_than x i z (inl same) = z
 other_than x i z (inr apart) = x
 

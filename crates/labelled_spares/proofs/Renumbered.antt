@@ -1,5 +1,5 @@
 -- A mount finds the same pages where blocks have other numbers.
-use Rattle.std.proofs.Common.{◌≡◌, ◌≢◌, ◌⊎◌, ℕ, suc, ◌+◌, ◌<◌, ◌≤◌, List, [], ◌∷◌, length, get_or, set, refl, ap, sym, ◌∙◌, subst, inl, inr, arith}
+use Rattle.std.proofs.Common.{◌≡◌, ◌≢◌, ◌⊎◌, ℕ, zero, suc, ◌+◌, ◌<◌, ◌≤◌, List, [], ◌∷◌, length, get_or, set, refl, ap, sym, ◌∙◌, subst, inl, inr, arith}
 use Rattle.std.specs.Prelude.{Option, Some, None, option_map}
 use Rattle.std.proofs.lemmas.Bool.{cases_eq, cases_lt}
 use Rattle.std.proofs.lemmas.List.{get_or_past, get_or-set_same, get_or-set_other, length-set}
@@ -33,7 +33,7 @@ module _ (to back : ℕ → ℕ) (seen other : Shown) (there : HasAll to back se
         ∙ again r y f);
   }
 
-  newest_there : (page : ℕ) (q : Place) → (n : IsNewest seen page q) → IsNewest other page (renumbered to q)
+  abbrev newest_there : (page : ℕ) (q : Place) → (n : IsNewest seen page q) → IsNewest other page (renumbered to q)
   newest_there page q n = record {
     label = n.label;
     stands = there.stands q n.label n.stands;
