@@ -37,10 +37,10 @@ module _ {N : Type 0} (blocks : N → List PartBlock) (next : N → ℕ) (d : Sp
   abbrev n : ℕ
   n = d.shape.blocks
 
-  labels_of : (b : ℕ) → b < n → labels_in (spared_labels blocks next d).blocks b ≡ block_labels (numbered blocks d b)
+  pub labels_of : (b : ℕ) → b < n → labels_in (spared_labels blocks next d).blocks b ≡ block_labels (numbered blocks d b)
   labels_of b lt = get_or-map-range_with_len (λ k. block_labels (numbered blocks d k)) 0 n b b [] lt (omega arith)
 
-  labels_count : length (spared_labels blocks next d).blocks ≡ n
+  pub labels_count : length (spared_labels blocks next d).blocks ≡ n
   labels_count = length-map-range_with_len (λ k. block_labels (numbered blocks d k)) 0 n
 
   none_past : (b : ℕ) → n ≤ b → labels_in (spared_labels blocks next d).blocks b ≡ []
