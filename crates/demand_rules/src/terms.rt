@@ -14,8 +14,8 @@ pub struct TaskTerms {
     pub period: u32,
     /// The fewest slots from a job's release to its deadline: 1 to `held`.
     pub deadline: u32,
-    /// The most slots from a job's arrival to its deadline: `deadline` to 1,048,576. So long it may hold the tokens for
-    /// what it writes. With `held` equal to `deadline` each job comes at its release.
+    /// The most slots from a job's arrival to its deadline, in which it may hold the tokens for what it writes:
+    /// `deadline` to 1,048,576. With `held` equal to `deadline` each job comes at its release.
     pub held: u32,
     /// The most operations that jobs released in a period have in all, 1 to 1,048,576, in any number of jobs of at most 64
     /// each.

@@ -4,7 +4,7 @@
 mod deeds;
 mod event_log;
 mod items_from;
-pub mod laws;
+mod laws;
 mod notes_from;
 mod runs;
 mod slots_back;
@@ -13,6 +13,7 @@ mod waivers;
 
 pub use deeds::Deed;
 pub use event_log::EventLog;
+pub use laws::{entries_stay, events_go_on_fitting, records_are_counted};
 pub use notes_from::{NoteParts, NotesFrom};
 pub use runs::Runs;
 pub use slots_back::{SlotRun, SlotsBack};

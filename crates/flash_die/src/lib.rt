@@ -2,10 +2,11 @@
 #![tactic(auto)]
 
 mod fuse;
-pub mod laws;
+mod laws;
 mod memory;
 mod nand;
 
 pub use fuse::FuseNand;
+pub use laws::a_left_device_is_as_it_was;
 pub use memory::MemoryNand;
 pub use nand::{Nand, NandCall};

@@ -13,7 +13,7 @@ mod busy_intervals;
 mod carried;
 mod certificates;
 mod checks;
-pub mod laws;
+mod laws;
 mod lookups;
 mod rows;
 mod verdicts;

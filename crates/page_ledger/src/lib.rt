@@ -2,7 +2,7 @@
 #![tactic(auto)]
 
 mod accounts;
-pub mod laws;
+mod laws;
 mod resumed;
 
 pub use accounts::Ledger;

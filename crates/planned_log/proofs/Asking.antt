@@ -66,7 +66,7 @@ no_bad_page plan (op ∷ ops) h = by_test (nat_le plan.logical (page_of op)) ref
     by_test true e k = absurd (omega (arith, leb-true plan.logical (page_of op) e, h.0))
     by_test false e k = k
 
--- what is asked for, of at most so many operations, says where it isn't refused
+-- what is known of an ask for at most `most` operations that isn't refused
 pub record IsTimely (most : ℕ) (plan : DiePlan) (terms : Terms) (life first slot : ℕ) (asked : List Asked) (task : ℕ) (ops : List Op) : Type 0 where
   pub task_is : task < length plan.caps
   pub some : 1 ≤ length ops

@@ -55,13 +55,13 @@ operations_in period slot asked = sum_by (λ a. if counts_in period slot a then 
 abbrev pub writes_in : (period slot : ℕ) → List Asked → ℕ
 writes_in period slot asked = sum_by (λ a. if counts_in period slot a then a.writes else 0) asked
 
--- in a slot of the clock there is room for a job more of so many operations and writes
+-- in slot `slot` of the clock there is room for a job more with `ops` operations and `written` writes
 abbrev pub has_room : TaskTerms → ℕ → List Asked → (operations writes : ℕ) → Bool
 has_room t slot asked ops written =
     nat_le (operations_in t.period slot asked + ops) t.work && nat_le (writes_in t.period slot asked + written) t.writes
 
--- The first slot in which, with so much, what counts isn't above the limit: a period after the newest job with which
--- and with those after it that is too much, or slot 0
+-- The first slot in which `n` more keep to the limit, with what then counts of the jobs of before: a period after the
+-- newest job that would exceed it together with those after it; where none would, slot 0
 abbrev pub free_at : (Asked → ℕ) → (limit period : ℕ) → List Asked → ℕ → ℕ
 free_at amount limit period [] n = 0
 free_at amount limit period (a ∷ older) n =
@@ -87,7 +87,7 @@ abbrev pub most_operations : TaskTerms → ℕ
 most_operations t = if nat_le t.work MAX_OPS then t.work else MAX_OPS
 
 -- What refuses that a task asks for these operations in slot `slot` of a life that began in slot `first` of the clock,
--- where it may ask for at most so many at once and asked for this before, in the order in which it is looked at
+-- where it may ask for at most `most` at once and asked for this before, in the order in which it is looked at
 abbrev pub refusals_above : (most : ℕ) → DiePlan → Terms → (life first slot : ℕ) → List Asked → ℕ → List Op → List (Bool × AskRefusal)
 refusals_above most plan terms life first slot asked task ops =
     let t = terms_of terms task in

@@ -9,12 +9,12 @@ use Rattle.die_log.specs.Model.Answers.{after_call}
 use Rattle.die_log.specs.Model.Lives.{Lives}
 use Rattle.planned_log.specs.Asks.{asked_job, ask_refusal}
 
--- the first so many jobs of these operations, in order: each has as many as a job may have, while there are as many
+-- the first `n` jobs of these operations, in order: each has `MAX_OPS` operations, while that many are left
 abbrev pub first_jobs : ℕ → List Op → List (List Op)
 first_jobs zero ops = []
 first_jobs (suc n) ops = take MAX_OPS ops ∷ first_jobs n (drop MAX_OPS ops)
 
--- so many operations are so many jobs, of which the last one may have fewer than the others
+-- how many jobs these operations are, of which the last may have fewer than the others
 abbrev pub job_count : ℕ → ℕ
 job_count operations = (operations + (MAX_OPS - 1)) / MAX_OPS
 

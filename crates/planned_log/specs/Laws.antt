@@ -39,7 +39,7 @@ ForKeptLogs Holds =
     (start : Start) (terms : Terms) (earlier : Lives) (life entered : ℕ) (log : Log) → IsKept start terms earlier life entered log
     → Holds start terms earlier life entered log
 
--- a die starts full at an opening, whose plan passes both tests, and its lives have so many slots
+-- a die starts full at an opening, whose plan passes both tests, and its lives have `life` slots
 pub record StartsFull (start : Start) (terms : Terms) (life : ℕ) : Type 0 where
   pub opens : IsOpening start
   pub demand : PassesDemand start.plan terms

@@ -13,7 +13,7 @@ use Rattle.die_log.specs.Model.Lives.{Lives, all_slots}
 use Rattle.die_log.specs.Results.InTime.{events_of_log}
 use Rattle.die_log.specs.Results.DemandedLives.{at_later}
 
--- how many jobs and collections of a task may be released in so many slots and be due by their end; each job has an
+-- how many jobs and collections of a task may be released in `slots` slots and be due by their end; each job has an
 -- operation
 abbrev pub task_arrivals : ℕ → TaskTerms → ℕ
 task_arrivals slots t = t.work * periods_within t.period t.deadline slots + periods_within t.collect_period t.collect_deadline slots
@@ -34,7 +34,7 @@ abbrev pub came_in : Log → ℕ
 came_in [] = 0
 came_in (e ∷ past) = weight_of e.event + came_in past
 
--- a life of so many slots: each collection that comes in it is due by its end, and there is a number for each job and
+-- a life of `life` slots: each collection that comes in it is due by its end, and there is a number for each job and
 -- each collection
 pub record IsLife (plan : DiePlan) (terms : Terms) (life : ℕ) : Type 0 where
   pub within : life ≤ MAX_SLOT

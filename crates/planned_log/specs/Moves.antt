@@ -26,8 +26,8 @@ after_ask start terms log kind caller task ops (Some refusal) = log
 abbrev pub after_own : Start → Terms → Log → ℕ → Log
 after_own start terms log caller = run start log (map (λ event. (caller, event)) (collections_at terms.tasks 0 (now log)))
 
--- an ask that the plan doesn't refuse is a call of the log for each of its jobs; a slot is so many collections and a slot,
--- until the life ends
+-- an ask that the plan doesn't refuse is a call of the log for each of its jobs; a slot is a call for each collection
+-- that comes in it, and one for the slot, until the life ends
 abbrev pub after_move : Start → Terms → Lives → ℕ → Log → Move → Log
 after_move start terms earlier life log (Ask kind caller task ops) =
     after_ask start terms log kind caller task ops (refusal_as kind start.plan terms life earlier log task ops)

@@ -92,9 +92,9 @@ pub fn lives_have_no_more_arrivals_than_slots()
         PassesDemand plan terms → life ≤ MAX_SLOT → most_arrivals terms life ≤ life }
 {}
 
-/// No more comes in a life than the plan may ask for in it, by any log of it that keeps the plan: its collections, and the
-/// operations of its jobs, are at most so many together. So are its collections and jobs, since each of these has an
-/// operation.
+/// In no log that keeps the plan does more come in a life than the plan may ask for in it: the life's collections and
+/// the operations of its jobs are together at most `most_arrivals`. So are its collections and jobs, since each job has
+/// an operation.
 pub fn no_more_comes_than_a_life_has()
     ensures { ForKeptLogs (λ start terms earlier life entered log.
         came_in log ≤ most_arrivals terms life) }

@@ -13,7 +13,7 @@
 
 mod book;
 mod entry;
-pub mod laws;
+mod laws;
 mod lock;
 mod new_lock;
 mod noting;
@@ -25,6 +25,7 @@ mod view;
 
 pub use book::Book;
 pub use entry::Entry;
+pub use laws::{a_lent_event_is_entered_in_one_way, an_event_is_entered_in_one_way};
 pub use lock::{Closing, Turned};
 pub use new_lock::NewLock;
 pub use noting::NotingBook;

@@ -45,7 +45,7 @@ lent_fits start a held lent owed free task g h few =
 
 -- What an act leaves to a job, and to a collection
 
--- the turn of a job: with this many writes carried
+-- the turn of a job, in which `d` writes are carried
 record LeavesJob (plan : DiePlan) (past : Log) (log : Log) (j : Job) (d : ℕ) : Type 0 where
   held : (t : ℕ) → held_of (λ n. acts n past) (jobs past) t ≡ held_of (λ n. acts n log) (jobs past) t + at_task j.task d t
   owed_is : owed_writes past ≡ sum_by (left_of (λ n. acts n log)) (jobs past) + d

@@ -45,7 +45,7 @@ waived_before_a_job : needed_call roomy (run roomy written (collect 1 2 ∷ subm
 unfolding answer
 waived_before_a_job = refl
 
--- the log before this many of the newest entries
+-- the log before its newest `n` entries
 abbrev before : ℕ → Log
 before n = drop n collected
 
