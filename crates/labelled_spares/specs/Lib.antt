@@ -1,1 +1,3 @@
 pub mod Labels
+pub mod Numbers
+pub mod Shown

@@ -50,6 +50,7 @@ none_numbered bad all blocks = record {
     spare = λ x is. absurd (bad-is-spare is);
     known = λ x listed. refl;
     own = λ x lt off is. absurd (omega (arith, lt));
+    once = λ x has. absurd (no-number has);
     groups = λ x lt. absurd (omega (arith, lt));
   };
   ahead = λ x le. refl;
@@ -86,6 +87,17 @@ module _ (k : ℕ) (bad : List ℕ) (all : List (Option Labelled)) (t u : Table)
       holds_here e = subst (λ (l : Labelled). IsHolder all l k) e o.holder
   group_own groups.Blank none o = absurd (none-some o.labelled (sym none ∙ o.is))
 
+  group_covered : (g : Group) → IsGroup all k g → IsCovered all k → g ≡ groups.Covered
+  group_covered groups.Own o c = absurd (c.other (one_holder all c.labelled c.holder k c.holds (holds_here (some_is (sym o.is ∙ c.is)))))
+    where
+      some_is : {x y : Labelled} → Some x ≡ Some y → x ≡ y
+      some_is e = grind arith
+
+      holds_here : o.labelled ≡ c.labelled → IsHolder all c.labelled k
+      holds_here e = subst (λ (l : Labelled). IsHolder all l k) e o.holder
+  group_covered groups.Covered d c = refl
+  group_covered groups.Blank none c = absurd (none-some c.labelled (sym none ∙ c.is))
+
   pub one_numbered : AreNumberedTo (k + 1) bad all u before after
   one_numbered = record {
     uses = ap (λ (l : List BlockUse). length l) one.pushed ∙ (length_push t.uses one.becomes ∙ ap (λ (n : ℕ). n + 1) is.uses);
@@ -94,6 +106,7 @@ module _ (k : ℕ) (bad : List ℕ) (all : List (Option Labelled)) (t u : Table)
       spare = λ x has. spare_at x has (cases_eq x k);
       known = λ x has. known_at x has (cases_eq x k);
       own = λ x lt off o. own_at x lt off o (cases_eq x k);
+      once = λ x has c. once_at x has c (cases_eq x k);
       groups = λ x lt. group_at x lt (cases_eq x k);
     };
     ahead = λ x le. block_other x (λ same. absurd (omega (arith, le, same))) ∙ is.ahead x (omega (arith, le));
@@ -121,6 +134,11 @@ module _ (k : ℕ) (bad : List ℕ) (all : List (Option Labelled)) (t u : Table)
       own_at x lt off o (inr other) =
           subst HasNumber (sym (use_other x other)) (is.numbered.own x
           (omega (arith, lt, other, is.uses, ap (λ (l : List BlockUse). length l) one.pushed, length_push t.uses one.becomes)) off o)
+
+      once_at : (x : ℕ) → HasNumber (use_of u x) → IsCovered all x → (x ≡ k) ⊎ (x ≡ k → ⊥) → ⊥
+      once_at x has c (inl same) =
+          one.once (subst HasNumber (use_here x same) has) (group_covered group of (subst (IsCovered all) same c))
+      once_at x has c (inr other) = is.numbered.once x (subst HasNumber (use_other x other) has) c
 
       group_at : (x : ℕ) → x < length u.uses → (x ≡ k) ⊎ (x ≡ k → ⊥) → ((g : Group) × IsGroup all x g)
       group_at x lt (inl same) = (group, subst (λ (y : ℕ). IsGroup all y group) (sym same) of)
@@ -209,6 +227,50 @@ module _ (part : Shape) (shape : Shape) (bad : List ℕ) (all : List (Option Lab
       by_listed true e = inl (is_in bad x e)
       by_listed false e = needless_by x lt none (not_listed bad x e) (is.groups x (omega (arith, lt, whole))).0 (is.groups x (omega (arith, lt, whole))).1
 
+  -- a block's first label is the one that was seen
+  seen_first : (x : ℕ) (s : Labelled) (first : ℕ) (mark : Mark) → seen_at all x ≡ Some s → StartsWith (part_block before x) first mark
+      → (s.first ≡ first) × (s.mark ≡ mark)
+  seen_first x s first mark e w = by_order (cases_lt s.first first) (cases_lt first s.first)
+    where
+      hx : HasLabels (part_block before x) part.pages s
+      hx = has_labels x s e
+
+      some_mark : {a b : Mark} → Some a ≡ Some b → a ≡ b
+      some_mark h = grind arith
+
+      by_order : (s.first < first) ⊎ (first ≤ s.first) → (first < s.first) ⊎ (s.first ≤ first) → (s.first ≡ first) × (s.mark ≡ mark)
+      by_order (inl less) q = absurd (none-some s.mark (sym (w.before s.first less) ∙ hx.starts.is))
+      by_order (inr le) (inl more) = absurd (none-some mark (sym (hx.starts.before first more) ∙ w.is))
+      by_order (inr le) (inr ge) =
+          let same : s.first ≡ first = omega (arith, le, ge) in
+          (same, some_mark (sym hx.starts.is ∙ (ap (mark_at (part_block before x)) same ∙ w.is)))
+
+  -- a block with a number that starts with a label holds it
+  starts_own : (x first : ℕ) (mark : Mark) → HasNumber (use_of t x) → x < part.blocks → StartsWith (part_block before x) first mark
+      → ((o : IsOwn all x) × (o.labelled.first ≡ first) × (o.labelled.mark ≡ mark))
+  starts_own x first mark has lt w = by_group (is.groups x (omega (arith, lt, whole))).0 (is.groups x (omega (arith, lt, whole))).1
+    where
+      unlisted : Contains bad x → ⊥
+      unlisted listed = no-number (subst HasNumber (is.known x listed) has)
+
+      first_within : first < part.pages
+      first_within = elim (cases_lt first part.pages) [
+        | inl inside ↦ inside
+        | inr past ↦ absurd (none-some mark (sym (none_beyond x lt first past) ∙ w.is))
+      ]
+
+      by_group : (g : Group) → IsGroup all x g → ((o : IsOwn all x) × (o.labelled.first ≡ first) × (o.labelled.mark ≡ mark))
+      by_group groups.Own o = let e = seen_first x o.labelled first mark o.is w in (o, e.0, e.1)
+      by_group groups.Covered c = absurd (is.once x has c)
+      by_group groups.Blank none = absurd (none-some mark (sym ((subst (IsSeen (part_block before x) part.pages) none (seen.seen x lt unlisted)) first first_within) ∙ w.is))
+
+  once_there : (x y first : ℕ) (mark : Mark) → HasNumber (use_of t x) → HasNumber (use_of t y) → x < part.blocks → y < part.blocks
+      → StartsWith (part_block before x) first mark → StartsWith (part_block before y) first mark → x ≡ y
+  once_there x y first mark hx hy lx ly wx wy =
+      let o = starts_own x first mark hx lx wx in
+      let p = starts_own y first mark hy ly wy in
+      one_holder all p.0.labelled x y (holds_for all o.0.labelled p.0.labelled x (o.1 ∙ sym p.1, o.2 ∙ sym p.2) o.0.holder) p.0.holder
+
   pub powered_table : IsShape shape → length t.blocks ≡ shape.blocks → IsPoweredTable shape bad t part before after
   powered_table limits count = record {
     limits = limits;
@@ -216,11 +278,21 @@ module _ (part : Shape) (shape : Shape) (bad : List ℕ) (all : List (Option Lab
     count = count;
     number = λ b lt. is.number (on_part t b) (b, sound.numbered b (omega (arith, lt, count)));
     within = λ b lt. within_by b (omega (arith, lt, count)) (cases_lt (on_part t b) (length t.uses));
+    once = λ b c first mark lb lc wb wc. same_number_of b c (omega (arith, lb, count)) (omega (arith, lc, count))
+        (once_there (on_part t b) (on_part t c) first mark (b, sound.numbered b (omega (arith, lb, count))) (c, sound.numbered c (omega (arith, lc, count)))
+        (within_by b (omega (arith, lb, count)) (cases_lt (on_part t b) (length t.uses)))
+        (within_by c (omega (arith, lc, count)) (cases_lt (on_part t c) (length t.uses))) wb wc);
     spare = is.spare;
     known = is.known;
     rest = needless;
   }
     where
+      plan_same : {b c : ℕ} → use_as.InPlan b ≡ use_as.InPlan c → b ≡ c
+      plan_same e = grind arith
+
+      same_number_of : (b c : ℕ) → b < length t.blocks → c < length t.blocks → on_part t b ≡ on_part t c → b ≡ c
+      same_number_of b c lb lc same = plan_same (sym (sound.numbered b lb) ∙ (ap (use_of t) same ∙ sound.numbered c lc))
+
       within_by : (b : ℕ) → b < length t.blocks → (on_part t b < length t.uses) ⊎ (length t.uses ≤ on_part t b) → on_part t b < part.blocks
       within_by b lt (inl less) = omega (arith, less, whole)
       within_by b lt (inr past) = absurd (bad-plan b (sym (get_or_past t.uses (on_part t b) use_as.Bad past) ∙ sound.numbered b lt))

@@ -135,6 +135,7 @@ pub record IsNumbered (listed : Bool) (group : Group) (t u : Table) (before afte
   pub spare : becomes ≡ use_as.Spare → part_block after (length t.uses) ≡ free_part_block
   pub bad : listed ≡ true → becomes ≡ use_as.Bad
   pub own : listed ≡ false → group ≡ groups.Own → HasNumber becomes
+  pub once : HasNumber becomes → group ≡ groups.Covered → ⊥
 
 -- so were the blocks of this table
 pub record AreNumbered (bad : List ℕ) (all : List (Option Labelled)) (t : Table) (before after : List PartBlock) : Type 0 where
@@ -142,6 +143,7 @@ pub record AreNumbered (bad : List ℕ) (all : List (Option Labelled)) (t : Tabl
   pub spare : (x : ℕ) → IsSpare t x → part_block after x ≡ free_part_block
   pub known : (x : ℕ) → Contains bad x → use_of t x ≡ use_as.Bad
   pub own : (x : ℕ) → x < length t.uses → (Contains bad x → ⊥) → IsOwn all x → HasNumber (use_of t x)
+  pub once : (x : ℕ) → HasNumber (use_of t x) → IsCovered all x → ⊥
   pub groups : (x : ℕ) → x < length t.uses → ((g : Group) × IsGroup all x g)
 
 -- Each block that isn't listed as bad and has no number has no label, or a block with a number has the same first label and
@@ -151,13 +153,15 @@ IsNeedless bad t before x =
     Contains bad x ⊎ (HasNoMark (part_block before x)
     ⊎ ((b : ℕ) × (b < length t.blocks) × GoesAsFar (part_block before (on_part t b)) (part_block before x)))
 
--- so many blocks have numbers, and are as they were; each spare block is free
+-- so many blocks have numbers, and are as they were, and no two have the same first label; each spare block is free
 pub record IsPoweredTable (shape : Shape) (bad : List ℕ) (t : Table) (part : Shape) (before after : List PartBlock) : Type 0 where
   pub limits : IsShape shape
   pub table : IsTable t
   pub count : length t.blocks ≡ shape.blocks
   pub number : (b : ℕ) → b < shape.blocks → part_block after (on_part t b) ≡ part_block before (on_part t b)
   pub within : (b : ℕ) → b < shape.blocks → on_part t b < part.blocks
+  pub once : (b c first : ℕ) (mark : Mark) → b < shape.blocks → c < shape.blocks → StartsWith (part_block before (on_part t b)) first mark
+      → StartsWith (part_block before (on_part t c)) first mark → b ≡ c
   pub spare : (x : ℕ) → IsSpare t x → part_block after x ≡ free_part_block
   pub known : (x : ℕ) → Contains bad x → use_of t x ≡ use_as.Bad
   pub rest : (x : ℕ) → x < part.blocks → (HasNumber (use_of t x) → ⊥) → IsNeedless bad t before x

@@ -38,8 +38,7 @@ fn cut_at(
 
 /// At each call the power goes, with a block that fails so many calls before it. The last call is one that isn't made.
 fn cut_everywhere(alloc: Global, before: &[u64]) -> Result<u64, Wrong> {
-    let mut cut: u64 = 0;
-    while cut < 1000 {
+    for cut in 0..1000u64 {
         let mut fails_at = Vec::new(alloc);
         for back in before {
             fails_at.push(cut.saturating_sub(*back))?;
@@ -49,7 +48,6 @@ fn cut_everywhere(alloc: Global, before: &[u64]) -> Result<u64, Wrong> {
         if !went {
             return Ok(cut);
         }
-        cut = cut.saturating_add(1);
     }
     Err(Wrong::Rare)
 }

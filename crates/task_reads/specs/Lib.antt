@@ -1,0 +1,4 @@
+pub mod Asked
+pub mod OwnPages
+pub mod Runs
+pub mod Lives
