@@ -44,8 +44,10 @@ pub(crate) struct Told {
     pub(crate) due: u64,
     pub(crate) completion: u64,
     pub(crate) lateness: i64,
-    /// By read, of at most two.
-    pub(crate) bytes: [Option<u8>; 2],
+    /// Of its first read.
+    pub(crate) byte: Option<u8>,
+    /// Of its second one.
+    pub(crate) next: Option<u8>,
 }
 
 /// The first byte of what a read gave.
@@ -66,7 +68,8 @@ fn in_short(outcome: &TaskOutcome) -> Told {
         due: outcome.due,
         completion: outcome.completion,
         lateness: outcome.lateness,
-        bytes: [byte_in(outcome, 0), byte_in(outcome, 1)],
+        byte: byte_in(outcome, 0),
+        next: byte_in(outcome, 1),
     }
 }
 

@@ -18,10 +18,8 @@ const WRITE: Op = Op::Write(4, PageData([7; 16]));
 
 const READ: Op = Op::Read(4);
 
-const SEVEN: [Option<u8>; 2] = [Some(7), None];
-
 /// What a page reads as that was never written.
-const BLANK: [Option<u8>; 2] = [Some(255), None];
+const BLANK: Option<u8> = Some(255);
 
 /// Of the jobs in slot 0 the first task's is due first, and has slots 0 and 1; the second one's has slot 2. Both tasks have a
 /// collection in that slot, with numbers 2 and 3, and until slot 20 the second one has another, with number 4; all are waived.
@@ -32,7 +30,7 @@ const BEFORE: &[Step] = &[
     Takes { task: First, want: None },
     Slots { count: 2 },
     Counts { task: First, kept: 1, dropped: 0 },
-    Takes { task: First, want: Some(Told { task: 0, life: 0, job: 0, release: 0, due: 6, completion: 2, lateness: -4, bytes: SEVEN }) },
+    Takes { task: First, want: Some(Told { task: 0, life: 0, job: 0, release: 0, due: 6, completion: 2, lateness: -4, byte: Some(7), next: None }) },
     Takes { task: First, want: None },
     Takes { task: Second, want: None },
     Slots { count: 18 },
@@ -51,11 +49,11 @@ const AFTER: &[Step] = &[
     Counts { task: First, kept: 1, dropped: 0 },
     Slots { count: 5 },
     Counts { task: First, kept: 2, dropped: 0 },
-    Takes { task: First, want: Some(Told { task: 0, life: 0, job: 5, release: 20, due: 26, completion: 21, lateness: -5, bytes: SEVEN }) },
-    Takes { task: First, want: Some(Told { task: 0, life: 80, job: 0, release: 80, due: 86, completion: 81, lateness: -5, bytes: SEVEN }) },
+    Takes { task: First, want: Some(Told { task: 0, life: 0, job: 5, release: 20, due: 26, completion: 21, lateness: -5, byte: Some(7), next: None }) },
+    Takes { task: First, want: Some(Told { task: 0, life: 80, job: 0, release: 80, due: 86, completion: 81, lateness: -5, byte: Some(7), next: None }) },
     Takes { task: First, want: None },
-    Takes { task: Second, want: Some(Told { task: 1, life: 0, job: 1, release: 0, due: 12, completion: 3, lateness: -9, bytes: BLANK }) },
-    Takes { task: Second, want: Some(Told { task: 1, life: 80, job: 1, release: 80, due: 92, completion: 82, lateness: -10, bytes: BLANK }) },
+    Takes { task: Second, want: Some(Told { task: 1, life: 0, job: 1, release: 0, due: 12, completion: 3, lateness: -9, byte: BLANK, next: None }) },
+    Takes { task: Second, want: Some(Told { task: 1, life: 80, job: 1, release: 80, due: 92, completion: 82, lateness: -10, byte: BLANK, next: None }) },
     Takes { task: Second, want: None },
     Counts { task: First, kept: 0, dropped: 0 },
     Counts { task: Second, kept: 0, dropped: 0 },
@@ -102,8 +100,8 @@ const NEGLECTED: &[Step] = &[
     Slots { count: 5 },
     Counts { task: First, kept: 4, dropped: 2 },
     Counts { task: Second, kept: 2, dropped: 1 },
-    Takes { task: First, want: Some(Told { task: 0, life: 0, job: 7, release: 20, due: 26, completion: 21, lateness: -5, bytes: BLANK }) },
-    Takes { task: Second, want: Some(Told { task: 1, life: 0, job: 5, release: 12, due: 24, completion: 16, lateness: -8, bytes: [Some(255); 2] }) },
+    Takes { task: First, want: Some(Told { task: 0, life: 0, job: 7, release: 20, due: 26, completion: 21, lateness: -5, byte: BLANK, next: None }) },
+    Takes { task: Second, want: Some(Told { task: 1, life: 0, job: 5, release: 12, due: 24, completion: 16, lateness: -8, byte: BLANK, next: BLANK }) },
     Counts { task: First, kept: 3, dropped: 2 },
     Counts { task: Second, kept: 1, dropped: 1 },
 ];
