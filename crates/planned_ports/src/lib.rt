@@ -19,5 +19,5 @@ pub use closing::{StillOpen, close};
 pub use opening::{NotOpened, Opened, open};
 pub use pages::PageRange;
 pub use ports::{ClockPort, SharedPlannedDie, TaskPort};
-pub use refusals::{AskRefused, OutcomeRefused, SlotRefused};
+pub use refusals::{AskAtRefused, AskRefused, OutcomeRefused, SlotRefused};
 pub use task_outcomes::{OutcomeDie, TaskOutcome};
