@@ -4,7 +4,7 @@ use std::env::Env;
 
 /// What a test does with a call that finds no memory.
 #[derive(Clone, Copy, PartialEq, Eq, Debug, Drop)]
-pub(crate) enum Memory {
+pub enum Memory {
     /// It fails: there is memory.
     Ample,
     /// It makes the call again, once: an allocation is refused from outside.
@@ -13,7 +13,7 @@ pub(crate) enum Memory {
 
 impl Memory {
     /// `Scarce` where `.ci/memory/refused-growths` plays the test, which it says by the variable `REFUSE`.
-    pub(crate) fn of<R: Env>(rt: &R) -> Memory {
+    pub fn of<R: Env>(rt: &R) -> Memory {
         let mut number = [0u8; 20];
         match rt.var("REFUSE", &mut number) {
             Ok(_) => Memory::Scarce,
@@ -22,7 +22,12 @@ impl Memory {
     }
 
     /// Whether a call that finds no memory is made again.
-    pub(crate) fn asks_again(self) -> bool {
+    pub fn asks_again(self) -> bool {
         self == Memory::Scarce
     }
+}
+
+/// Whether memory is scarce, so that a call that finds none is made again. Else a refusal out of memory is a fault.
+pub fn is_scarce<R: Env>(rt: &R) -> bool {
+    Memory::of(rt).asks_again()
 }
