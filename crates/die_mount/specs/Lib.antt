@@ -6,6 +6,7 @@ pub mod Faults
 pub mod PartState
 pub mod SoundPart
 pub mod Mounting
+pub mod Erases
 pub mod SoundMount
 pub mod Choosing
 pub mod Beginning

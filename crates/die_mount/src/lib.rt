@@ -3,6 +3,7 @@
 #![tactic(auto)]
 
 mod begin_fault;
+mod erases;
 mod erasing;
 mod label;
 mod laws;
