@@ -27,7 +27,7 @@ pub record IsIdleIn (s : Scanned) (block : ℕ) : Type 0 where
 abbrev pub HasIdle : Scanned → Type 0
 HasIdle s = (block : ℕ) × IsIdleIn s block
 
--- a fault stands, and none before it does, where a block has to be idle, and where this is told of erases
+-- a fault stands, and none before it does, where a block has to be idle, and where this was reported of erases
 abbrev pub HasBeginFault : DiePlan → Scanned → List (Option ℕ) → (IsIdle : Type 0) → BeginFault → Type 0
 HasBeginFault plan s told IsIdle begin.BadPlan = ¬ IsScanned plan s
 HasBeginFault plan s told IsIdle begin.NoIdleBlock = IsScanned plan s × (¬ IsIdle)

@@ -10,13 +10,13 @@ use Rattle.die_mount.specs.declared.begin_fault.BeginFault.TheVariants as begin
 use Rattle.die_mount.specs.declared.stage.Stage.TheVariants as stage
 use Rattle.die_mount.specs.Mounting.{Mounting}
 
--- What is told by block, or not where it has no good label
+-- What was reported by block, or not where it has no good label
 
 abbrev pub one_more : Option ℕ → ℕ
 one_more None = 0
 one_more (Some erases) = erases + 1
 
--- one more than the greatest count that is told; 0 where none is
+-- one more than the greatest count that was reported; 0 where none was
 abbrev pub above_told : List (Option ℕ) → ℕ
 above_told [] = 0
 above_told (erases ∷ rest) = max (one_more erases) (above_told rest)
@@ -25,7 +25,7 @@ abbrev pub told_or : ℕ → Option ℕ → ℕ
 told_or other None = other
 told_or other (Some erases) = erases
 
--- how often a block was erased, as it is told; of a block of which nothing is told one erase more than of any other
+-- how often a block was erased, as was reported; of a block of which nothing was one erase more than of any other
 abbrev pub erases_of : List (Option ℕ) → ℕ → ℕ
 erases_of told block = told_or (above_told told) (slice_index_or told block None)
 
@@ -45,7 +45,7 @@ pub record IsFirstWorn (plan : DiePlan) (told : List (Option ℕ)) (block : ℕ)
   pub worn : most_erases < erases_of told block + most_mount_erases plan
   pub first : (earlier : ℕ) → earlier < block → erases_of told earlier + most_mount_erases plan ≤ most_erases
 
--- why no mount counts on from what is told: a block may wear out, or none does and there is no memory
+-- why no mount counts on from what was reported: a block may wear out, or none does and there is no memory
 abbrev pub WearsOut : DiePlan → List (Option ℕ) → BeginFault → Type 0
 WearsOut plan told (begin.WornOut block) = IsFirstWorn plan told block
 WearsOut plan told begin.NoMemory = AreUnworn plan told
@@ -60,7 +60,7 @@ pub record AreCounts (plan : DiePlan) (counts : List ℕ) : Type 0 where
   pub long : length counts ≡ plan.shape.blocks + 1
   pub unworn : (block : ℕ) → slice_index_or counts block 0 + most_rounds_beside plan ≤ most_erases
 
--- the mount goes on from what is told
+-- the mount goes on from what was reported
 pub record CountsFrom (told : List (Option ℕ)) (m : Mounting) : Type 0 where
   pub erased : ℕ
   pub stage_is : m.stage ≡ stage.First erased 0

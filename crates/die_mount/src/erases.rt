@@ -13,7 +13,7 @@ use std::alloc::Global;
 /// With more erases a block's count might reach the greatest that a device counts to before the last slot of a life.
 const MOST_ERASES: u64 = 4_293_918_718;
 
-/// One more than a count that is told; 0 where none is.
+/// One more than a count that was reported; 0 where none was.
 fn one_more(erases: Option<u32>) -> u64
     ensures value { result ≡ one_more erases }
     ensures range { result ≤ 2 ^ 32 }
@@ -24,7 +24,7 @@ fn one_more(erases: Option<u32>) -> u64
     }
 }
 
-/// One more than the greatest count that is told; 0 where none is.
+/// One more than the greatest count that was reported; 0 where none was.
 fn above_told(told: &[Option<u32>]) -> u64
     ensures value { result ≡ above_told told.now }
     ensures range { result ≤ 2 ^ 32 }
@@ -36,7 +36,7 @@ fn above_told(told: &[Option<u32>]) -> u64
     above
 }
 
-/// How often a block was erased, where that is one more than the greatest count that is told.
+/// How often a block was erased, where that is one more than the greatest count that was reported.
 fn erases_of(told: &[Option<u32>], above: u64, block: u32) -> u64
     requires above { above ≡ above_told told.now }
     requires range { above ≤ 2 ^ 32 }

@@ -70,7 +70,7 @@ impl Model for Mount {
 
 impl Mount {
     /// A mount that erases a block in which no page is found. All its memory is taken here; the scan is used up, also
-    /// where the mount is refused. Erases are counted on from what the scan was told of them.
+    /// where the mount is refused. Erases are counted on from what was reported to the scan.
     ///
     /// Refused with the first fault that stands, as [`BeginFault`] lists them. Where no block is idle, a mount was cut
     /// as it copied, and [`undo`](Mount::undo) goes on.
@@ -95,8 +95,8 @@ impl Mount {
 
     /// A mount that undoes a block, where no block is idle: that which [`Scan::first_erase`] names. It goes by a scan
     /// to which the labels of each other block were reported again, and none of that one. All its memory is taken here;
-    /// the second scan is used up, also where the mount is refused. Erases are counted on from what the first scan was
-    /// told of them.
+    /// the second scan is used up, also where the mount is refused. Erases are counted on from what was
+    /// reported to the first scan.
     ///
     /// Refused with the first fault that stands, as [`BeginFault`] lists them.
     pub fn undo(
@@ -222,8 +222,8 @@ impl Mount {
     /// of its first program. The mount stays as it is.
     ///
     /// The checkpoint fits the plan: each balance is its cap, pages lie where the mount left them, and of each block as
-    /// many cells count as programmed as the mount left programmed. A block's erases are those that the scan was told of,
-    /// and those of this mount. Where a block had no good label they may be off. It takes memory for 12 bytes by page and
+    /// many cells count as programmed as the mount left programmed. A block's erases are those that were reported to
+    /// the scan, and those of this mount. Where a block had no good label they may be off. It takes memory for 12 bytes by page and
     /// 8 by block. Refused with `NoMemory` alone, and may be called again then.
     pub fn finish(&self, alloc: Global) -> Result<Mounted, Refusal>
         requires { self.now.stage ≡ Stage.Done }

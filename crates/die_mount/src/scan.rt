@@ -113,7 +113,7 @@ impl Scan {
 
     /// Tells the labels of the next block, cell by cell from the first one on: none for a cell that isn't good. Cells
     /// past the end of the list have none. And tells how often the block was erased, where its labels say so: the
-    /// greatest count of them. A block of which nothing is told is taken to have had one erase more than any other, which
+    /// greatest count of them. A block of which none is reported is taken to have had one erase more than any other, which
     /// may be off. It takes time for each cell once, and no memory.
     ///
     /// Refused with the first fault that stands, as [`ScanFault`] lists them; then the scan stays as it was.

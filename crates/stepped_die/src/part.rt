@@ -13,10 +13,10 @@ use slot_types::DiePlan;
 pub struct Part {
     /// The number that the part gives the block which stands aside.
     pub aside: u32,
-    /// What the label of the next program bears: more than that of each program before it.
-    pub serial: u64,
     /// Whether a checkpoint stands from which the die was resumed: its owner hasn't said that it is void.
     pub stands: bool,
+    /// What the label of the next program bears: more than that of each program before it.
+    pub serial: u64,
 }
 
 impl Part {
