@@ -6,12 +6,13 @@ ghost use Rattle.die_mount.specs.Beginning.{HasIdle, IsScanned};
 ghost use Rattle.die_mount.specs.Nexts.{BeginsFirst};
 ghost use Rattle.die_mount.specs.Mounting.{BeginsWith, calls_left, most_calls};
 ghost use Rattle.die_mount.specs.Scanned.{IsScanOf};
-ghost use Rattle.labelled_die.specs.Scanning.{IsSamePart};
+ghost use Rattle.labelled_die.specs.Scanning.{IsSamePart, IsUntold};
 ghost use Rattle.labelled_nand.specs.PoweredUp.{IsPoweredUp};
 ghost use Rattle.power_loss.specs.Aside.{StandsOnPart, part_of};
 ghost use Rattle.power_loss.specs.Labels.{FitPlan, Shown};
 ghost use Rattle.power_loss.specs.Mounted.{all_count};
 ghost use Rattle.part_mount.specs.Going.{GoesBySeen};
+ghost use Rattle.part_mount.specs.OnPart.{BeginsToCount};
 ghost use Rattle.device_mount.specs.Parts.{BeginsSafely, IsPlanOf};
 ghost use Rattle.device_mount.specs.Refusals.{RefusesBegin, RefusesMount};
 
@@ -28,9 +29,11 @@ use std::alloc::Global;
 fn begin_idle(alloc: Global, plan: DiePlan, scan: Scan) -> Result<Mount, MountRefusal>
     requires whole { scan.told ≡ scan.shape.blocks }
     requires scanned { IsScanned plan scan }
+    requires untold { IsUntold scan.erases }
     ensures begins { IfOk result (λ mount. (seen : Shown) → IsScanOf (part_of plan) scan seen
         → FitPlan (part_of plan) seen → BeginsWith plan seen mount) }
     ensures first { IfOk result (BeginsFirst plan) }
+    ensures counts { IfOk result BeginsToCount }
     ensures refused { IfErr result (RefusesBegin (HasIdle scan)) }
 {
     match Mount::new(alloc, plan, scan) {
@@ -39,6 +42,8 @@ fn begin_idle(alloc: Global, plan: DiePlan, scan: Scan) -> Result<Mount, MountRe
         Err(BeginFault::NoIdleBlock) => Err(MountRefusal::NoIdleBlock),
         // The part was scanned with this plan.
         Err(BeginFault::BadPlan) => unreachable!(),
+        // No erases were reported.
+        Err(BeginFault::WornOut { .. }) => unreachable!(),
     }
 }
 
@@ -53,6 +58,7 @@ fn mount_of<N: LabelledNand>(
     ensures begins { IfOk result (λ mount. FitPlan (part_of plan) (N.labels part.old).blocks
         → BeginsWith plan (N.labels part.old).blocks mount) }
     ensures first { IfOk result (BeginsFirst plan) }
+    ensures counts { IfOk result BeginsToCount }
     ensures safe { IfOk result (BeginsSafely plan (N.labels part.old).blocks) }
     ensures of_plan { OnOk result (IsPlanOf plan (N.shape_of part.old)) }
     ensures same { OnOk result (IsSamePart N.shape_of N.failures N.blocks N.labels part.old

@@ -1,57 +1,24 @@
 //! The die that begins where a mount of its part has ended.
 
-ghost use Rattle.std.specs.Prelude.{◌≡◌, ◌+◌, ◌<◌, ◌≤◌, false, ℕ, List, IfErr, IfOk, length};
+ghost use Rattle.std.specs.Prelude.{◌≡◌, false, List, IfErr, IfOk};
 ghost use Rattle.slot_types.specs.declared.pages.PageData.{PageData as Bytes};
-ghost use Rattle.die_checkpoint.specs.Counts.{counts_at};
 ghost use Rattle.die_checkpoint.specs.Fits.{Fits};
 ghost use Rattle.die_mount.specs.Mounting.{IsAtEnd};
 ghost use Rattle.die_mount.specs.SoundMount.{StandsWell};
 ghost use Rattle.power_loss.specs.Labels.{Shown};
 ghost use Rattle.part_mount.specs.Going.{GoesBySeen};
 ghost use Rattle.part_mount.specs.OnPart.{IsSoundOnPart, on_part};
-ghost use Rattle.device_mount.specs.Mounted.{BeginsLife, HasBegun, HasEnded, with_erase, with_first_erase};
+ghost use Rattle.device_mount.specs.Mounted.{BeginsLife, HasBegun, HasEnded};
 
 use crate::copies::plan_copy;
-use die_checkpoint::{BlockCounts, Checkpoint, CheckpointFault};
+use die_checkpoint::CheckpointFault;
 use die_mount::{Mounted, Stage};
 use labelled_die::BesideNand;
 use labelled_nand::LabelledNand;
 use part_mount::{MountParts, PartMount};
 use slot_core::{DieCore, ResumeRefusal};
-use slot_types::{DiePlan, Items};
+use slot_types::DiePlan;
 use std::alloc::Global;
-
-/// What a checkpoint has of its blocks, with one erase more of one of them.
-fn with_erase(counts: Items<BlockCounts>, block: u32) -> Items<BlockCounts>
-    requires has { block < length counts }
-    requires few { (counts_at counts block).erases < 4294967295 }
-    ensures { result ≡ with_erase counts block }
-{
-    let mut counts = counts.into_vec();
-    counts[block as usize].erases += 1;
-    Items::from_vec(counts)
-}
-
-/// Where a mount has ended, the erase of its first block counted, too: the part has counted it.
-fn with_first_erase(checkpoint: Checkpoint, last: u32, aside: u32, erased: u32) -> Checkpoint
-    requires has { last ≡ length checkpoint.blocks }
-    requires aside { aside < last + 1 }
-    requires erased { erased < last + 1 }
-    requires few { (block : ℕ) → (counts_at checkpoint.blocks block).erases < 4294967295 }
-    ensures { result ≡ with_first_erase last aside erased checkpoint }
-{
-    if erased == aside {
-        return checkpoint;
-    }
-    let block = if erased == last { aside } else { erased };
-    let blocks = with_erase(checkpoint.blocks, block);
-    Checkpoint {
-        places: checkpoint.places,
-        blocks,
-        spare: checkpoint.spare,
-        balances: checkpoint.balances,
-    }
-}
 
 /// The die that begins where a mount has ended, on the part's blocks but the one aside: at slot 0, with an empty log,
 /// full accounts, and the serials that go on from the mount's. No call of the part is made.
@@ -111,15 +78,7 @@ fn end_of<N: LabelledNand>(
         return Err(PartMount::from_parts(parts));
     };
     match parts.mount.finish(alloc) {
-        Ok(end) => {
-            let last = plan.shape.blocks;
-            let end = Mounted {
-                aside: end.aside,
-                checkpoint: with_first_erase(end.checkpoint, last, end.aside, parts.erased),
-                next: end.next,
-            };
-            resumed(alloc, parts, plan, &end)
-        }
+        Ok(end) => resumed(alloc, parts, plan, &end),
         Err(_) => Err(PartMount::from_parts(parts)),
     }
 }

@@ -41,6 +41,7 @@ loop-block-preserved g c =
       fit = below_more (λ (k : ℕ). HaveFitLabels plan.logical (told_cells (cells_shown ls.blocks k plan.shape.pages))) b inv.fit
           (subst (λ (l : Labels). HaveFitLabels plan.logical (told_cells (cells_shown l.blocks b plan.shape.pages))) inv.same.labels_are
           c.in_ok-tell_block.ensures.fit);
+      untold = c.in_ok-tell_block.ensures.untold;
       room = omega (arith, c.in_ok-tell_block.ensures.room, inv.room);
       same = looked g.N.Nand.shape_of g.N.Nand.failures g.N.Nand.blocks g.N.LabelledNand.labels c.args.part.now c.loop-block.part c.tell_block.new.part
           inv.same c.in_ok-tell_block.ensures.same;
