@@ -23,11 +23,12 @@ uint32_t flash_renew(mg_die *die, struct mg_why *why);
 uint32_t flash_renew_giving_back(mg_die *die, struct mg_why *why);
 uint32_t flash_checkpoint(mg_die *die, struct mg_cell *places, size_t place_count, struct mg_name *names, size_t name_count,
                           struct mg_block *blocks, size_t block_count, uint32_t *balances, size_t balance_count,
-                          uint32_t *spare, struct mg_why *why);
+                          uint32_t *spare, struct mg_part *part, struct mg_why *why);
 uint32_t flash_resume(mg_die *die, const struct mg_plan *plan, const struct mg_task *tasks, size_t count,
                       const struct mg_cell *places, size_t place_count, const struct mg_name *names, size_t name_count,
                       const struct mg_block *blocks, size_t block_count, const uint32_t *balances, size_t balance_count,
-                      uint32_t spare, struct mg_why *why);
+                      uint32_t spare, const struct mg_part *part, struct mg_why *why);
+void flash_checkpoint_void(mg_die *die);
 uint32_t flash_mount_new(mg_mount *mount, const struct mg_plan *plan, const struct mg_task *tasks, size_t count);
 void flash_mount_free(mg_mount *mount);
 uint32_t flash_mount_next(mg_mount *mount, struct mg_step *step);
@@ -69,12 +70,13 @@ uint32_t flash_planned_outcome(mg_planned *die, uint32_t job, struct mg_job_outc
 uint32_t flash_planned_place(mg_planned *die, uint32_t page, struct mg_cell *place);
 uint32_t flash_planned_checkpoint(mg_planned *die, struct mg_cell *places, size_t place_count, struct mg_name *names, size_t name_count,
                                   struct mg_block *blocks, size_t block_count, uint32_t *balances, size_t balance_count,
-                                  uint32_t *spare, struct mg_why *why);
+                                  uint32_t *spare, struct mg_part *part, struct mg_why *why);
 uint32_t flash_planned_resume(mg_planned *die, const struct mg_plan *plan, const struct mg_task *tasks, size_t count,
                               const struct mg_terms *terms, size_t term_count, uint32_t longest, const struct mg_cell *places,
                               size_t place_count, const struct mg_name *names, size_t name_count, const struct mg_block *blocks,
                               size_t block_count, const uint32_t *balances, size_t balance_count, uint32_t spare,
-                              struct mg_unresumed *why);
+                              const struct mg_part *part, struct mg_unresumed *why);
+void flash_planned_checkpoint_void(mg_planned *die);
 uint64_t flash_planned_serial(mg_planned *die);
 uint32_t flash_planned_part_block(mg_planned *die, uint32_t block);
 uint32_t flash_check(const struct mg_row *rows, size_t row_count, const struct mg_cert *certificate, const uint32_t *jobs,

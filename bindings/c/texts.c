@@ -3,9 +3,9 @@
 
 const char *mg_version_text(void) {
 #ifdef MG_UNPROVED
-    return "1.3, not proved";
+    return "2.0, not proved";
 #else
-    return "1.3";
+    return "2.0";
 #endif
 }
 
@@ -43,6 +43,7 @@ const char *mg_refusal_text(uint32_t refusal) {
     case MG_WRONG_STEP: return "the mount needs something else next, or nothing comes any more";
     case MG_TOO_MANY_CELLS: return "more cells of a block were told than it has";
     case MG_BAD_LABEL: return "a label of a page that the plan doesn't have, or with a serial of 2^63 or more";
+    case MG_CHECKPOINT_STANDS: return "the die was resumed from a checkpoint that isn't void yet, and the slot would spend it";
     case MG_CERT_EMPTY: return "the certificate lists no job";
     case MG_CERT_NOT_RISING: return "a listed number isn't above the one before";
     case MG_CERT_UNKNOWN_JOB: return "a listed number has no row";

@@ -7,23 +7,27 @@
 #include <unistd.h>
 
 static struct chip_page (*cells)[PAGES];
+static uint32_t *erased; /* by block how often, behind the cells */
 static long calls_left;    /* 0: the power stays */
 static long programs_left; /* 0: none fails */
 
 void chip_open(const char *file) {
-    const size_t size = sizeof(struct chip_page) * (BLOCKS + NOTE_BLOCKS) * PAGES;
+    const size_t all = sizeof(struct chip_page) * (BLOCKS + NOTE_BLOCKS) * PAGES, size = all + sizeof(uint32_t) * (BLOCKS + NOTE_BLOCKS);
     int fd = open(file, O_RDWR | O_CREAT, 0644);
     bool is_new = fd >= 0 && lseek(fd, 0, SEEK_END) != (off_t)size;
     if (fd < 0 || ftruncate(fd, (off_t)size)) abort();
     cells = mmap(NULL, size, PROT_READ | PROT_WRITE, MAP_SHARED, fd, 0);
     close(fd);
     if (cells == MAP_FAILED) abort();
-    if (is_new) memset(cells, 0xFF, size);
+    erased = (uint32_t *)((uint8_t *)cells + all);
+    if (is_new) memset(cells, 0xFF, all), memset(erased, 0, size - all);
 }
 
 void chip_cut(long calls) { calls_left = calls; }
 
 void chip_fail(long programs) { programs_left = programs; }
+
+uint32_t chip_erases(uint32_t block) { return erased[block]; }
 
 static bool is_cut(void) { return calls_left > 0 && --calls_left == 0; }
 
@@ -61,7 +65,7 @@ bool chip_erase_slot(uint32_t block, bool last) {
         }
         _exit(77);
     }
-    if (last) memset(cells[block], 0xFF, sizeof cells[block]);
+    if (last) memset(cells[block], 0xFF, sizeof cells[block]), erased[block]++;
     else memset(cells[block][PAGES - 1].spare, 0, SPARE); /* what was there can't be relied on any more */
     return true;
 }

@@ -20,4 +20,6 @@ bool chip_program(uint32_t block, uint32_t page, const struct chip_page *in);
 bool chip_erase_slot(uint32_t block, bool last);
 
 bool chip_is_free(const struct chip_page *page); /* all bytes are 0xFF */
+
+uint32_t chip_erases(uint32_t block); /* how many erases of the block were finished: a chip doesn't tell, and a test may ask */
 #endif

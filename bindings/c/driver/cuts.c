@@ -1,6 +1,7 @@
 /* Takes the power from the driver at random, in its work and in its recovery, and lets programs fail. It looks after each cut,
- * and of each die that is stopped, whether a page has lost what was reported as written, or has again what was trimmed; and of a
- * die that keeps a plan (KEEPS_PLAN), whether all that was taken was done by its `due`.
+ * and of each die that is stopped, whether a page has lost what was reported as written, or has again what was trimmed; whether
+ * a mount is told of no fewer erases than there were; and of a die that keeps a plan (KEEPS_PLAN), whether all that was taken was
+ * done by its `due`.
  *
  *   cuts FILE CUTS SEED */
 #define _DEFAULT_SOURCE
@@ -14,13 +15,38 @@
 
 /* What the world knows, which no cut takes: by page the version that was last reported as written, 0 where it was trimmed, and the
  * one that was asked for after it. */
-static struct { uint32_t done[LOGICAL], asked[LOGICAL], versions[LOGICAL], programs, trims, stopped; uint64_t due[LOGICAL]; } *world;
+static struct {
+    uint32_t done[LOGICAL], asked[LOGICAL], versions[LOGICAL], programs, trims, stopped;
+    uint64_t due[LOGICAL];
+    struct driver driver;
+    uint32_t erased[BLOCKS]; /* by block how often the chip had erased it when the driver was opened last, */
+    uint32_t lost[BLOCKS];   /* and when a mount last found no label in it */
+    bool counted;            /* that opening was looked at */
+} *world;
 
 static void check(int holds, const char *what) {
     if (holds) return;
     printf("wrong: %s\n", what);
     fflush(stdout);
     _exit(1);
+}
+
+/* What a mount is told of a block's erases isn't less than what the chip has erased it since a mount last found no label there. */
+static void count_erases(void) {
+    if (world->counted || world->driver.told < BLOCKS) return;
+    for (uint32_t b = 0; b < BLOCKS; b++)
+        if (world->driver.has_label[b]) check(world->driver.erases[b] >= world->erased[b] - world->lost[b], "no erase is forgotten");
+        else world->lost[b] = world->erased[b];
+    world->counted = true;
+}
+
+static uint32_t open_driver(struct driver *driver) {
+    for (uint32_t b = 0; b < BLOCKS; b++) world->erased[b] = chip_erases(b);
+    driver->told = 0;
+    world->counted = false;
+    uint32_t refusal = driver_open(driver);
+    count_erases();
+    return refusal;
 }
 
 static void fill(uint8_t *payload, uint32_t page, uint32_t version) {
@@ -86,7 +112,7 @@ static void work(struct driver *driver, int slots) {
         if (refusal == MG_DEVICE_FAULT) { /* a program has failed */
             look(driver, true);
             world->stopped++;
-            check(driver_open(driver) == MG_OK, "the driver goes on");
+            check(open_driver(driver) == MG_OK, "the driver goes on");
             look(driver, false);
             continue;
         }
@@ -100,22 +126,23 @@ static void work(struct driver *driver, int slots) {
 static int life(const char *file, unsigned seed, long cut_opening, long cut_work) {
     pid_t child = fork();
     if (child == 0) {
-        static struct driver driver;
         srand(seed);
         chip_open(file);
         chip_cut(cut_opening);
-        check(driver_open(&driver) == MG_OK, "the driver opens what is there");
+        memset(&world->driver, 0, sizeof world->driver);
+        check(open_driver(&world->driver) == MG_OK, "the driver opens what is there");
         chip_cut(0);
-        look(&driver, false);
+        look(&world->driver, false);
         chip_cut(cut_work);
         chip_fail(rand() % 3 ? 0 : 1 + rand() % 400);
-        work(&driver, 3000);
-        DIE(free)(&driver.die);
+        work(&world->driver, 3000);
+        DIE(free)(&world->driver.die);
         _exit(0);
     }
     int status;
     waitpid(child, &status, 0);
     if (!WIFEXITED(status) || (WEXITSTATUS(status) != 0 && WEXITSTATUS(status) != 77)) exit(1);
+    count_erases();
     return WEXITSTATUS(status) == 77;
 }
 

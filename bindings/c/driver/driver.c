@@ -11,7 +11,7 @@ static const struct mg_terms terms[TASKS] = {{200, 100, 100, 40, 4, 200, 200}, {
 
 /* ---- Names and labels -------------------------------------------------------------------------------------------- */
 
-struct label { struct mg_name name; uint64_t serial; uint32_t logical, check; uint8_t rest[SPARE - 32]; };
+struct label { struct mg_name name; uint64_t serial; uint32_t logical, erases, check; uint8_t rest[SPARE - 36]; };
 _Static_assert(sizeof(struct label) == SPARE, "a label fills the spare area");
 
 static uint64_t hash(uint64_t h, const void *at, size_t size) {
@@ -36,9 +36,10 @@ static uint32_t check_of(struct label label, uint32_t block, uint32_t page) {
 }
 
 /* Programs a cell with a payload and its label. */
-static bool program(uint32_t block, uint32_t at, const uint8_t *payload, struct mg_name name, uint32_t logical, uint64_t serial) {
+static bool program(uint32_t block, uint32_t at, const uint8_t *payload, struct mg_name name, uint32_t logical, uint64_t serial,
+                    uint32_t erases) {
     struct chip_page page;
-    struct label label = {name, serial, logical, 0, {0}};
+    struct label label = {name, serial, logical, erases, 0, {0}};
     label.check = check_of(label, block, at);
     memcpy(page.payload, payload, PAYLOAD);
     memcpy(page.spare, &label, SPARE);
@@ -75,7 +76,7 @@ static bool note_trim(struct driver *driver, uint32_t logical) {
     }
     driver->trims[logical] = DIE(serial)(&driver->die) + driver->above;
     memcpy(payload, driver->trims, sizeof driver->trims);
-    return program(driver->note_block, driver->note_page++, payload, name_of(payload), NOTE, ++driver->notes);
+    return program(driver->note_block, driver->note_page++, payload, name_of(payload), NOTE, ++driver->notes, 0);
 }
 
 /* Finds the newest note, and where the next one goes: behind it, and behind those that are torn. */
@@ -146,7 +147,8 @@ static bool drive(struct driver *driver, const struct mg_call *call, struct mg_n
         return true;
     case MG_CALL_PROGRAM:
         if (!buffer) return false;
-        return program(block, call->page, buffer->payload, call->name, call->logical, DIE(serial)(&driver->die) + driver->above);
+        return program(block, call->page, buffer->payload, call->name, call->logical, DIE(serial)(&driver->die) + driver->above,
+                       call->erases);
     case MG_CALL_ERASE: return chip_erase_slot(block, call->last);
     case MG_CALL_TRIM: return note_trim(driver, call->logical);
     default: return true;
@@ -233,15 +235,18 @@ static uint32_t tell(struct driver *driver, mg_mount *mount, uint32_t block, uin
     for (uint32_t p = 0; p < PAGES; p++) {
         struct chip_page page;
         struct label label;
-        labels[p] = (struct mg_label){0, MG_NO_LABEL};
+        labels[p] = (struct mg_label){0, MG_NO_LABEL, 0};
         if (!chip_read(block, p, &page)) return BROKEN;
         if (!is_good(&page, block, p, &label) || label.logical == NOTE || label.serial < driver->trims[label.logical]) continue;
-        labels[p] = (struct mg_label){label.serial, label.logical};
+        labels[p] = (struct mg_label){label.serial, label.logical, label.erases};
+        driver->has_label[block] = true;
+        if (label.erases > driver->erases[block]) driver->erases[block] = label.erases;
         if (label.serial >= *least) *least = label.serial + 1;
         if (label.serial < driver->serials[label.logical]) continue;
         driver->serials[label.logical] = label.serial;
         driver->names[label.logical] = label.name;
     }
+    driver->told++;
     return mg_mount_tell(mount, labels, PAGES, NULL);
 }
 
@@ -264,7 +269,8 @@ static uint32_t carry_out(struct driver *driver, mg_mount *mount) {
             continue;
         case MG_STEP_READ: ok = chip_read(step.block, step.page, &page); break;
         case MG_STEP_PROGRAM:
-            ok = program(step.block, step.page, page.payload, driver->names[step.logical], step.logical, step.serial + driver->above);
+            ok = program(step.block, step.page, page.payload, driver->names[step.logical], step.logical, step.serial + driver->above,
+                         step.erases);
             break;
         case MG_STEP_ERASE: ok = chip_erase_slot(step.block, step.last); break;
         default: return MG_OK;

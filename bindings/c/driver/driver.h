@@ -35,6 +35,9 @@ struct driver {
     uint64_t serials[LOGICAL];
     struct buffer buffers[BUFFERS];
     uint8_t read[PAYLOAD];       /* what the last read of a job gave */
+    uint32_t told;               /* how many blocks the mount was told, */
+    bool has_label[BLOCKS];      /* of which of them a label, */
+    uint32_t erases[BLOCKS];     /* and how often it was erased, as the labels have it */
 };
 
 /* Each answers MG_OK, the number of a refusal, or BROKEN where the chip has failed beyond what the driver recovers. */

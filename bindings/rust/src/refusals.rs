@@ -58,6 +58,8 @@ pub enum Refusal {
     TooManyCells,
     /// A label of a page that the plan doesn't have, or with a serial of 2^63 or more: the first such cell.
     BadLabel { cell: u32 },
+    /// The die was resumed from a checkpoint that isn't void yet, and the slot would spend it.
+    CheckpointStands,
     /// What is wrong with a certificate first.
     Certificate(Flaw),
     /// A checkpoint doesn't fit the plan.
@@ -164,6 +166,7 @@ impl Refusal {
             WrongStep => 112,
             TooManyCells => 113,
             BadLabel { .. } => 114,
+            CheckpointStands => 115,
             RowsNotRising => 104,
             NotQuiet { .. } => 105,
             WornOut { .. } => 106,
@@ -248,6 +251,7 @@ pub(crate) fn answer(code: u32, why: &raw::Why) -> Result<(), Refusal> {
         112 => WrongStep,
         113 => TooManyCells,
         114 => BadLabel { cell: why.first },
+        115 => CheckpointStands,
         104 => RowsNotRising,
         105 => NotQuiet { job: why.first },
         106 => WornOut { block: why.first },

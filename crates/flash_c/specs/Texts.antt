@@ -51,6 +51,7 @@ names =
     ∷ code_name 112 (codes "WrongStep")
     ∷ code_name 113 (codes "TooManyCells")
     ∷ code_name 114 (codes "BadLabel")
+    ∷ code_name 115 (codes "CheckpointStands")
     ∷ code_name 201 (codes "Empty")
     ∷ code_name 202 (codes "NotRising")
     ∷ code_name 203 (codes "UnknownJob")
