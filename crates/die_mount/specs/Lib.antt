@@ -12,4 +12,5 @@ pub mod Choosing
 pub mod Beginning
 pub mod Cutting
 pub mod Ending
+pub mod EndRoom
 pub mod Nexts

@@ -13,6 +13,7 @@ ghost use Rattle.power_loss.specs.Mounted.{all_count};
 ghost use Rattle.power_loss.specs.Recovery.{AreIdle, IsFreeBlock, MayErase, MayMount, without_block};
 ghost use Rattle.die_mount.specs.Beginning.{BeginsAt, HasBeginFault, HasIdle, IsIdleIn, IsScanned};
 ghost use Rattle.die_mount.specs.Ending.{IsEndOf};
+ghost use Rattle.die_mount.specs.EndRoom.{room_for};
 ghost use Rattle.die_mount.specs.Erases.{AreCounts, AreUnworn, CountsFrom, WearsOut, counts_with};
 ghost use Rattle.die_mount.specs.Faults.{IsMountPlan};
 ghost use Rattle.die_mount.specs.Scanned.{IsScanOf};
@@ -23,6 +24,7 @@ ghost use Rattle.die_mount.specs.Nexts.{BeginsFirst, IsNextStage, IsPastFirst};
 ghost use Rattle.die_mount.specs.SoundMount.{StandsWell};
 
 use crate::begin_fault::BeginFault;
+use crate::end_memory::EndMemory;
 use crate::erases::{counts_of, first_worn};
 use crate::label::Label;
 use crate::mounted::Mounted;
@@ -231,8 +233,19 @@ impl Mount {
         ensures fits { IfOk result (λ end. Fits self.now.plan end.checkpoint) }
         ensures refused { FailsForMemory result }
     {
+        let memory = EndMemory::take(alloc, &self.plan)?;
+        Ok(self.finish_in(memory))
+    }
+
+    /// The same in memory that was taken before, so that it is never refused.
+    pub fn finish_in(&self, memory: EndMemory) -> Mounted
+        requires ended { self.now.stage ≡ Stage.Done }
+        requires room { memory ≡ room_for self.now.plan }
+        ensures end { IsEndOf self.now result }
+        ensures fits { Fits self.now.plan result.checkpoint }
+    {
         match self.part.free_block() {
-            Some(aside) => self.end_beside(alloc, aside),
+            Some(aside) => self.end_beside(memory, aside),
             None => unreachable!(),
         }
     }
@@ -240,30 +253,31 @@ impl Mount {
 
 impl Mount {
     /// The end beside a block of which no cell is programmed.
-    fn end_beside(&self, alloc: Global, aside: u32) -> Result<Mounted, Refusal>
+    fn end_beside(&self, memory: EndMemory, aside: u32) -> Mounted
         requires stage { self.now.stage ≡ Stage.Done }
         requires free { IsFreeBlock self.now.cells aside }
-        ensures end { IfOk result (IsEndOf self.now) }
-        ensures fits { IfOk result (λ end. Fits self.now.plan end.checkpoint) }
-        ensures refused { FailsForMemory result }
+        requires room { memory ≡ room_for self.now.plan }
+        ensures end { IsEndOf self.now result }
+        ensures fits { Fits self.now.plan result.checkpoint }
     {
+        let EndMemory {
+            places,
+            blocks,
+            balances,
+        } = memory;
         let last = self.plan.shape.blocks;
-        let places = self.part.places_beside(alloc, last, aside)?;
-        let blocks = self
-            .part
-            .blocks_beside(alloc, last, aside, self.counts.as_slice())?;
-        let balances = Items::from_vec(Vec::from_slice(alloc, self.plan.caps.as_slice())?);
-        Ok(Mounted {
+        let before = self.counts.as_slice();
+        Mounted {
             aside,
             checkpoint: Checkpoint {
-                places,
-                blocks,
+                places: self.part.places_beside(places, last, aside),
+                blocks: self.part.blocks_beside(blocks, last, aside, before),
                 // The goal has the pages of the block aside, and those of full accounts.
                 spare: self.part.free() - self.goal,
-                balances,
+                balances: Items::from_vec(balances),
             },
             next: self.serial,
-        })
+        }
     }
 
     /// The block that is erased first had one slot more of its erase.

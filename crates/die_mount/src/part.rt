@@ -1,7 +1,7 @@
 //! The cells of a part, as a mount goes on.
 
 ghost use Rattle.std.specs.Prelude.{◌≡◌, ◌⊎◌, ◌==◌, ◌<◌, ◌≤◌, ◌+◌, ◌^◌, ℕ, None, length, map, option_map, IfOk, IfSome, IfNone, position};
-ghost use Rattle.std.specs.Prelude.{slice_index_or};
+ghost use Rattle.std.specs.Prelude.{[], slice_index_or, vec_capacity};
 ghost use Rattle.slot_types.specs.Refusal.{FailsForMemory};
 ghost use Rattle.slot_types.specs.Places.{owner_of, place_of};
 ghost use Rattle.slot_types.specs.declared.plans.DiePlan.{DiePlan};
@@ -221,48 +221,51 @@ impl Part {
         }
     }
 
-    /// By page its cell, as a die on the blocks beside one numbers it. Refused with `NoMemory` alone.
+    /// By page its cell, as a die on the blocks beside one numbers it. It takes no memory.
     pub(crate) fn places_beside(
         &self,
-        alloc: Global,
+        room: Vec<Option<Place>>,
         last: u32,
         aside: u32,
-    ) -> Result<Items<Option<Place>>, Refusal>
-        ensures places { IfOk result (λ places.
-            places ≡ renumbered_places (on_die last aside) self.now.cells.places) }
-        ensures refused { FailsForMemory result }
+    ) -> Items<Option<Place>>
+        requires empty { room.items ≡ [] }
+        requires room { length self.now.cells.places ≤ vec_capacity room }
+        ensures { result ≡ renumbered_places (on_die last aside) self.now.cells.places }
     {
-        let mut places = Items::new(alloc);
+        let mut places = room;
         for page in 0..self.map.pages() {
-            places.push(renumbered(self.map.place(page), last, aside))?;
+            places.push_reserved(renumbered(self.map.place(page), last, aside));
         }
-        Ok(places)
+        Items::from_vec(places)
     }
 
     /// By block what a checkpoint says of it, with the erases that it has had before, without the last block and with
-    /// that one in place of the one aside. Refused with `NoMemory` alone.
+    /// that one in place of the one aside. It takes no memory.
     pub(crate) fn blocks_beside(
         &self,
-        alloc: Global,
+        room: Vec<BlockCounts>,
         last: u32,
         aside: u32,
         before: &[u32],
-    ) -> Result<Items<BlockCounts>, Refusal>
+    ) -> Items<BlockCounts>
+        requires empty { room.items ≡ [] }
+        requires room { last ≤ vec_capacity room }
         requires last { last + 1 ≡ self.now.shape.blocks }
         requires aside { aside ≤ last }
         requires few { (block : ℕ) → slice_index_or before.now block 0
             + (block_at self.now.cells block).erases < 2 ^ 32 }
-        ensures blocks { IfOk result (λ blocks. blocks
-            ≡ map counts_of (without_aside last aside free_block
-            (counted before.now self.now.cells).blocks)) }
-        ensures refused { FailsForMemory result }
+        ensures { result ≡ map counts_of (without_aside last aside free_block
+            (counted before.now self.now.cells).blocks) }
     {
-        let mut blocks = Items::new(alloc);
+        let mut blocks = room;
         for block in 0..last {
             let from = if block == aside { last } else { block };
-            blocks.push(counts_of(self.blocks[from as usize], erases_before(before, from)))?;
+            blocks.push_reserved(counts_of(
+                self.blocks[from as usize],
+                erases_before(before, from),
+            ));
         }
-        Ok(blocks)
+        Items::from_vec(blocks)
     }
 
     /// The page lies in the next cell of a block, which was programmed.
