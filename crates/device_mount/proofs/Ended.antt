@@ -411,35 +411,3 @@ beside_shape shape_of blocks labels failures v on p aside shape =
     let e : shape_of p ≡ (part_of v.mount.plan).shape = shape ∙ on.shape in
     let less : (shape_of p).blocks - 1 ≡ v.mount.plan.shape.blocks = omega (arith, ap (λ (s : Shape). s.blocks) e) in
     λ i. record { blocks = less i; pages = (e i).pages; erase_slots = (e i).erase_slots }
-
--- A mount on a part whose serials go on stands as it did
-
-pub numbered_sound : {N : Type 0} (never : Bool) (shape_of : N → Shape) (blocks : N → List device.Block) (labels : N → Labels) (failures : N → ℕ) (v : OnPart N)
-    (p : N) (next : ℕ) → IsSoundOnPart never shape_of blocks labels failures v → v.failed ≡ false → shape_of p ≡ shape_of v.part → blocks p ≡ blocks v.part
-    → labels p ≡ record (labels v.part) { next = next } → failures p ≡ failures v.part
-    → IsSoundOnPart never shape_of blocks labels failures (record v { part = p })
-numbered_sound never shape_of blocks labels failures v p next s well shape bs ls fs =
-    let on = s.on well in
-    record {
-      on = λ _. record {
-        shape = shape ∙ on.shape;
-        first = on.first;
-        one = on.one;
-        well = fs ∙ on.well;
-        borne = subst (λ (xs : List device.Block). AreBorne xs (labels p).blocks) (sym bs)
-            (subst (λ (l : Labels). AreBorne (blocks v.part) l.blocks) (sym ls) on.borne);
-        at = subst (λ (xs : List device.Block). StandsAt v.mount.plan v.erased v.mount.cells xs v.mount.stage) (sym bs) on.at;
-      };
-      faulted = λ failed. absurd (true≢false (sym failed ∙ well));
-      never = s.never;
-    }
-
-pub numbered_goes : {N : Type 0} (labels : N → Labels) (v : OnPart N) (p : N) (next : ℕ) → labels p ≡ record (labels v.part) { next = next }
-    → (pages : List PageData) (seen : Shown) → GoesBySeen labels pages seen v → GoesBySeen labels pages seen (record v { part = p })
-numbered_goes labels v p next ls pages seen g = record {
-  next = g.next;
-  acts = g.acts;
-  by = g.by;
-  has = subst (λ (l : Labels). HasLabelsAt pages seen v.erased g.next g.acts v.mount l.blocks v.mount.stage) (sym ls) g.has;
-  holds = g.holds;
-}

@@ -1,6 +1,6 @@
 //! A mount that undoes a block: no block is idle, since a mount before it was cut as it copied.
 
-ghost use Rattle.std.specs.Prelude.{◌≡◌, ◌↔◌, ◌+◌, ◌<◌, ◌≤◌, true, false, Some, IfErr, IfOk, IfSome, IsTrue, OnErr, OnOk, vec_capacity, take};
+ghost use Rattle.std.specs.Prelude.{◌≡◌, ◌≢◌, ◌↔◌, ◌+◌, ◌<◌, ◌≤◌, true, false, Some, IfErr, IfOk, IfSome, IsTrue, OnErr, OnOk, vec_capacity, take};
 ghost use Rattle.die_mount.specs.Beginning.{IsIdleIn, IsScanned};
 ghost use Rattle.die_mount.specs.Erasing.{IsFirstIdle};
 ghost use Rattle.die_mount.specs.Mounting.{BeginsWith};
@@ -95,6 +95,8 @@ fn scan_without<N: LabelledNand>(
     ensures whole { IfOk result (λ scan. scan.told ≡ scan.shape.blocks) }
     ensures same { OnOk result (IsSamePart N.shape_of N.failures N.blocks N.labels part.old
         part.new) }
+    ensures unchanged { IfErr result (λ refusal. refusal ≢ MountRefusal.DeviceFault
+        → IsSamePart N.shape_of N.failures N.blocks N.labels part.old part.new) }
     ensures lasts { N.lasts part.old → N.lasts part.new }
     ensures refused { IfErr result (RefusesMount plan.now (N.shape_of part.old)
         (N.labels part.old).blocks (N.failures part.new)) }
@@ -295,6 +297,8 @@ pub(crate) fn undo<N: LabelledNand>(
         → KeepsPages plan (N.labels part.old).blocks block) }
     ensures same { OnOk result (IsSamePart N.shape_of N.failures N.blocks N.labels part.old
         part.new) }
+    ensures unchanged { IfErr result (λ refusal. refusal ≢ MountRefusal.DeviceFault
+        → IsSamePart N.shape_of N.failures N.blocks N.labels part.old part.new) }
     ensures lasts { N.lasts part.old → N.lasts part.new }
     ensures refused { IfErr result (RefusesMount plan (N.shape_of part.old)
         (N.labels part.old).blocks (N.failures part.new)) }

@@ -1,6 +1,6 @@
 //! The scan of a part: what its cells show is reported to a mount.
 
-ghost use Rattle.std.specs.Prelude.{◌≡◌, ◌+◌, ◌<◌, ◌≤◌, ◌↔◌, ℕ, [], Option, option_map, length, IsTrue, IfOk, IfErr, OnOk, OnErr};
+ghost use Rattle.std.specs.Prelude.{◌≡◌, ◌≢◌, ◌+◌, ◌<◌, ◌≤◌, ◌↔◌, ℕ, [], Option, option_map, length, IsTrue, IfOk, IfErr, OnOk, OnErr};
 ghost use Rattle.std.specs.Prelude.{vec_capacity};
 ghost use Rattle.slot_types.specs.declared.pages.PageData.{PageData};
 ghost use Rattle.flash_die.specs.Flash.{block_at};
@@ -134,6 +134,8 @@ fn tell_block<N: LabelledNand>(
         (told_cells (cells_shown (N.labels part.old).blocks block plan.now.shape.pages))) }
     ensures same { OnOk result (IsSamePart N.shape_of N.failures N.blocks N.labels part.old
         part.new) }
+    ensures unchanged { IfErr result (λ fault. fault ≢ PartFault.DeviceFault
+        → IsSamePart N.shape_of N.failures N.blocks N.labels part.old part.new) }
     ensures lasts { N.lasts part.old → N.lasts part.new }
     ensures room { vec_capacity cells.new ≡ vec_capacity cells.old }
     ensures fault { IfErr result (RefusesBlock plan.now (N.labels part.old).blocks block
@@ -154,7 +156,8 @@ fn tell_block<N: LabelledNand>(
 /// Looks at each cell of a part, and reports the labels to a scan, and of erases nothing: a device counts them from power-up
 /// on. The part has one block more than the plan, and none of its blocks is in erase. It takes time for each cell once, and memory for the scan.
 ///
-/// Refused with the first fault that stands, as [`PartFault`] lists them; nothing on the part has changed then.
+/// Refused with the first fault that stands, as [`PartFault`] lists them; nothing on the part has changed then, unless
+/// the part failed.
 pub fn scan<N: LabelledNand>(alloc: Global, plan: &DiePlan, part: &mut N) -> Result<Scan, PartFault>
     requires counted { length (N.blocks part.old) ≡ (N.shape_of part.old).blocks }
     requires quiet { (block : ℕ) → (block_at (N.blocks part.old) block).erasing ≡ 0 }
@@ -165,6 +168,8 @@ pub fn scan<N: LabelledNand>(alloc: Global, plan: &DiePlan, part: &mut N) -> Res
     ensures whole { IfOk result (λ scan. scan.told ≡ scan.shape.blocks) }
     ensures same { OnOk result (IsSamePart N.shape_of N.failures N.blocks N.labels part.old
         part.new) }
+    ensures unchanged { IfErr result (λ fault. fault ≢ PartFault.DeviceFault
+        → IsSamePart N.shape_of N.failures N.blocks N.labels part.old part.new) }
     ensures lasts { N.lasts part.old → N.lasts part.new }
     ensures plan { OnOk result (IsMountPlan plan.now) }
     ensures shape { OnOk result (N.shape_of part.old ≡ (part_of plan.now).shape) }

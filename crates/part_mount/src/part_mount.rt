@@ -180,20 +180,4 @@ impl<N: LabelledNand> PartMount<N> {
             failed: self.failed,
         }
     }
-
-    /// A mount that goes on with parts of which the same is true.
-    pub fn from_parts(parts: MountParts<N>) -> PartMount<N>
-        requires sound { IsSoundOnPart N.never_fails N.shape_of N.blocks N.labels N.failures
-            (on_part parts.part parts.mount parts.erased parts.held parts.failed) }
-        ensures { result
-            ≡ on_part parts.part parts.mount parts.erased parts.held parts.failed }
-    {
-        PartMount {
-            part: parts.part,
-            mount: parts.mount,
-            erased: parts.erased,
-            held: parts.held,
-            failed: parts.failed,
-        }
-    }
 }
