@@ -224,9 +224,9 @@ impl Mount {
     /// of its first program. The mount stays as it is.
     ///
     /// The checkpoint fits the plan: each balance is its cap, pages lie where the mount left them, and of each block as
-    /// many cells count as programmed as the mount left programmed. A block's erases are those that were reported to
-    /// the scan, and those of this mount. Where a block had no good label they may be off. It takes memory for 12 bytes by page and
-    /// 8 by block. Refused with `NoMemory` alone, and may be called again then.
+    /// many cells count as programmed as the mount left programmed. A block's erases are those that were reported to the
+    /// scan, and those of this mount. Where a block had no good label they may be off. It takes memory for 12 bytes by
+    /// page and 8 by block. Refused with `NoMemory` alone, and may be called again then.
     pub fn finish(&self, alloc: Global) -> Result<Mounted, Refusal>
         requires { self.now.stage ≡ Stage.Done }
         ensures end { IfOk result (IsEndOf self.now) }
