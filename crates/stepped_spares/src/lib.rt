@@ -1,0 +1,11 @@
+//! The table of a part with spare blocks, for a driver that makes the part's calls itself: a call that failed is
+//! answered with the calls to make next.
+#![tactic(auto)]
+
+mod begun;
+mod failed;
+mod moves;
+mod table;
+
+pub use moves::{Move, Outcome, Stage};
+pub use table::SpareTable;
