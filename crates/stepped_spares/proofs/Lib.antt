@@ -1,2 +1,3 @@
 pub mod Lefts
 pub mod Added
+pub mod Told

@@ -5,7 +5,10 @@
 mod begun;
 mod failed;
 mod moves;
+mod numbered;
+mod scan;
 mod table;
 
 pub use moves::{Move, Outcome, Stage};
+pub use scan::{LabelScan, TellFault};
 pub use table::SpareTable;
