@@ -1,3 +1,4 @@
 pub mod Lefts
 pub mod Added
 pub mod Told
+pub mod Filling

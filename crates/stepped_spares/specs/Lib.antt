@@ -1,3 +1,4 @@
 pub mod Stepping
 pub mod Beginning
 pub mod Telling
+pub mod Carrying

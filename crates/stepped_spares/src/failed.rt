@@ -1,7 +1,7 @@
 //! A call of the driver's that failed, and what the table is asked.
 
 ghost use Rattle.std.specs.Prelude.{◌≡◌, ◌<◌, ◌≤◌, ◌+◌, ◌*◌, length, IfSome, IsNone};
-ghost use Rattle.spare_blocks.specs.Tables.{on_part, use_of, spares_in};
+ghost use Rattle.spare_blocks.specs.Tables.{IsTable, on_part, use_of, spares_in};
 ghost use Rattle.spare_blocks.specs.declared.cells.BlockUse.TheVariants as use_as;
 ghost use Rattle.stepped_spares.specs.Stepping.{IsNextFill, IsReplacedOr, calls_left};
 
@@ -24,7 +24,9 @@ impl SpareTable {
         ensures pages { self.new.pages ≡ self.old.pages }
         ensures next { IsNextFill self.old.table place.block place.page self.new.stage }
         ensures calls { calls_left self.new ≤ (2 * place.page + 1) * spares_in self.old.table }
+        ensures sound { IsTable self.old.table }
     {
+        let _ = self.table.count();
         self.stage = next_fill(&self.table, place.block, place.page);
     }
 

@@ -3,12 +3,14 @@
 #![tactic(auto)]
 
 mod begun;
+mod carried;
 mod failed;
 mod moves;
 mod numbered;
 mod scan;
 mod table;
 
+pub use carried::carry;
 pub use moves::{Move, Outcome, Stage};
 pub use scan::{LabelScan, TellFault};
 pub use table::SpareTable;

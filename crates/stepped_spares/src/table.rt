@@ -2,8 +2,8 @@
 
 ghost use Rattle.std.specs.Prelude.{◌≡◌, ◌<◌, ◌≤◌, true, false, length, IfOk, IsSome, IsTrue};
 ghost use Rattle.slot_types.specs.Shapes.{IsShape};
-ghost use Rattle.spare_blocks.specs.Tables.{on_part, use_of, spares_in, IsSpare};
-ghost use Rattle.stepped_spares.specs.Stepping.{HasFailed, IsDone, IsLost, IsMoved, IsNextErase, IsNextFill, IsReplacedOr, calls_left, must_erase, next_move};
+ghost use Rattle.spare_blocks.specs.Tables.{IsTable, on_part, use_of, spares_in, IsSpare};
+ghost use Rattle.stepped_spares.specs.Stepping.{HasFailed, IsDone, IsLost, IsMoved, IsNextErase, IsNextFill, IsReplacedOr, IsSoundStepping, calls_left, must_erase, next_move};
 
 use crate::moves::{Move, Outcome, Stage};
 use slot_types::{Place, Shape};
@@ -35,8 +35,11 @@ impl Model for SpareTable {
 impl SpareTable {
     /// The call of the part that comes next; none where none has to come, or none helps.
     pub fn next(&self) -> Option<Move>
-        ensures { result ≡ next_move self.now }
+        ensures call { result ≡ next_move self.now }
+        ensures sound { IsSoundStepping self.now }
+        ensures table { IsTable self.now.table }
     {
+        let _ = self.table.count();
         match self.stage {
             Stage::Erasing { block, .. } => Some(Move::Erase { block }),
             Stage::Filling {
