@@ -62,10 +62,10 @@ some_is : {x y : Move} → Some x ≡ Some y → x ≡ y
 some_is e = grind arith
 
 -- A spare block less
-other_of : (t : Table) (spare x : ℕ) → x ≢ spare → use_of (without_spare spare t) x ≡ use_of t x
+pub other_of : (t : Table) (spare x : ℕ) → x ≢ spare → use_of (without_spare spare t) x ≡ use_of t x
 other_of t spare x far = get_or-set_other t.uses spare x use_as.Bad use_as.Bad far
 
-spares_of : (t : Table) (spare x : ℕ) → IsSpare t spare → IsSpare (without_spare spare t) x → (x ≢ spare) × IsSpare t x
+pub spares_of : (t : Table) (spare x : ℕ) → IsSpare t spare → IsSpare (without_spare spare t) x → (x ≢ spare) × IsSpare t x
 spares_of t spare x is has =
     let far : x ≢ spare = λ same. bad-spare (sym (ap (λ (y : ℕ). use_of (without_spare spare t) y) same
     ∙ get_or-set_same t.uses spare use_as.Bad use_as.Bad (spare_within t spare is)) ∙ has) in
@@ -84,10 +84,13 @@ filling_begins t blocks number cells last (stage.Filling n spare c k) free (a, b
       holds = free spare is ∙ ap (λ (i : ℕ). held (take i (part_block blocks (on_part t number)).cells)) (sym d);
       rest = λ y other has. free y has;
     }
-filling_begins t blocks number cells last stage.WornOut free none = (record {
-  used = record { numbers = refl; others = λ x other. refl; spares = λ x has. has };
-  none = record { others = λ x other. refl; taken = none };
-}, refl)
+filling_begins t blocks number cells last stage.WornOut free none = (
+  record {
+    used = record { numbers = refl; others = λ x other. refl; spares = λ x has. has };
+    none = record { others = λ x other. refl; taken = none };
+  },
+  refl,
+)
 filling_begins t blocks number cells last stage.Working free is = absurd is
 filling_begins t blocks number cells last stage.Faulted free is = absurd is
 filling_begins t blocks number cells last (stage.Erasing x all) free is = absurd is
@@ -121,10 +124,13 @@ module _ (first t : Table) (bf b : List PartBlock) (number n pages : ℕ) (spare
   may = by_test (nat_lt k n) refl
     where
       by_test : (x : Bool) → nat_lt k n ≡ x → MayCarry b pages (fill_move (on_part t number) spare n k)
-      by_test true e = subst (MayCarry b pages) (sym (is_copy (on_part t number) spare n k e)) (record {
-        filled = omega (arith, below k n e, source.count, ap (λ (x : PartBlock). length x.cells) source_now);
-        quiet = ap (λ (x : PartBlock). x.erasing) source_now ∙ source.quiet;
-      }, free_cell)
+      by_test true e = subst (MayCarry b pages) (sym (is_copy (on_part t number) spare n k e)) (
+        record {
+          filled = omega (arith, below k n e, source.count, ap (λ (x : PartBlock). length x.cells) source_now);
+          quiet = ap (λ (x : PartBlock). x.erasing) source_now ∙ source.quiet;
+        },
+        free_cell,
+      )
       by_test false e = subst (MayCarry b pages) (sym (is_program (on_part t number) spare n k e)) free_cell
 
   other_spare : (x : ℕ) → (IsSpare first x → ⊥) → x ≢ spare
@@ -191,12 +197,17 @@ module _ (first t : Table) (bf b : List PartBlock) (number n pages : ℕ) (spare
 
   failed_on : (new : PartBlock) (last : Cell) (v : Stage) → IsNextFill u number n v
       → IsFillingOn first u bf (set b spare new) number n last false v
-  failed_on new last (stage.Filling m s c j) (e, f, g, has) = (e, f, record {
-    used = used_up;
-    others = others_on new;
-    holds = free_on new s has ∙ ap (λ (i : ℕ). held (take i src)) (sym g);
-    rest = λ y far h. free_on new y h;
-  }, refl)
+  failed_on new last (stage.Filling m s c j) (e, f, g, has) = (
+    e,
+    f,
+    record {
+      used = used_up;
+      others = others_on new;
+      holds = free_on new s has ∙ ap (λ (i : ℕ). held (take i src)) (sym g);
+      rest = λ y far h. free_on new y h;
+    },
+    refl,
+  )
   failed_on new last stage.WornOut none = (record { used = used_up; none = record { others = others_on new; taken = none } }, refl)
   failed_on new last stage.Working e = absurd e
   failed_on new last stage.Faulted e = absurd e
@@ -244,10 +255,12 @@ module _ (first : Table) (bf : List PartBlock) (number n pages : ℕ) (source : 
     done_by false e (blocks, serials, well) more over =
         let r = over (omega (arith, past k n e, cn)) in
         let full = programmed first t bf b number n pages spare k source apart is at less room last (past k n e) in
-        subst (IsFillingOn first u bf a number n last f) (sym r.1)
-        (subst (λ (w : Table). IsFilledAnew number ((part_block bf (on_part first number)).cells ++ last ∷ []) first w bf a)
-        (ap (λ (i : ℕ). replaced i spare t) (sym mn) ∙ sym r.0)
-        (subst (λ (l : List PartBlock). IsFilledAnew number ((part_block bf (on_part first number)).cells ++ last ∷ []) first (replaced number spare t) bf l) (sym blocks) full), well)
+        subst (IsFillingOn first u bf a number n last f) (sym r.1) (
+          subst (λ (w : Table). IsFilledAnew number ((part_block bf (on_part first number)).cells ++ last ∷ []) first w bf a)
+              (ap (λ (i : ℕ). replaced i spare t) (sym mn) ∙ sym r.0)
+              (subst (λ (l : List PartBlock). IsFilledAnew number ((part_block bf (on_part first number)).cells ++ last ∷ []) first (replaced number spare t) bf l) (sym blocks) full),
+          well,
+        )
 
     failed_by : (x : Bool) (e : nat_lt k n ≡ x) → IsCarried outcome.Failed (move x e) last page b a serial next f → u ≡ without_spare spare t
         → IsNextFill u m c v → IsFillingOn first u bf a number n last f v

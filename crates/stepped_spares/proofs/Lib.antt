@@ -2,3 +2,5 @@ pub mod Lefts
 pub mod Added
 pub mod Told
 pub mod Filling
+pub mod ErasedBlocks
+pub mod BegunParts

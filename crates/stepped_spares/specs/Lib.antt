@@ -2,3 +2,4 @@ pub mod Stepping
 pub mod Beginning
 pub mod Telling
 pub mod Carrying
+pub mod Erasing

@@ -39,6 +39,15 @@ pub record IsScanOf (blocks : List PartBlock) (s : Told) : Type 0 where
   pub listed : (x : ℕ) → Contains s.bad x → seen_at s.all x ≡ None
   pub seen : (x : ℕ) → x < length s.all → (Contains s.bad x → ⊥) → IsSeen (part_block blocks x) s.shape.pages (seen_at s.all x)
 
+-- all blocks of a part were told
+pub record IsWholeScan (shape : Shape) (count : ℕ) (bad : List ℕ) (blocks : List PartBlock) (s : Told) : Type 0 where
+  pub shape_is : s.shape ≡ shape
+  pub limits : IsShape s.shape
+  pub count_is : s.blocks ≡ count
+  pub bad_is : s.bad ≡ bad
+  pub whole : length s.all ≡ s.blocks
+  pub scan : IsScanOf blocks s
+
 abbrev pub HasTellFault : Told → (cells : ℕ) → TellFault → Type 0
 HasTellFault s cells faults.NoMoreBlocks = length s.all ≡ s.blocks
 HasTellFault s cells faults.TooManyCells = s.shape.pages < cells

@@ -27,12 +27,7 @@ fn add_block(table: &mut BlockTable, listed: bool, blocks: u32) -> Result<(), Re
 }
 
 /// The blocks of a part that aren't listed: so many have numbers, and the others are spare.
-fn add_blocks(
-    alloc: Global,
-    blocks: u32,
-    all: u32,
-    bad: &[u32],
-) -> Result<BlockTable, Refusal>
+fn add_blocks(alloc: Global, blocks: u32, all: u32, bad: &[u32]) -> Result<BlockTable, Refusal>
     ensures added { IfOk result (λ table. AreAdded blocks bad.now table all) }
     ensures sound { IfOk result IsTable }
     ensures refused { FailsForMemory result }

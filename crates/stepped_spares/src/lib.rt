@@ -4,13 +4,17 @@
 
 mod begun;
 mod carried;
+mod erased;
 mod failed;
 mod moves;
 mod numbered;
 mod scan;
+mod started;
 mod table;
 
-pub use carried::carry;
+pub use carried::{carry, replace_program};
+pub use erased::erase_first;
 pub use moves::{Move, Outcome, Stage};
 pub use scan::{LabelScan, TellFault};
+pub use started::{begin_on, power_up_on};
 pub use table::SpareTable;

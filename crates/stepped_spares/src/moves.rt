@@ -27,7 +27,10 @@ pub enum Outcome {
 #[derive(Clone, Copy, PartialEq, Eq, Debug, Drop)]
 pub enum Stage {
     /// This block is erased next, and then those behind it: all that aren't bad, or the spare ones alone.
-    Erasing { block: u32, all: bool },
+    Erasing {
+        block: u32,
+        all: bool,
+    },
     /// No call has to come: each number's block is whole, as far as is known, and each spare one is free.
     Working,
     /// The block of this number failed. A spare one is filled with its first cells, of which it has so many, and with

@@ -50,7 +50,7 @@ loop-call-preserved g c =
     let well = is_well first bf b n t (g.D.WearingNand.blocks c.loop-call.part) last (g.D.WearingNand.faulted c.loop-call.part) s call e i.filling in
     let here : g.D.WearingNand.next c.loop-call.part ≡ serial = i.next well ∙ serial_kept t s call c.args.page serial e in
     let carried : IsCarried c.carry-outcome.result call last c.args.page (g.D.WearingNand.blocks c.loop-call.part) (g.D.WearingNand.blocks c.carry-outcome.new.part) serial
-        (g.D.WearingNand.next c.carry-outcome.new.part) (g.D.WearingNand.faulted c.carry-outcome.new.part) =
+    (g.D.WearingNand.next c.carry-outcome.new.part) (g.D.WearingNand.faulted c.carry-outcome.new.part) =
     subst (λ (x : ℕ). IsCarried c.carry-outcome.result call (programmed_cell keeps x c.args.page c.args.bytes) c.args.page (g.D.WearingNand.blocks c.loop-call.part)
     (g.D.WearingNand.blocks c.carry-outcome.new.part) x (g.D.WearingNand.next c.carry-outcome.new.part) (g.D.WearingNand.faulted c.carry-outcome.new.part)) here
     c.carry-outcome.ensures.carried in
