@@ -211,6 +211,68 @@ uint32_t mg_part_block(const mg_die *die, uint32_t block, uint32_t *part_block) 
     return MG_OK;
 }
 
+/* ---- Blocks that fail -------------------------------------------------------------------------------------------- */
+
+static bool has_table(const mg_spares *spares) { return spares && spares->at; }
+
+static uint32_t untabled(const mg_spares *spares, const struct mg_plan *plan, const uint32_t *bad, size_t count) {
+    if (!spares) return MG_EMPTY_HANDLE;
+    if (spares->at) return MG_FULL_HANDLE;
+    return plan && is_array(bad, count) ? MG_OK : MG_NULL_POINTER;
+}
+
+uint32_t mg_spares_new(mg_spares *spares, const struct mg_plan *plan, uint32_t blocks, const uint32_t *bad, size_t count) {
+    uint32_t refusal = untabled(spares, plan, bad, count);
+    return refusal ? refusal : flash_spares_new(spares, plan, blocks, ARRAY(bad), count);
+}
+
+uint32_t mg_spares_power_up(mg_spares *spares, const struct mg_plan *plan, uint32_t blocks, const uint32_t *bad, size_t count) {
+    uint32_t refusal = untabled(spares, plan, bad, count);
+    return refusal ? refusal : flash_spares_power_up(spares, plan, blocks, ARRAY(bad), count);
+}
+
+void mg_spares_free(mg_spares *spares) {
+    if (has_table(spares)) flash_spares_free(spares);
+}
+
+uint32_t mg_spares_next(mg_spares *spares, struct mg_move *move) {
+    if (!has_table(spares)) return MG_EMPTY_HANDLE;
+    if (!move) return MG_NULL_POINTER;
+    return flash_spares_next(spares, move);
+}
+
+uint32_t mg_spares_tell(mg_spares *spares, const struct mg_label *labels, size_t count) {
+    if (!has_table(spares)) return MG_EMPTY_HANDLE;
+    if (!is_array(labels, count)) return MG_NULL_POINTER;
+    return flash_spares_tell(spares, ARRAY(labels), count);
+}
+
+uint32_t mg_spares_done(mg_spares *spares, uint32_t how) {
+    return has_table(spares) ? flash_spares_done(spares, how) : MG_EMPTY_HANDLE;
+}
+
+uint32_t mg_spares_program_failed(mg_spares *spares, uint32_t number, uint32_t page) {
+    return has_table(spares) ? flash_spares_program_failed(spares, number, page) : MG_EMPTY_HANDLE;
+}
+
+uint32_t mg_spares_erase_failed(mg_spares *spares, uint32_t number) {
+    return has_table(spares) ? flash_spares_erase_failed(spares, number) : MG_EMPTY_HANDLE;
+}
+
+uint32_t mg_spares_block(mg_spares *spares, uint32_t number, uint32_t *block) {
+    if (!has_table(spares)) return MG_EMPTY_HANDLE;
+    if (!block) return MG_NULL_POINTER;
+    return flash_spares_block(spares, number, block);
+}
+
+uint32_t mg_spares_use(mg_spares *spares, uint32_t block, uint32_t *use, uint32_t *number) {
+    if (!has_table(spares)) return MG_EMPTY_HANDLE;
+    if (!use || !number) return MG_NULL_POINTER;
+    return flash_spares_use(spares, block, use, number);
+}
+
+uint32_t mg_spares_left(mg_spares *spares) { return has_table(spares) ? flash_spares_left(spares) : 0; }
+
 /* ---- Questions ---------------------------------------------------------------------------------------------------
  *
  * A function that has a handle takes the die out of it and puts it back. A question has one of its own for that, so that it

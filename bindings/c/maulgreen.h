@@ -5,7 +5,8 @@
  * of none, is answered: MG_EMPTY_HANDLE, or 0 by mg_now, mg_len, mg_records, mg_serial and mg_mount_calls_left; mg_free does nothing
  * then. What fills a handle answers MG_FULL_HANDLE of a full one. So it is with `struct mg_mount`, mg_mount_new and mg_mount_free, and
  * with `struct mg_planned`, which mg_planned_new, mg_planned_resume and mg_mount_end_planned fill, and mg_planned_free; mg_planned_clock
- * and mg_planned_serial answer 0 of an empty one.
+ * and mg_planned_serial answer 0 of an empty one. So it is with `struct mg_spares`, mg_spares_new, mg_spares_power_up and
+ * mg_spares_free; mg_spares_left answers 0 of an empty one.
  *
  * THREADS. Several dies share nothing but the heap. A die may be made on one thread and used on another. A call that takes a
  * `const` handle is a question: it reads the die, and several may run beside each other. While any other call of a die runs,
@@ -113,8 +114,11 @@ enum {
     MG_TOO_MUCH_DEMAND = 408,    /* more may be asked than there are slots, in the long run or in some interval */
     MG_TOO_FEW_PAGES = 409,      /* a task's collections give less than it writes, or its cap doesn't cover it */
     MG_ASK_WAITS = 410,          /* an ask waits for the next life, and would be lost [first: the first such task] */
-    MG_NOT_STOCKED = 411         /* a task has too few pages to go on with: it lacks more to its cap than alpha and what it may write in a
+    MG_NOT_STOCKED = 411,        /* a task has too few pages to go on with: it lacks more to its cap than alpha and what it may write in a
                                     period [first: the first such task; second: it has; third: it needs] */
+    /* of a table of spare blocks */
+    MG_NO_SPARE = 501,           /* a block failed and no spare one is left: what was programmed before can still be read */
+    MG_NO_BLOCK = 502            /* no block has this number, or a block doesn't have this page */
 };
 
 /* What a refusal has beside its number. */
@@ -451,6 +455,87 @@ uint64_t mg_serial(const mg_die *die);
 
 /* The number that the part gives a block of the die: its last block's where a block stands aside in its place. */
 uint32_t mg_part_block(const mg_die *die, uint32_t block, uint32_t *part_block);
+
+/* ---- Blocks that fail ---------------------------------------------------------------------------------------------
+ *
+ * A part has bad blocks from the factory, and others fail as they wear. A TABLE OF SPARE BLOCKS gives the plan's blocks, and the one
+ * that stands aside for a mount, numbers from 0 on, one good block of the part each; the rest is spare. Blocks in calls of a mount, and
+ * those that mg_part_block answers, are numbers of the table then: mg_spares_block says which block of the part has a number.
+ *
+ * WHEN A CALL FAILS, a program or the last slot of an erase, the driver tells the table, makes the calls that it asks for, and goes on
+ * as if the call had gone well: die and mount see nothing of it. After a failed program a spare block is filled with the cells before
+ * it, payload, page and serial unchanged, and with that program; it has the number once the last of these calls is done. After a failed
+ * erase a spare block has the number at once. A spare block that fails meanwhile is bad, and the next one is tried. Where none is left
+ * the answer is NO_SPARE, and the table stays as it was: end the slot with `ok` 0, and all pages can still be read.
+ *
+ * THE LONGEST SLOT. A program that failed in page n costs at most 2 n + 1 calls of the part, a copy counted as a read and a program, for
+ * each spare block that is used up: below twice the pages of a block.
+ *
+ * A BLOCK IS LISTED as bad once the call is over in which it failed (mg_spares_use), where the next mg_spares_new or mg_spares_power_up
+ * finds it: in a mark on the block, say. One whose mark was lost with the power is found by its labels, and may fail again. */
+
+typedef struct mg_spares { void *at; } mg_spares;
+
+/* Makes a table in an empty handle, for a part of `blocks` blocks on which nothing was done yet; bad[0..count) are its bad ones. The
+ * first plan->blocks + 1 of the others get numbers, and the rest is spare; `blocks`, `pages` and `erase_slots` of the plan alone are
+ * looked at. Each block that isn't bad is erased before the die is made: mg_spares_next asks for that. All memory of the table is taken
+ * here. The first that stands: BAD_SHAPE, where the plan's blocks and one aren't 2 to 1,024, or its pages or erase slots are out of
+ * their limits; NO_MEMORY; BAD_SHAPE, where too few blocks aren't bad; NO_MEMORY. */
+uint32_t mg_spares_new(mg_spares *spares, const struct mg_plan *plan, uint32_t blocks, const uint32_t *bad, size_t count);
+
+/* The same for a part whose power has come: its blocks are told next (MG_MOVE_TELL). BAD_SHAPE, where the part has too few blocks, or as
+ * above; NO_MEMORY. */
+uint32_t mg_spares_power_up(mg_spares *spares, const struct mg_plan *plan, uint32_t blocks, const uint32_t *bad, size_t count);
+
+/* Frees a table, and leaves its handle empty. Of an empty handle, or of none, it does nothing. */
+void mg_spares_free(mg_spares *spares);
+
+enum { MG_MOVE_NONE = 0,      /* nothing: die and mount go on */
+       MG_MOVE_TELL = 1,      /* tell the labels in the cells of `block` */
+       MG_MOVE_ERASE = 2,     /* erase `block`, in all of its slots */
+       MG_MOVE_COPY = 3,      /* program the cell (`block`, `page`) with what the cell (`from`, `page`) holds: payload, logical page
+                                 and serial; a check over the cell's address is made anew */
+       MG_MOVE_PROGRAM = 4 }; /* make the program that failed in the cell (`block`, `page`) */
+struct mg_move { uint32_t kind, block, page, from; }; /* blocks of the part */
+
+/* What the table needs next; asking changes nothing. NO_SPARE, where a block failed and no spare one was left; DEVICE_FAULT, where the
+ * part had a fault; WRONG_STEP, where the blocks that were told make no table. */
+uint32_t mg_spares_next(mg_spares *spares, struct mg_move *move);
+
+/* Tells the labels of the block that MG_MOVE_TELL names, cell by cell from the first one on, as they are for a mount, but that all good
+ * labels are told, those older than a trim's note, too; cells that aren't told have none, and what is told of a bad block isn't looked
+ * at. After the last block numbers go by labels: each block with a label gets one; of blocks with the same first label, since one was
+ * being filled in the place of another, that whose labels go farthest; blank ones get what is left. The numbers needn't be those of the
+ * life before. All other blocks are spare, and erased next.
+ *
+ * The first that stands: NO_MEMORY, which leaves the table; WRONG_STEP; TOO_MANY_CELLS; and where it was the last block BAD_SHAPE, where
+ * more blocks have labels than there are numbers, or too few aren't bad, and NO_MEMORY: after these two nothing comes any more, and no
+ * block was erased. */
+uint32_t mg_spares_tell(mg_spares *spares, const struct mg_label *labels, size_t count);
+
+enum { MG_MOVE_DONE = 0, MG_MOVE_FAILED = 1, /* the block that it erased or programmed failed */
+       MG_MOVE_FAULT = 2 };                  /* the part itself made it fail, a read of the copy, too */
+/* How the part carried out the call that mg_spares_next names. BAD_KIND, where `how` is none of these; WRONG_STEP, where no call comes. */
+uint32_t mg_spares_done(mg_spares *spares, uint32_t how);
+
+/* A program failed, of this page of the block with this number. MG_OK: calls come now. NO_SPARE: no spare block is left, and the table
+ * is worn out. Else nothing has changed: NO_SPARE, DEVICE_FAULT, WRONG_STEP, where it was worn out, the part had a fault, or the table
+ * needs something first; NO_BLOCK. */
+uint32_t mg_spares_program_failed(mg_spares *spares, uint32_t number, uint32_t page);
+
+/* The last slot of an erase failed, of the block with this number: a spare one has it now. Refused as mg_spares_program_failed. */
+uint32_t mg_spares_erase_failed(mg_spares *spares, uint32_t number);
+
+/* The part's block that has this number. WRONG_STEP, where all blocks aren't told yet; NO_BLOCK. */
+uint32_t mg_spares_block(mg_spares *spares, uint32_t number, uint32_t *block);
+
+enum { MG_USE_BAD = 0, MG_USE_SPARE = 1, MG_USE_NUMBER = 2 };
+/* What a block of the part is for, and its number, 0 where it has none; one that the part doesn't have is bad. WRONG_STEP, where all
+ * blocks aren't told yet. */
+uint32_t mg_spares_use(mg_spares *spares, uint32_t block, uint32_t *use, uint32_t *number);
+
+/* How many spare blocks are left; 0 of an empty handle, and before all blocks are told. */
+uint32_t mg_spares_left(mg_spares *spares);
 
 /* ---- Questions ----------------------------------------------------------------------------------------------------
  *

@@ -17,6 +17,7 @@
 MG_SIZE(mg_die, sizeof(void *));
 MG_SIZE(mg_mount, sizeof(void *));
 MG_SIZE(mg_planned, sizeof(void *));
+MG_SIZE(mg_spares, sizeof(void *));
 MG_SIZE(mg_name, 16);
 MG_SIZE(mg_why, 8);
 MG_AT(mg_why, first, 0);
@@ -141,6 +142,11 @@ MG_AT(mg_step, block, 12);
 MG_AT(mg_step, page, 16);
 MG_AT(mg_step, logical, 20);
 MG_AT(mg_step, last, 24);
+MG_SIZE(mg_move, 16);
+MG_AT(mg_move, kind, 0);
+MG_AT(mg_move, block, 4);
+MG_AT(mg_move, page, 8);
+MG_AT(mg_move, from, 12);
 #undef MG_IS
 #undef MG_SIZE
 #undef MG_AT

@@ -40,6 +40,17 @@ uint32_t flash_mount_end_planned(mg_mount *mount, const struct mg_terms *terms, 
                                  const struct mg_name *names, size_t count, mg_planned *die, struct mg_unresumed *why);
 uint64_t flash_serial(mg_die *die);
 uint32_t flash_part_block(mg_die *die, uint32_t block);
+uint32_t flash_spares_new(mg_spares *spares, const struct mg_plan *plan, uint32_t blocks, const uint32_t *bad, size_t count);
+uint32_t flash_spares_power_up(mg_spares *spares, const struct mg_plan *plan, uint32_t blocks, const uint32_t *bad, size_t count);
+void flash_spares_free(mg_spares *spares);
+uint32_t flash_spares_next(mg_spares *spares, struct mg_move *move);
+uint32_t flash_spares_tell(mg_spares *spares, const struct mg_label *labels, size_t count);
+uint32_t flash_spares_done(mg_spares *spares, uint32_t how);
+uint32_t flash_spares_program_failed(mg_spares *spares, uint32_t number, uint32_t page);
+uint32_t flash_spares_erase_failed(mg_spares *spares, uint32_t number);
+uint32_t flash_spares_block(mg_spares *spares, uint32_t number, uint32_t *block);
+uint32_t flash_spares_use(mg_spares *spares, uint32_t block, uint32_t *use, uint32_t *number);
+uint32_t flash_spares_left(mg_spares *spares);
 uint32_t flash_now(mg_die *die);
 uint64_t flash_len(mg_die *die);
 uint64_t flash_records(mg_die *die);

@@ -68,6 +68,8 @@ const char *mg_refusal_text(uint32_t refusal) {
     case MG_TOO_FEW_PAGES: return "a task's collections give less than it writes, or its cap doesn't cover it";
     case MG_ASK_WAITS: return "an ask waits for the next life, and would be lost";
     case MG_NOT_STOCKED: return "a task lacks more to its cap than alpha pages and what it may write in a period";
+    case MG_NO_SPARE: return "a block failed and no spare one is left; what was programmed before can still be read";
+    case MG_NO_BLOCK: return "no block has this number, or a block doesn't have this page";
     default: return "no refusal of this number";
     }
 }

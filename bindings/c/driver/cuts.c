@@ -1,6 +1,7 @@
-/* Takes the power from the driver at random, in its work and in its recovery, and lets programs fail. It looks after each cut,
- * and of each die that is stopped, whether a page has lost what was reported as written, or has again what was trimmed; and of a
- * die that keeps a plan (KEEPS_PLAN), whether all that was taken was done by its `due`.
+/* Takes the power from the driver at random, in its work and in its recovery, lets the chip have faults, and its blocks fail. It looks
+ * after each cut, and of each die that is stopped, whether a page has lost what was reported as written, or has again what was
+ * trimmed; and of a die that keeps a plan (KEEPS_PLAN), whether all that was taken was done by its `due`. Where a block failed and no
+ * spare one is left, each page is to be read, and the next run has a new chip.
  *
  *   cuts FILE CUTS SEED */
 #define _DEFAULT_SOURCE
@@ -14,7 +15,7 @@
 
 /* What the world knows, which no cut takes: by page the version that was last reported as written, 0 where it was trimmed, and the
  * one that was asked for after it. */
-static struct { uint32_t done[LOGICAL], asked[LOGICAL], versions[LOGICAL], programs, trims, stopped; uint64_t due[LOGICAL]; } *world;
+static struct { uint32_t done[LOGICAL], asked[LOGICAL], versions[LOGICAL], programs, trims, stopped, failed, worn; uint64_t due[LOGICAL]; } *world;
 
 static void check(int holds, const char *what) {
     if (holds) return;
@@ -28,13 +29,29 @@ static void fill(uint8_t *payload, uint32_t page, uint32_t version) {
     memcpy(payload, &version, 4);
 }
 
-/* Each page has what was reported last, or what was asked for when the power went; of a stopped die, what was reported last. */
-static void look(struct driver *driver, bool is_stopped) {
+/* How many blocks of the chip are marked. */
+static uint32_t marked(void) {
+    uint32_t count = 0;
+    for (uint32_t b = 0; b < BLOCKS; b++) count += chip_is_marked(b);
+    return count;
+}
+
+/* No block can take the place of one that failed: spare ones are used up, and the die is worn out for good. */
+static void is_worn_out(struct driver *driver) {
+    struct mg_move move;
+    check(mg_spares_left(&driver->spares) == 0 && mg_spares_next(&driver->spares, &move) == MG_NO_SPARE, "no spare block is left");
+    check(marked() == BLOCKS - 25, "only blocks that were replaced are marked");
+    _exit(78);
+}
+
+/* Each page has what was reported last, or what was asked for when the power went; of a stopped die, what was reported last. They are
+ * read by jobs, or from their cells. */
+static void look(struct driver *driver, bool is_stopped, bool by_cells) {
     uint8_t payload[PAYLOAD], wanted[PAYLOAD];
     for (uint32_t page = 0; page < LOGICAL; page++) {
         bool blank;
         uint32_t version = 0;
-        uint32_t refusal = is_stopped ? driver_rescue(driver, page, payload, &blank) : driver_read(driver, page, payload, &blank);
+        uint32_t refusal = by_cells ? driver_rescue(driver, page, payload, &blank) : driver_read(driver, page, payload, &blank);
         check(refusal == MG_OK, "a read");
         if (!blank) memcpy(&version, payload, 4);
         fill(wanted, page, version);
@@ -42,6 +59,16 @@ static void look(struct driver *driver, bool is_stopped) {
         check(version == world->done[page] || (!is_stopped && version == world->asked[page]), "nothing is lost, and nothing comes back");
         if (!is_stopped) world->done[page] = world->asked[page] = version;
     }
+}
+
+/* Opens what is there. */
+static void begin(struct driver *driver) {
+    uint32_t refusal = driver_open(driver);
+    if (refusal == MG_NO_SPARE) {
+        look(driver, false, true);
+        is_worn_out(driver);
+    }
+    check(refusal == MG_OK, "the driver opens what is there");
 }
 
 /* What a task may do where its ask wasn't taken: a die that keeps a plan collects by itself. */
@@ -83,11 +110,13 @@ static void work(struct driver *driver, int slots) {
         }
         struct mg_reply reply;
         uint32_t refusal = driver_slot(driver, &reply);
-        if (refusal == MG_DEVICE_FAULT) { /* a program has failed */
-            look(driver, true);
+        if (refusal == MG_DEVICE_FAULT) { /* the chip had a fault, or no spare block is left */
+            struct mg_move move;
+            look(driver, true, true);
+            if (mg_spares_next(&driver->spares, &move) == MG_NO_SPARE) is_worn_out(driver);
             world->stopped++;
-            check(driver_open(driver) == MG_OK, "the driver goes on");
-            look(driver, false);
+            begin(driver);
+            look(driver, false, false);
             continue;
         }
         check(refusal == MG_OK, "a slot");
@@ -96,27 +125,37 @@ static void work(struct driver *driver, int slots) {
     }
 }
 
-/* One life of the process, until its power goes. Answers whether it went. */
+/* One life of the process, until its power goes, or its chip is worn out. Answers how it ended: 0, 77 or 78. */
 static int life(const char *file, unsigned seed, long cut_opening, long cut_work) {
     pid_t child = fork();
     if (child == 0) {
         static struct driver driver;
         srand(seed);
         chip_open(file);
+        const uint32_t before = marked();
+        chip_wear(rand() % 4 ? 20 + rand() % 2000 : 0);
         chip_cut(cut_opening);
-        check(driver_open(&driver) == MG_OK, "the driver opens what is there");
+        begin(&driver);
         chip_cut(0);
-        look(&driver, false);
+        look(&driver, false, false);
         chip_cut(cut_work);
         chip_fail(rand() % 3 ? 0 : 1 + rand() % 400);
         work(&driver, 3000);
-        DIE(free)(&driver.die);
+        world->failed += marked() - before;
+        driver_close(&driver);
         _exit(0);
     }
     int status;
     waitpid(child, &status, 0);
-    if (!WIFEXITED(status) || (WEXITSTATUS(status) != 0 && WEXITSTATUS(status) != 77)) exit(1);
-    return WEXITSTATUS(status) == 77;
+    int code = WIFEXITED(status) ? WEXITSTATUS(status) : 1;
+    if (code != 0 && code != 77 && code != 78) exit(1);
+    if (code == 78) { /* a new chip */
+        remove(file);
+        memset(world->done, 0, sizeof world->done);
+        memset(world->asked, 0, sizeof world->asked);
+        world->worn++;
+    }
+    return code;
 }
 
 int main(int argc, char **argv) {
@@ -126,15 +165,16 @@ int main(int argc, char **argv) {
     int cuts = 0, within = 0;
     remove(argv[1]);
     for (srand(seed); cuts < atoi(argv[2]);) {
-        long opening = rand() % 3 == 0 ? 1 + rand() % 500 : 0;
-        int cut = life(argv[1], seed + (unsigned)cuts, opening, opening ? 0 : 1 + rand() % 1500);
+        long opening = rand() % 3 == 0 ? 1 + rand() % 2000 : 0;
+        int end = life(argv[1], seed + (unsigned)cuts, opening, opening ? 0 : 1 + rand() % 1500);
         cuts++;
-        within += cut && opening;
+        within += end == 77 && opening;
         srand(seed + 7919u * (unsigned)cuts);
     }
     life(argv[1], seed, 0, 0);
-    check(world->trims && (world->stopped || cuts < 20), "trims, and dies that were stopped");
-    printf("%d cuts, %d of them within a recovery, and %u programs that failed; %u pages were written and %u trimmed, and none was lost or came back\n",
-           cuts, within, world->stopped, world->programs, world->trims);
+    check(world->trims && ((world->stopped && world->worn) || cuts < 100), "trims, dies that were stopped, and chips that were worn out");
+    printf("%d cuts, %d of them within a recovery, %u faults of the chip, and %u chips of which blocks failed until no spare one was left; %u pages were "
+           "written and %u trimmed, and none was lost or came back\n",
+           cuts, within, world->stopped, world->worn, world->programs, world->trims);
     return 0;
 }

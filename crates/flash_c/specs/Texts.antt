@@ -81,6 +81,8 @@ plan_names =
     ∷ code_name 409 (codes "TooFewPages")
     ∷ code_name 410 (codes "AskWaits")
     ∷ code_name 411 (codes "NotStocked")
+    ∷ code_name 501 (codes "NoSpare")
+    ∷ code_name 502 (codes "NoBlock")
     ∷ []
 
 abbrev pub name_among : List CodeName → ℕ → List ℕ

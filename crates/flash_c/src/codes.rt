@@ -115,6 +115,12 @@ pub const ASK_WAITS: u32 = 410;
 /// A task has too few pages to go on with.
 pub const NOT_STOCKED: u32 = 411;
 
+/// A block failed, and no spare one is left.
+pub const NO_SPARE: u32 = 501;
+
+/// No block has this number, or a block doesn't have this page.
+pub const NO_BLOCK: u32 = 502;
+
 /// The number of a refusal of the store.
 pub(crate) fn of_refusal(refusal: Refusal) -> u32
     ensures { result ≡ code_of (StepRefusal.Die refusal) }

@@ -284,3 +284,15 @@ pub struct FlashUnresumed {
     /// How many pages the task needs.
     pub third: u32,
 }
+
+/// What a table of spare blocks needs next: 0 nothing any more, 1 to be told a block, 2 a whole erase, 3 a copy from the
+/// cell of another block with the same page, 4 the program that failed. Blocks are the part's.
+#[repr(C)]
+#[derive(Clone, Copy, Drop)]
+pub struct FlashMove {
+    pub kind: u32,
+    pub block: u32,
+    pub page: u32,
+    /// Of a copy the block whose cell is copied.
+    pub from: u32,
+}

@@ -81,7 +81,7 @@ fn own_name_of(refusal: u32) -> &'static str
     }
 }
 
-/// The name of a number above 400: of a refusal of a die that keeps its plan.
+/// The name of a number above 400: of a refusal of a die that keeps its plan, or of a table of spare blocks.
 fn plan_name_of(refusal: u32) -> &'static str
     ensures name { result.now ≡ name_among plan_names refusal }
     ensures short { length result.now ≤ 13 }
@@ -98,6 +98,8 @@ fn plan_name_of(refusal: u32) -> &'static str
         409 => "TooFewPages",
         410 => "AskWaits",
         411 => "NotStocked",
+        501 => "NoSpare",
+        502 => "NoBlock",
         _ => "Unknown",
     }
 }
