@@ -399,7 +399,7 @@ static void show_undoing(void) {
 
 static void show_texts(void) {
     uint32_t texts = 0;
-    for (uint32_t code = 0; code < 500; code++) {
+    for (uint32_t code = 0; code < 600; code++) {
         char name[14];
         uint32_t length = mg_refusal_name(code, name, sizeof name);
         check(length <= 13 && strlen(name) == length, "a name");
@@ -731,6 +731,130 @@ static void show_planned_mount(void) {
     mg_planned_free(&die);
 }
 
+/* What a table needs next. */
+static int moves(mg_spares *spares, uint32_t kind, uint32_t block, uint32_t page, uint32_t from) {
+    struct mg_move move;
+    return mg_spares_next(spares, &move) == MG_OK && move.kind == kind && move.block == block && move.page == page && move.from == from;
+}
+
+/* Each call of no table, or with a null pointer. */
+static void of_no_table(mg_spares *spares, const struct mg_plan *plan) {
+    struct mg_move move = {9, 9, 9, 9};
+    uint32_t one = 7, two = 7;
+    mg_spares_free(spares);
+    check(mg_spares_next(spares, &move) == MG_EMPTY_HANDLE && move.kind == 9 && mg_spares_done(spares, 0) == MG_EMPTY_HANDLE
+          && mg_spares_tell(spares, NULL, 0) == MG_EMPTY_HANDLE && mg_spares_left(spares) == 0, "moves of no table");
+    check(mg_spares_program_failed(spares, 0, 0) == MG_EMPTY_HANDLE && mg_spares_erase_failed(spares, 0) == MG_EMPTY_HANDLE
+          && mg_spares_block(spares, 0, &one) == MG_EMPTY_HANDLE && mg_spares_use(spares, 0, &one, &two) == MG_EMPTY_HANDLE && one == 7 && two == 7,
+          "blocks of no table");
+    check(mg_spares_new(NULL, plan, 9, NULL, 0) == MG_EMPTY_HANDLE && mg_spares_power_up(NULL, plan, 9, NULL, 0) == MG_EMPTY_HANDLE, "no handle");
+}
+
+/* A table of 4 numbers on a part of 8 blocks: 2 is bad, 0, 1, 3 and 4 have the numbers 0 to 3, and 5, 6 and 7 are spare. */
+static void show_spares(void) {
+    struct mg_plan plan = {3, 4, 3, 6, 2, 0}, large = plan;
+    const uint32_t bad[1] = {2}, most[5] = {0, 1, 2, 3, 4};
+    mg_spares spares = {0};
+    struct mg_move move = {9, 9, 9, 9};
+    uint32_t block = 77, use = 77, number = 77;
+    of_no_table(NULL, &plan);
+    of_no_table(&spares, &plan);
+    large.blocks = 1024;
+    check(mg_spares_new(&spares, NULL, 8, bad, 1) == MG_NULL_POINTER && mg_spares_new(&spares, &plan, 8, NULL, 1) == MG_NULL_POINTER
+          && mg_spares_power_up(&spares, NULL, 8, bad, 1) == MG_NULL_POINTER && mg_spares_power_up(&spares, &plan, 8, NULL, 1) == MG_NULL_POINTER
+          && mg_spares_new(&spares, &large, 2000, NULL, 0) == MG_BAD_SHAPE && mg_spares_new(&spares, &plan, 8, most, 5) == MG_BAD_SHAPE
+          && mg_spares_power_up(&spares, &large, 2000, NULL, 0) == MG_BAD_SHAPE && mg_spares_power_up(&spares, &plan, 3, NULL, 0) == MG_BAD_SHAPE
+          && !spares.at, "no table");
+    left = 0;
+    uint32_t tried = 0;
+    for (;; tried++) {
+        left = tried;
+        uint32_t code = mg_spares_new(&spares, &plan, 8, bad, 1);
+        left = UINT32_MAX;
+        if (code == MG_OK) break;
+        check(code == MG_NO_MEMORY && !spares.at, "refused for memory");
+    }
+    check(tried > 2 && mg_spares_new(&spares, &plan, 8, bad, 1) == MG_FULL_HANDLE && mg_spares_power_up(&spares, &plan, 8, bad, 1) == MG_FULL_HANDLE,
+          "a table isn't lost");
+    left = 0; /* from here on no memory is asked for */
+    check(mg_spares_next(&spares, NULL) == MG_NULL_POINTER && mg_spares_block(&spares, 0, NULL) == MG_NULL_POINTER
+          && mg_spares_use(&spares, 0, NULL, &number) == MG_NULL_POINTER && mg_spares_use(&spares, 0, &use, NULL) == MG_NULL_POINTER
+          && mg_spares_tell(&spares, NULL, 1) == MG_NULL_POINTER && mg_spares_done(&spares, 3) == MG_BAD_KIND, "pointers, and how it was done");
+    check(mg_spares_tell(&spares, NULL, 0) == MG_WRONG_STEP && mg_spares_program_failed(&spares, 0, 0) == MG_WRONG_STEP
+          && mg_spares_erase_failed(&spares, 0) == MG_WRONG_STEP, "erases come first");
+    /* of the erases that of block 1 fails, which has number 1: a spare block has it then, and is erased in its turn */
+    for (uint32_t b = 0; b < 8; b++) {
+        if (b == 2) continue;
+        check(moves(&spares, MG_MOVE_ERASE, b, 0, 0) && mg_spares_done(&spares, b == 1 ? MG_MOVE_FAILED : MG_MOVE_DONE) == MG_OK, "an erase");
+    }
+    check(moves(&spares, MG_MOVE_NONE, 0, 0, 0) && mg_spares_done(&spares, MG_MOVE_DONE) == MG_WRONG_STEP && mg_spares_left(&spares) == 2, "it is at work");
+    check(mg_spares_block(&spares, 1, &block) == MG_OK && block == 5 && mg_spares_block(&spares, 2, &block) == MG_OK && block == 3
+          && mg_spares_block(&spares, 4, &block) == MG_NO_BLOCK && block == 3, "blocks by number");
+    check(mg_spares_use(&spares, 1, &use, &number) == MG_OK && use == MG_USE_BAD && mg_spares_use(&spares, 2, &use, &number) == MG_OK && use == MG_USE_BAD
+          && mg_spares_use(&spares, 6, &use, &number) == MG_OK && use == MG_USE_SPARE && mg_spares_use(&spares, 9, &use, &number) == MG_OK && use == MG_USE_BAD
+          && mg_spares_use(&spares, 5, &use, &number) == MG_OK && use == MG_USE_NUMBER && number == 1, "uses");
+    check(mg_spares_program_failed(&spares, 4, 0) == MG_NO_BLOCK && mg_spares_program_failed(&spares, 0, 4) == MG_NO_BLOCK
+          && mg_spares_erase_failed(&spares, 4) == MG_NO_BLOCK, "no such cell");
+    /* page 2 of number 3, which is block 4: block 6 fails as it is filled, and block 7 has the number once all is done */
+    check(mg_spares_program_failed(&spares, 3, 2) == MG_OK && moves(&spares, MG_MOVE_COPY, 6, 0, 4) && mg_spares_done(&spares, MG_MOVE_DONE) == MG_OK
+          && moves(&spares, MG_MOVE_COPY, 6, 1, 4) && mg_spares_erase_failed(&spares, 0) == MG_WRONG_STEP
+          && mg_spares_done(&spares, MG_MOVE_FAILED) == MG_OK && mg_spares_left(&spares) == 1, "the next spare block is tried");
+    check(moves(&spares, MG_MOVE_COPY, 7, 0, 4) && mg_spares_done(&spares, MG_MOVE_DONE) == MG_OK && moves(&spares, MG_MOVE_COPY, 7, 1, 4)
+          && mg_spares_done(&spares, MG_MOVE_DONE) == MG_OK && moves(&spares, MG_MOVE_PROGRAM, 7, 2, 0)
+          && mg_spares_block(&spares, 3, &block) == MG_OK && block == 4 && mg_spares_done(&spares, MG_MOVE_DONE) == MG_OK
+          && mg_spares_block(&spares, 3, &block) == MG_OK && block == 7 && mg_spares_left(&spares) == 0, "the table is set at the end");
+    check(mg_spares_use(&spares, 4, &use, &number) == MG_OK && use == MG_USE_BAD && mg_spares_erase_failed(&spares, 2) == MG_NO_SPARE
+          && mg_spares_next(&spares, &move) == MG_NO_SPARE && move.kind == 9 && mg_spares_erase_failed(&spares, 2) == MG_NO_SPARE
+          && mg_spares_program_failed(&spares, 2, 0) == MG_NO_SPARE && mg_spares_done(&spares, MG_MOVE_DONE) == MG_WRONG_STEP
+          && mg_spares_block(&spares, 2, &block) == MG_OK && block == 3, "it is worn out, and stays as it was");
+    left = UINT32_MAX;
+    mg_spares_free(&spares);
+    check(!spares.at && mg_spares_new(&spares, &plan, 8, bad, 1) == MG_OK && mg_spares_done(&spares, MG_MOVE_FAULT) == MG_OK
+          && mg_spares_next(&spares, &move) == MG_DEVICE_FAULT && mg_spares_program_failed(&spares, 0, 0) == MG_DEVICE_FAULT, "a fault");
+    mg_spares_free(&spares);
+}
+
+/* A part of 8 blocks whose power has come. Block 3 was filled in the place of block 5, and block 7 is bad. */
+static void show_spares_powered(void) {
+    struct mg_plan plan = {3, 4, 3, 6, 2, 0};
+    const uint32_t bad[1] = {7};
+    const struct mg_label many[5] = {{0, MG_NO_LABEL}}, whole[3] = {{11, 0}, {12, 1}, {13, 2}}, other[1] = {{9, 4}};
+    mg_spares spares = {0};
+    uint32_t block = 77, use = 77, number = 77;
+    check(mg_spares_power_up(&spares, &plan, 8, bad, 1) == MG_OK, "a scan");
+    check(mg_spares_block(&spares, 0, &block) == MG_WRONG_STEP && mg_spares_use(&spares, 0, &use, &number) == MG_WRONG_STEP && block == 77 && use == 77
+          && mg_spares_left(&spares) == 0 && mg_spares_done(&spares, MG_MOVE_DONE) == MG_WRONG_STEP
+          && mg_spares_program_failed(&spares, 0, 0) == MG_WRONG_STEP && mg_spares_erase_failed(&spares, 0) == MG_WRONG_STEP, "blocks come first");
+    check(mg_spares_tell(&spares, many, 5) == MG_TOO_MANY_CELLS, "too many cells");
+    for (uint32_t b = 0; b < 8; b++) {
+        check(moves(&spares, MG_MOVE_TELL, b, 0, 0), "a block is told");
+        left = 0;
+        if (b == 0) check(mg_spares_tell(&spares, whole, 3) == MG_NO_MEMORY && moves(&spares, MG_MOVE_TELL, 0, 0, 0), "it may be told again");
+        left = UINT32_MAX;
+        /* 3 has less of 5; 7 isn't looked at; the others but 0 are blank */
+        check(mg_spares_tell(&spares, b == 0 ? other : whole, b == 0 ? 1 : b == 3 ? 2 : b == 5 || b == 7 ? 3 : 0) == MG_OK, "a block is told");
+    }
+    /* 0 and 5 have labels; of 1, 2, 4 and 6, which are blank, the first two have numbers, too */
+    check(mg_spares_block(&spares, 0, &block) == MG_OK && block == 0 && mg_spares_block(&spares, 1, &block) == MG_OK && block == 1
+          && mg_spares_block(&spares, 2, &block) == MG_OK && block == 2 && mg_spares_block(&spares, 3, &block) == MG_OK && block == 5, "numbers by labels");
+    check(moves(&spares, MG_MOVE_ERASE, 3, 0, 0) && mg_spares_done(&spares, MG_MOVE_DONE) == MG_OK && moves(&spares, MG_MOVE_ERASE, 4, 0, 0)
+          && mg_spares_done(&spares, MG_MOVE_FAILED) == MG_OK && moves(&spares, MG_MOVE_ERASE, 6, 0, 0) && mg_spares_done(&spares, MG_MOVE_DONE) == MG_OK
+          && moves(&spares, MG_MOVE_NONE, 0, 0, 0) && mg_spares_left(&spares) == 2, "spare blocks are erased");
+    check(mg_spares_use(&spares, 4, &use, &number) == MG_OK && use == MG_USE_BAD && mg_spares_use(&spares, 7, &use, &number) == MG_OK && use == MG_USE_BAD, "bad ones");
+    check(mg_spares_erase_failed(&spares, 3) == MG_OK && mg_spares_block(&spares, 3, &block) == MG_OK && block == 3, "a spare block has the number");
+    mg_spares_free(&spares);
+    /* five blocks with labels of their own, for four numbers */
+    check(mg_spares_power_up(&spares, &plan, 5, NULL, 0) == MG_OK, "a scan");
+    for (uint32_t b = 0; b < 5; b++) {
+        struct mg_label label = {20 + b, 3};
+        check(mg_spares_tell(&spares, &label, 1) == (b < 4 ? MG_OK : MG_BAD_SHAPE), "too many blocks with labels");
+    }
+    struct mg_move move;
+    check(mg_spares_next(&spares, &move) == MG_WRONG_STEP && mg_spares_tell(&spares, NULL, 0) == MG_WRONG_STEP
+          && mg_spares_program_failed(&spares, 0, 0) == MG_WRONG_STEP && mg_spares_left(&spares) == 0, "nothing comes any more");
+    mg_spares_free(&spares);
+}
+
 int main(int argc, char **argv) {
     show_handles();
     show_pointers();
@@ -743,6 +867,8 @@ int main(int argc, char **argv) {
     show_trims();
     show_mount();
     show_undoing();
+    show_spares();
+    show_spares_powered();
     show_texts();
     show_report(argc > 1 ? argv[1] : NULL);
     puts("all as it should be");

@@ -372,6 +372,60 @@ private:
     std::size_t tasks_ = 0;
 };
 
+// A table of the spare blocks of a part: it gives the blocks of a die and of a mount numbers, and where a call of the part failed it
+// says which calls come next. It moves and isn't copied, and frees its table.
+class spares {
+public:
+    // For a part of so many blocks on which nothing was done yet, of which these are bad.
+    spares(const plan &p, std::uint32_t blocks, const std::vector<std::uint32_t> &bad) {
+        must_fit();
+        must(::mg_spares_new(&handle_, &p, blocks, bad.data(), bad.size()));
+    }
+    // For one whose power has come: its blocks are told next.
+    static spares power_up(const plan &p, std::uint32_t blocks, const std::vector<std::uint32_t> &bad) {
+        must_fit();
+        spares said;
+        must(::mg_spares_power_up(&said.handle_, &p, blocks, bad.data(), bad.size()));
+        return said;
+    }
+    spares(const spares &) = delete;
+    spares &operator=(const spares &) = delete;
+    spares(spares &&other) noexcept : handle_(std::exchange(other.handle_, ::mg_spares{nullptr})) {}
+    spares &operator=(spares &&other) noexcept {
+        std::swap(handle_, other.handle_);
+        return *this;
+    }
+    ~spares() { ::mg_spares_free(&handle_); }
+
+    // What it needs next. MG_NO_SPARE where a block failed and no spare one was left, MG_DEVICE_FAULT after a fault.
+    ::mg_move next() {
+        ::mg_move said{};
+        must(::mg_spares_next(&handle_, &said));
+        return said;
+    }
+    void tell(const std::vector<::mg_label> &labels) { must(::mg_spares_tell(&handle_, labels.data(), labels.size())); }
+    // How the part carried that out: MG_MOVE_DONE, MG_MOVE_FAILED or MG_MOVE_FAULT.
+    void done(std::uint32_t how) { must(::mg_spares_done(&handle_, how)); }
+    void program_failed(std::uint32_t number, std::uint32_t page) { must(::mg_spares_program_failed(&handle_, number, page)); }
+    void erase_failed(std::uint32_t number) { must(::mg_spares_erase_failed(&handle_, number)); }
+    std::uint32_t block(std::uint32_t number) {
+        std::uint32_t said = 0;
+        must(::mg_spares_block(&handle_, number, &said));
+        return said;
+    }
+    // What a block of the part is for, MG_USE_BAD .., and its number.
+    std::pair<std::uint32_t, std::uint32_t> use(std::uint32_t block) {
+        std::uint32_t is = 0, number = 0;
+        must(::mg_spares_use(&handle_, block, &is, &number));
+        return {is, number};
+    }
+    std::uint32_t left() { return ::mg_spares_left(&handle_); }
+
+private:
+    spares() = default;
+    ::mg_spares handle_{nullptr};
+};
+
 // A mount of a part after a loss of power, by the labels in its cells. It moves and isn't copied, and frees its mount. Its blocks are
 // the part's.
 class mount {

@@ -19,6 +19,10 @@ IDLE, DID_READ, DID_WRITE, DID_TRIM, COPY_READ, COPY_PROGRAM, ERASE = range(7)
 WAITING, DONE, WAIVED = 0, 1, 2
 # what a mount needs next
 NEEDS_NOTHING, READ_PAGE, PROGRAM_PAGE, ERASE_BLOCK, TELL_BLOCK = range(5)
+# what a table of spare blocks needs next, how a call of it went, and what a block is for
+MOVE_NONE, MOVE_TELL, MOVE_ERASE, MOVE_COPY, MOVE_PROGRAM = range(5)
+MOVE_DONE, MOVE_FAILED, MOVE_FAULT = range(3)
+USE_BAD, USE_SPARE, USE_NUMBER = range(3)
 # what an entry of the log is of
 SUBMITTED, COLLECTED, IDLE_SLOT, OPERATION, LAST_OPERATION, PAGE_READ, PAGE_PROGRAMMED, ERASED, LAST_ERASED = range(9)
 
@@ -58,6 +62,7 @@ _Taken = _struct("_Taken", "waits first jobs", [("release", U64), ("due", U64)])
 _Unasked = _struct("_Unasked", "number", [("next", U64)])
 _Life = _struct("_Life", "slots now", [("first", U64)])
 _Unresumed = _struct("_Unresumed", "first second third")
+_Move = _struct("_Move", "kind block page from_")
 _Step = _struct("_Step", "kind block page logical last", [("serial", U64)])
 _Bytes = type("_Bytes", (c.Structure,), {"_fields_": [(word, U64) for word in "birth reserved life question resume".split()]})
 _NOWHERE = _NO_PAGE = 0xFFFFFFFF
@@ -110,6 +115,15 @@ class Life(NamedTuple):
     first: int
     slots: int
     now: int
+
+
+class Move(NamedTuple):
+    """What a table of spare blocks needs next: MOVE_NONE .. MOVE_PROGRAM. Blocks are the part's; a copy is from the cell of `from_block`
+    with the same page."""
+    kind: int
+    block: int
+    page: int
+    from_block: int
 
 
 class Step(NamedTuple):
@@ -248,11 +262,12 @@ def _library() -> str:
 
 _lib = c.CDLL(_library())
 for _word in ("version refusal_name plan_bound plan_test memory new submit collect begin end reserve reserve_jobs renew "
-              "renew_giving_back now place part_block mount_new mount_next mount_tell mount_done mount_place mount_end planned_new planned_ask planned_ask_all planned_begin planned_end planned_life planned_waiting "
+              "renew_giving_back now place part_block mount_new mount_next mount_tell mount_done mount_place mount_end spares_new spares_power_up spares_next spares_tell spares_done spares_program_failed spares_erase_failed "
+              "spares_block spares_use spares_left planned_new planned_ask planned_ask_all planned_begin planned_end planned_life planned_waiting "
               "planned_job planned_outcome planned_place planned_checkpoint planned_resume planned_part_block mount_end_planned entries entry_waived job outcome worst overdue certificate rows check checkpoint resume").split():
     getattr(_lib, "mg_" + _word).restype = U32
 _lib.mg_len.restype = _lib.mg_records.restype = _lib.mg_serial.restype = _lib.mg_mount_calls_left.restype = _lib.mg_planned_clock.restype = _lib.mg_planned_serial.restype = U64
-_lib.mg_free.restype = _lib.mg_mount_free.restype = _lib.mg_planned_free.restype = None
+_lib.mg_free.restype = _lib.mg_mount_free.restype = _lib.mg_planned_free.restype = _lib.mg_spares_free.restype = None
 _lib.mg_refusal_text.restype = c.c_char_p
 # Another major number has other calls; a lower minor one lacks some of these.
 if _lib.mg_version() >> 16 != 1 or _lib.mg_version() & 0xFFFF < 3:
@@ -344,6 +359,87 @@ def check(rows: Iterable[Row], certificate: Certificate) -> None:
     _must(_lib.mg_check(rows, row_count, c.byref(given), jobs, count))
 
 
+def _label(label: Optional[Tuple[int, int]]) -> _Label:
+    page, serial = (_NO_PAGE, 0) if label is None else label
+    if isinstance(serial, bool) or not isinstance(serial, int) or not 0 <= serial < 2**64:
+        raise ValueError(f"{serial!r} is no serial")
+    return _Label(serial, _u32(page))
+
+
+class Spares:
+    """A table of the spare blocks of a part: it gives the blocks of a die and of a mount numbers, and where a call of the part failed it
+    says which calls come next. For a part of so many blocks on which nothing was done yet, or, `powered`, whose power has come: its
+    blocks are told next. `with` frees it. For one thread at a time."""
+
+    def __init__(self, plan: Plan, blocks: int, bad: Iterable[int], powered: bool = False):
+        self._at = None
+        handle = _Handle()
+        begin = _lib.mg_spares_power_up if powered else _lib.mg_spares_new
+        _must(begin(c.byref(handle), c.byref(_numbers(_Plan, Plan(*plan))), U32(_u32(blocks)), *_list(U32, map(_u32, bad))))
+        self._at = handle
+
+    def __enter__(self):
+        return self
+
+    def __exit__(self, *_):
+        self.close()
+
+    def __del__(self):
+        self.close()
+
+    def close(self) -> None:
+        if self._at is not None:
+            _lib.mg_spares_free(c.byref(self._at))
+            self._at = None
+
+    def __copy__(self):
+        raise TypeError("a table isn't copied")
+
+    def __deepcopy__(self, _):
+        raise TypeError("a table isn't copied")
+
+    def _call(self, function: str, *words) -> int:
+        if self._at is None:
+            raise ValueError("the table was freed")
+        return getattr(_lib, "mg_spares_" + function)(c.byref(self._at), *words)
+
+    def next(self) -> Move:
+        """What it needs next."""
+        said = _Move()
+        _must(self._call("next", c.byref(said)))
+        return Move(said.kind, said.block, said.page, said.from_)
+
+    def tell(self, labels: Iterable[Optional[Tuple[int, int]]]) -> None:
+        """Tells the labels of the block that is to be told, from its first cell on: (logical page, serial), or None."""
+        _must(self._call("tell", *_list(_Label, map(_label, labels))))
+
+    def done(self, how: int) -> None:
+        """How the part carried that out: MOVE_DONE, MOVE_FAILED or MOVE_FAULT."""
+        _must(self._call("done", U32(_u32(how))))
+
+    def program_failed(self, number: int, page: int) -> None:
+        _must(self._call("program_failed", U32(_u32(number)), U32(_u32(page))))
+
+    def erase_failed(self, number: int) -> None:
+        _must(self._call("erase_failed", U32(_u32(number))))
+
+    def block(self, number: int) -> int:
+        """The part's block that has this number."""
+        said = U32()
+        _must(self._call("block", U32(_u32(number)), c.byref(said)))
+        return said.value
+
+    def use(self, block: int) -> Tuple[int, int]:
+        """What a block of the part is for, USE_BAD .. USE_NUMBER, and its number."""
+        becomes, number = U32(), U32()
+        _must(self._call("use", U32(_u32(block)), c.byref(becomes), c.byref(number)))
+        return becomes.value, number.value
+
+    def left(self) -> int:
+        """How many spare blocks are left."""
+        return self._call("left")
+
+
 class Mount:
     """A mount of a part after a loss of power, by the labels in its cells; `with` frees it. For one thread at a time."""
 
@@ -387,14 +483,8 @@ class Mount:
 
     def tell(self, labels: Iterable[Optional[Tuple[int, int]]]) -> None:
         """Tells what the cells of the block show that the step names, from the first one on: (logical page, serial), or None."""
-        told = []
-        for label in labels:
-            page, serial = (_NO_PAGE, 0) if label is None else label
-            if isinstance(serial, bool) or not isinstance(serial, int) or not 0 <= serial < 2**64:
-                raise ValueError(f"{serial!r} is no serial")
-            told.append(_Label(serial, _u32(page)))
         why = _Why()
-        _must(self._call("tell", *_list(_Label, told), c.byref(why)), why)
+        _must(self._call("tell", *_list(_Label, map(_label, labels)), c.byref(why)), why)
 
     def done(self) -> None:
         """The call that the step names was made, and went well."""

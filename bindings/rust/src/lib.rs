@@ -115,6 +115,7 @@ mod mount;
 mod planned;
 mod raw;
 mod refusals;
+mod spares;
 
 pub use data::{
     Act, Begun, BlockCounts, Call, Certificate, Checkpoint, Entered, Entry, Job, Load, Memory, Name, Op, Outcome, Overdue, Place, Plan, Reply, Row,
@@ -122,5 +123,6 @@ pub use data::{
 };
 pub use die::{check, Die, Slot};
 pub use mount::{Label, Mount, Step};
+pub use spares::{BlockUse, Move, Moved, Spares};
 pub use planned::{Life, Planned, Taken, Terms};
 pub use refusals::{Flaw, Misfit, Refusal};

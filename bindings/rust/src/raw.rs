@@ -47,6 +47,7 @@ structs! {
     Life { first: u64, slots: u32, now: u32 }
     Unresumed { first: u32, second: u32, third: u32 }
     Step { serial: u64, kind: u32, block: u32, page: u32, logical: u32, last: u32 }
+    Move { kind: u32, block: u32, page: u32, from: u32 }
 }
 
 extern "C" {
@@ -91,6 +92,17 @@ extern "C" {
     pub fn mg_mount_calls_left(mount: *mut Handle) -> u64;
     pub fn mg_mount_place(mount: *mut Handle, page: u32, place: *mut Place) -> u32;
     pub fn mg_mount_end(mount: *mut Handle, names: *const Name, count: usize, die: *mut Handle) -> u32;
+    pub fn mg_spares_new(spares: *mut Handle, plan: *const Plan, blocks: u32, bad: *const u32, count: usize) -> u32;
+    pub fn mg_spares_power_up(spares: *mut Handle, plan: *const Plan, blocks: u32, bad: *const u32, count: usize) -> u32;
+    pub fn mg_spares_free(spares: *mut Handle);
+    pub fn mg_spares_next(spares: *mut Handle, next: *mut Move) -> u32;
+    pub fn mg_spares_tell(spares: *mut Handle, labels: *const Label, count: usize) -> u32;
+    pub fn mg_spares_done(spares: *mut Handle, how: u32) -> u32;
+    pub fn mg_spares_program_failed(spares: *mut Handle, number: u32, page: u32) -> u32;
+    pub fn mg_spares_erase_failed(spares: *mut Handle, number: u32) -> u32;
+    pub fn mg_spares_block(spares: *mut Handle, number: u32, block: *mut u32) -> u32;
+    pub fn mg_spares_use(spares: *mut Handle, block: u32, is: *mut u32, number: *mut u32) -> u32;
+    pub fn mg_spares_left(spares: *mut Handle) -> u32;
     pub fn mg_serial(die: *const Handle) -> u64;
     pub fn mg_part_block(die: *const Handle, block: u32, part_block: *mut u32) -> u32;
     pub fn mg_now(die: *const Handle) -> u32;

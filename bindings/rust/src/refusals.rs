@@ -86,6 +86,10 @@ pub enum Refusal {
     /// A task lacks more to its cap than alpha pages and what it may write in a period: the first such task, how many pages it has, and
     /// how many it needs.
     NotStocked { task: u32, have: u32, need: u32 },
+    /// A block failed and no spare one is left: what was programmed before can still be read.
+    NoSpare,
+    /// No block has this number, or a block doesn't have this page.
+    NoBlock,
     /// A number that maulgreen.h doesn't have.
     Other(u32),
 }
@@ -188,6 +192,8 @@ impl Refusal {
             TooFewPages => 409,
             AskWaits { .. } => 410,
             NotStocked { .. } => 411,
+            NoSpare => 501,
+            NoBlock => 502,
             Other(number) => number,
         }
     }
@@ -247,6 +253,8 @@ pub(crate) fn answer(code: u32, why: &raw::Why) -> Result<(), Refusal> {
         111 => NoneOverdue,
         112 => WrongStep,
         113 => TooManyCells,
+        501 => NoSpare,
+        502 => NoBlock,
         114 => BadLabel { cell: why.first },
         104 => RowsNotRising,
         105 => NotQuiet { job: why.first },
