@@ -111,6 +111,21 @@ int main() {
     maulgreen::slot read_back = mounted.begin(9);
     check(read_back.call().name == fifth && read_back.end(true, fifth).finished, "with the page's name");
     check(refused([&] { mount.step(); }) == MG_WRONG_STEP, "a mount makes one die");
+    // Eleven blocks, of which block 1 is bad and block 10 is spare: it has the number 0 once page 0 of block 0 was copied.
+    maulgreen::spares unmoved_table(plan, 11, {1});
+    maulgreen::spares table = std::move(unmoved_table);
+    uint32_t erased = 0;
+    for (; table.next().kind == MG_MOVE_ERASE; table.done(MG_MOVE_DONE)) erased++;
+    check(erased == 10 && table.left() == 1 && table.block(1) == 2 && table.use(10).first == MG_USE_SPARE, "numbers, and a spare block");
+    table.program_failed(0, 1);
+    check(table.next().kind == MG_MOVE_COPY && table.next().block == 10 && table.next().from == 0, "what it held is copied");
+    table.done(MG_MOVE_DONE);
+    check(table.next().kind == MG_MOVE_PROGRAM && table.next().page == 1 && table.block(0) == 0, "and then programmed");
+    table.done(MG_MOVE_DONE);
+    check(table.block(0) == 10 && refused([&] { table.erase_failed(3); }) == MG_NO_SPARE && refused([&] { table.next(); }) == MG_NO_SPARE, "no spare block is left");
+    maulgreen::spares powered = maulgreen::spares::power_up(plan, 9, {});
+    for (uint32_t b = 0; b < 9; b++) powered.tell({{b + 1, 0}});
+    check(powered.next().kind == MG_MOVE_NONE && powered.block(8) == 8 && refused([&] { powered.block(9); }) == MG_NO_BLOCK, "each block has a number");
     // A die that keeps its plan is written down and goes on, and a mount ends in one.
     const maulgreen::plan small{8, 4, 3, 12, 2, 0};
     const std::vector<maulgreen::task> cap{{6, 0, 0, 0, 0}};

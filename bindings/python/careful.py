@@ -127,6 +127,30 @@ for life in range(12):
             now = mounted.now()
             job = mounted.submit(0, now, now + 1, [(READ, page)])
             assert mounted.slot(lambda call: part.drive(mounted, call)).name == written.get(page, BLANK), "nothing is lost"
+# A part with three blocks more than the plan, of which block 1 is bad: the last one is spare.
+numbers = PLAN.blocks + 1
+with maulgreen.Spares(PLAN, numbers + 2, [1]) as table:
+    is_wrong(lambda: table.done(-1))
+    while table.next().kind == maulgreen.MOVE_ERASE:
+        table.done(maulgreen.MOVE_DONE)
+    assert (table.left(), table.block(1), table.use(1)[0], table.use(numbers + 1)) == (1, 2, maulgreen.USE_BAD, (maulgreen.USE_SPARE, 0))
+    table.program_failed(0, 1)
+    assert table.next() == (maulgreen.MOVE_COPY, numbers + 1, 0, 0)
+    table.done(maulgreen.MOVE_DONE)
+    assert table.next() == (maulgreen.MOVE_PROGRAM, numbers + 1, 1, 0) and table.block(0) == 0
+    table.done(maulgreen.MOVE_DONE)
+    assert table.block(0) == numbers + 1 and table.use(numbers + 1) == (maulgreen.USE_NUMBER, 0)
+    for refused in (lambda: table.erase_failed(3), table.next):
+        try:
+            refused()
+            raise SystemExit("wrong: no spare block is left")
+        except maulgreen.Refusal as refusal:
+            assert refusal.name == "NoSpare"
+with maulgreen.Spares(PLAN, numbers, [], powered=True) as table:
+    for block in range(numbers):
+        assert table.next() == (maulgreen.MOVE_TELL, block, 0, 0)
+        table.tell([(0, block + 1), None])
+    assert table.next().kind == maulgreen.MOVE_NONE and [table.block(b) for b in range(numbers)] == list(range(numbers))
 with maulgreen.Mount(PLAN, [TASK]) as mount:
     for wrong in ([(0, -1)], [(0, 2**64)], [(-1, 0)], [(0, 1.0)]):
         is_wrong(lambda: mount.tell(wrong))

@@ -1,6 +1,6 @@
 //! Drives a chip of 4 KiB pages, which is simulated here: what `../c/example.c` does, in Rust.
 
-use maulgreen::{check, Act, Call, Die, Entered, Label, Misfit, Mount, Name, Op, Outcome, Place, Plan, Planned, Refusal, Step, Terms};
+use maulgreen::{check, Act, BlockUse, Call, Die, Entered, Label, Misfit, Mount, Move, Moved, Name, Op, Outcome, Place, Plan, Planned, Refusal, Spares, Step, Terms};
 use std::collections::HashMap;
 
 const PAYLOAD: usize = 4096;
@@ -213,6 +213,29 @@ fn main() -> Result<(), Refusal> {
     assert!(matches!(slot.call(), Call::Read { block: 0, page: 0, name, .. } if name == fifth));
     slot.end(true, fifth)?;
     println!("a mount, and the die that begins where it ends");
+
+    // Eleven blocks, of which block 1 is bad and block 10 is spare: it has the number 0 once page 0 of block 0 was copied.
+    let mut table = Spares::new(&plan, 11, &[1])?;
+    let mut erased = 0;
+    while let Some(Move::Erase { .. }) = table.next_move()? {
+        table.done(Moved::Done)?;
+        erased += 1;
+    }
+    assert_eq!((erased, table.left(), table.block(1)?, table.use_of(10)?), (10, 1, 2, BlockUse::Spare));
+    table.program_failed(0, 1)?;
+    assert_eq!(table.next_move()?, Some(Move::Copy { from: 0, to: Place { block: 10, page: 0 } }));
+    table.done(Moved::Done)?;
+    assert_eq!((table.next_move()?, table.block(0)?), (Some(Move::Program { place: Place { block: 10, page: 1 } }), 0));
+    table.done(Moved::Done)?;
+    assert_eq!((table.block(0)?, table.use_of(0)?, table.use_of(10)?), (10, BlockUse::Bad, BlockUse::Number(0)));
+    assert_eq!((table.erase_failed(3), table.next_move()), (Err(Refusal::NoSpare), Err(Refusal::NoSpare)));
+    let mut table = Spares::power_up(&plan, 9, &[])?;
+    for block in 0..9 {
+        assert_eq!(table.next_move()?, Some(Move::Tell { block }));
+        table.tell(&[Some(Label { page: 0, serial: u64::from(block) + 1 })])?;
+    }
+    assert_eq!((table.next_move()?, table.block(8)?, table.block(9)), (None, 8, Err(Refusal::NoBlock)));
+    println!("a table of spare blocks");
 
     // A die that keeps its plan is written down and goes on, and a mount ends in one.
     let plan = Plan { logical: 12, caps: vec![6], ..plan };
