@@ -1,4 +1,4 @@
--- A table of spare blocks as C has it: what it needs next, and what it is told.
+-- A table of spare blocks as C has it: what it needs next, and what is reported to it.
 use Rattle.std.specs.Prelude.{◌≡◌, ℕ, ◌+◌, ◌<◌, ◌≤◌, List, length, Option, Some, None, ◌==◌, if◌then◌else◌, nat_lt, map, ⊤}
 use Rattle.slot_types.specs.declared.plans.Shape.{Shape}
 use Rattle.spare_blocks.specs.declared.cells.BlockUse.{BlockUse}
@@ -55,7 +55,7 @@ stop_code (spares.Scan told) = 0
 stop_code (spares.Table s) = stage_code s.stage
 stop_code spares.Over = 112
 
--- What it is told
+-- What is reported to it
 
 abbrev pub outcome_of : ℕ → Option Outcome
 outcome_of how =
@@ -69,13 +69,13 @@ IsMovedIn _ before after = ⊥
 abbrev pub IsMovedAs : ℕ → Spares → Spares → Type 0
 IsMovedAs how before after = IsMovedIn (outcome_of how) before after
 
--- what was told is this; of all blocks it makes a table
+-- what was reported is this; of all blocks it makes a table
 abbrev pub IsNow : Told → Spares → Type 0
 IsNow told (spares.Scan s) = (s ≡ told) × ¬ (length told.all ≡ told.blocks)
 IsNow told (spares.Table s) = IsPoweredUp told s × (length told.all ≡ told.blocks)
 IsNow told spares.Over = ⊥
 
--- the next block was told, with these labels
+-- the next block was reported, with these labels
 pub record HasToldOne (labels : List (Option Mark)) (before : Told) (after : Spares) : Type 0 where
   pub told : Told
   pub rest : told ≡ record before { all = told.all }

@@ -285,7 +285,7 @@ pub struct FlashUnresumed {
     pub third: u32,
 }
 
-/// What a table of spare blocks needs next: 0 nothing any more, 1 to be told a block, 2 a whole erase, 3 a copy from the
+/// What a table of spare blocks needs next: 0 nothing any more, 1 the report of a block, 2 a whole erase, 3 a copy from the
 /// cell of another block with the same page, 4 the program that failed. Blocks are the part's.
 #[repr(C)]
 #[derive(Clone, Copy, Drop)]

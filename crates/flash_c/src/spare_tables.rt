@@ -13,11 +13,11 @@ use stepped_spares::{LabelScan, Move, Outcome, SpareTable, Stage, TellFault};
 /// How far a table is.
 #[derive(Drop)]
 pub enum Spares {
-    /// The blocks of a part whose power has come are told, one after the other.
+    /// The blocks of a part whose power has come are reported, one after the other.
     Scan(LabelScan),
     /// Which block has which number.
     Table(SpareTable),
-    /// The blocks that were told make no table.
+    /// The blocks that were reported make no table.
     Over,
 }
 
@@ -126,7 +126,7 @@ pub(crate) fn moved(spares: Spares, how: u32) -> (Spares, u32)
     }
 }
 
-/// The scan, or its table where all blocks were told.
+/// The scan, or its table where all blocks were reported.
 fn whole(alloc: Global, scan: LabelScan) -> (Spares, u32)
     ensures now { result.1 ≡ 0 → IsNow scan result.0 }
     ensures over { result.1 ≢ 0 → result.0 ≡ Spares.Over }
@@ -140,8 +140,8 @@ fn whole(alloc: Global, scan: LabelScan) -> (Spares, u32)
     }
 }
 
-/// The table once the labels of the next block were told; or why not. Where that was the last block, and what was told
-/// makes no table, it is over.
+/// The table once the labels of the next block were reported; or why not. Where that was the last block, and what was
+/// reported makes no table, it is over.
 pub(crate) fn told(alloc: Global, spares: Spares, labels: &[Option<Mark>]) -> (Spares, u32)
     ensures told { result.1 ≡ 0 → HasToldBlock labels.now spares result.0 }
     ensures refused { result.1 ≢ 0 → (result.0 ≡ spares) ⊎ (result.0 ≡ Spares.Over) }
@@ -159,7 +159,7 @@ pub(crate) fn told(alloc: Global, spares: Spares, labels: &[Option<Mark>]) -> (S
     }
 }
 
-/// The number of why a table can't be told that a call failed; 0 where it can.
+/// The number of why no call that failed can be reported; 0 where one can.
 fn busy_of(stage: Stage) -> u32
     ensures { (result ≡ 0) ↔ (stage ≡ Stage.Working) }
 {
@@ -171,7 +171,7 @@ fn busy_of(stage: Stage) -> u32
     }
 }
 
-/// The table once it was told that a program failed; or as it was, and why not.
+/// The table once a program that failed was reported; or as it was, and why not.
 pub(crate) fn program_failed(spares: Spares, place: Place) -> (Spares, u32)
     ensures failed { MayFail place.block place.page spares → IsFailedProgram place.block place.page spares result.0 result.1 }
     ensures refused { ¬ (MayFail place.block place.page spares) → (result.0 ≡ spares) × (result.1 ≢ 0) }
@@ -194,7 +194,7 @@ pub(crate) fn program_failed(spares: Spares, place: Place) -> (Spares, u32)
     }
 }
 
-/// The table once it was told that an erase failed; or as it was, and why not.
+/// The table once an erase that failed was reported; or as it was, and why not.
 pub(crate) fn erase_failed(spares: Spares, number: u32) -> (Spares, u32)
     ensures failed { MayFail number 0 spares → IsFailedErase number spares result.0 result.1 }
     ensures refused { ¬ (MayFail number 0 spares) → (result.0 ≡ spares) × (result.1 ≢ 0) }

@@ -87,7 +87,7 @@ pub extern "C" fn flash_spares_new(
     }
 }
 
-/// Makes a table in an empty handle, for a part whose power has come: its blocks are told next.
+/// Makes a table in an empty handle, for a part whose power has come: its blocks are reported next.
 #[unsafe(no_mangle)]
 pub extern "C" fn flash_spares_power_up(
     alloc: Global,

@@ -14,7 +14,7 @@ use Rattle.stepped_spares.specs.declared.scan.TellFault.{TellFault}
 use Rattle.stepped_spares.specs.declared.scan.TellFault.TheVariants as faults
 use Rattle.stepped_spares.specs.Stepping.{Stepping, IsNextErase}
 
--- the shape of the blocks with numbers; how many blocks the part has; which are listed as bad; what is seen of each that was told
+-- the shape of the blocks with numbers; how many blocks the part has; which are listed as bad; what is seen of each that was reported
 pub record Told : Type 0 where
   pub shape : Shape
   pub blocks : ℕ
@@ -34,12 +34,12 @@ pub record IsSoundScan (s : Inside) : Type 0 where
 abbrev pub Tells : List (Option Mark) → PartBlock → Type 0
 Tells labels b = (page : ℕ) → slice_index_or labels page None ≡ mark_at b page
 
--- what was told is what these blocks show, of each that isn't listed
+-- what was reported is what these blocks show, of each that isn't listed
 pub record IsScanOf (blocks : List PartBlock) (s : Told) : Type 0 where
   pub listed : (x : ℕ) → Contains s.bad x → seen_at s.all x ≡ None
   pub seen : (x : ℕ) → x < length s.all → (Contains s.bad x → ⊥) → IsSeen (part_block blocks x) s.shape.pages (seen_at s.all x)
 
--- all blocks of a part were told
+-- all blocks of a part were reported
 pub record IsWholeScan (shape : Shape) (count : ℕ) (bad : List ℕ) (blocks : List PartBlock) (s : Told) : Type 0 where
   pub shape_is : s.shape ≡ shape
   pub limits : IsShape s.shape
@@ -59,7 +59,7 @@ pub record AreByLabels (bad : List ℕ) (all : List (Option Labelled)) (t : Tabl
   pub once : (x : ℕ) → HasNumber (use_of t x) → IsCovered all x → ⊥
   pub groups : (x : ℕ) → x < length t.uses → ((g : Group) × IsGroup all x g)
 
--- so many numbers by what was told, and each spare block is erased first
+-- so many numbers by what was reported, and each spare block is erased first
 pub record IsPoweredUp (told : Told) (s : Stepping) : Type 0 where
   pub pages : s.pages ≡ told.shape.pages
   pub table : IsTable s.table

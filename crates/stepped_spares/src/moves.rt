@@ -26,7 +26,7 @@ pub enum Outcome {
 /// How far a table is.
 #[derive(Clone, Copy, PartialEq, Eq, Debug, Drop)]
 pub enum Stage {
-    /// This block is erased next, and then those behind it: all that aren't bad, or the spare ones alone.
+    /// This block is erased next, and then those with greater numbers: all that aren't bad, or the spare ones alone.
     Erasing {
         block: u32,
         all: bool,

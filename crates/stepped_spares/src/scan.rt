@@ -17,13 +17,13 @@ use std::marker::Model;
 /// Why labels can't be those of the next block.
 #[derive(Clone, Copy, PartialEq, Eq, Debug, Drop)]
 pub enum TellFault {
-    /// All blocks of the part were told already.
+    /// All blocks of the part were reported already.
     NoMoreBlocks,
     /// More cells than a block has pages.
     TooManyCells,
 }
 
-/// What was told of the blocks of a part whose power has come, one by one.
+/// What was reported of the blocks of a part whose power has come, one by one.
 #[derive(Drop)]
 pub struct LabelScan {
     /// The plan's, with the block that stands aside.
@@ -45,8 +45,8 @@ impl Model for LabelScan {
 }
 
 impl LabelScan {
-    /// A scan to which nothing was told yet, of a part of so many blocks, of which some are listed as bad. It takes
-    /// memory for 16 bytes by block and 4 by bad one.
+    /// A scan to which nothing was reported yet, of a part of so many blocks, of which some are listed as bad. It takes
+    /// all its memory here.
     ///
     /// Refused with `BadShape` where the shape is out of its limits, and with `NoMemory`.
     pub fn new(alloc: Global, shape: Shape, blocks: u32, bad: &[u32]) -> Result<Self, Refusal>
@@ -70,22 +70,23 @@ impl LabelScan {
         })
     }
 
-    /// How many blocks were told: the number of the next one.
+    /// How many blocks were reported: the number of the next one.
     pub fn told(&self) -> u32
         ensures { result ≡ length self.now.all }
     {
         self.all.len() as u32
     }
 
-    /// Whether all blocks were told.
+    /// Whether all blocks were reported.
     pub fn is_whole(&self) -> bool
         ensures { IsTrue result ↔ (length self.now.all ≡ self.now.blocks) }
     {
         self.all.len() == self.blocks as usize
     }
 
-    /// Tells the labels in the cells of the next block, from the first cell on; those that aren't told have none. Those
-    /// of a block that is listed as bad aren't looked at. Refused with the first fault that stands; nothing is told then.
+    /// Reports the labels in the cells of the next block, from the first cell on; those that aren't given have none.
+    /// Those of a block that is listed as bad aren't looked at. Refused with the first fault that stands, and the scan
+    /// is as it was then.
     pub fn tell(&mut self, labels: &[Option<Mark>]) -> Result<(), TellFault>
         ensures told { OnOk result ((blocks : List PartBlock) → IsScanOf blocks self.old
             → Tells labels.now (part_block blocks (length self.old.all)) → IsScanOf blocks self.new) }
@@ -110,7 +111,7 @@ impl LabelScan {
         Ok(())
     }
 
-    /// The table by what was told of all blocks: a block with a label that no other one has gets a number, and of those
+    /// The table by what was reported of all blocks: a block with a label that no other one has gets a number, and of those
     /// with the same first label that in which labels go farthest; blank ones get the numbers that are left. Each other
     /// block that isn't listed as bad is spare, and has to be erased first: [`next`](SpareTable::next) names them one
     /// by one. The table takes all its memory here.

@@ -67,7 +67,7 @@ fn labels_of<D: LabelledWearing>(
     Ok(labels)
 }
 
-/// A scan to which all blocks were told.
+/// A scan to which all blocks were reported.
 fn scan_of<D: LabelledWearing>(
     alloc: Global,
     part: &mut D,

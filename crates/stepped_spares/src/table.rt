@@ -13,7 +13,7 @@ use std::marker::Model;
 /// Which block of a part has which number, and which call of the part comes next where one failed.
 ///
 /// A table never calls the part: [`next`](SpareTable::next) says which call comes next, and [`done`](SpareTable::done)
-/// is told how the part carried it out. The table changes only with the last of these calls.
+/// takes how the part carried it out. The table changes only with the last of these calls.
 #[derive(Drop)]
 pub struct SpareTable {
     pub(crate) table: BlockTable,
