@@ -361,6 +361,7 @@ public:
 
 private:
     friend class mount;
+    friend class spares;
     static void must_fit() {
         if (!fits()) throw std::runtime_error("another version of libmaulgreen");
     }
@@ -378,12 +379,12 @@ class spares {
 public:
     // For a part of so many blocks on which nothing was done yet, of which these are bad.
     spares(const plan &p, std::uint32_t blocks, const std::vector<std::uint32_t> &bad) {
-        must_fit();
+        die::must_fit();
         must(::mg_spares_new(&handle_, &p, blocks, bad.data(), bad.size()));
     }
     // For one whose power has come: its blocks are told next.
     static spares power_up(const plan &p, std::uint32_t blocks, const std::vector<std::uint32_t> &bad) {
-        must_fit();
+        die::must_fit();
         spares said;
         must(::mg_spares_power_up(&said.handle_, &p, blocks, bad.data(), bad.size()));
         return said;
