@@ -15,7 +15,7 @@
 
 /* What the world knows, which no cut takes: by page the version that was last reported as written, 0 where it was trimmed, and the
  * one that was asked for after it. */
-static struct { uint32_t done[LOGICAL], asked[LOGICAL], versions[LOGICAL], programs, trims, stopped, failed, worn; uint64_t due[LOGICAL]; } *world;
+static struct { uint32_t done[LOGICAL], asked[LOGICAL], versions[LOGICAL], programs, trims, stopped, worn; uint64_t due[LOGICAL]; } *world;
 
 static void check(int holds, const char *what) {
     if (holds) return;
@@ -132,7 +132,6 @@ static int life(const char *file, unsigned seed, long cut_opening, long cut_work
         static struct driver driver;
         srand(seed);
         chip_open(file);
-        const uint32_t before = marked();
         chip_wear(rand() % 4 ? 20 + rand() % 2000 : 0);
         chip_cut(cut_opening);
         begin(&driver);
@@ -141,7 +140,6 @@ static int life(const char *file, unsigned seed, long cut_opening, long cut_work
         chip_cut(cut_work);
         chip_fail(rand() % 3 ? 0 : 1 + rand() % 400);
         work(&driver, 3000);
-        world->failed += marked() - before;
         driver_close(&driver);
         _exit(0);
     }
@@ -173,8 +171,8 @@ int main(int argc, char **argv) {
     }
     life(argv[1], seed, 0, 0);
     check(world->trims && ((world->stopped && world->worn) || cuts < 100), "trims, dies that were stopped, and chips that were worn out");
-    printf("%d cuts, %d of them within a recovery, %u faults of the chip, and %u chips of which blocks failed until no spare one was left; %u pages were "
-           "written and %u trimmed, and none was lost or came back\n",
+    printf("%d cuts, %d of them within a recovery, %u faults of the chip, and %u chips of which blocks failed until no spare one was left; "
+           "%u pages were written and %u trimmed, and none was lost or came back\n",
            cuts, within, world->stopped, world->worn, world->programs, world->trims);
     return 0;
 }

@@ -173,7 +173,8 @@ fn busy_of(stage: Stage) -> u32
 
 /// The table once a program that failed was reported; or as it was, and why not.
 pub(crate) fn program_failed(spares: Spares, place: Place) -> (Spares, u32)
-    ensures failed { MayFail place.block place.page spares → IsFailedProgram place.block place.page spares result.0 result.1 }
+    ensures failed { MayFail place.block place.page spares
+        → IsFailedProgram place.block place.page spares result.0 result.1 }
     ensures refused { ¬ (MayFail place.block place.page spares) → (result.0 ≡ spares) × (result.1 ≢ 0) }
 {
     match spares {

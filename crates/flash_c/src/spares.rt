@@ -206,7 +206,8 @@ pub extern "C" fn flash_spares_program_failed(
     ghost held: { Held }
     requires full { spares.old.value ≡ Some held }
     ensures full { IsSome spares.new.value }
-    ensures failed { MayFail number page held → IfSome spares.new.value (λ after. IsFailedProgram number page held after result) }
+    ensures failed { MayFail number page held
+        → IfSome spares.new.value (λ after. IsFailedProgram number page held after result) }
     ensures refused { ¬ (MayFail number page held) → (spares.new.value ≡ Some held) × (result ≢ 0) }
 {
     let mut boxed = take_spares(alloc, spares);
@@ -253,7 +254,8 @@ pub extern "C" fn flash_spares_block(
     ghost held: { Held }
     requires full { spares.old.value ≡ Some held }
     ensures same { spares.new.value ≡ Some held }
-    ensures block { result ≡ 0 → IfTable (λ s. (number < length s.table.blocks) × (block.new ≡ on_part s.table number)) held }
+    ensures block { result ≡ 0
+        → IfTable (λ s. (number < length s.table.blocks) × (block.new ≡ on_part s.table number)) held }
     ensures refused { result ≢ 0 → (block.new ≡ block.old) × ¬ (IfTable (λ s. number < length s.table.blocks) held) }
 {
     let boxed = take_spares(alloc, spares);

@@ -1,11 +1,9 @@
 -- A part whose blocks were all erased, and one whose power has come.
-use Rattle.std.proofs.Common.{◌≡◌, ◌≢◌, ◌⊎◌, ℕ, ◌+◌, ◌<◌, ◌≤◌, Bool, true, false, List, length, get_or, refl, ap, sym, ◌∙◌, subst, inl, inr, arith}
-use Rattle.std.specs.Prelude.{Contains}
-use Rattle.std.proofs.lemmas.Bool.{false≢true}
+use Rattle.std.proofs.Common.{◌≡◌, ℕ, Bool, true, false, List, length, get_or, refl, ap, sym, ◌∙◌, subst, arith}
 use Rattle.slot_types.specs.declared.plans.Shape.{Shape}
 use Rattle.spare_blocks.specs.declared.cells.BlockUse.{BlockUse}
 use Rattle.spare_blocks.specs.declared.cells.BlockUse.TheVariants as use_as
-use Rattle.spare_blocks.specs.Parts.{PartBlock, part_block, free_part_block}
+use Rattle.spare_blocks.specs.Parts.{PartBlock, part_block}
 use Rattle.spare_blocks.specs.Preparing.{IsPrepared, IsWholePart}
 use Rattle.spare_blocks.specs.Powering.{IsPoweredPart, IsPoweredTable, AreNumbered, AreSeen, IsSeen, HasNumber, seen_at}
 use Rattle.spare_blocks.specs.Tables.{Table, IsTable, IsSpare, use_of, on_part}

@@ -1,17 +1,17 @@
 -- Blocks are erased before they are used, one by one.
-use Rattle.std.proofs.Common.{◌≡◌, ◌≢◌, ◌⊎◌, ℕ, ◌+◌, ◌<◌, ◌≤◌, Bool, true, false, List, length, get_or, set, refl, ap, sym, ◌∙◌, subst, inl, inr, arith}
+use Rattle.std.proofs.Common.{◌≡◌, ◌≢◌, ℕ, ◌+◌, ◌<◌, ◌≤◌, Bool, true, false, List, length, set, refl, ap, sym, ◌∙◌, subst, inl, inr, arith}
 use Rattle.std.specs.Prelude.{Option, Some, None}
 use Rattle.std.proofs.lemmas.Bool.{cases_eq, cases_lt, false≢true}
-use Rattle.std.proofs.lemmas.List.{get_or-set_same, get_or-set_other, length-set}
+use Rattle.std.proofs.lemmas.List.{get_or-set_same, length-set}
 use Rattle.std.proofs.lemmas.Option.{none-some}
 use Rattle.spare_blocks.specs.declared.cells.BlockUse.{BlockUse}
 use Rattle.spare_blocks.specs.declared.cells.BlockUse.TheVariants as use_as
 use Rattle.spare_blocks.specs.declared.cells.Cell.{Cell}
 use Rattle.spare_blocks.specs.declared.cells.Ended.TheVariants as ended
-use Rattle.spare_blocks.specs.Parts.{PartBlock, part_block, free_part_block, block_after_erase, blocks_after_erase}
+use Rattle.spare_blocks.specs.Parts.{PartBlock, part_block, free_part_block, blocks_after_erase}
 use Rattle.spare_blocks.specs.Tables.{Table, IsTable, IsSpare, use_of, on_part, replaced, without_spare}
 use Rattle.spare_blocks.specs.Trying.{IsUsedUp}
-use Rattle.spare_blocks.proofs.Numbers.{bad-spare, bad-plan, plan-spare, spare_within, use_here, use_failed, use_other, replaced_bad}
+use Rattle.spare_blocks.proofs.Numbers.{bad-spare, spare_within, use_failed, use_other, replaced_bad}
 use Rattle.spare_blocks.proofs.PlanCells.{set_here, set_other}
 use Rattle.stepped_spares.specs.declared.moves.Move.{Move}
 use Rattle.stepped_spares.specs.declared.moves.Move.TheVariants as moves
@@ -19,7 +19,7 @@ use Rattle.stepped_spares.specs.declared.moves.Outcome.{Outcome}
 use Rattle.stepped_spares.specs.declared.moves.Outcome.TheVariants as outcome
 use Rattle.stepped_spares.specs.declared.moves.Stage.{Stage}
 use Rattle.stepped_spares.specs.declared.moves.Stage.TheVariants as stage
-use Rattle.stepped_spares.specs.Stepping.{Stepping, IsLost, IsMovedBy, IsNextErase, IsReplacedOr, must_erase, move_at}
+use Rattle.stepped_spares.specs.Stepping.{IsLost, IsMovedBy, IsNextErase, must_erase, move_at}
 use Rattle.stepped_spares.specs.Carrying.{IsCarried, MayCarry}
 use Rattle.stepped_spares.specs.Erasing.{AreErased, HasErased}
 use Rattle.stepped_spares.proofs.Filling.{spares_of, other_of}

@@ -1,17 +1,16 @@
 -- A spare block is filled, call by call.
-use Rattle.std.proofs.Common.{◌≡◌, ◌≢◌, ◌⊎◌, ℕ, ◌+◌, ◌*◌, ◌<◌, ◌≤◌, Bool, true, false, List, [], ◌∷◌, ◌++◌, length, take, get_or, set, refl, ap, sym, ◌∙◌, subst, inl, inr, arith}
-use Rattle.std.specs.Prelude.{Option, Some, None, nat_lt, if◌then◌else◌}
+use Rattle.std.proofs.Common.{◌≡◌, ◌≢◌, ℕ, ◌+◌, ◌*◌, ◌<◌, ◌≤◌, Bool, true, false, List, [], ◌∷◌, ◌++◌, length, take, get_or, set, refl, ap, sym, ◌∙◌, subst, arith}
+use Rattle.std.specs.Prelude.{Option, Some, nat_lt, if◌then◌else◌}
 use Rattle.std.proofs.lemmas.Bool.{false≢true}
 use Rattle.std.proofs.lemmas.Bool.Decides.{nat_tests}
 use Rattle.std.proofs.lemmas.List.{get_or-set_same, get_or-set_other, take_more, take_all, length-take-le}
 use Rattle.std.proofs.lemmas.Option.{none-some}
-use Rattle.slot_types.specs.declared.pages.Place.{Place}
 use Rattle.spare_blocks.specs.declared.cells.BlockUse.TheVariants as use_as
 use Rattle.spare_blocks.specs.declared.cells.Cell.{Cell}
 use Rattle.spare_blocks.specs.declared.cells.Ended.TheVariants as ended
-use Rattle.spare_blocks.specs.Parts.{PartBlock, part_block, free_part_block, blank_cell, cell_on, IsCell, IsFreeCell, block_after_program, blocks_after_program}
+use Rattle.spare_blocks.specs.Parts.{PartBlock, part_block, blank_cell, cell_on, IsFreeCell, block_after_program, blocks_after_program}
 use Rattle.spare_blocks.specs.Tables.{Table, IsTable, IsSpare, use_of, on_part, replaced, spares_in, without_spare}
-use Rattle.spare_blocks.specs.Trying.{IsUsedUp, IsTriedOr, IsSource, AreFree, AreFreeBut}
+use Rattle.spare_blocks.specs.Trying.{IsUsedUp, IsSource, AreFree, AreFreeBut}
 use Rattle.spare_blocks.proofs.Numbers.{bad-spare, spare_within, spares_given_up, spares_replaced}
 use Rattle.spare_blocks.proofs.PlanCells.{set_here, set_other}
 use Rattle.stepped_spares.specs.declared.moves.Outcome.{Outcome}
@@ -20,8 +19,8 @@ use Rattle.stepped_spares.specs.declared.moves.Stage.{Stage}
 use Rattle.stepped_spares.specs.declared.moves.Stage.TheVariants as stage
 use Rattle.stepped_spares.specs.declared.moves.Move.{Move}
 use Rattle.stepped_spares.specs.declared.moves.Move.TheVariants as moves
-use Rattle.stepped_spares.specs.Stepping.{Stepping, IsNextFill, IsMovedBy, IsSoundAt, cell_at, fill_move, move_at}
-use Rattle.stepped_spares.specs.Carrying.{IsFilledAnew, IsFilledInVain, IsCarried, IsShort, MayCarry, beyond, blocks_after_move, cost_by, cost_of, serial_at}
+use Rattle.stepped_spares.specs.Stepping.{IsNextFill, IsMovedBy, IsSoundAt, cell_at, fill_move, move_at}
+use Rattle.stepped_spares.specs.Carrying.{IsFilledAnew, IsFilledInVain, IsCarried, IsShort, MayCarry, beyond, cost_by, cost_of, serial_at}
 
 abbrev pub held : List Cell → PartBlock
 held cells = record { cells = cells; erasing = 0; failed = false }

@@ -1,13 +1,13 @@
 -- How many calls may come yet, before and after one.
-use Rattle.std.proofs.Common.{◌≡◌, ℕ, ◌+◌, ◌-◌, ◌*◌, ◌<◌, ◌≤◌, Bool, true, false, length, ap, sym, ◌∙◌, subst, arith, true≢false}
+use Rattle.std.proofs.Common.{◌≡◌, ℕ, ◌+◌, ◌-◌, ◌*◌, ◌<◌, ◌≤◌, Bool, true, length, ap, sym, subst, arith, true≢false}
 use Rattle.std.specs.Prelude.{IsSome}
 use Rattle.spare_blocks.specs.declared.cells.BlockUse.{BlockUse}
 use Rattle.spare_blocks.specs.declared.cells.BlockUse.TheVariants as use_as
-use Rattle.spare_blocks.specs.Tables.{Table, IsTable, IsSpare, use_of, spares_in, without_spare}
+use Rattle.spare_blocks.specs.Tables.{Table, IsSpare, use_of, spares_in}
 use Rattle.spare_blocks.proofs.Numbers.{spare_within, plan_within, spares_given_up}
 use Rattle.stepped_spares.specs.declared.moves.Stage.{Stage}
 use Rattle.stepped_spares.specs.declared.moves.Stage.TheVariants as stage
-use Rattle.stepped_spares.specs.Stepping.{Stepping, IsNextErase, IsNextFill, IsSoundAt, calls_at, calls_left, move_at, must_erase}
+use Rattle.stepped_spares.specs.Stepping.{Stepping, IsNextFill, IsSoundAt, calls_at, calls_left, move_at, must_erase}
 
 pub at_least : (a m : ℕ) → 0 < m → a ≤ a * m
 at_least a m some = grind (arith, some)

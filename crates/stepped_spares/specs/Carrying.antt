@@ -1,20 +1,17 @@
 -- The calls that a table asks for, carried out on a part.
-use Rattle.std.specs.Prelude.{◌≡◌, ℕ, ◌+◌, ◌*◌, ◌<◌, ◌≤◌, Bool, true, false, List, [], ◌∷◌, ◌++◌, Option, Some, None, ⊤}
-use Rattle.slot_types.specs.declared.pages.PageData.{PageData}
-use Rattle.slot_types.specs.declared.pages.Place.{Place}
+use Rattle.std.specs.Prelude.{◌≡◌, ℕ, ◌+◌, ◌*◌, Bool, true, false, List, Option, Some, None, ⊤}
 use Rattle.spare_blocks.specs.declared.cells.Cell.{Cell}
 use Rattle.spare_blocks.specs.declared.cells.Ended.{Ended}
 use Rattle.spare_blocks.specs.declared.cells.Ended.TheVariants as ended
-use Rattle.spare_blocks.specs.Parts.{PartBlock, IsCell, IsFreeCell, part_block, cell_on, programmed_cell, serial_after, blocks_after_program, blocks_after_erase}
-use Rattle.spare_blocks.specs.Tables.{Table, IsSpare, on_part, replaced, spares_in}
-use Rattle.spare_blocks.specs.Trying.{IsUsedUp, IsTriedOr, IsSource, AreFree}
+use Rattle.spare_blocks.specs.Parts.{PartBlock, IsCell, IsFreeCell, part_block, cell_on, serial_after, blocks_after_program, blocks_after_erase}
+use Rattle.spare_blocks.specs.Tables.{Table, replaced, spares_in}
+use Rattle.spare_blocks.specs.Trying.{IsUsedUp, IsTriedOr}
 use Rattle.stepped_spares.specs.declared.moves.Move.{Move}
 use Rattle.stepped_spares.specs.declared.moves.Move.TheVariants as moves
 use Rattle.stepped_spares.specs.declared.moves.Outcome.{Outcome}
 use Rattle.stepped_spares.specs.declared.moves.Outcome.TheVariants as outcome
 use Rattle.stepped_spares.specs.declared.moves.Stage.{Stage}
 use Rattle.stepped_spares.specs.declared.moves.Stage.TheVariants as stage
-use Rattle.stepped_spares.specs.Stepping.{Stepping}
 
 -- whether a part may do the call
 abbrev pub MayCarry : List PartBlock → (pages : ℕ) → Move → Type 0

@@ -3,7 +3,7 @@ use Rattle.std.specs.Prelude.{◌≡◌, ◌⊎◌, ℕ, ◌+◌, ◌-◌, ◌*�
 use Rattle.slot_types.specs.declared.pages.Place.{Place}
 use Rattle.spare_blocks.specs.declared.cells.BlockUse.{BlockUse}
 use Rattle.spare_blocks.specs.declared.cells.BlockUse.TheVariants as use_as
-use Rattle.spare_blocks.specs.Tables.{Table, IsTable, IsSpare, use_of, on_part, spares_in, replaced, without_spare}
+use Rattle.spare_blocks.specs.Tables.{Table, IsSpare, use_of, on_part, spares_in, replaced, without_spare}
 use Rattle.stepped_spares.specs.declared.moves.Move.{Move}
 use Rattle.stepped_spares.specs.declared.moves.Move.TheVariants as moves
 use Rattle.stepped_spares.specs.declared.moves.Outcome.{Outcome}

@@ -37,8 +37,8 @@ pub fn carry<D: WearingNand>(
     }
 }
 
-/// Answers a program that failed in this cell: carries out what the table asks for, until it asks for nothing more. What
-/// it leaves is what `SpareBlocks` leaves.
+/// Answers a program that failed in this cell: carries out what the table asks for, until it asks for nothing more.
+/// What it leaves is what `SpareBlocks` leaves.
 ///
 /// A spare block has the number then, with the cells before this one, page and serial unchanged, and the program; or
 /// none was left, and each number has the block that it had; or the part had a fault.

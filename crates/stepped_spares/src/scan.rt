@@ -111,10 +111,10 @@ impl LabelScan {
         Ok(())
     }
 
-    /// The table by what was reported of all blocks: a block with a label that no other one has gets a number, and of those
-    /// with the same first label that in which labels go farthest; blank ones get the numbers that are left. Each other
-    /// block that isn't listed as bad is spare, and has to be erased first: [`next`](SpareTable::next) names them one
-    /// by one. The table takes all its memory here.
+    /// The table by what was reported of all blocks: a block with a label that no other one has gets a number, and of
+    /// those with the same first label that in which labels go farthest; blank ones get the numbers that are left. Each
+    /// other block that isn't listed as bad is spare, and has to be erased first: [`next`](SpareTable::next) names them
+    /// one by one. The table takes all its memory here.
     ///
     /// Refused with `BadShape` where the part has too few blocks for the shape, or more with labels; and with
     /// `NoMemory`.

@@ -15,9 +15,9 @@ use slot_types::{Place, Refusal, Shape};
 use spare_blocks::{Cell, LabelledWearing, Mark, WearingNand};
 use std::alloc::Global;
 
-/// The table of a part on which nothing was done yet, once each of its blocks that isn't listed as bad was erased. Where
-/// it is at work it is as `SpareBlocks::new` leaves it: so many blocks have numbers, and these and the spare ones are
-/// free.
+/// The table of a part on which nothing was done yet, once each of its blocks that isn't listed as bad was erased.
+/// Where it is at work it is as `SpareBlocks::new` leaves it: so many blocks have numbers, and these and the spare ones
+/// are free.
 pub fn begin_on<D: WearingNand>(
     alloc: Global,
     part: &mut D,
@@ -77,7 +77,8 @@ fn scan_of<D: LabelledWearing>(
     requires powered { IsPoweredPart (D.shape_of part.old) (D.blocks part.old) }
     requires pages { shape.pages ≡ (D.shape_of part.old).pages }
     requires well { D.faulted part.old ≡ false }
-    ensures scan { IfOk result (λ scan. IsWholeScan shape (D.shape_of part.old).blocks bad.now (D.blocks part.old) scan) }
+    ensures scan { IfOk result (λ scan.
+        IsWholeScan shape (D.shape_of part.old).blocks bad.now (D.blocks part.old) scan) }
     ensures blocks { OnOk result (D.blocks part.new ≡ D.blocks part.old) }
     ensures well { OnOk result (D.faulted part.new ≡ false) }
     ensures shape { D.shape_of part.new ≡ D.shape_of part.old }

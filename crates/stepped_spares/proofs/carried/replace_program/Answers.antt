@@ -1,12 +1,12 @@
-use Rattle.std.proofs.Common.{◌≡◌, ◌≢◌, ◌∙◌, ℕ, ◌<◌, ap, sym, subst, Some}
+use Rattle.std.proofs.Common.{◌≡◌, ◌∙◌, ℕ, ◌<◌, ap, sym, subst, Some}
 use Rattle.slot_types.specs.declared.plans.Shape.{Shape}
 use Rattle.spare_blocks.specs.Parts.{programmed_cell}
-use Rattle.spare_blocks.specs.Tables.{Table, IsSpare, IsTable, on_part}
-use Rattle.spare_blocks.specs.Trying.{AreFree, IsSource}
+use Rattle.spare_blocks.specs.Tables.{Table, IsSpare, on_part}
+use Rattle.spare_blocks.specs.Trying.{IsSource}
 use Rattle.spare_blocks.proofs.Numbers.{not_spare}
 use Rattle.stepped_spares.specs.Carrying.{IsCarried}
-use Rattle.stepped_spares.specs.Stepping.{IsNextFill, IsSoundAt, move_at}
-use Rattle.stepped_spares.proofs.Filling.{may_carry, carried_on, serial_on, serial_kept, cost_on, is_well, filling_begins}
+use Rattle.stepped_spares.specs.Stepping.{IsSoundAt, move_at}
+use Rattle.stepped_spares.proofs.Filling.{may_carry, carried_on, serial_on, serial_kept, cost_on, is_well}
 use Rattle.stepped_spares.proofs.carried.replace_program.Goals as goal
 
 pub carry-outcome-requires-clause-may : goal.carry-outcome-requires-clause-may

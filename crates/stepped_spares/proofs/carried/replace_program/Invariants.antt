@@ -1,6 +1,5 @@
-use Rattle.std.proofs.Common.{◌≡◌, ◌≤◌, ◌+◌, ◌++◌, ◌∷◌, [], false}
-use Rattle.spare_blocks.specs.Parts.{part_block, programmed_cell}
-use Rattle.spare_blocks.specs.Tables.{on_part}
+use Rattle.std.proofs.Common.{◌≡◌, ◌≤◌, ◌+◌, false}
+use Rattle.spare_blocks.specs.Parts.{programmed_cell}
 use Rattle.stepped_spares.specs.Carrying.{beyond, cost_by, serial_at}
 use Rattle.stepped_spares.specs.Stepping.{calls_left}
 use Rattle.stepped_spares.proofs.Filling.{IsFillingOn}

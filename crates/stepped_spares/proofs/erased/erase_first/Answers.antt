@@ -1,4 +1,4 @@
-use Rattle.std.proofs.Common.{refl, ◌≡◌, ◌∙◌, false, sym, subst, Bool, Some}
+use Rattle.std.proofs.Common.{refl, ◌∙◌, sym, subst, Bool}
 use Rattle.stepped_spares.proofs.ErasedBlocks.{IsErasingOn, erased_on, erasing_begins, has_erased, is_well, may_erase}
 use Rattle.stepped_spares.proofs.erased.erase_first.Goals as goal
 

@@ -1,4 +1,4 @@
-use Rattle.std.proofs.Common.{ℕ, true, sym, subst}
+use Rattle.std.proofs.Common.{true, sym, subst}
 use Rattle.slot_types.specs.declared.plans.Shape.{Shape}
 use Rattle.spare_blocks.specs.Preparing.{IsWholePart}
 use Rattle.stepped_spares.specs.Erasing.{BeginsErasing}

@@ -1,9 +1,9 @@
 use Rattle.std.specs.List.{list_any}
-use Rattle.std.proofs.Common.{rules, nat_eq, vec_len, true, false, ◌≡◌, ◌∙◌, ℕ, List, [], ◌∷◌, ◌++◌, length, ap, sym, subst}
-use Rattle.std.specs.Prelude.{Contains, Option}
+use Rattle.std.proofs.Common.{rules, nat_eq, vec_len, ◌≡◌, ◌∙◌, ℕ, List, length, ap, sym, subst}
+use Rattle.std.specs.Prelude.{Option}
 use Rattle.std.proofs.lemmas.Bool.{false≢true}
 use Rattle.spare_blocks.specs.declared.powering.Labelled.{Labelled}
-use Rattle.spare_blocks.specs.Parts.{PartBlock, part_block}
+use Rattle.spare_blocks.specs.Parts.{part_block}
 use Rattle.spare_blocks.specs.Powering.{IsSeen}
 use Rattle.spare_blocks.proofs.Tabled.{told_listed, told_unlisted}
 use Rattle.stepped_spares.specs.Telling.{Told, Tells, IsScanOf, told_of}

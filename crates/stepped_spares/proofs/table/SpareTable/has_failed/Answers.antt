@@ -1,5 +1,5 @@
-use Rattle.std.proofs.Common.{◌≡◌, ◌∙◌, ◌<◌, ◌+◌, ap, sym, subst}
-use Rattle.spare_blocks.specs.Tables.{Table, spares_in, without_spare}
+use Rattle.std.proofs.Common.{◌∙◌, ◌<◌, ◌+◌, ap, sym, subst}
+use Rattle.spare_blocks.specs.Tables.{Table, spares_in}
 use Rattle.spare_blocks.proofs.Numbers.{spares_given_up}
 use Rattle.stepped_spares.specs.Stepping.{IsSoundAt, calls_at, calls_left}
 use Rattle.stepped_spares.proofs.Lefts.{left_after_spare}

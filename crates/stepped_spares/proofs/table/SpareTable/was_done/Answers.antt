@@ -1,6 +1,5 @@
-use Rattle.std.proofs.Common.{◌≡◌, ◌∙◌, ◌<◌, ◌+◌, ◌*◌, ◌-◌, ap, sym, subst}
+use Rattle.std.proofs.Common.{◌∙◌, ◌<◌, ◌+◌, ◌*◌, ◌-◌, ap, sym, subst}
 use Rattle.spare_blocks.specs.Tables.{spares_in}
-use Rattle.stepped_spares.specs.declared.moves.Stage.{Stage}
 use Rattle.stepped_spares.specs.Stepping.{IsSoundAt, calls_at, calls_left}
 use Rattle.stepped_spares.proofs.Lefts.{copy_less, some_left, some_spare}
 use Rattle.stepped_spares.proofs.table.SpareTable.was_done.Goals as goal
