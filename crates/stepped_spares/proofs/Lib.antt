@@ -4,3 +4,4 @@ pub mod Told
 pub mod Filling
 pub mod ErasedBlocks
 pub mod BegunParts
+pub mod BadBlocks

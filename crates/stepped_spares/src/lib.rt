@@ -6,6 +6,7 @@ mod begun;
 mod carried;
 mod erased;
 mod failed;
+mod laws;
 mod moves;
 mod numbered;
 mod scan;
@@ -14,6 +15,7 @@ mod table;
 
 pub use carried::{carry, replace_program};
 pub use erased::erase_first;
+pub use laws::a_bad_block_never_comes_back;
 pub use moves::{Move, Outcome, Stage};
 pub use scan::{LabelScan, TellFault};
 pub use started::{begin_on, power_up_on};
