@@ -48,11 +48,11 @@ class Words:
 # The part
 
 class Cell:
-    """What a cell shows: a label, which is a page and a serial, with bytes; or none. And whether it was erased since
-    the power came: it may be programmed then, and no other one may."""
+    """What a cell shows: a label, which is a page and a serial, with how often the block was erased, and bytes; or none.
+    And whether it was erased since the power came: it may be programmed then, and no other one may."""
 
-    def __init__(self, label=None, content=None, is_erased=False):
-        self.label, self.content, self.is_erased = label, content, is_erased
+    def __init__(self, label=None, content=None, is_erased=False, erases=None):
+        self.label, self.content, self.is_erased, self.erases = label, content, is_erased, erases
 
 
 class Part:
@@ -66,12 +66,12 @@ class Part:
     def erased(self):
         return [Cell(is_erased=True) for _ in range(self.plan.pages)]
 
-    def program(self, block, cell, page, serial, content):
+    def program(self, block, cell, page, serial, content, erases):
         own = self.blocks[block]
         assert self.begun[block] == 0, "a program in a block in erase"
         assert own[cell].is_erased, "a program of a cell that wasn't erased"
         assert not any(before.is_erased for before in own[:cell]), "a free cell stands before it"
-        own[cell] = Cell((page, serial), content)
+        own[cell] = Cell((page, serial), content, erases=erases)
 
     def read(self, block, cell):
         assert self.begun[block] == 0 and self.blocks[block][cell].label, "a read of a cell that isn't good"
@@ -120,7 +120,7 @@ class LabelFlash(plain_die.Flash):
     def call(self, words):
         kind, block, cell = re.match(r"(\w+) block (\d+)(?: page (\d+))?", words).groups()
         where = [int(number) for number in (block, cell) if number is not None]
-        label = [self.programs[0], self.serial, self.programs[1]] if kind == "program" else []
+        label = [self.programs[0], self.serial, self.programs[1], self.blocks[where[0]].erases] if kind == "program" else []
         self.made = (kind, *where, *label)
         self.part.carry(self.made)
         self.serial += kind == "program"
@@ -225,6 +225,7 @@ class Mount:
         self.at, self.undone = self.found(), None
         serials = [(cell.label[1], number) for number, block in enumerate(part.blocks) for cell in block if cell.label]
         self.serial = max(serials)[0] + 1 if serials else 0
+        self.told = self.told_erases()
         idle = [block for block in range(part.count) if not self.valid(block)]
         self.first = idle[0] if idle else self.undo(max(serials)[1])
         rounds = -(-self.accounts // self.plan.alpha)
@@ -247,6 +248,18 @@ class Mount:
                     page, serial = cell.label
                     newest[page] = max(newest.get(page, (-1,)), (serial, (number, place)))
         return {page: at for page, (_, at) in newest.items()}
+
+    def told_erases(self):
+        """By block how often it was erased, by the label that says the most; of a block that shows none one more than of
+        any other."""
+        most = [max((cell.erases for cell in block if cell.label), default=None) for block in self.part.blocks]
+        above = max((erases + 1 for erases in most if erases is not None), default=0)
+        return [above if erases is None else erases for erases in most]
+
+    def erases(self, block):
+        """How often a block was erased in all, that which is erased first counting from the beginning on."""
+        own = self.erased[block]
+        return self.told[block] + (max(own, 1) if block == self.first else own)
 
     def valid(self, block):
         return sum(at[0] == block for at in self.at.values())
@@ -273,7 +286,7 @@ class Mount:
         open_blocks = [block for block, filled in enumerate(self.filled) if 0 < filled < self.plan.pages]
         block = (open_blocks or [block for block, filled in enumerate(self.filled) if filled == 0])[0]
         to = (block, self.filled[block])
-        yield ("program", *to, page, self.serial, content)
+        yield ("program", *to, page, self.serial, content, self.erases(block))
         self.copies += 1
         self.at[page], self.serial = to, self.serial + 1
         self.filled[block] += 1
@@ -309,8 +322,7 @@ class Mount:
             number = self.aside if block == last else block
             lines.append(f"page,{number},{cell},{content}" if page in self.at else "page,,,")
         own = [last if block == self.aside else block for block in range(self.plan.blocks)]
-        # No label tells of erases before, and the counting begins after the first one of the mount.
-        lines += [f"block,{self.filled[block]},{self.erased[block] - (block == self.first)}" for block in own]
+        lines += [f"block,{self.filled[block]},{self.erases(block)}" for block in own]
         lines += [f"task,{cap}" for cap in self.plan.caps]
         free = sum(self.plan.pages - self.filled[block] for block in own)
         return "\n".join([*lines, f"die,0,{free - self.accounts}"]) + "\n"

@@ -62,7 +62,8 @@ static void of_no_die(mg_die *die) {
     check(mg_place(die, 0, &cell) == MG_EMPTY_HANDLE && cell.block == 1 && cell.page == 2, "a place");
     check(mg_entries(die, 0, &entry, 1) == MG_EMPTY_HANDLE && entry.what == 1 && entry.waived == 5, "entries");
     check(mg_entry_waived(die, 0, &waived, 1) == MG_EMPTY_HANDLE && waived.job == 1, "what was waived");
-    check(mg_checkpoint(die, NULL, 0, NULL, 0, NULL, 0, NULL, 0, &spare, NULL) == MG_EMPTY_HANDLE, "checkpoint");
+    check(mg_checkpoint(die, NULL, 0, NULL, 0, NULL, 0, NULL, 0, &spare, NULL, NULL) == MG_EMPTY_HANDLE, "checkpoint");
+    check(mg_checkpoint_void(die) == MG_EMPTY_HANDLE, "and its end");
     check(mg_job(die, 0, &head) == MG_EMPTY_HANDLE && mg_outcome(die, 0, &outcome, NULL, 0) == MG_EMPTY_HANDLE, "a job");
     check(mg_worst(die, &worst) == MG_EMPTY_HANDLE && mg_certificate(die, &cert, NULL, 0) == MG_EMPTY_HANDLE, "the worst");
     check(mg_rows(die, NULL, 0, &total) == MG_EMPTY_HANDLE && number == 5 && spare == 6 && total == 7, "and nothing is written");
@@ -76,7 +77,7 @@ static void show_handles(void) {
     check(mg_new(&die, &plan, &task, 1) == MG_OK, "new");
     check(mg_new(&die, &plan, &task, 1) == MG_FULL_HANDLE, "a die isn't lost");
     struct mg_why why = unsaid;
-    check(mg_resume(&die, &plan, &task, 1, NULL, 0, NULL, 0, NULL, 0, NULL, 0, 0, &why) == MG_FULL_HANDLE && says(&why, 0, 0), "nor then");
+    check(mg_resume(&die, &plan, &task, 1, NULL, 0, NULL, 0, NULL, 0, NULL, 0, 0, NULL, &why) == MG_FULL_HANDLE && says(&why, 0, 0), "nor then");
     mg_free(&die);
     of_no_die(&die);
 }
@@ -127,8 +128,8 @@ static void show_pointers(void) {
     check(mg_certificate(&die, &cert, NULL, 0) == MG_OK && cert.jobs == 1, "how many jobs");
     check(mg_rows(&die, NULL, 0, &total) == MG_OK && total == 2, "how many rows");
     check(mg_renew(&die, NULL) == MG_NOT_QUIET && mg_renew_giving_back(&die, NULL) == MG_NOT_QUIET, "the collection waits");
-    check(mg_checkpoint(&die, NULL, 0, NULL, 0, NULL, 0, NULL, 0, NULL, NULL) == MG_NULL_POINTER, "where to");
-    check(mg_checkpoint(&die, NULL, 0, NULL, 0, NULL, 0, NULL, 0, &spare, NULL) == MG_NOT_QUIET, "the same");
+    check(mg_checkpoint(&die, NULL, 0, NULL, 0, NULL, 0, NULL, 0, NULL, NULL, NULL) == MG_NULL_POINTER, "where to");
+    check(mg_checkpoint(&die, NULL, 0, NULL, 0, NULL, 0, NULL, 0, &spare, NULL, NULL) == MG_NOT_QUIET, "the same");
     check(mg_refusal_name(MG_NO_TOKENS, NULL, 0) == 8, "the length of a name");
     mg_free(&die);
 }
@@ -174,20 +175,20 @@ static void show_memory(void) {
     left = UINT32_MAX;
     check(mg_plan_bound(&wrong, tasks, 16) == MG_BAD_SHAPE && mg_new(&die, &wrong, tasks, 16) == MG_BAD_SHAPE, "and then the shape");
     check(mg_new(&die, &plan, &task, 1) == MG_OK, "new");
-    check(mg_checkpoint(&die, places, LOGICAL, names, LOGICAL, blocks, BLOCKS, &balance, 1, &spare, &why) == MG_OK, "checkpoint");
+    check(mg_checkpoint(&die, places, LOGICAL, names, LOGICAL, blocks, BLOCKS, &balance, 1, &spare, NULL, &why) == MG_OK, "checkpoint");
     check(says(&why, unsaid.first, unsaid.second), "nothing is refused");
     mg_free(&die);
     for (tried = 0;; tried++) {
         why = unsaid;
         left = tried;
-        uint32_t code = mg_resume(&die, &plan, &task, 1, places, LOGICAL, names, LOGICAL, blocks, BLOCKS, &balance, 1, spare, &why);
+        uint32_t code = mg_resume(&die, &plan, &task, 1, places, LOGICAL, names, LOGICAL, blocks, BLOCKS, &balance, 1, spare, NULL, &why);
         left = UINT32_MAX;
         if (code == MG_OK) break;
         check(code == MG_NO_MEMORY && says(&why, 0, 0) && !die.at, "a die isn't made, and why is written");
     }
     check(tried > 10 && says(&why, unsaid.first, unsaid.second), "more than ten were refused");
     mg_free(&die);
-    check(mg_resume(&die, &plan, &task, 1, places, LOGICAL, names, LOGICAL, blocks, BLOCKS, &balance, 1, UINT32_MAX, &why) == MG_OTHER_SUM
+    check(mg_resume(&die, &plan, &task, 1, places, LOGICAL, names, LOGICAL, blocks, BLOCKS, &balance, 1, UINT32_MAX, NULL, &why) == MG_OTHER_SUM
           && why.first == UINT32_MAX && why.second == BLOCKS * PAGES, "a sum above 32 bits");
     /* times out of their limits, which the bound doesn't look at */
     const struct mg_task good = {4, 8, 8, 2, 1};
@@ -206,7 +207,7 @@ static void show_memory(void) {
         if (i == 7) timed.common = 1048577;
         why = unsaid;
         check(mg_plan_bound(&timed, of, 1) == MG_BAD_PLAN && mg_new(&die, &timed, of, 1) == MG_BAD_PLAN, "times out of their limits");
-        check(mg_resume(&die, &timed, of, 1, places, LOGICAL, names, LOGICAL, blocks, BLOCKS, &balance, 1, spare, &why) == MG_BAD_PLAN
+        check(mg_resume(&die, &timed, of, 1, places, LOGICAL, names, LOGICAL, blocks, BLOCKS, &balance, 1, spare, NULL, &why) == MG_BAD_PLAN
               && says(&why, 0, 0), "here, too");
     }
 }
@@ -277,7 +278,7 @@ static void show_trims(void) {
 
 /* Tells a mount a block: which page its first cell has, if any, and which its second one. */
 static uint32_t tell(mg_mount *mount, uint32_t first, uint64_t first_serial, uint32_t second, uint64_t second_serial) {
-    const struct mg_label labels[2] = {{first_serial, first}, {second_serial, second}};
+    const struct mg_label labels[2] = {{first_serial, first, 0}, {second_serial, second, 0}};
     return mg_mount_tell(mount, labels, 2, NULL);
 }
 
@@ -318,7 +319,7 @@ static void show_mount(void) {
     struct mg_reply reply;
     struct mg_name names[6] = {{{0}}};
     uint32_t block = 99, tried;
-    const struct mg_label bad[3] = {{1, 0}, {0, MG_NO_LABEL}, {2, LOGICAL}}, late = {(uint64_t)1 << 63, 0};
+    const struct mg_label bad[3] = {{1, 0, 0}, {0, MG_NO_LABEL, 0}, {2, LOGICAL, 0}}, late = {(uint64_t)1 << 63, 0, 0};
     const struct mg_op write = {MG_WRITE, 2, {{9}}};
     names[5].bytes[0] = 171;
     large.blocks = 1024;
@@ -340,7 +341,7 @@ static void show_mount(void) {
           "null pointers");
     check(mg_mount_done(&mount) == MG_WRONG_STEP && mg_mount_place(&mount, 5, &cell) == MG_WRONG_STEP && cell.block == 1
           && mg_mount_calls_left(&mount) == 0 && mg_mount_end(&mount, names, 6, &die) == MG_WRONG_STEP && !die.at, "blocks come first");
-    const struct mg_label many[5] = {{1, 0}, {2, 0}, {3, 0}, {4, 0}, {5, 0}};
+    const struct mg_label many[5] = {{1, 0, 0}, {2, 0, 0}, {3, 0, 0}, {4, 0, 0}, {5, 0, 0}};
     check(mg_mount_tell(&mount, many, 5, &why) == MG_TOO_MANY_CELLS && says(&why, 0, 0), "too many cells");
     check(mg_mount_tell(&mount, bad, 3, &why) == MG_BAD_LABEL && says(&why, 2, 0) && mg_mount_tell(&mount, &late, 1, NULL) == MG_BAD_LABEL,
           "labels out of their range");
@@ -397,12 +398,123 @@ static void show_undoing(void) {
     mg_mount_free(&mount);
 }
 
+/* The same part, whose labels tell of erases: 10 of block 3, by the greater of its counts, and 4 of block 8. Each other block counts one
+ * more than the greatest, and one more once the mount has erased it. */
+static void show_erases(void) {
+    static const uint32_t counts[BLOCKS] = {4, 12, 12, 10, 11, 11, 11, 11};
+    const struct mg_label third[3] = {{40, 6, 9}, {41, 5, 10}, {0, MG_NO_LABEL, 99}}, eighth = {39, 7, 4};
+    const struct mg_op write = {MG_WRITE, 2, {{9}}};
+    struct mg_block blocks[BLOCKS];
+    struct mg_name names[8] = {{{0}}};
+    struct mg_part part = {0, 0};
+    struct mg_why why = unsaid;
+    struct mg_step step;
+    struct mg_call call;
+    struct mg_reply reply;
+    uint32_t spare;
+    mg_mount mount = {0};
+    mg_die die = {0};
+    for (int worn = 0; worn < 2; worn++) {
+        struct mg_label own[3] = {third[0], third[1], third[2]};
+        if (worn) own[0].erases = UINT32_MAX;
+        check(mg_mount_new(&mount, &plan, &task, 1) == MG_OK, "a mount");
+        for (uint32_t b = 0; b < 8; b++)
+            check((b == 3 ? mg_mount_tell(&mount, own, 3, NULL) : mg_mount_tell(&mount, NULL, 0, NULL)) == MG_OK, "a block is told");
+        uint32_t code = mg_mount_tell(&mount, &eighth, 1, &why);
+        if (!worn) {
+            check(code == MG_OK && says(&why, unsaid.first, unsaid.second), "the last one");
+            while (mg_mount_next(&mount, &step) == MG_OK && step.kind == MG_STEP_ERASE) check(mg_mount_done(&mount) == MG_OK, "an erase");
+            check(step.kind == MG_STEP_END && step.erases == 0 && mg_mount_end(&mount, names, 8, &die) == MG_OK, "a die");
+        } else
+            check(code == MG_WORN_OUT && says(&why, 0, 0) && mg_mount_next(&mount, &step) == MG_WRONG_STEP, "block 0 counts one more than block 3");
+        mg_mount_free(&mount);
+    }
+    check(mg_checkpoint(&die, NULL, 0, NULL, 0, blocks, BLOCKS, NULL, 0, &spare, &part, NULL) == MG_OK && part.aside == 0 && part.serial == 42,
+          "what stands");
+    for (uint32_t b = 0; b < BLOCKS; b++) check(blocks[b].erases == counts[b], "how often a block was erased");
+    check(mg_submit(&die, 1, 0, 0, 9, &write, 1, NULL, NULL) == MG_OK && mg_begin(&die, 9, &call) == MG_OK && call.kind == MG_CALL_PROGRAM
+          && call.block == 1 && call.erases == 12 && mg_end(&die, 1, &call.name, &reply, NULL, 0) == MG_OK, "what a label bears");
+    check(mg_begin(&die, 9, &call) == MG_OK && call.kind == MG_CALL_NONE && call.erases == 0, "an idle slot");
+    mg_free(&die);
+}
+
+/* A mount that copies: one page lies in each block but the first, and the program of a copy has the erases of the block that was erased. */
+static void show_copied_erases(void) {
+    struct mg_step step;
+    mg_mount mount = {0};
+    check(mg_mount_new(&mount, &plan, &task, 1) == MG_OK, "a mount");
+    for (uint32_t b = 0; b < 9; b++) {
+        const struct mg_label label = {b, b, 20 + b};
+        check(mg_mount_tell(&mount, &label, b > 0, NULL) == MG_OK, "a block is told");
+    }
+    erase(&mount, 0);
+    check(mg_mount_next(&mount, &step) == MG_OK && step.kind == MG_STEP_READ && step.block == 1 && mg_mount_done(&mount) == MG_OK, "a copy's read");
+    check(mg_mount_next(&mount, &step) == MG_OK && step.kind == MG_STEP_PROGRAM && step.block == 0 && step.logical == 1 && step.serial == 9
+          && step.erases == 30, "29 of a block without a label, and one more");
+    mg_mount_free(&mount);
+}
+
+static struct mg_part known;
+
+/* Makes a die that wrote page 3, writes it down and frees it. */
+static uint32_t written_down(struct mg_cell *places, struct mg_name *names, struct mg_block *blocks, uint32_t *balance) {
+    const struct mg_op write = {MG_WRITE, 3, {{7}}};
+    struct mg_call call;
+    struct mg_reply reply;
+    uint32_t spare;
+    mg_die die = {0};
+    check(mg_new(&die, &plan, &task, 1) == MG_OK && mg_checkpoint_void(&die) == MG_OK, "no checkpoint stands of a new die");
+    check(mg_submit(&die, 1, 0, 0, 9, &write, 1, NULL, NULL) == MG_OK && mg_begin(&die, 9, &call) == MG_OK && call.erases == 0
+          && mg_end(&die, 1, &call.name, &reply, NULL, 0) == MG_OK, "a write");
+    check(mg_checkpoint(&die, places, LOGICAL, names, LOGICAL, blocks, BLOCKS, balance, 1, &spare, &known, NULL) == MG_OK
+          && known.serial == 2 && known.aside == BLOCKS, "the next serial, and the last block");
+    mg_free(&die);
+    return spare;
+}
+
+/* A die that was resumed begins no slot that would spend its checkpoint, until that is void: a program, an erase, a trim. */
+static void show_void(void) {
+    struct mg_cell places[LOGICAL], cell;
+    struct mg_name names[LOGICAL];
+    struct mg_block blocks[BLOCKS];
+    struct mg_call call;
+    struct mg_reply reply;
+    uint32_t balance, block, spare = written_down(places, names, blocks, &balance);
+    const struct mg_op spends[2] = {{MG_WRITE, 2, {{9}}}, {MG_TRIM, 3, {{0}}}}, read = {MG_READ, 3, {{0}}};
+    const struct mg_part moved = {77, 3};
+    mg_die die = {0};
+    for (int kind = 0; kind < 2; kind++) {
+        check(mg_resume(&die, &plan, &task, 1, places, LOGICAL, names, LOGICAL, blocks, BLOCKS, &balance, 1, spare, &moved, NULL) == MG_OK
+              && mg_serial(&die) == 77 && mg_part_block(&die, 3, &block) == MG_OK && block == 8, "it has the part that it is given");
+        check(mg_submit(&die, 1, 0, 0, 2, &read, 1, NULL, NULL) == MG_OK && mg_submit(&die, 1, 0, 2, 9, &spends[kind], 1, NULL, NULL) == MG_OK, "two");
+        check(mg_begin(&die, 9, &call) == MG_OK && call.kind == MG_CALL_READ && mg_end(&die, 1, &call.name, &reply, NULL, 0) == MG_OK
+              && mg_begin(&die, 9, &call) == MG_OK && call.kind == MG_CALL_NONE && mg_end(&die, 1, &call.name, &reply, NULL, 0) == MG_OK, "a read, and an idle slot");
+        call.kind = 99;
+        for (int again = 0; again < 2; again++)
+            check(mg_begin(&die, 9, &call) == MG_CHECKPOINT_STANDS && call.kind == 99 && mg_now(&die) == 2
+                  && mg_end(&die, 1, &call.name, &reply, NULL, 0) == MG_NOT_BEGUN, "the checkpoint stands");
+        struct mg_part part;
+        uint32_t spare_now;
+        check(mg_checkpoint(&die, NULL, 0, NULL, 0, NULL, 0, NULL, 0, &spare_now, &part, NULL) == MG_NOT_QUIET, "work waits");
+        check(mg_checkpoint_void(&die) == MG_OK && mg_checkpoint_void(&die) == MG_OK, "it is void");
+        check(mg_begin(&die, 9, &call) == MG_OK && call.kind == (kind ? MG_CALL_TRIM : MG_CALL_PROGRAM)
+              && mg_end(&die, 1, &call.name, &reply, NULL, 0) == MG_OK && mg_serial(&die) == (kind ? 77 : 78), "the slot");
+        check(mg_checkpoint(&die, NULL, 0, NULL, 0, NULL, 0, NULL, 0, &spare_now, &part, NULL) == MG_OK && part.aside == 3
+              && part.serial == (kind ? 77 : 78), "the next checkpoint");
+        check(mg_place(&die, 3, &cell) == MG_OK && (cell.block == MG_NOWHERE) == kind, "page 3");
+        mg_free(&die);
+    }
+    check(mg_resume(&die, &plan, &task, 1, places, LOGICAL, names, LOGICAL, blocks, BLOCKS, &balance, 1, spare, NULL, NULL) == MG_OK
+          && mg_serial(&die) == 1 && mg_part_block(&die, 7, &block) == MG_OK && block == 7, "a part without labels");
+    mg_free(&die);
+}
+
 static void show_texts(void) {
     uint32_t texts = 0;
-    for (uint32_t code = 0; code < 500; code++) {
-        char name[14];
+    for (uint32_t code = 0; code < 600; code++) {
+        char name[17];
         uint32_t length = mg_refusal_name(code, name, sizeof name);
-        check(length <= 13 && strlen(name) == length, "a name");
+        check(length <= 16 && strlen(name) == length, "a name");
         if (strcmp(mg_refusal_text(code), mg_refusal_text(UINT32_MAX))) {
             check(strcmp(name, "Unknown") != 0, "what has a text has a name");
             texts++;
@@ -553,17 +665,17 @@ static int tells(const struct mg_unresumed *why, uint32_t first, uint32_t second
 }
 
 enum { OF_PLANNED = 12 }; /* its logical pages */
-struct written { struct mg_cell places[OF_PLANNED]; struct mg_name names[OF_PLANNED]; struct mg_block blocks[8]; uint32_t balances[1], spare; };
+struct written { struct mg_cell places[OF_PLANNED]; struct mg_name names[OF_PLANNED]; struct mg_block blocks[8]; uint32_t balances[1], spare; struct mg_part part; };
 
 static uint32_t write_down(mg_planned *die, struct written *to, struct mg_why *why) {
-    return mg_planned_checkpoint(die, to->places, OF_PLANNED, to->names, OF_PLANNED, to->blocks, 8, to->balances, 1, &to->spare, why);
+    return mg_planned_checkpoint(die, to->places, OF_PLANNED, to->names, OF_PLANNED, to->blocks, 8, to->balances, 1, &to->spare, &to->part, why);
 }
 
 static uint32_t go_on(mg_planned *die, const struct mg_terms *terms, uint32_t longest, const struct written *from, struct mg_unresumed *why) {
     static const struct mg_plan own = {8, 4, 3, OF_PLANNED, 2, 0};
     static const struct mg_task cap = {6, 0, 0, 0, 0};
     return mg_planned_resume(die, &own, &cap, terms, 1, longest, from->places, OF_PLANNED, from->names, OF_PLANNED, from->blocks, 8,
-                             from->balances, 1, from->spare, why);
+                             from->balances, 1, from->spare, &from->part, why);
 }
 
 /* Slots of a die that keeps its plan, on a chip that does what it is asked. */
@@ -595,11 +707,11 @@ static void show_planned_shutdown(void) {
     mg_planned die = {0};
     check(write_down(&die, &at, &why) == MG_EMPTY_HANDLE && says(&why, 0, 0) && write_down(NULL, &at, NULL) == MG_EMPTY_HANDLE
           && go_on(NULL, &terms, 100, &at, &un) == MG_EMPTY_HANDLE && tells(&un, 0, 0, 0) && mg_planned_serial(&die) == 0
-          && mg_planned_serial(NULL) == 0 && mg_planned_part_block(&die, 0, &block) == MG_EMPTY_HANDLE && block == 99, "of no die");
+          && mg_planned_serial(NULL) == 0 && mg_planned_checkpoint_void(&die) == MG_EMPTY_HANDLE && mg_planned_checkpoint_void(NULL) == MG_EMPTY_HANDLE && mg_planned_part_block(&die, 0, &block) == MG_EMPTY_HANDLE && block == 99, "of no die");
     check(mg_planned_new(&die, &own, &cap, &terms, 1, 100, NULL) == MG_OK, "a die");
-    check(mg_planned_checkpoint(&die, NULL, OF_PLANNED, NULL, 0, NULL, 0, NULL, 0, &at.spare, &why) == MG_NULL_POINTER
-          && mg_planned_checkpoint(&die, NULL, 0, NULL, 0, NULL, 0, NULL, 0, NULL, NULL) == MG_NULL_POINTER
-          && mg_planned_checkpoint(&die, NULL, 0, NULL, 0, NULL, 0, NULL, 0, &at.spare, NULL) == MG_OK && at.spare == 24,
+    check(mg_planned_checkpoint(&die, NULL, OF_PLANNED, NULL, 0, NULL, 0, NULL, 0, &at.spare, NULL, &why) == MG_NULL_POINTER
+          && mg_planned_checkpoint(&die, NULL, 0, NULL, 0, NULL, 0, NULL, 0, NULL, NULL, NULL) == MG_NULL_POINTER
+          && mg_planned_checkpoint(&die, NULL, 0, NULL, 0, NULL, 0, NULL, 0, &at.spare, NULL, NULL) == MG_OK && at.spare == 24,
           "an array of none");
     check(mg_planned_serial(&die) == 1 && mg_planned_part_block(&die, 7, &block) == MG_OK && block == 7
           && mg_planned_part_block(&die, 7, NULL) == MG_NULL_POINTER, "its part");
@@ -625,11 +737,11 @@ static void show_planned_shutdown(void) {
     mg_planned other = {0};
     check(go_on(&die, &terms, 100, &at, &un) == MG_FULL_HANDLE && tells(&un, 0, 0, 0), "a die isn't lost");
     un.first = 7;
-    check(mg_planned_resume(&other, NULL, &cap, &terms, 1, 100, NULL, 0, NULL, 0, NULL, 0, NULL, 0, 0, &un) == MG_NULL_POINTER
+    check(mg_planned_resume(&other, NULL, &cap, &terms, 1, 100, NULL, 0, NULL, 0, NULL, 0, NULL, 0, 0, NULL, &un) == MG_NULL_POINTER
           && tells(&un, 0, 0, 0)
-          && mg_planned_resume(&other, &own, &cap, NULL, 1, 100, NULL, 0, NULL, 0, NULL, 0, NULL, 0, 0, NULL) == MG_NULL_POINTER
-          && mg_planned_resume(&other, &own, &cap, &terms, 1, 100, NULL, 1, NULL, 0, NULL, 0, NULL, 0, 0, NULL) == MG_NULL_POINTER
-          && mg_planned_resume(&other, &own, &cap, &terms, 1, 100, NULL, 0, NULL, 0, NULL, 0, NULL, 0, 0, NULL) == MG_OTHER_SHAPE,
+          && mg_planned_resume(&other, &own, &cap, NULL, 1, 100, NULL, 0, NULL, 0, NULL, 0, NULL, 0, 0, NULL, NULL) == MG_NULL_POINTER
+          && mg_planned_resume(&other, &own, &cap, &terms, 1, 100, NULL, 1, NULL, 0, NULL, 0, NULL, 0, 0, NULL, NULL) == MG_NULL_POINTER
+          && mg_planned_resume(&other, &own, &cap, &terms, 1, 100, NULL, 0, NULL, 0, NULL, 0, NULL, 0, 0, NULL, NULL) == MG_OTHER_SHAPE,
           "what it goes on from");
     broken = at;
     broken.spare++;
@@ -658,8 +770,11 @@ static void show_planned_shutdown(void) {
         check(code == MG_NO_MEMORY && tells(&un, 0, 0, 0) && !other.at, "no memory, no die");
     }
     check(tries > 10 && mg_planned_life(&other, &life) == MG_OK && life.first == 0 && life.slots == 60 && life.now == 0, "another length of lives");
-    check(mg_planned_clock(&other) == 0 && mg_planned_serial(&other) == 1 && mg_planned_place(&other, 5, &cell) == MG_OK && cell.block == 0, "it goes on");
+    check(at.part.serial == 2 && at.part.aside == 8 && mg_planned_clock(&other) == 0 && mg_planned_serial(&other) == 2
+          && mg_planned_place(&other, 5, &cell) == MG_OK && cell.block == 0, "it goes on");
     left = 0; /* it asks the heap for nothing from here on */
+    check(mg_planned_begin(&other, 9, &call) == MG_CHECKPOINT_STANDS && mg_planned_clock(&other) == 0, "its checkpoint stands");
+    check(mg_planned_checkpoint_void(&other) == MG_OK && mg_planned_checkpoint_void(&other) == MG_OK, "and is void");
     check(mg_planned_ask(&other, 1, 0, &write, 1, &taken, NULL) == MG_OK && taken.due == 10, "it takes asks");
     carry_slots(&other, 500);
     left = UINT32_MAX;
@@ -731,6 +846,130 @@ static void show_planned_mount(void) {
     mg_planned_free(&die);
 }
 
+/* What a table needs next. */
+static int moves(mg_spares *spares, uint32_t kind, uint32_t block, uint32_t page, uint32_t from) {
+    struct mg_move move;
+    return mg_spares_next(spares, &move) == MG_OK && move.kind == kind && move.block == block && move.page == page && move.from == from;
+}
+
+/* Each call of no table, or with a null pointer. */
+static void of_no_table(mg_spares *spares, const struct mg_plan *plan) {
+    struct mg_move move = {9, 9, 9, 9};
+    uint32_t one = 7, two = 7;
+    mg_spares_free(spares);
+    check(mg_spares_next(spares, &move) == MG_EMPTY_HANDLE && move.kind == 9 && mg_spares_done(spares, 0) == MG_EMPTY_HANDLE
+          && mg_spares_tell(spares, NULL, 0) == MG_EMPTY_HANDLE && mg_spares_left(spares) == 0, "moves of no table");
+    check(mg_spares_program_failed(spares, 0, 0) == MG_EMPTY_HANDLE && mg_spares_erase_failed(spares, 0) == MG_EMPTY_HANDLE
+          && mg_spares_block(spares, 0, &one) == MG_EMPTY_HANDLE && mg_spares_use(spares, 0, &one, &two) == MG_EMPTY_HANDLE && one == 7 && two == 7,
+          "blocks of no table");
+    check(mg_spares_new(NULL, plan, 9, NULL, 0) == MG_EMPTY_HANDLE && mg_spares_power_up(NULL, plan, 9, NULL, 0) == MG_EMPTY_HANDLE, "no handle");
+}
+
+/* A table of 4 numbers on a part of 8 blocks: 2 is bad, 0, 1, 3 and 4 have the numbers 0 to 3, and 5, 6 and 7 are spare. */
+static void show_spares(void) {
+    struct mg_plan plan = {3, 4, 3, 6, 2, 0}, large = plan;
+    const uint32_t bad[1] = {2}, most[5] = {0, 1, 2, 3, 4};
+    mg_spares spares = {0};
+    struct mg_move move = {9, 9, 9, 9};
+    uint32_t block = 77, use = 77, number = 77;
+    of_no_table(NULL, &plan);
+    of_no_table(&spares, &plan);
+    large.blocks = 1024;
+    check(mg_spares_new(&spares, NULL, 8, bad, 1) == MG_NULL_POINTER && mg_spares_new(&spares, &plan, 8, NULL, 1) == MG_NULL_POINTER
+          && mg_spares_power_up(&spares, NULL, 8, bad, 1) == MG_NULL_POINTER && mg_spares_power_up(&spares, &plan, 8, NULL, 1) == MG_NULL_POINTER
+          && mg_spares_new(&spares, &large, 2000, NULL, 0) == MG_BAD_SHAPE && mg_spares_new(&spares, &plan, 8, most, 5) == MG_BAD_SHAPE
+          && mg_spares_power_up(&spares, &large, 2000, NULL, 0) == MG_BAD_SHAPE && mg_spares_power_up(&spares, &plan, 3, NULL, 0) == MG_BAD_SHAPE
+          && !spares.at, "no table");
+    left = 0;
+    uint32_t tried = 0;
+    for (;; tried++) {
+        left = tried;
+        uint32_t code = mg_spares_new(&spares, &plan, 8, bad, 1);
+        left = UINT32_MAX;
+        if (code == MG_OK) break;
+        check(code == MG_NO_MEMORY && !spares.at, "refused for memory");
+    }
+    check(tried > 2 && mg_spares_new(&spares, &plan, 8, bad, 1) == MG_FULL_HANDLE && mg_spares_power_up(&spares, &plan, 8, bad, 1) == MG_FULL_HANDLE,
+          "a table isn't lost");
+    left = 0; /* from here on no memory is asked for */
+    check(mg_spares_next(&spares, NULL) == MG_NULL_POINTER && mg_spares_block(&spares, 0, NULL) == MG_NULL_POINTER
+          && mg_spares_use(&spares, 0, NULL, &number) == MG_NULL_POINTER && mg_spares_use(&spares, 0, &use, NULL) == MG_NULL_POINTER
+          && mg_spares_tell(&spares, NULL, 1) == MG_NULL_POINTER && mg_spares_done(&spares, 3) == MG_BAD_KIND, "pointers, and how it was done");
+    check(mg_spares_tell(&spares, NULL, 0) == MG_WRONG_STEP && mg_spares_program_failed(&spares, 0, 0) == MG_WRONG_STEP
+          && mg_spares_erase_failed(&spares, 0) == MG_WRONG_STEP, "erases come first");
+    /* of the erases that of block 1 fails, which has number 1: a spare block has it then, and is erased in its turn */
+    for (uint32_t b = 0; b < 8; b++) {
+        if (b == 2) continue;
+        check(moves(&spares, MG_MOVE_ERASE, b, 0, 0) && mg_spares_done(&spares, b == 1 ? MG_MOVE_FAILED : MG_MOVE_DONE) == MG_OK, "an erase");
+    }
+    check(moves(&spares, MG_MOVE_NONE, 0, 0, 0) && mg_spares_done(&spares, MG_MOVE_DONE) == MG_WRONG_STEP && mg_spares_left(&spares) == 2, "it is at work");
+    check(mg_spares_block(&spares, 1, &block) == MG_OK && block == 5 && mg_spares_block(&spares, 2, &block) == MG_OK && block == 3
+          && mg_spares_block(&spares, 4, &block) == MG_NO_BLOCK && block == 3, "blocks by number");
+    check(mg_spares_use(&spares, 1, &use, &number) == MG_OK && use == MG_USE_BAD && mg_spares_use(&spares, 2, &use, &number) == MG_OK && use == MG_USE_BAD
+          && mg_spares_use(&spares, 6, &use, &number) == MG_OK && use == MG_USE_SPARE && mg_spares_use(&spares, 9, &use, &number) == MG_OK && use == MG_USE_BAD
+          && mg_spares_use(&spares, 5, &use, &number) == MG_OK && use == MG_USE_NUMBER && number == 1, "uses");
+    check(mg_spares_program_failed(&spares, 4, 0) == MG_NO_BLOCK && mg_spares_program_failed(&spares, 0, 4) == MG_NO_BLOCK
+          && mg_spares_erase_failed(&spares, 4) == MG_NO_BLOCK, "no such cell");
+    /* page 2 of number 3, which is block 4: block 6 fails as it is filled, and block 7 has the number once all is done */
+    check(mg_spares_program_failed(&spares, 3, 2) == MG_OK && moves(&spares, MG_MOVE_COPY, 6, 0, 4) && mg_spares_done(&spares, MG_MOVE_DONE) == MG_OK
+          && moves(&spares, MG_MOVE_COPY, 6, 1, 4) && mg_spares_erase_failed(&spares, 0) == MG_WRONG_STEP
+          && mg_spares_done(&spares, MG_MOVE_FAILED) == MG_OK && mg_spares_left(&spares) == 1, "the next spare block is tried");
+    check(moves(&spares, MG_MOVE_COPY, 7, 0, 4) && mg_spares_done(&spares, MG_MOVE_DONE) == MG_OK && moves(&spares, MG_MOVE_COPY, 7, 1, 4)
+          && mg_spares_done(&spares, MG_MOVE_DONE) == MG_OK && moves(&spares, MG_MOVE_PROGRAM, 7, 2, 0)
+          && mg_spares_block(&spares, 3, &block) == MG_OK && block == 4 && mg_spares_done(&spares, MG_MOVE_DONE) == MG_OK
+          && mg_spares_block(&spares, 3, &block) == MG_OK && block == 7 && mg_spares_left(&spares) == 0, "the table is set at the end");
+    check(mg_spares_use(&spares, 4, &use, &number) == MG_OK && use == MG_USE_BAD && mg_spares_erase_failed(&spares, 2) == MG_NO_SPARE
+          && mg_spares_next(&spares, &move) == MG_NO_SPARE && move.kind == 9 && mg_spares_erase_failed(&spares, 2) == MG_NO_SPARE
+          && mg_spares_program_failed(&spares, 2, 0) == MG_NO_SPARE && mg_spares_done(&spares, MG_MOVE_DONE) == MG_WRONG_STEP
+          && mg_spares_block(&spares, 2, &block) == MG_OK && block == 3, "it is worn out, and stays as it was");
+    left = UINT32_MAX;
+    mg_spares_free(&spares);
+    check(!spares.at && mg_spares_new(&spares, &plan, 8, bad, 1) == MG_OK && mg_spares_done(&spares, MG_MOVE_FAULT) == MG_OK
+          && mg_spares_next(&spares, &move) == MG_DEVICE_FAULT && mg_spares_program_failed(&spares, 0, 0) == MG_DEVICE_FAULT, "a fault");
+    mg_spares_free(&spares);
+}
+
+/* A part of 8 blocks whose power has come. Block 3 was filled in the place of block 5, and block 7 is bad. */
+static void show_spares_powered(void) {
+    struct mg_plan plan = {3, 4, 3, 6, 2, 0};
+    const uint32_t bad[1] = {7};
+    const struct mg_label many[5] = {{0, MG_NO_LABEL, 0}}, whole[3] = {{11, 0, 7}, {12, 1, 7}, {13, 2, 7}}, other[1] = {{9, 4, 0}};
+    mg_spares spares = {0};
+    uint32_t block = 77, use = 77, number = 77;
+    check(mg_spares_power_up(&spares, &plan, 8, bad, 1) == MG_OK, "a scan");
+    check(mg_spares_block(&spares, 0, &block) == MG_WRONG_STEP && mg_spares_use(&spares, 0, &use, &number) == MG_WRONG_STEP && block == 77 && use == 77
+          && mg_spares_left(&spares) == 0 && mg_spares_done(&spares, MG_MOVE_DONE) == MG_WRONG_STEP
+          && mg_spares_program_failed(&spares, 0, 0) == MG_WRONG_STEP && mg_spares_erase_failed(&spares, 0) == MG_WRONG_STEP, "blocks come first");
+    check(mg_spares_tell(&spares, many, 5) == MG_TOO_MANY_CELLS, "too many cells");
+    for (uint32_t b = 0; b < 8; b++) {
+        check(moves(&spares, MG_MOVE_TELL, b, 0, 0), "a block is told");
+        left = 0;
+        if (b == 0) check(mg_spares_tell(&spares, whole, 3) == MG_NO_MEMORY && moves(&spares, MG_MOVE_TELL, 0, 0, 0), "it may be told again");
+        left = UINT32_MAX;
+        /* 3 has less of 5; 7 isn't looked at; the others but 0 are blank */
+        check(mg_spares_tell(&spares, b == 0 ? other : whole, b == 0 ? 1 : b == 3 ? 2 : b == 5 || b == 7 ? 3 : 0) == MG_OK, "a block is told");
+    }
+    /* 0 and 5 have labels; of 1, 2, 4 and 6, which are blank, the first two have numbers, too */
+    check(mg_spares_block(&spares, 0, &block) == MG_OK && block == 0 && mg_spares_block(&spares, 1, &block) == MG_OK && block == 1
+          && mg_spares_block(&spares, 2, &block) == MG_OK && block == 2 && mg_spares_block(&spares, 3, &block) == MG_OK && block == 5, "numbers by labels");
+    check(moves(&spares, MG_MOVE_ERASE, 3, 0, 0) && mg_spares_done(&spares, MG_MOVE_DONE) == MG_OK && moves(&spares, MG_MOVE_ERASE, 4, 0, 0)
+          && mg_spares_done(&spares, MG_MOVE_FAILED) == MG_OK && moves(&spares, MG_MOVE_ERASE, 6, 0, 0) && mg_spares_done(&spares, MG_MOVE_DONE) == MG_OK
+          && moves(&spares, MG_MOVE_NONE, 0, 0, 0) && mg_spares_left(&spares) == 2, "spare blocks are erased");
+    check(mg_spares_use(&spares, 4, &use, &number) == MG_OK && use == MG_USE_BAD && mg_spares_use(&spares, 7, &use, &number) == MG_OK && use == MG_USE_BAD, "bad ones");
+    check(mg_spares_erase_failed(&spares, 3) == MG_OK && mg_spares_block(&spares, 3, &block) == MG_OK && block == 3, "a spare block has the number");
+    mg_spares_free(&spares);
+    /* five blocks with labels of their own, for four numbers */
+    check(mg_spares_power_up(&spares, &plan, 5, NULL, 0) == MG_OK, "a scan");
+    for (uint32_t b = 0; b < 5; b++) {
+        struct mg_label label = {20 + b, 3, 0};
+        check(mg_spares_tell(&spares, &label, 1) == (b < 4 ? MG_OK : MG_BAD_SHAPE), "too many blocks with labels");
+    }
+    struct mg_move move;
+    check(mg_spares_next(&spares, &move) == MG_WRONG_STEP && mg_spares_tell(&spares, NULL, 0) == MG_WRONG_STEP
+          && mg_spares_program_failed(&spares, 0, 0) == MG_WRONG_STEP && mg_spares_left(&spares) == 0, "nothing comes any more");
+    mg_spares_free(&spares);
+}
+
 int main(int argc, char **argv) {
     show_handles();
     show_pointers();
@@ -743,6 +982,11 @@ int main(int argc, char **argv) {
     show_trims();
     show_mount();
     show_undoing();
+    show_erases();
+    show_copied_erases();
+    show_void();
+    show_spares();
+    show_spares_powered();
     show_texts();
     show_report(argc > 1 ? argv[1] : NULL);
     puts("all as it should be");

@@ -127,28 +127,36 @@ uint32_t mg_renew_giving_back(mg_die *die, struct mg_why *why) {
 
 uint32_t mg_checkpoint(mg_die *die, struct mg_cell *places, size_t place_count, struct mg_name *names, size_t name_count,
                        struct mg_block *blocks, size_t block_count, uint32_t *balances, size_t balance_count, uint32_t *spare,
-                       struct mg_why *why) {
+                       struct mg_part *part, struct mg_why *why) {
     struct mg_why numbers;
+    struct mg_part known;
     if (!is_full(die)) return refused(MG_EMPTY_HANDLE, why);
     if (!spare || !is_array(places, place_count) || !is_array(names, name_count) || !is_array(blocks, block_count)
         || !is_array(balances, balance_count))
         return refused(MG_NULL_POINTER, why);
     return flash_checkpoint(die, ARRAY(places), place_count, ARRAY(names), name_count, ARRAY(blocks), block_count,
-                            ARRAY(balances), balance_count, spare, why ? why : &numbers);
+                            ARRAY(balances), balance_count, spare, part ? part : &known, why ? why : &numbers);
 }
 
 uint32_t mg_resume(mg_die *die, const struct mg_plan *plan, const struct mg_task *tasks, size_t count,
                    const struct mg_cell *places, size_t place_count, const struct mg_name *names, size_t name_count,
                    const struct mg_block *blocks, size_t block_count, const uint32_t *balances, size_t balance_count,
-                   uint32_t spare, struct mg_why *why) {
+                   uint32_t spare, const struct mg_part *part, struct mg_why *why) {
     struct mg_why numbers;
     uint32_t handle = unmade(die);
     if (handle) return refused(handle, why);
     if (!plan || !is_array(tasks, count) || !is_array(places, place_count) || !is_array(names, name_count)
         || !is_array(blocks, block_count) || !is_array(balances, balance_count))
         return refused(MG_NULL_POINTER, why);
+    struct mg_part last = {1, plan->blocks};
     return flash_resume(die, plan, ARRAY(tasks), count, ARRAY(places), place_count, ARRAY(names), name_count, ARRAY(blocks),
-                        block_count, ARRAY(balances), balance_count, spare, why ? why : &numbers);
+                        block_count, ARRAY(balances), balance_count, spare, part ? part : &last, why ? why : &numbers);
+}
+
+uint32_t mg_checkpoint_void(mg_die *die) {
+    if (!is_full(die)) return MG_EMPTY_HANDLE;
+    flash_checkpoint_void(die);
+    return MG_OK;
 }
 
 /* ---- After a loss of power --------------------------------------------------------------------------------------- */
@@ -210,6 +218,68 @@ uint32_t mg_part_block(const mg_die *die, uint32_t block, uint32_t *part_block) 
     *part_block = flash_part_block(&own, block);
     return MG_OK;
 }
+
+/* ---- Blocks that fail -------------------------------------------------------------------------------------------- */
+
+static bool has_table(const mg_spares *spares) { return spares && spares->at; }
+
+static uint32_t untabled(const mg_spares *spares, const struct mg_plan *plan, const uint32_t *bad, size_t count) {
+    if (!spares) return MG_EMPTY_HANDLE;
+    if (spares->at) return MG_FULL_HANDLE;
+    return plan && is_array(bad, count) ? MG_OK : MG_NULL_POINTER;
+}
+
+uint32_t mg_spares_new(mg_spares *spares, const struct mg_plan *plan, uint32_t blocks, const uint32_t *bad, size_t count) {
+    uint32_t refusal = untabled(spares, plan, bad, count);
+    return refusal ? refusal : flash_spares_new(spares, plan, blocks, ARRAY(bad), count);
+}
+
+uint32_t mg_spares_power_up(mg_spares *spares, const struct mg_plan *plan, uint32_t blocks, const uint32_t *bad, size_t count) {
+    uint32_t refusal = untabled(spares, plan, bad, count);
+    return refusal ? refusal : flash_spares_power_up(spares, plan, blocks, ARRAY(bad), count);
+}
+
+void mg_spares_free(mg_spares *spares) {
+    if (has_table(spares)) flash_spares_free(spares);
+}
+
+uint32_t mg_spares_next(mg_spares *spares, struct mg_move *move) {
+    if (!has_table(spares)) return MG_EMPTY_HANDLE;
+    if (!move) return MG_NULL_POINTER;
+    return flash_spares_next(spares, move);
+}
+
+uint32_t mg_spares_tell(mg_spares *spares, const struct mg_label *labels, size_t count) {
+    if (!has_table(spares)) return MG_EMPTY_HANDLE;
+    if (!is_array(labels, count)) return MG_NULL_POINTER;
+    return flash_spares_tell(spares, ARRAY(labels), count);
+}
+
+uint32_t mg_spares_done(mg_spares *spares, uint32_t how) {
+    return has_table(spares) ? flash_spares_done(spares, how) : MG_EMPTY_HANDLE;
+}
+
+uint32_t mg_spares_program_failed(mg_spares *spares, uint32_t number, uint32_t page) {
+    return has_table(spares) ? flash_spares_program_failed(spares, number, page) : MG_EMPTY_HANDLE;
+}
+
+uint32_t mg_spares_erase_failed(mg_spares *spares, uint32_t number) {
+    return has_table(spares) ? flash_spares_erase_failed(spares, number) : MG_EMPTY_HANDLE;
+}
+
+uint32_t mg_spares_block(mg_spares *spares, uint32_t number, uint32_t *block) {
+    if (!has_table(spares)) return MG_EMPTY_HANDLE;
+    if (!block) return MG_NULL_POINTER;
+    return flash_spares_block(spares, number, block);
+}
+
+uint32_t mg_spares_use(mg_spares *spares, uint32_t block, uint32_t *use, uint32_t *number) {
+    if (!has_table(spares)) return MG_EMPTY_HANDLE;
+    if (!use || !number) return MG_NULL_POINTER;
+    return flash_spares_use(spares, block, use, number);
+}
+
+uint32_t mg_spares_left(mg_spares *spares) { return has_table(spares) ? flash_spares_left(spares) : 0; }
 
 /* ---- Questions ---------------------------------------------------------------------------------------------------
  *
@@ -407,28 +477,37 @@ static uint32_t unkept(const mg_planned *die) { return !die ? MG_EMPTY_HANDLE : 
 
 uint32_t mg_planned_checkpoint(mg_planned *die, struct mg_cell *places, size_t place_count, struct mg_name *names, size_t name_count,
                                struct mg_block *blocks, size_t block_count, uint32_t *balances, size_t balance_count, uint32_t *spare,
-                               struct mg_why *why) {
+                               struct mg_part *part, struct mg_why *why) {
     struct mg_why numbers;
+    struct mg_part known;
     if (!is_planned(die)) return refused(MG_EMPTY_HANDLE, why);
     if (!spare || !is_array(places, place_count) || !is_array(names, name_count) || !is_array(blocks, block_count)
         || !is_array(balances, balance_count))
         return refused(MG_NULL_POINTER, why);
     return flash_planned_checkpoint(die, ARRAY(places), place_count, ARRAY(names), name_count, ARRAY(blocks), block_count,
-                                    ARRAY(balances), balance_count, spare, why ? why : &numbers);
+                                    ARRAY(balances), balance_count, spare, part ? part : &known, why ? why : &numbers);
 }
 
 uint32_t mg_planned_resume(mg_planned *die, const struct mg_plan *plan, const struct mg_task *tasks, const struct mg_terms *terms,
                            size_t count, uint32_t longest, const struct mg_cell *places, size_t place_count, const struct mg_name *names,
                            size_t name_count, const struct mg_block *blocks, size_t block_count, const uint32_t *balances,
-                           size_t balance_count, uint32_t spare, struct mg_unresumed *why) {
+                           size_t balance_count, uint32_t spare, const struct mg_part *part, struct mg_unresumed *why) {
     struct mg_unresumed numbers;
     uint32_t handle = unkept(die);
     if (handle) return unresumed(handle, why);
     if (!plan || !is_array(tasks, count) || !is_array(terms, count) || !is_array(places, place_count) || !is_array(names, name_count)
         || !is_array(blocks, block_count) || !is_array(balances, balance_count))
         return unresumed(MG_NULL_POINTER, why);
+    struct mg_part last = {1, plan->blocks};
     return flash_planned_resume(die, plan, ARRAY(tasks), count, ARRAY(terms), count, longest, ARRAY(places), place_count, ARRAY(names),
-                                name_count, ARRAY(blocks), block_count, ARRAY(balances), balance_count, spare, why ? why : &numbers);
+                                name_count, ARRAY(blocks), block_count, ARRAY(balances), balance_count, spare, part ? part : &last,
+                                why ? why : &numbers);
+}
+
+uint32_t mg_planned_checkpoint_void(mg_planned *die) {
+    if (!is_planned(die)) return MG_EMPTY_HANDLE;
+    flash_planned_checkpoint_void(die);
+    return MG_OK;
 }
 
 uint32_t mg_mount_end_planned(mg_mount *mount, const struct mg_terms *terms, size_t count, uint32_t longest, const struct mg_name *names,

@@ -242,17 +242,26 @@ static struct {
     struct mg_name names[LOGICAL];
     struct mg_block blocks[BLOCKS];
     uint32_t balance, spare;
+    int is_void; /* it was destroyed, so that no die is made of it any more */
 } kept;
 
 static uint32_t shut_down(mg_die *die, struct mg_why *why) {
-    return mg_checkpoint(die, kept.places, LOGICAL, kept.names, LOGICAL, kept.blocks, BLOCKS, &kept.balance, 1, &kept.spare, why);
+    kept.is_void = 0;
+    return mg_checkpoint(die, kept.places, LOGICAL, kept.names, LOGICAL, kept.blocks, BLOCKS, &kept.balance, 1, &kept.spare, NULL, why);
 }
 
 static uint32_t go_on(mg_die *die, struct mg_why *why) {
     struct mg_plan plan = {BLOCKS, PAGES, ERASE_SLOTS, LOGICAL, 2, 0};
     struct mg_task task = {4, 0, 0, 0, 0};
+    check(!kept.is_void, "a checkpoint is used once");
     return mg_resume(die, &plan, &task, 1, kept.places, LOGICAL, kept.names, LOGICAL, kept.blocks, BLOCKS, &kept.balance, 1,
-                        kept.spare, why);
+                        kept.spare, NULL, why);
+}
+
+/* Before the die's first program what was written down is destroyed. */
+static void destroy(mg_die *die) {
+    kept.is_void = 1;
+    check(mg_checkpoint_void(die) == MG_OK, "it is void");
 }
 
 /* A die is freed and made again, while the chip keeps its pages. */
@@ -282,6 +291,11 @@ static void show_shutdown(void) {
     check(go_on(&die, &why) == MG_OK && mg_now(&die) == 0 && mg_len(&die) == 0, "it goes on with an empty log");
     check(mg_submit(&die, 1, 0, 0, 9, &read, 1, &job, &why) == MG_OK && slot(&die, &reply) == MG_OK
           && !memcmp(&reply.name, &write.name, sizeof write.name), "page 3 is there");
+    check(mg_submit(&die, 1, 0, mg_now(&die), mg_now(&die) + 9, &write, 1, &job, &why) == MG_OK && mg_begin(&die, 9, &call) == MG_CHECKPOINT_STANDS,
+          "nothing is programmed while the checkpoint stands");
+    destroy(&die);
+    stage(payload);
+    check(slot(&die, &reply) == MG_OK && reply.finished, "page 3 is written again");
     check(play(&die, 30, acts) == MG_OK, "30 rounds more");
     check(shut_down(&die, &why) == MG_OK, "a second time");
     mg_free(&die);

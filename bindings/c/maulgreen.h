@@ -5,14 +5,16 @@
  * of none, is answered: MG_EMPTY_HANDLE, or 0 by mg_now, mg_len, mg_records, mg_serial and mg_mount_calls_left; mg_free does nothing
  * then. What fills a handle answers MG_FULL_HANDLE of a full one. So it is with `struct mg_mount`, mg_mount_new and mg_mount_free, and
  * with `struct mg_planned`, which mg_planned_new, mg_planned_resume and mg_mount_end_planned fill, and mg_planned_free; mg_planned_clock
- * and mg_planned_serial answer 0 of an empty one.
+ * and mg_planned_serial answer 0 of an empty one. So it is with `struct mg_spares`, mg_spares_new, mg_spares_power_up and
+ * mg_spares_free; mg_spares_left answers 0 of an empty one.
  *
  * THREADS. Several dies share nothing but the heap. A die may be made on one thread and used on another. A call that takes a
  * `const` handle is a question: it reads the die, and several may run beside each other. While any other call of a die runs,
  * no other call of that die may, a question neither: that is for the program to see to, by a lock where it needs one. The
  * heap is to allow calls from several threads if several use the library.
  *
- * POINTERS. That of an array of no items may be null, and `why` and `number` where they aren't wanted. Any other null pointer
+ * POINTERS. That of an array of no items may be null, `why` and `number` where they aren't wanted, and `part` of a part without
+ * labels. Any other null pointer
  * is refused with MG_NULL_POINTER, before all else but the handle. Arrays go in as pointer and count. They come out into the
  * caller's array, as far as there is room: items[0..count) are written, and how many there are is reported beside them.
  *
@@ -43,8 +45,8 @@ extern "C" {
 /* The version of this interface. The major number changes where something that was there changes, the minor one where
  * something is added. So a program that was compiled with this header works with a library of the same major number whose
  * minor one isn't below: MG_FITS(mg_version()). */
-#define MG_VERSION_MAJOR 1u
-#define MG_VERSION_MINOR 3u
+#define MG_VERSION_MAJOR 2u
+#define MG_VERSION_MINOR 0u
 #define MG_VERSION (MG_VERSION_MAJOR << 16 | MG_VERSION_MINOR)
 #define MG_FITS(version) ((version) >> 16 == MG_VERSION_MAJOR && ((version) & 0xFFFFu) + 1u > MG_VERSION_MINOR)
 
@@ -74,15 +76,16 @@ enum {
     MG_ROWS_NOT_RISING = 104, /* rows whose numbers don't rise */
     MG_NOT_QUIET = 105,       /* a job or collection is neither done nor waived [first: the one that is carried next] */
     MG_WORN_OUT = 106,        /* a block was erased more than 4,293,918,718 times [first: the first such block] */
-    MG_EMPTY_HANDLE = 107,    /* the handle has no die, or no mount */
-    MG_FULL_HANDLE = 108,     /* the handle has a die or a mount, which would be lost */
+    MG_EMPTY_HANDLE = 107,    /* the handle has no die, mount or table */
+    MG_FULL_HANDLE = 108,     /* the handle has a die, mount or table, which would be lost */
     MG_NULL_POINTER = 109,    /* a pointer is null that may not be */
     MG_NOT_TAKEN = 110,       /* the program didn't take a piece of a report */
     MG_NONE_OVERDUE = 111, /* no released work that waits is due by now; or a fault has stopped the die */
-    MG_WRONG_STEP = 112,      /* the mount needs something else next, or nothing comes any more */
+    MG_WRONG_STEP = 112,      /* the mount or table needs something else next, or nothing comes any more */
     MG_TOO_MANY_CELLS = 113,  /* more cells of a block were told than it has */
     MG_BAD_LABEL = 114,       /* a label of a page that the plan doesn't have, or with a serial of 2^63 or more [first: the
                                  first such cell] */
+    MG_CHECKPOINT_STANDS = 115, /* the die was resumed from a checkpoint that isn't void yet, and the slot would spend it */
     /* what is wrong with a certificate first */
     MG_CERT_EMPTY = 201,         /* it lists no job */
     MG_CERT_NOT_RISING = 202,    /* a listed number isn't above the one before */
@@ -113,15 +116,18 @@ enum {
     MG_TOO_MUCH_DEMAND = 408,    /* more may be asked than there are slots, in the long run or in some interval */
     MG_TOO_FEW_PAGES = 409,      /* a task's collections give less than it writes, or its cap doesn't cover it */
     MG_ASK_WAITS = 410,          /* an ask waits for the next life, and would be lost [first: the first such task] */
-    MG_NOT_STOCKED = 411         /* a task has too few pages to go on with: it lacks more to its cap than alpha and what it may write in a
+    MG_NOT_STOCKED = 411,        /* a task has too few pages to go on with: it lacks more to its cap than alpha and what it may write in a
                                     period [first: the first such task; second: it has; third: it needs] */
+    /* of a table of spare blocks */
+    MG_NO_SPARE = 501,           /* a block failed and no spare one is left: what was programmed before can still be read */
+    MG_NO_BLOCK = 502            /* no block has this number, or a block doesn't have this page */
 };
 
 /* What a refusal has beside its number. */
 struct mg_why { uint32_t first, second; };
 
 /* The name of a refusal's number, as "NoTokens"; "Ok" of 0 and "Unknown" of a number that is none. It goes into
- * text[0..count) with a 0 behind it, as far as there is room; answers its length without the 0, which is at most 13. */
+ * text[0..count) with a 0 behind it, as far as there is room; answers its length without the 0, which is at most 16. */
 uint32_t mg_refusal_name(uint32_t refusal, char *text, size_t count);
 
 /* What a refusal's number means, in a line: "a job of more writes than its task has tokens". Never null. */
@@ -130,7 +136,7 @@ const char *mg_refusal_text(uint32_t refusal);
 /* MG_VERSION of the library. */
 uint32_t mg_version(void);
 
-/* The same as a text: "1.3"; "1.3, not proved" of a library that was built without a proof. */
+/* The same as a text: "2.0"; "2.0, not proved" of a library that was built without a proof. */
 const char *mg_version_text(void);
 
 /* ---- What the library asks of the program ------------------------------------------------------------------------
@@ -246,10 +252,13 @@ struct mg_call {
     uint32_t act, job;      /* for what (MG_IDLE ..), and for which job or collection; 0 where idle */
     uint32_t logical;       /* the logical page that is read, written, trimmed or copied; MG_NO_PAGE in an erase and where idle */
     struct mg_name name;
+    uint32_t erases;        /* of MG_CALL_PROGRAM how often the block was erased so far, as the die counts: for a label; 0 else */
 };
 
 /* Begins the present slot, and reports the one call of the device that it needs. The first that stands: DIE_STOPPED; BEGUN;
- * CLOCK_END; NO_MEMORY, never while slots are reserved: nothing has begun then. Every slot that has begun is to be ended.
+ * CLOCK_END; CHECKPOINT_STANDS, where the call would be a program, a slot of an erase or a trim, of a die that mg_resume made and
+ * of which mg_checkpoint_void hasn't been called; NO_MEMORY, never while slots are reserved: nothing has begun then. Every slot that
+ * has begun is to be ended.
  * `caller` is any number of yours, which the log keeps. */
 uint32_t mg_begin(mg_die *die, uint32_t caller, struct mg_call *call);
 
@@ -339,15 +348,23 @@ struct mg_cell { uint32_t block, page; };
 /* Of a block how many pages are programmed since its last erase, its first ones, and how often it was erased. */
 struct mg_block { uint32_t filled, erases; };
 
+/* What is known of a part with labels ("After a loss of power"): what the label of the next program bears (mg_serial), and the
+ * block that stands aside, by the part's number: the plan's number of blocks where it is the last one. */
+struct mg_part {
+    uint64_t serial;
+    uint32_t aside;
+};
+
 /* Reports what stands at a moment at which all that was accepted is done or was waived, and leaves the die as it is: by logical
  * page its cell, and its name, which is what was written to it last (sixteen bytes 0xFF where it lies nowhere); by block its
- * counts; by task how many tokens it has; and the pages that are spare. Give places and names as many items as the plan
- * has logical pages, blocks as it has blocks, balances as it has tasks: what is reported is whole then, and mg_resume takes it.
+ * counts; by task how many tokens it has; the pages that are spare; and what is known of the part. Give places and names as many
+ * items as the plan has logical pages, blocks as it has blocks, balances as it has tasks: what is reported is whole then, and
+ * mg_resume takes it. Of a part without labels `part` may be null.
  *
  * The first that stands: DIE_STOPPED; BEGUN; NOT_QUIET; WORN_OUT; NO_MEMORY. */
 uint32_t mg_checkpoint(mg_die *die, struct mg_cell *places, size_t place_count, struct mg_name *names,
                           size_t name_count, struct mg_block *blocks, size_t block_count, uint32_t *balances,
-                          size_t balance_count, uint32_t *spare, struct mg_why *why);
+                          size_t balance_count, uint32_t *spare, struct mg_part *part, struct mg_why *why);
 
 /* Makes a die in an empty handle that goes on from a checkpoint, at slot 0 with an empty log, as mg_renew would have. The
  * plan may be another one than before, if the checkpoint fits it: the same blocks, pages, logical pages and number of tasks.
@@ -355,28 +372,41 @@ uint32_t mg_checkpoint(mg_die *die, struct mg_cell *places, size_t place_count, 
  * another name than the one of its page here is a fault.
  *
  * The chip has to be as the checkpoint says: of each block the first `filled` pages are programmed, and no block is in erase.
- * The die programs and erases as it goes on, and then the chip isn't as it was: so destroy a checkpoint before the first
- * MG_CALL_PROGRAM or MG_CALL_ERASE of the die that goes on from it. From a spent one a die is made all the same, which gives old
- * data as good. All that
+ * The die programs, erases and trims as it goes on, and then the chip isn't as it was: from a spent checkpoint a die is made all the
+ * same, which gives old data as good. So the checkpoint STANDS until you say that it is void: make it so that no later start finds
+ * it, and then call mg_checkpoint_void. Before that no slot begins that would spend it; reads and idle slots go on.
+ *
+ * `part` is what the checkpoint had of the part; a null one stands for serial 1 and the part's last block, as of a part without
+ * labels. An `aside` above the plan's number of blocks counts as that number. All that
  * the arrays alone can show is tested. The first that stands: NO_MEMORY, which may come at any time; BAD_PLAN,
  * where the plan's times are out of their limits; OTHER_SHAPE; BAD_PLAN else, for its shape, too;
  * OVERFULL; SECOND_OPEN; WORN_OUT; UNPROGRAMMED; ABOVE_CAP; OTHER_SUM; SHARED_CELL. The handle stays empty then. */
 uint32_t mg_resume(mg_die *die, const struct mg_plan *plan, const struct mg_task *tasks, size_t count,
                       const struct mg_cell *places, size_t place_count, const struct mg_name *names, size_t name_count,
                       const struct mg_block *blocks, size_t block_count, const uint32_t *balances, size_t balance_count,
-                      uint32_t spare, struct mg_why *why);
+                      uint32_t spare, const struct mg_part *part, struct mg_why *why);
+
+/* Says that the checkpoint from which the die was resumed is void: no die will be resumed from it any more. From then on each slot
+ * may begin. Of a die whose checkpoint is void already, or that mg_new or mg_mount_end made, it changes nothing. Where the power goes
+ * after the checkpoint was made void and before a program of this die, a driver with labels mounts, as after any loss of power. */
+uint32_t mg_checkpoint_void(mg_die *die);
 
 /* ---- After a loss of power ----------------------------------------------------------------------------------------
  *
- * A driver may keep LABELS on its part: it writes into each cell that it programs, beside the payload, the logical page and the
- * program's serial (mg_serial), and a check. Then a mount finds again what the part holds, whenever the power went, in a mount too.
- * Each page has its last finished write then, or the one in progress. A page that was trimmed since its last write is blank, or
- * has some earlier write of it, since a trim leaves no label: a driver with notes of trims leaves out the labels that are older.
+ * A driver may keep LABELS on its part: it writes into each cell that it programs, beside the payload, the logical page, the
+ * program's serial (mg_serial), how often the block was erased (`erases` of mg_call and mg_step; 24 bits do), and a check. Then a mount
+ * finds again what the part holds, whenever the power went, in a mount too. Each page has its last finished write then, or the one in
+ * progress. A page that was trimmed since its last write is blank, or has some earlier write of it, since a trim leaves no label: a
+ * driver with notes of trims leaves out the labels that are older.
  * That is proved of parts that owe what bindings/README.md says ("A loss of power").
  *
+ * ERASES are counted on from what the labels tell, of each block the greatest count. A block without a good label is taken to have had
+ * one erase more than any other: there the count may be off. So the wear that the die goes by is about that of the part.
+ *
  * THE PART has one block more than the plan, so a plan has at most 1,023 here. One block of it stands aside: the last one of a die
- * that mg_new or mg_resume made, and another one after each mount. A die numbers its own blocks from 0 on, without that one, in
- * calls, cells and checkpoints: mg_part_block says which block of the part it is. A mount tells the part's own numbers.
+ * that mg_new made, another one after each mount, and after a shutdown the one of the checkpoint (`struct mg_part`). A die numbers its
+ * own blocks from 0 on, without that one, in calls, cells and checkpoints: mg_part_block says which block of the part it is. A mount
+ * tells the part's own numbers.
  *
  * A MOUNT says what it needs next, until a die may start. It may be given up at any moment, as the power may go.
  *
@@ -393,8 +423,8 @@ uint32_t mg_resume(mg_die *die, const struct mg_plan *plan, const struct mg_task
 
 typedef struct mg_mount { void *at; } mg_mount;
 
-/* Makes a mount in an empty handle. It takes 12 bytes a logical page and 4 a cell here, twice that where it is told all blocks
- * again, and 12 a block as its calls begin. Tasks and plan are those of the die. The first that stands: NO_MEMORY, since the tasks
+/* Makes a mount in an empty handle. It takes 12 bytes a logical page, 4 a cell and 8 a block here, twice that where it is told all
+ * blocks again, and 16 a block as its calls begin. Tasks and plan are those of the die. The first that stands: NO_MEMORY, since the tasks
  * are copied first; BAD_PLAN, where mg_plan_bound refuses it, for its shape, too, or it has 1,024 blocks; NO_MEMORY. */
 uint32_t mg_mount_new(mg_mount *mount, const struct mg_plan *plan, const struct mg_task *tasks, size_t count);
 
@@ -403,7 +433,7 @@ void mg_mount_free(mg_mount *mount);
 
 enum { MG_STEP_END = 0,     /* nothing any more: mg_mount_end */
        MG_STEP_READ = 1,    /* read the page in this cell; the program that comes next has its payload */
-       MG_STEP_PROGRAM = 2, /* program this cell with what was read last, and with a label of this page and serial */
+       MG_STEP_PROGRAM = 2, /* program this cell with what was read last, and with a label of this page, serial and erases */
        MG_STEP_ERASE = 3,   /* one slot of the erase of the block */
        MG_STEP_TELL = 4 };  /* tell what the cells of the block show */
 struct mg_step {
@@ -412,9 +442,10 @@ struct mg_step {
     uint32_t block, page; /* the cell, or the block */
     uint32_t logical;     /* of a program the logical page */
     uint32_t last;        /* 1: the slot of the erase is its last */
+    uint32_t erases;      /* of a program how often its block was erased so far, as the mount counts */
 };
 /* What the mount needs next; asking changes nothing. WRONG_STEP where nothing comes any more: the mount has ended in a die, or
- * was refused for memory as its calls were to begin. */
+ * was refused as its calls were to begin. */
 uint32_t mg_mount_next(mg_mount *mount, struct mg_step *step);
 
 /* What a cell shows: a label, or none (`page` is MG_NO_LABEL) where the cell isn't good, as a torn or blank one. */
@@ -422,10 +453,13 @@ uint32_t mg_mount_next(mg_mount *mount, struct mg_step *step);
 struct mg_label {
     uint64_t serial; /* below 2^63 */
     uint32_t page;   /* the logical page */
+    uint32_t erases; /* how often the block was erased, as the label has it; 0 in all labels of a driver that keeps no counts */
 };
 /* Tells the labels of the block that MG_STEP_TELL names, cell by cell from the first one on; cells that aren't told have none. No two
  * of a part have one serial. The first that stands: NO_MEMORY, which leaves the mount; WRONG_STEP; TOO_MANY_CELLS; BAD_LABEL; and
- * where it was the last block NO_MEMORY, after which nothing comes any more: free the mount and begin anew, nothing was called. */
+ * where it was the last block WORN_OUT, where a block would have had more than 4,293,918,718 erases with those that the mount may do
+ * [first: the first such block], and NO_MEMORY, after which nothing comes any more: free the mount and begin anew, nothing was
+ * called. */
 uint32_t mg_mount_tell(mg_mount *mount, const struct mg_label *labels, size_t count, struct mg_why *why);
 
 /* The call that mg_mount_next says was made, and went well. WRONG_STEP where none is to be made. Where a call fails the mount is
@@ -440,17 +474,102 @@ uint64_t mg_mount_calls_left(mg_mount *mount);
 uint32_t mg_mount_place(mg_mount *mount, uint32_t page, struct mg_cell *place);
 
 /* Makes a die in an empty handle that begins where the mount has ended: at slot 0 with an empty log, each task with as many tokens as
- * its cap, and with the pages that were found. `names` has by logical page the name of what lies there; a page that lies nowhere, or
- * that has no name here, is blank. The mount is over then. The first that stands, after those of the handles: NO_MEMORY, which may come at any time and leaves the mount; WRONG_STEP, where the mount hasn't ended. */
+ * its cap, with the pages that were found, and with the erases that were told of and those of the mount. `names` has by logical page the
+ * name of what lies there; a page that lies nowhere, or that has no name here, is blank. The mount is over then. The first that stands,
+ * after those of the handles: NO_MEMORY, which may come at any time and leaves the mount; WRONG_STEP, where the mount hasn't ended. */
 uint32_t mg_mount_end(mg_mount *mount, const struct mg_name *names, size_t name_count, mg_die *die);
 
 /* What the label of the next program bears, of the one that has begun, too. It rises by one with each program that is ended: from
- * 1 on, or of a mounted die from the first serial that its mount left. A program that failed stops its die. So a driver with labels
- * goes on by a mount after a shutdown, too, and not by mg_resume, whose die would number from 1 on again. */
+ * 1 on, of a mounted die from the first serial that its mount left, and of a resumed one from that of its checkpoint. A program that
+ * failed stops its die. */
 uint64_t mg_serial(const mg_die *die);
 
 /* The number that the part gives a block of the die: its last block's where a block stands aside in its place. */
 uint32_t mg_part_block(const mg_die *die, uint32_t block, uint32_t *part_block);
+
+/* ---- Blocks that fail ---------------------------------------------------------------------------------------------
+ *
+ * A part has bad blocks from the factory, and others fail as they wear. A TABLE OF SPARE BLOCKS gives the plan's blocks, and the one
+ * that stands aside for a mount, numbers from 0 on, one good block of the part each; the rest is spare. Blocks in calls of a mount, and
+ * those that mg_part_block answers, are numbers of the table then: mg_spares_block says which block of the part has a number.
+ *
+ * WHEN A CALL FAILS, a program or the last slot of an erase, the driver tells the table, makes the calls that it asks for, and goes on
+ * as if the call had gone well: die and mount see nothing of it. After a failed program a spare block is filled with the cells before
+ * it, payload, page, serial and erases unchanged, and with that program; it has the number once the last of these calls is done. After a
+ * failed erase a spare block has the number at once. A spare block that fails meanwhile is bad, and the next one is tried. Where none is
+ * left the answer is NO_SPARE, and the table stays as it was: end the slot with `ok` 0, and all pages can still be read.
+ *
+ * ERASES COUNT BY NUMBER. Those that a die or a mount says of a program are of the number and not of its block: a spare block that takes
+ * a number goes on with that number's count, whatever it was erased before, and the erases that the table asks for aren't counted.
+ *
+ * THE LONGEST SLOT. A program that failed in page n costs at most 2 n + 1 calls of the part, a copy counted as a read and a program, for
+ * each spare block that is used up: below twice the pages of a block.
+ *
+ * A BLOCK IS LISTED as bad once the call is over in which it failed (mg_spares_use), where the next mg_spares_new or mg_spares_power_up
+ * finds it: in a mark on the block, say. One whose mark was lost with the power is found by its labels, and may fail again. */
+
+typedef struct mg_spares { void *at; } mg_spares;
+
+/* Makes a table in an empty handle, for a part of `blocks` blocks on which nothing was done yet; bad[0..count) are its bad ones. The
+ * first plan->blocks + 1 of the others get numbers, and the rest is spare; `blocks`, `pages` and `erase_slots` of the plan alone are
+ * looked at. Each block that isn't bad is erased before the die is made: mg_spares_next asks for that. All memory of the table is taken
+ * here. The first that stands: BAD_SHAPE, where the plan's blocks and one aren't 2 to 1,024, or its pages or erase slots are out of
+ * their limits; NO_MEMORY; BAD_SHAPE, where too few blocks aren't bad; NO_MEMORY. */
+uint32_t mg_spares_new(mg_spares *spares, const struct mg_plan *plan, uint32_t blocks, const uint32_t *bad, size_t count);
+
+/* The same for a part whose power has come: its blocks are told next (MG_MOVE_TELL). BAD_SHAPE, where the part has too few blocks, or as
+ * above; NO_MEMORY. */
+uint32_t mg_spares_power_up(mg_spares *spares, const struct mg_plan *plan, uint32_t blocks, const uint32_t *bad, size_t count);
+
+/* Frees a table, and leaves its handle empty. Of an empty handle, or of none, it does nothing. */
+void mg_spares_free(mg_spares *spares);
+
+enum { MG_MOVE_NONE = 0,      /* nothing: die and mount go on */
+       MG_MOVE_TELL = 1,      /* tell the labels in the cells of `block` */
+       MG_MOVE_ERASE = 2,     /* erase `block`, in all of its slots */
+       MG_MOVE_COPY = 3,      /* program the cell (`block`, `page`) with what the cell (`from`, `page`) holds: payload, logical page,
+                                 serial and erases; a check over the cell's address is made anew */
+       MG_MOVE_PROGRAM = 4 }; /* make the program that failed in the cell (`block`, `page`) */
+struct mg_move { uint32_t kind, block, page, from; }; /* blocks of the part */
+
+/* What the table needs next; asking changes nothing. NO_SPARE, where a block failed and no spare one was left; DEVICE_FAULT, where the
+ * part had a fault; WRONG_STEP, where the blocks that were told make no table. */
+uint32_t mg_spares_next(mg_spares *spares, struct mg_move *move);
+
+/* Tells the labels of the block that MG_MOVE_TELL names, cell by cell from the first one on, as they are for a mount, but that all good
+ * labels are told, those older than a trim's note, too; cells that aren't told have none. What is told of a bad block isn't looked at,
+ * nor `erases` of any label. After the last block numbers go by labels: each block with a label gets one; of blocks with the same first
+ * label, since one was being filled in the place of another, that whose labels go farthest; blank ones get what is left. The numbers
+ * needn't be those of the life before. All other blocks are spare, and erased next.
+ *
+ * The first that stands: NO_MEMORY, which leaves the table; WRONG_STEP; TOO_MANY_CELLS; and where it was the last block BAD_SHAPE, where
+ * more blocks have labels than there are numbers, or too few aren't bad, and NO_MEMORY: after these two nothing comes any more, and no
+ * block was erased. */
+uint32_t mg_spares_tell(mg_spares *spares, const struct mg_label *labels, size_t count);
+
+enum { MG_MOVE_DONE = 0, MG_MOVE_FAILED = 1, /* the block that it erased or programmed failed */
+       MG_MOVE_FAULT = 2 };                  /* the part itself made it fail, a read of the copy, too */
+/* How the part carried out the call that mg_spares_next names. BAD_KIND, where `how` is none of these; WRONG_STEP, where no call comes. */
+uint32_t mg_spares_done(mg_spares *spares, uint32_t how);
+
+/* A program failed, of this page of the block with this number. MG_OK: calls come now. NO_SPARE: no spare block is left, and the table
+ * is worn out. Else nothing has changed: NO_SPARE, DEVICE_FAULT, WRONG_STEP, where it was worn out, the part had a fault, or the table
+ * needs something first; NO_BLOCK. */
+uint32_t mg_spares_program_failed(mg_spares *spares, uint32_t number, uint32_t page);
+
+/* The last slot of an erase failed, of the block with this number: a spare one has it now. Refused as mg_spares_program_failed. */
+uint32_t mg_spares_erase_failed(mg_spares *spares, uint32_t number);
+
+/* The part's block that has this number. WRONG_STEP, where all blocks aren't told yet; NO_BLOCK. */
+uint32_t mg_spares_block(mg_spares *spares, uint32_t number, uint32_t *block);
+
+enum { MG_USE_BAD = 0, MG_USE_SPARE = 1, MG_USE_NUMBER = 2 };
+/* What a block of the part is for, and its number, 0 where it has none; one that the part doesn't have is bad. WRONG_STEP, where all
+ * blocks aren't told yet. */
+uint32_t mg_spares_use(mg_spares *spares, uint32_t block, uint32_t *use, uint32_t *number);
+
+/* How many spare blocks are left; 0 of an empty handle, and before all blocks are told. */
+uint32_t mg_spares_left(mg_spares *spares);
 
 /* ---- Questions ----------------------------------------------------------------------------------------------------
  *
@@ -607,7 +726,8 @@ uint32_t mg_planned_ask_all(mg_planned *die, uint32_t caller, uint32_t task, con
                             struct mg_taken *taken, struct mg_unasked *why);
 
 /* Begins the present slot, as mg_begin does: the next life, where one has ended, with what waited for it; and the slot's collections.
- * The first that stands: BEGUN; DIE_STOPPED; CLOCK_END; WORN_OUT, as for an ask. Nothing has begun then, or changed. */
+ * The first that stands: BEGUN; CHECKPOINT_STANDS, of a die that mg_planned_resume made and of which mg_planned_checkpoint_void hasn't
+ * been called; DIE_STOPPED; CLOCK_END; WORN_OUT, as for an ask. Nothing has begun then, or changed. */
 uint32_t mg_planned_begin(mg_planned *die, uint32_t caller, struct mg_call *call);
 
 /* Ends the slot that has begun, as mg_end does. The first that stands: DIE_STOPPED; NOT_BEGUN; DEVICE_FAULT, which stops the die for
@@ -643,7 +763,7 @@ uint32_t mg_planned_place(const mg_planned *die, uint32_t page, struct mg_cell *
  * The first that stands: BEGUN; DIE_STOPPED; NOT_QUIET; WORN_OUT; ASK_WAITS; NO_MEMORY, which may come before ASK_WAITS. */
 uint32_t mg_planned_checkpoint(mg_planned *die, struct mg_cell *places, size_t place_count, struct mg_name *names, size_t name_count,
                                struct mg_block *blocks, size_t block_count, uint32_t *balances, size_t balance_count, uint32_t *spare,
-                               struct mg_why *why);
+                               struct mg_part *part, struct mg_why *why);
 
 /* The numbers of why no die that keeps its plan goes on, 0 where it has none: those in brackets above. */
 struct mg_unresumed { uint32_t first, second, third; };
@@ -659,7 +779,11 @@ struct mg_unresumed { uint32_t first, second, third; };
 uint32_t mg_planned_resume(mg_planned *die, const struct mg_plan *plan, const struct mg_task *tasks, const struct mg_terms *terms,
                            size_t count, uint32_t longest, const struct mg_cell *places, size_t place_count, const struct mg_name *names,
                            size_t name_count, const struct mg_block *blocks, size_t block_count, const uint32_t *balances,
-                           size_t balance_count, uint32_t spare, struct mg_unresumed *why);
+                           size_t balance_count, uint32_t spare, const struct mg_part *part, struct mg_unresumed *why);
+
+/* As mg_checkpoint_void. Before it no slot of the resumed die begins, whatever it would need: the collections that come in a slot
+ * can't be taken back. */
+uint32_t mg_planned_checkpoint_void(mg_planned *die);
 
 /* Makes a die that keeps its plan in an empty handle, which begins where the mount has ended, as mg_mount_end does: at slot 0 of the
  * longest life of at most `longest` slots. Each task of the mount's plan has its terms (mg_planned_new), and as many tokens as its cap;
@@ -671,9 +795,7 @@ uint32_t mg_planned_resume(mg_planned *die, const struct mg_plan *plan, const st
 uint32_t mg_mount_end_planned(mg_mount *mount, const struct mg_terms *terms, size_t count, uint32_t longest, const struct mg_name *names,
                               size_t name_count, mg_planned *die, struct mg_unresumed *why);
 
-/* As mg_serial and mg_part_block; the serial rises over all lives, and a mounted die goes on with those of its mount. A die that
- * mg_planned_resume makes numbers from 1 on again, and knows of no block aside: a driver with labels goes on by a mount after a
- * shutdown, too. */
+/* As mg_serial and mg_part_block; the serial rises over all lives. */
 uint64_t mg_planned_serial(const mg_planned *die);
 uint32_t mg_planned_part_block(const mg_planned *die, uint32_t block, uint32_t *part_block);
 

@@ -196,13 +196,13 @@ static void show_resumption(mg_die *die, const struct mg_bytes *bytes) {
     static struct mg_block blocks[1024];
     uint32_t balances[16], spare;
     top = held;
-    check(mg_checkpoint(die, places, 65536, names, 65536, blocks, 1024, balances, 16, &spare, NULL) == MG_OK, "a checkpoint");
+    check(mg_checkpoint(die, places, 65536, names, 65536, blocks, 1024, balances, 16, &spare, NULL, NULL) == MG_OK, "a checkpoint");
     check(top <= held + bytes->question, "it takes no more than is said");
     mg_free(die);
     check(held == 0, "all is given back");
     top = 0;
     check(mg_resume(die, &plan, tasks, task_count, places, plan.logical, names, plan.logical, blocks, plan.blocks, balances,
-                    task_count, spare, NULL) == MG_OK, "it goes on");
+                    task_count, spare, NULL, NULL) == MG_OK, "it goes on");
     check(top == bytes->resume && held == bytes->birth, "a resumption takes as many bytes as are said");
 }
 

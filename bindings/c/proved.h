@@ -23,11 +23,12 @@ uint32_t flash_renew(mg_die *die, struct mg_why *why);
 uint32_t flash_renew_giving_back(mg_die *die, struct mg_why *why);
 uint32_t flash_checkpoint(mg_die *die, struct mg_cell *places, size_t place_count, struct mg_name *names, size_t name_count,
                           struct mg_block *blocks, size_t block_count, uint32_t *balances, size_t balance_count,
-                          uint32_t *spare, struct mg_why *why);
+                          uint32_t *spare, struct mg_part *part, struct mg_why *why);
 uint32_t flash_resume(mg_die *die, const struct mg_plan *plan, const struct mg_task *tasks, size_t count,
                       const struct mg_cell *places, size_t place_count, const struct mg_name *names, size_t name_count,
                       const struct mg_block *blocks, size_t block_count, const uint32_t *balances, size_t balance_count,
-                      uint32_t spare, struct mg_why *why);
+                      uint32_t spare, const struct mg_part *part, struct mg_why *why);
+void flash_checkpoint_void(mg_die *die);
 uint32_t flash_mount_new(mg_mount *mount, const struct mg_plan *plan, const struct mg_task *tasks, size_t count);
 void flash_mount_free(mg_mount *mount);
 uint32_t flash_mount_next(mg_mount *mount, struct mg_step *step);
@@ -40,6 +41,17 @@ uint32_t flash_mount_end_planned(mg_mount *mount, const struct mg_terms *terms, 
                                  const struct mg_name *names, size_t count, mg_planned *die, struct mg_unresumed *why);
 uint64_t flash_serial(mg_die *die);
 uint32_t flash_part_block(mg_die *die, uint32_t block);
+uint32_t flash_spares_new(mg_spares *spares, const struct mg_plan *plan, uint32_t blocks, const uint32_t *bad, size_t count);
+uint32_t flash_spares_power_up(mg_spares *spares, const struct mg_plan *plan, uint32_t blocks, const uint32_t *bad, size_t count);
+void flash_spares_free(mg_spares *spares);
+uint32_t flash_spares_next(mg_spares *spares, struct mg_move *move);
+uint32_t flash_spares_tell(mg_spares *spares, const struct mg_label *labels, size_t count);
+uint32_t flash_spares_done(mg_spares *spares, uint32_t how);
+uint32_t flash_spares_program_failed(mg_spares *spares, uint32_t number, uint32_t page);
+uint32_t flash_spares_erase_failed(mg_spares *spares, uint32_t number);
+uint32_t flash_spares_block(mg_spares *spares, uint32_t number, uint32_t *block);
+uint32_t flash_spares_use(mg_spares *spares, uint32_t block, uint32_t *use, uint32_t *number);
+uint32_t flash_spares_left(mg_spares *spares);
 uint32_t flash_now(mg_die *die);
 uint64_t flash_len(mg_die *die);
 uint64_t flash_records(mg_die *die);
@@ -69,12 +81,13 @@ uint32_t flash_planned_outcome(mg_planned *die, uint32_t job, struct mg_job_outc
 uint32_t flash_planned_place(mg_planned *die, uint32_t page, struct mg_cell *place);
 uint32_t flash_planned_checkpoint(mg_planned *die, struct mg_cell *places, size_t place_count, struct mg_name *names, size_t name_count,
                                   struct mg_block *blocks, size_t block_count, uint32_t *balances, size_t balance_count,
-                                  uint32_t *spare, struct mg_why *why);
+                                  uint32_t *spare, struct mg_part *part, struct mg_why *why);
 uint32_t flash_planned_resume(mg_planned *die, const struct mg_plan *plan, const struct mg_task *tasks, size_t count,
                               const struct mg_terms *terms, size_t term_count, uint32_t longest, const struct mg_cell *places,
                               size_t place_count, const struct mg_name *names, size_t name_count, const struct mg_block *blocks,
                               size_t block_count, const uint32_t *balances, size_t balance_count, uint32_t spare,
-                              struct mg_unresumed *why);
+                              const struct mg_part *part, struct mg_unresumed *why);
+void flash_planned_checkpoint_void(mg_planned *die);
 uint64_t flash_planned_serial(mg_planned *die);
 uint32_t flash_planned_part_block(mg_planned *die, uint32_t block);
 uint32_t flash_check(const struct mg_row *rows, size_t row_count, const struct mg_cert *certificate, const uint32_t *jobs,

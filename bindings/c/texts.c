@@ -3,9 +3,9 @@
 
 const char *mg_version_text(void) {
 #ifdef MG_UNPROVED
-    return "1.3, not proved";
+    return "2.0, not proved";
 #else
-    return "1.3";
+    return "2.0";
 #endif
 }
 
@@ -35,14 +35,15 @@ const char *mg_refusal_text(uint32_t refusal) {
     case MG_ROWS_NOT_RISING: return "rows whose numbers don't rise";
     case MG_NOT_QUIET: return "a job or collection is neither done nor waived";
     case MG_WORN_OUT: return "a block was erased more than 4,293,918,718 times";
-    case MG_EMPTY_HANDLE: return "the handle has no die or mount";
-    case MG_FULL_HANDLE: return "the handle has a die or mount, which would be lost";
+    case MG_EMPTY_HANDLE: return "the handle has no die, mount or table";
+    case MG_FULL_HANDLE: return "the handle has a die, mount or table, which would be lost";
     case MG_NULL_POINTER: return "a pointer is null that may not be";
     case MG_NOT_TAKEN: return "the program didn't take a piece of a report";
     case MG_NONE_OVERDUE: return "no released job or collection that waits is due by now, or a fault has stopped the die";
-    case MG_WRONG_STEP: return "the mount needs something else next, or nothing comes any more";
+    case MG_WRONG_STEP: return "the mount or table needs something else next, or nothing comes any more";
     case MG_TOO_MANY_CELLS: return "more cells of a block were told than it has";
     case MG_BAD_LABEL: return "a label of a page that the plan doesn't have, or with a serial of 2^63 or more";
+    case MG_CHECKPOINT_STANDS: return "the die was resumed from a checkpoint that isn't void yet, and the slot would spend it";
     case MG_CERT_EMPTY: return "the certificate lists no job";
     case MG_CERT_NOT_RISING: return "a listed number isn't above the one before";
     case MG_CERT_UNKNOWN_JOB: return "a listed number has no row";
@@ -68,6 +69,8 @@ const char *mg_refusal_text(uint32_t refusal) {
     case MG_TOO_FEW_PAGES: return "a task's collections give less than it writes, or its cap doesn't cover it";
     case MG_ASK_WAITS: return "an ask waits for the next life, and would be lost";
     case MG_NOT_STOCKED: return "a task lacks more to its cap than alpha pages and what it may write in a period";
+    case MG_NO_SPARE: return "a block failed and no spare one is left; what was programmed before can still be read";
+    case MG_NO_BLOCK: return "no block has this number, or a block doesn't have this page";
     default: return "no refusal of this number";
     }
 }

@@ -84,6 +84,8 @@ int main() {
     left.places.pop_back();
     check(refused([&] { maulgreen::die(plan, {{4, 0, 0, 0, 0}}, left); }) == MG_OTHER_SHAPE, "a page less than the plan has");
     die.submit(1, 0, 0, 2, {maulgreen::read(5)});
+    check(left.part.serial == die.serial() && left.part.aside == 8, "the part goes on");
+    die.checkpoint_void();
     {
         maulgreen::slot moved_from = die.begin(9);
         maulgreen::slot destroyed = std::move(moved_from);
@@ -97,7 +99,7 @@ int main() {
     check(refused([&] { mount.done(); }) == MG_WRONG_STEP, "blocks come first");
     uint32_t slots = 0;
     for (maulgreen::step step = mount.step(); step.kind != MG_STEP_END; step = mount.step())
-        if (step.kind == MG_STEP_TELL) mount.tell(step.block == 8 ? std::vector<maulgreen::label>{{41, 5}} : std::vector<maulgreen::label>{});
+        if (step.kind == MG_STEP_TELL) mount.tell(step.block == 8 ? std::vector<maulgreen::label>{{41, 5, 6}} : std::vector<maulgreen::label>{});
         else {
             check(step.kind == MG_STEP_ERASE && mount.place(5)->block == 8 && mount.calls_left() > 0, "nothing is to be copied");
             mount.done();
@@ -106,11 +108,27 @@ int main() {
     maulgreen::name fifth{};
     fifth.bytes[3] = 171;
     maulgreen::die mounted = mount.end({{}, {}, {}, {}, {}, fifth});
+    check(mounted.checkpoint().blocks[0].erases == 6 && mounted.checkpoint().blocks[4].erases == 7, "labels tell of erases");
     check(slots == 9 && mounted.serial() == 42 && mounted.part_block(0) == 8 && mounted.place(5)->block == 0, "it goes on there");
     mounted.submit(1, 0, 0, 1, {maulgreen::read(5)});
     maulgreen::slot read_back = mounted.begin(9);
     check(read_back.call().name == fifth && read_back.end(true, fifth).finished, "with the page's name");
     check(refused([&] { mount.step(); }) == MG_WRONG_STEP, "a mount makes one die");
+    // Eleven blocks, of which block 1 is bad and block 10 is spare: it has the number 0 once page 0 of block 0 was copied.
+    maulgreen::spares unmoved_table(plan, 11, {1});
+    maulgreen::spares table = std::move(unmoved_table);
+    uint32_t erased = 0;
+    for (; table.next().kind == MG_MOVE_ERASE; table.done(MG_MOVE_DONE)) erased++;
+    check(erased == 10 && table.left() == 1 && table.block(1) == 2 && table.use(10).first == MG_USE_SPARE, "numbers, and a spare block");
+    table.program_failed(0, 1);
+    check(table.next().kind == MG_MOVE_COPY && table.next().block == 10 && table.next().from == 0, "what it held is copied");
+    table.done(MG_MOVE_DONE);
+    check(table.next().kind == MG_MOVE_PROGRAM && table.next().page == 1 && table.block(0) == 0, "and then programmed");
+    table.done(MG_MOVE_DONE);
+    check(table.block(0) == 10 && refused([&] { table.erase_failed(3); }) == MG_NO_SPARE && refused([&] { table.next(); }) == MG_NO_SPARE, "no spare block is left");
+    maulgreen::spares powered = maulgreen::spares::power_up(plan, 9, {});
+    for (uint32_t b = 0; b < 9; b++) powered.tell({{b + 1, 0, 0}});
+    check(powered.next().kind == MG_MOVE_NONE && powered.block(8) == 8 && refused([&] { powered.block(9); }) == MG_NO_BLOCK, "each block has a number");
     // A die that keeps its plan is written down and goes on, and a mount ends in one.
     const maulgreen::plan small{8, 4, 3, 12, 2, 0};
     const std::vector<maulgreen::task> cap{{6, 0, 0, 0, 0}};
@@ -125,7 +143,11 @@ int main() {
     maulgreen::checkpoint at = kept.checkpoint();
     check(kept.serial() == 2 && kept.part_block(3) == 3 && at.names[5] == fifth && at.places[5].block == 0, "what stands");
     kept = maulgreen::planned(small, cap, terms, 60, at); // the chip keeps its pages
-    check(kept.life().slots == 60 && kept.serial() == 1 && kept.checkpoint().balances == at.balances, "it goes on");
+    check(kept.life().slots == 60 && kept.serial() == 2 && kept.checkpoint().balances == at.balances, "it goes on");
+    check(refused([&] { kept.begin(9); }) == MG_CHECKPOINT_STANDS, "the checkpoint stands");
+    kept.checkpoint_void();
+    kept.begin(9);
+    kept.end(true);
     at.balances[0] -= 4, at.spare += 4;
     try {
         maulgreen::planned(small, cap, terms, 60, at);
@@ -136,7 +158,7 @@ int main() {
     maulgreen::mount again(small, cap);
     check(refused([&] { again.end_planned(terms, 100, {}); }) == MG_WRONG_STEP, "blocks come first");
     for (maulgreen::step step = again.step(); step.kind != MG_STEP_END; step = again.step())
-        if (step.kind == MG_STEP_TELL) again.tell(step.block == 8 ? std::vector<maulgreen::label>{{41, 5}} : std::vector<maulgreen::label>{});
+        if (step.kind == MG_STEP_TELL) again.tell(step.block == 8 ? std::vector<maulgreen::label>{{41, 5, 6}} : std::vector<maulgreen::label>{});
         else again.done();
     maulgreen::planned begun = again.end_planned(terms, 100, {{}, {}, {}, {}, {}, fifth});
     check(begun.serial() == 42 && begun.part_block(0) == 8 && begun.place(5)->block == 0, "it begins there");

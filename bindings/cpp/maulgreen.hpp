@@ -58,7 +58,7 @@ public:
     const std::uint32_t third = 0; // of a task with too few pages to go on with how many it needs
 
 private:
-    std::array<char, 16> name_{};
+    std::array<char, 17> name_{};
 };
 
 inline void must(std::uint32_t code, const ::mg_why &why = {0, 0}) {
@@ -98,13 +98,15 @@ struct certificate : ::mg_cert {
 };
 
 // What stands on a die at a moment at which all is done or was waived: by logical page its cell and its name, by block its
-// counts, by task how many tokens it has, and the pages that are spare.
+// counts, by task how many tokens it has, the pages that are spare, and what is known of a part with labels; of one without them
+// the next serial is 1, and the last block stands aside.
 struct checkpoint {
     std::vector<::mg_cell> places;
     std::vector<name> names;
     std::vector<::mg_block> blocks;
     std::vector<std::uint32_t> balances;
     std::uint32_t spare = 0;
+    ::mg_part part{1, UINT32_MAX};
 };
 
 // Whether the library has what this header says: see MG_FITS. A die isn't made with another one.
@@ -187,14 +189,15 @@ public:
         tasks_ = tasks.size();
     }
 
-    // A die that goes on from a checkpoint. The chip has to be as that says.
+    // A die that goes on from a checkpoint. The chip has to be as that says. The checkpoint stands: no slot begins that would spend
+    // it (MG_CHECKPOINT_STANDS) before checkpoint_void.
     die(const plan &p, const std::vector<task> &tasks, const checkpoint &c) {
         must_fit();
         auto made = new ::mg_die{nullptr};
         ::mg_why why{0, 0};
         std::uint32_t code = ::mg_resume(made, &p, tasks.data(), tasks.size(), c.places.data(), c.places.size(),
                                             c.names.data(), c.names.size(), c.blocks.data(), c.blocks.size(),
-                                            c.balances.data(), c.balances.size(), c.spare, &why);
+                                            c.balances.data(), c.balances.size(), c.spare, &c.part, &why);
         if (code != MG_OK) {
             delete made;
             throw refusal(code, why);
@@ -264,10 +267,13 @@ public:
         ::mg_why why{0, 0};
         must(::mg_checkpoint(handle_, said.places.data(), said.places.size(), said.names.data(), said.names.size(),
                                 said.blocks.data(), said.blocks.size(), said.balances.data(), said.balances.size(),
-                                &said.spare, &why),
+                                &said.spare, &said.part, &why),
              why);
         return said;
     }
+
+    // The checkpoint from which the die was resumed is void: it is resumed from no more.
+    void checkpoint_void() { must(::mg_checkpoint_void(handle_)); }
 
     // What the label of the next program bears, and which block of the part one of the die is.
     std::uint64_t serial() const { return ::mg_serial(handle_); }
@@ -361,6 +367,7 @@ public:
 
 private:
     friend class mount;
+    friend class spares;
     static void must_fit() {
         if (!fits()) throw std::runtime_error("another version of libmaulgreen");
     }
@@ -370,6 +377,60 @@ private:
     ::mg_die *handle_ = nullptr;
     plan size_{};
     std::size_t tasks_ = 0;
+};
+
+// A table of the spare blocks of a part: it gives the blocks of a die and of a mount numbers, and where a call of the part failed it
+// says which calls come next. It moves and isn't copied, and frees its table.
+class spares {
+public:
+    // For a part of so many blocks on which nothing was done yet, of which these are bad.
+    spares(const plan &p, std::uint32_t blocks, const std::vector<std::uint32_t> &bad) {
+        die::must_fit();
+        must(::mg_spares_new(&handle_, &p, blocks, bad.data(), bad.size()));
+    }
+    // For one whose power has come: its blocks are told next.
+    static spares power_up(const plan &p, std::uint32_t blocks, const std::vector<std::uint32_t> &bad) {
+        die::must_fit();
+        spares said;
+        must(::mg_spares_power_up(&said.handle_, &p, blocks, bad.data(), bad.size()));
+        return said;
+    }
+    spares(const spares &) = delete;
+    spares &operator=(const spares &) = delete;
+    spares(spares &&other) noexcept : handle_(std::exchange(other.handle_, ::mg_spares{nullptr})) {}
+    spares &operator=(spares &&other) noexcept {
+        std::swap(handle_, other.handle_);
+        return *this;
+    }
+    ~spares() { ::mg_spares_free(&handle_); }
+
+    // What it needs next. MG_NO_SPARE where a block failed and no spare one was left, MG_DEVICE_FAULT after a fault.
+    ::mg_move next() {
+        ::mg_move said{};
+        must(::mg_spares_next(&handle_, &said));
+        return said;
+    }
+    void tell(const std::vector<label> &labels) { must(::mg_spares_tell(&handle_, labels.data(), labels.size())); }
+    // How the part carried that out: MG_MOVE_DONE, MG_MOVE_FAILED or MG_MOVE_FAULT.
+    void done(std::uint32_t how) { must(::mg_spares_done(&handle_, how)); }
+    void program_failed(std::uint32_t number, std::uint32_t page) { must(::mg_spares_program_failed(&handle_, number, page)); }
+    void erase_failed(std::uint32_t number) { must(::mg_spares_erase_failed(&handle_, number)); }
+    std::uint32_t block(std::uint32_t number) {
+        std::uint32_t said = 0;
+        must(::mg_spares_block(&handle_, number, &said));
+        return said;
+    }
+    // What a block of the part is for, MG_USE_BAD .., and its number.
+    std::pair<std::uint32_t, std::uint32_t> use(std::uint32_t block) {
+        std::uint32_t is = 0, number = 0;
+        must(::mg_spares_use(&handle_, block, &is, &number));
+        return {is, number};
+    }
+    std::uint32_t left() { return ::mg_spares_left(&handle_); }
+
+private:
+    spares() = default;
+    ::mg_spares handle_{nullptr};
 };
 
 // A mount of a part after a loss of power, by the labels in its cells. It moves and isn't copied, and frees its mount. Its blocks are
@@ -447,7 +508,8 @@ public:
         must(::mg_planned_new(&handle_, &p, tasks.data(), terms.data(), tasks.size(), longest, &why), why);
     }
 
-    // A die that goes on from a checkpoint. The chip has to be as that says.
+    // A die that goes on from a checkpoint. The chip has to be as that says. The checkpoint stands: no slot begins
+    // (MG_CHECKPOINT_STANDS) before checkpoint_void.
     planned(const plan &p, const std::vector<task> &tasks, const std::vector<maulgreen::terms> &terms, std::uint32_t longest,
             const maulgreen::checkpoint &c)
         : size_(p), tasks_(tasks.size()) {
@@ -456,7 +518,7 @@ public:
         ::mg_unresumed why{0, 0, 0};
         must(::mg_planned_resume(&handle_, &p, tasks.data(), terms.data(), tasks.size(), longest, c.places.data(), c.places.size(),
                                  c.names.data(), c.names.size(), c.blocks.data(), c.blocks.size(), c.balances.data(),
-                                 c.balances.size(), c.spare, &why),
+                                 c.balances.size(), c.spare, &c.part, &why),
              why);
     }
     planned(const planned &) = delete;
@@ -501,10 +563,13 @@ public:
         ::mg_why why{0, 0};
         must(::mg_planned_checkpoint(&handle_, said.places.data(), said.places.size(), said.names.data(), said.names.size(),
                                      said.blocks.data(), said.blocks.size(), said.balances.data(), said.balances.size(),
-                                     &said.spare, &why),
+                                     &said.spare, &said.part, &why),
              why);
         return said;
     }
+
+    // The checkpoint from which the die was resumed is void: it is resumed from no more.
+    void checkpoint_void() { must(::mg_planned_checkpoint_void(&handle_)); }
 
     // What the label of the next program bears, and which block of the part one of the die is.
     std::uint64_t serial() const { return ::mg_planned_serial(&handle_); }

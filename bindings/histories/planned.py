@@ -50,7 +50,7 @@ class Ongoing:
         """It goes on from a checkpoint: with an empty log, and what each task lacks beyond alpha pages asked for in slot 0."""
         self.plan, self.life, self.tasks = plan, life, plan["tasks"]
         assert self.die.resume(die_plan(plan), stood) == "ok"
-        self.first, self.serial, self.waiting = 0, 1, [None] * len(self.tasks)
+        self.first, self.waiting = 0, [None] * len(self.tasks)
         lacks = [max(task["cap"] - balance - plan["alpha"], 0) for task, balance in zip(self.tasks, stood.balances)]
         self.asked = [[(0, lack, lack)] if lack else [] for lack in lacks]
 
@@ -228,23 +228,22 @@ def fault_of(plan, stood):
 # The part
 
 class Part:
-    """What the cells of a part show: the name, the logical page and the serial, or nothing where a cell is torn."""
+    """What the cells of a part show: the name, and the label with the logical page, the serial and the erases of the block; or nothing
+    where a cell is torn."""
 
     def __init__(self, dice):
         self.dice, self.cells, self.erasing = dice, {}, set()
-        # of the die before, where one went on from a checkpoint: its blocks on the part, and how far its serials came
-        self.block_of, self.above = [], 0
+        self.block_of = []  # the die's blocks on the part
 
     def begins(self, die, blocks):
-        """A die begins on it, which isn't one that goes on from a checkpoint."""
-        self.block_of, self.above = [die.part_block(block) for block in range(blocks)], 0
+        self.block_of = [die.part_block(block) for block in range(blocks)]
 
     def read(self, at):
         return (self.cells.get(at) or (maulgreen.BLANK,))[0]
 
-    def program(self, at, name, page, serial):
+    def program(self, at, name, page, serial, erases):
         assert at not in self.cells, f"cell {at} is programmed twice"
-        self.cells[at] = name, page, serial
+        self.cells[at] = name, page, serial, erases
 
     def erase_slot(self, block, last):
         self.erasing.add(block)
@@ -253,11 +252,11 @@ class Part:
             for cell in [cell for cell in self.cells if cell[0] == block]:
                 del self.cells[cell]
 
-    def cut(self, at=None, name=None, page=None, serial=None):
+    def cut(self, at=None, name=None, page=None, serial=None, erases=None):
         """The power goes, perhaps in a program, of which the whole is there, or a torn cell, or nothing. Whether the whole is."""
         there = at is not None and self.dice.randrange(3)
         if there:
-            self.program(at, name, page, serial)
+            self.program(at, name, page, serial, erases)
             if there == 1:
                 self.cells[at] = None
         for cell in self.cells:
@@ -268,7 +267,16 @@ class Part:
 
     def labels(self, block, pages):
         shown = [self.cells.get((block, page)) for page in range(pages)]
-        return [(label[1], label[2]) if label else None for label in shown]
+        return [label[1:] if label else None for label in shown]
+
+    def erases_told(self, blocks):
+        """By block the greatest count of its labels; of one without a label one more than that of any other."""
+        told = {}
+        for at, label in self.cells.items():
+            if label:
+                told[at[0]] = max(told.get(at[0], 0), label[3])
+        more = max(told.values()) + 1 if told else 0
+        return [told.get(block, more) for block in range(blocks)]
 
 
 # Asks, and what a driver does
@@ -375,13 +383,14 @@ class History:
             return None
         assert isinstance(wanted, Stood), f"a checkpoint was taken, and by the rules {wanted}"
         names = [bytes.fromhex(name) for name in rules.die.flash.bytes]
-        self.same("a checkpoint", tuple(taken), (wanted.places, names, wanted.blocks, wanted.balances, wanted.spare))
+        self.same("a checkpoint", tuple(taken)[:5], (wanted.places, names, wanted.blocks, wanted.balances, wanted.spare))
+        self.same("the next serial", taken.part.serial, rules.serial)
         self.note("checkpoints")
         return taken
 
     def breaks(self, taken):
         """A checkpoint with another number somewhere."""
-        places, names, blocks, balances, spare = (list(part) if isinstance(part, list) else part for part in taken)
+        places, names, blocks, balances, spare, known = (list(part) if isinstance(part, list) else part for part in taken)
         kind = self.dice.randrange(6)
         if kind == 0:
             spare += self.dice.choice((1, -1)) if spare else 1
@@ -394,7 +403,7 @@ class History:
             blocks[at] = maulgreen.Block(used + self.dice.choice((1, 5)), erases)
         elif kind == 4:
             self.dice.choice((places, names, blocks, balances)).pop()
-        return maulgreen.Checkpoint(places, names, blocks, balances, spare)
+        return maulgreen.Checkpoint(places, names, blocks, balances, spare, known)
 
     def shuts_down(self, die, rules):
         """The die is shut down, if it may be, and goes on from its checkpoint, or why it doesn't. The die of then."""
@@ -413,7 +422,15 @@ class History:
             return die
         die.close()
         die = maulgreen.Planned(*self.given(plan), longest, taken)
-        self.part.above += rules.serial - 1
+        self.same("its blocks on the part", [die.part_block(block) for block in range(plan["blocks"])], self.part.block_of)
+        if self.dice.randrange(2):
+            try:
+                die.begin(9)
+            except maulgreen.Refusal as refusal:
+                self.same("a slot while the checkpoint stands", refusal.name, "CheckpointStands")
+            else:
+                raise AssertionError("a slot begins while the checkpoint stands")
+        die.checkpoint_void()
         self.plan, self.longest, self.life = plan, longest, life_within(plan, longest)
         rules.resumed(plan, self.life, Stood(taken.places, taken.blocks, taken.spare, taken.balances))
         self.note("resumed")
@@ -431,6 +448,7 @@ class History:
     def mounts(self, rules, may):
         """A mount of what the cells show, and the die and the rules from there on; `may` has what pages may hold."""
         part, blocks = self.part, self.plan["blocks"]
+        erases = part.erases_told(blocks + 1)
         plan, tasks, terms = self.given(self.plan)
         with maulgreen.Mount(plan, tasks) as mount:
             while (step := mount.step()).kind != maulgreen.NEEDS_NOTHING:
@@ -442,9 +460,11 @@ class History:
                 if step.kind == maulgreen.READ_PAGE:
                     read = part.read((step.block, step.page))
                 elif step.kind == maulgreen.PROGRAM_PAGE:
-                    part.program((step.block, step.page), read, step.logical, step.serial)
+                    self.same("the erases of a label", step.erases, erases[step.block])
+                    part.program((step.block, step.page), read, step.logical, step.serial, step.erases)
                 else:
                     part.erase_slot(step.block, step.last)
+                    erases[step.block] += step.last
                 mount.done()
                 if self.dice.randrange(300) == 0:
                     part.cut()
@@ -469,6 +489,7 @@ class History:
             assert name in may[page], f"page {page} has {name.hex()} after a mount"
             if at:
                 self.same("a page of a mounted die", part.read((part.block_of[at[0]], at[1])), name)
+        self.same("erases", [block.erases for block in taken.blocks], [erases[block] for block in part.block_of])
         self.same("full accounts", taken.balances, [task.cap for task in tasks])
         serial = die.serial()
         assert all(label is None or label[2] < serial for label in part.cells.values()), "a serial comes again"
@@ -490,7 +511,7 @@ class History:
         # a page that was trimmed may come back
         may = [{name} if at else {name} | self.ever[page] for page, (at, name) in enumerate(zip(rules.die.flash.at, held))]
         if call and call.kind == maulgreen.PROGRAM_CELL:
-            if self.part.cut((self.part.block_of[call.block], call.page), call.name, call.logical, die.serial() + self.part.above):
+            if self.part.cut((self.part.block_of[call.block], call.page), call.name, call.logical, die.serial(), call.erases):
                 self.ever[call.logical].add(call.name)
                 may[call.logical].add(call.name)
         else:
@@ -525,7 +546,8 @@ class History:
         at = self.part.block_of[call.block], call.page
         gave = self.part.read(at) if call.kind == maulgreen.READ_CELL else maulgreen.BLANK
         if not fails and call.kind == maulgreen.PROGRAM_CELL:
-            self.part.program(at, call.name, call.logical, die.serial() + self.part.above)
+            self.part.program(at, call.name, call.logical, die.serial(), call.erases)
+            self.same("the erases of a label", call.erases, rules.die.flash.blocks[call.block].erases)
             self.ever[call.logical].add(call.name)
         if not fails and call.kind == maulgreen.ERASE_SLOT:
             self.part.erase_slot(at[0], call.last)

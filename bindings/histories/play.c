@@ -376,6 +376,8 @@ static void reserve(mg_die *die) {
     raise_to(&kept.operations, operations);
 }
 
+static int stands; /* the checkpoint from which the die was resumed */
+
 /* One slot. Answers whether the die goes on. */
 static int slot(mg_die *die) {
     struct mg_call call;
@@ -388,8 +390,16 @@ static int slot(mg_die *die) {
     make_scarce(covered);
     do code = mg_begin(die, caller, &call);
     while (is_out_of_memory(code, covered));
+    int stood = code == MG_CHECKPOINT_STANDS;
+    if (stood) {
+        check(stands && mg_checkpoint_void(die) == MG_OK, "a checkpoint stood");
+        do code = mg_begin(die, caller, &call);
+        while (is_out_of_memory(code, covered));
+    }
     grants = UINT32_MAX;
     check(code == MG_OK, "begin");
+    if (stands) check(stood == (call.kind == MG_CALL_PROGRAM || call.kind == MG_CALL_ERASE || call.kind == MG_CALL_TRIM), "it spends the checkpoint");
+    if (stood) stands = 0;
     raise_to(&kept.slots, 1);
     if (!random_below(8)) reserve(die);
     check(call.slot == mg_now(die), "the slot that has begun is the present one");
@@ -427,6 +437,13 @@ static int slot(mg_die *die) {
 
 static uint64_t birth; /* bytes of a die without a log */
 
+/* The die goes on from a checkpoint, which is void at once, or when a slot would spend it. */
+static uint32_t goes_on(mg_die *die, uint32_t code) {
+    stands = code == MG_OK && random_below(2);
+    if (code == MG_OK && !stands) check(mg_checkpoint_void(die) == MG_OK, "it is void");
+    return code;
+}
+
 /* A renewal, which may give memory back; or the die is freed and made again from its checkpoint, which has to come to the
  * same. */
 static uint32_t start_anew(mg_die *die, int gives_back, struct mg_why *why) {
@@ -448,7 +465,7 @@ static uint32_t start_anew(mg_die *die, int gives_back, struct mg_why *why) {
         grants = UINT32_MAX;
         return refusal;
     }
-    uint32_t code = mg_checkpoint(die, places, plan.logical, names, plan.logical, blocks, plan.blocks, balances, task_count, &spare, why);
+    uint32_t code = mg_checkpoint(die, places, plan.logical, names, plan.logical, blocks, plan.blocks, balances, task_count, &spare, NULL, why);
     if (code) return code;
     for (uint32_t p = 0; p < plan.logical; p++) {
         if (places[p].block == MG_NOWHERE) check(word_of(&names[p]) == 0xFFFFFFFFu, "a page that lies nowhere is blank");
@@ -459,11 +476,11 @@ static uint32_t start_anew(mg_die *die, int gives_back, struct mg_why *why) {
     check(held == 0, "nothing is left of it");
     memset(&kept, 0, sizeof kept);
     check(mg_resume(die, &plan, tasks, task_count, places, plan.logical, names, plan.logical, blocks, plan.blocks, balances,
-                       task_count, spare + 1, why) == MG_OTHER_SUM, "a page more than are free");
+                       task_count, spare + 1, NULL, why) == MG_OTHER_SUM, "a page more than are free");
     check(is_said(why), "and why");
     *why = unsaid;
-    return mg_resume(die, &plan, tasks, task_count, places, plan.logical, names, plan.logical, blocks, plan.blocks, balances,
-                        task_count, spare, why);
+    return goes_on(die, mg_resume(die, &plan, tasks, task_count, places, plan.logical, names, plan.logical, blocks, plan.blocks, balances,
+                                  task_count, spare, NULL, why));
 }
 
 static void renew(mg_die *die) {
@@ -484,6 +501,7 @@ static void history(void) {
     fails = (int)random_below(2);
     calls_left = fails ? random_below(60) : 1000000u;
     jobs = 0;
+    stands = 0;
     memset(chip, 0, sizeof chip);
     memset(buffers, 0, sizeof buffers);
     copied = 0;

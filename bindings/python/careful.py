@@ -84,7 +84,7 @@ class Part:
             if step.kind == maulgreen.READ_PAGE:
                 self.read = self.cells[cell][0]
             elif step.kind == maulgreen.PROGRAM_PAGE:
-                self.program(*cell, self.read, (step.logical, step.serial))
+                self.program(*cell, self.read, (step.logical, step.serial, step.erases))
             elif step.last:
                 self.erase(step.block)
             mount.done()
@@ -95,7 +95,7 @@ class Part:
     def drive(self, die, call):
         cell = die.part_block(call.block), call.page
         if call.kind == maulgreen.PROGRAM_CELL:
-            self.program(*cell, call.name, (call.logical, die.serial()))
+            self.program(*cell, call.name, (call.logical, die.serial(), call.erases))
         if call.kind == maulgreen.ERASE_SLOT and call.last:
             self.erase(cell[0])
         return True, self.cells[cell][0] if call.kind == maulgreen.READ_CELL else BLANK
@@ -127,8 +127,32 @@ for life in range(12):
             now = mounted.now()
             job = mounted.submit(0, now, now + 1, [(READ, page)])
             assert mounted.slot(lambda call: part.drive(mounted, call)).name == written.get(page, BLANK), "nothing is lost"
+# A part with three blocks more than the plan, of which block 1 is bad: the last one is spare.
+numbers = PLAN.blocks + 1
+with maulgreen.Spares(PLAN, numbers + 2, [1]) as table:
+    is_wrong(lambda: table.done(-1))
+    while table.next().kind == maulgreen.MOVE_ERASE:
+        table.done(maulgreen.MOVE_DONE)
+    assert (table.left(), table.block(1), table.use(1)[0], table.use(numbers + 1)) == (1, 2, maulgreen.USE_BAD, (maulgreen.USE_SPARE, 0))
+    table.program_failed(0, 1)
+    assert table.next() == (maulgreen.MOVE_COPY, numbers + 1, 0, 0)
+    table.done(maulgreen.MOVE_DONE)
+    assert table.next() == (maulgreen.MOVE_PROGRAM, numbers + 1, 1, 0) and table.block(0) == 0
+    table.done(maulgreen.MOVE_DONE)
+    assert table.block(0) == numbers + 1 and table.use(numbers + 1) == (maulgreen.USE_NUMBER, 0)
+    for refused in (lambda: table.erase_failed(3), table.next):
+        try:
+            refused()
+            raise SystemExit("wrong: no spare block is left")
+        except maulgreen.Refusal as refusal:
+            assert refusal.name == "NoSpare"
+with maulgreen.Spares(PLAN, numbers, [], powered=True) as table:
+    for block in range(numbers):
+        assert table.next() == (maulgreen.MOVE_TELL, block, 0, 0)
+        table.tell([(0, block + 1), None])
+    assert table.next().kind == maulgreen.MOVE_NONE and [table.block(b) for b in range(numbers)] == list(range(numbers))
 with maulgreen.Mount(PLAN, [TASK]) as mount:
-    for wrong in ([(0, -1)], [(0, 2**64)], [(-1, 0)], [(0, 1.0)]):
+    for wrong in ([(0, -1)], [(0, 2**64)], [(-1, 0)], [(0, 1.0)], [(0, 1, -1)], [(0, 1, 2**32)]):
         is_wrong(lambda: mount.tell(wrong))
     try:
         mount.done()
@@ -146,6 +170,7 @@ for wrong in (-1, OTHER, 1.0, None):
     is_wrong(lambda: kept.part_block(wrong))
     is_wrong(lambda: maulgreen.Planned(SMALL, [CAP], [TERMS], wrong, taken))
     is_wrong(lambda: maulgreen.Planned(SMALL, [CAP], [TERMS], 100, taken._replace(spare=wrong)))
+    is_wrong(lambda: maulgreen.Planned(SMALL, [CAP], [TERMS], 100, taken._replace(part=(1, wrong))))
 is_wrong(lambda: maulgreen.Planned(SMALL, [CAP], [], 100, taken))
 is_wrong(lambda: maulgreen.Planned(SMALL, [CAP], [TERMS], 100, taken._replace(names=[b"short"])))
 kept.close()
@@ -157,7 +182,18 @@ try:
 except maulgreen.Refusal as refusal:
     assert (refusal.name, refusal.first, refusal.second, refusal.third) == ("NotStocked", 0, 0, 3)
 with maulgreen.Planned(SMALL, [CAP], [TERMS], 60, taken) as kept:
-    assert kept.life() == maulgreen.Life(0, 60, 0) and kept.checkpoint() == taken and kept.serial() == 1
+    assert kept.life() == maulgreen.Life(0, 60, 0) and kept.checkpoint() == taken and kept.serial() == 1 and taken.part == (1, 8)
+    try:
+        kept.begin()
+        raise SystemExit("wrong: a slot begins though the checkpoint stands")
+    except maulgreen.Refusal as refusal:
+        assert refusal.name == "CheckpointStands"
+    kept.checkpoint_void()
+    kept.slot(lambda call: (True, BLANK))
+with maulgreen.Planned(SMALL, [CAP], [TERMS], 60, taken._replace(part=(9, 2))) as kept:
+    assert kept.serial() == 9 and kept.part_block(2) == 8 and kept.part_block(7) == 7 and kept.checkpoint().part == (9, 2)
+with maulgreen.Planned(SMALL, [CAP], [TERMS], 60, taken._replace(part=None)) as kept:
+    assert kept.serial() == 1 and kept.part_block(2) == 2
 with maulgreen.Mount(SMALL, [CAP]) as mount:
     is_wrong(lambda: mount.end_planned([TERMS], -1, []))
     is_wrong(lambda: mount.end_planned([TERMS], 100, [b"short"]))

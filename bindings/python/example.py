@@ -58,6 +58,8 @@ with maulgreen.Die(maulgreen.Plan(8, 4, 3, 16, 2), [maulgreen.Task(4)], checkpoi
     assert die.checkpoint() == checkpoint
     print(refused(lambda: maulgreen.Die(maulgreen.Plan(8, 4, 3, 16, 2), [maulgreen.Task(4)], checkpoint._replace(balances=[5]))))
     die.submit(0, 0, 1, [(maulgreen.TRIM, 3)], caller=7)
+    assert refused(lambda: die.begin(8)).startswith("CheckpointStands") and checkpoint.part == (die.serial(), 8)
+    die.checkpoint_void()  # once what was written down is destroyed
     call = die.begin(8)
     assert call.kind == maulgreen.NOTE_TRIM and call.logical == 3 and die.end(True).caller == 8 and die.caller(0) == 7
     die.submit(0, 1, 2, [(maulgreen.READ, 4)])

@@ -19,6 +19,10 @@ IDLE, DID_READ, DID_WRITE, DID_TRIM, COPY_READ, COPY_PROGRAM, ERASE = range(7)
 WAITING, DONE, WAIVED = 0, 1, 2
 # what a mount needs next
 NEEDS_NOTHING, READ_PAGE, PROGRAM_PAGE, ERASE_BLOCK, TELL_BLOCK = range(5)
+# what a table of spare blocks needs next, how a call of it went, and what a block is for
+MOVE_NONE, MOVE_TELL, MOVE_ERASE, MOVE_COPY, MOVE_PROGRAM = range(5)
+MOVE_DONE, MOVE_FAILED, MOVE_FAULT = range(3)
+USE_BAD, USE_SPARE, USE_NUMBER = range(3)
 # what an entry of the log is of
 SUBMITTED, COLLECTED, IDLE_SLOT, OPERATION, LAST_OPERATION, PAGE_READ, PAGE_PROGRAMMED, ERASED, LAST_ERASED = range(9)
 
@@ -40,7 +44,8 @@ _Task = _struct("_Task", "cap period collect_period work writes")
 _Load = _struct("_Load", "common", [("demand", U64)])
 _Why = _struct("_Why", "first second")
 _Op = _named("_Op", "kind page")
-_Call = _named("_Call", "kind block page last slot act job logical")
+_Call = type("_Call", (c.Structure,), {"_fields_": [(word, U32) for word in "kind block page last slot act job logical".split()]
+                                      + [("name", _Name), ("erases", U32)]})
 _Reply = _named("_Reply", "slot act job page finished waived caller")
 _Waived = _struct("_Waived", "job given")
 _Entry = _struct("_Entry", "what caller job at waived")
@@ -52,13 +57,15 @@ _Certificate = _struct("_Certificate", "job start due completion jobs")
 _Row = _struct("_Row", "number release due work done completion")
 _Place = _struct("_Place", "block page")
 _Block = _struct("_Block", "filled erases")
-_Label = _struct("_Label", "page", [("serial", U64)])
+_Part = _struct("_Part", "aside", [("serial", U64)])
+_Label = _struct("_Label", "page erases", [("serial", U64)])
 _Terms = _struct("_Terms", "period deadline held work writes collect_period collect_deadline")
 _Taken = _struct("_Taken", "waits first jobs", [("release", U64), ("due", U64)])
 _Unasked = _struct("_Unasked", "number", [("next", U64)])
 _Life = _struct("_Life", "slots now", [("first", U64)])
 _Unresumed = _struct("_Unresumed", "first second third")
-_Step = _struct("_Step", "kind block page logical last", [("serial", U64)])
+_Move = _struct("_Move", "kind block page from_")
+_Step = _struct("_Step", "kind block page logical last erases", [("serial", U64)])
 _Bytes = type("_Bytes", (c.Structure,), {"_fields_": [(word, U64) for word in "birth reserved life question resume".split()]})
 _NOWHERE = _NO_PAGE = 0xFFFFFFFF
 _NONE_OVERDUE = 111
@@ -112,14 +119,25 @@ class Life(NamedTuple):
     now: int
 
 
+class Move(NamedTuple):
+    """What a table of spare blocks needs next: MOVE_NONE .. MOVE_PROGRAM. Blocks are the part's; a copy is from the cell of `from_block`
+    with the same page."""
+    kind: int
+    block: int
+    page: int
+    from_block: int
+
+
 class Step(NamedTuple):
-    """What a mount needs next: NEEDS_NOTHING .. TELL_BLOCK. Blocks are the part's. `logical` and `serial` are those of a program's label."""
+    """What a mount needs next: NEEDS_NOTHING .. TELL_BLOCK. Blocks are the part's. `logical`, `serial` and `erases` are those of a
+    program's label."""
     kind: int
     block: int
     page: int
     last: bool
     logical: int
     serial: int
+    erases: int
 
 
 class Load(NamedTuple):
@@ -139,7 +157,7 @@ class Memory(NamedTuple):
 
 
 class Call(NamedTuple):
-    """What the device is to do, and for whom. NOTE_TRIM is for a driver that keeps a record of trims: the chip does nothing. `logical` is the page that is read, written, trimmed or copied, or None."""
+    """What the device is to do, and for whom. NOTE_TRIM is for a driver that keeps a record of trims: the chip does nothing. `logical` is the page that is read, written, trimmed or copied, or None; `erases` how often the block was erased that is programmed."""
     kind: int
     block: int
     page: int
@@ -149,6 +167,7 @@ class Call(NamedTuple):
     job: int
     logical: Optional[int]
     name: bytes
+    erases: int
 
 
 class Waived(NamedTuple):
@@ -226,13 +245,21 @@ class Block(NamedTuple):
     erases: int
 
 
+class Part(NamedTuple):
+    """What the label of the next program bears, and the number that the part gives the block which stands aside."""
+    serial: int
+    aside: int
+
+
 class Checkpoint(NamedTuple):
-    """By logical page its cell, (block, page) or None, and its name; by block its counts; by task its tokens; the spare pages."""
+    """By logical page its cell, (block, page) or None, and its name; by block its counts; by task its tokens; the spare pages; and what
+    is known of a part with labels, or None."""
     places: Sequence[Optional[Tuple[int, int]]]
     names: Sequence[bytes]
     blocks: Sequence[Tuple[int, int]]
     balances: Sequence[int]
     spare: int
+    part: Optional[Tuple[int, int]] = None
 
 
 Op = Union[Tuple[int, int], Tuple[int, int, bytes]]
@@ -248,14 +275,15 @@ def _library() -> str:
 
 _lib = c.CDLL(_library())
 for _word in ("version refusal_name plan_bound plan_test memory new submit collect begin end reserve reserve_jobs renew "
-              "renew_giving_back now place part_block mount_new mount_next mount_tell mount_done mount_place mount_end planned_new planned_ask planned_ask_all planned_begin planned_end planned_life planned_waiting "
-              "planned_job planned_outcome planned_place planned_checkpoint planned_resume planned_part_block mount_end_planned entries entry_waived job outcome worst overdue certificate rows check checkpoint resume").split():
+              "renew_giving_back now place part_block mount_new mount_next mount_tell mount_done mount_place mount_end spares_new spares_power_up spares_next spares_tell spares_done spares_program_failed spares_erase_failed "
+              "spares_block spares_use spares_left planned_new planned_ask planned_ask_all planned_begin planned_end planned_life planned_waiting "
+              "planned_job planned_outcome planned_place planned_checkpoint planned_resume planned_part_block mount_end_planned entries entry_waived job outcome worst overdue certificate rows check checkpoint checkpoint_void planned_checkpoint_void resume").split():
     getattr(_lib, "mg_" + _word).restype = U32
 _lib.mg_len.restype = _lib.mg_records.restype = _lib.mg_serial.restype = _lib.mg_mount_calls_left.restype = _lib.mg_planned_clock.restype = _lib.mg_planned_serial.restype = U64
-_lib.mg_free.restype = _lib.mg_mount_free.restype = _lib.mg_planned_free.restype = None
+_lib.mg_free.restype = _lib.mg_mount_free.restype = _lib.mg_planned_free.restype = _lib.mg_spares_free.restype = None
 _lib.mg_refusal_text.restype = c.c_char_p
 # Another major number has other calls; a lower minor one lacks some of these.
-if _lib.mg_version() >> 16 != 1 or _lib.mg_version() & 0xFFFF < 3:
+if _lib.mg_version() >> 16 != 2 or _lib.mg_version() & 0xFFFF < 0:
     raise ImportError("another version of libmaulgreen.so")
 
 
@@ -264,8 +292,8 @@ class Refusal(Exception):
     that comes too soon, `third` how many pages a task needs that has too few to go on with."""
 
     def __init__(self, code, why=None):
-        text = c.create_string_buffer(16)
-        _lib.mg_refusal_name(U32(code), text, c.c_size_t(16))
+        text = c.create_string_buffer(17)
+        _lib.mg_refusal_name(U32(code), text, c.c_size_t(17))
         self.code, self.name, self.text = code, text.value.decode(), _lib.mg_refusal_text(U32(code)).decode()
         self.third = getattr(why, "third", 0)
         if isinstance(why, _Unasked):
@@ -286,6 +314,12 @@ def _u32(number) -> int:
     if isinstance(number, bool) or not isinstance(number, int) or not 0 <= number < 2**32:
         raise ValueError(f"{number!r} is no number from 0 to 4,294,967,295")
     return number
+
+
+def _serial(serial) -> int:
+    if isinstance(serial, bool) or not isinstance(serial, int) or not 0 <= serial < 2**64:
+        raise ValueError(f"{serial!r} is no serial")
+    return serial
 
 
 def _name(name) -> c.Array:
@@ -344,6 +378,86 @@ def check(rows: Iterable[Row], certificate: Certificate) -> None:
     _must(_lib.mg_check(rows, row_count, c.byref(given), jobs, count))
 
 
+def _label(label: Optional[Sequence[int]]) -> _Label:
+    page, serial, *erases = (_NO_PAGE, 0) if label is None else label
+    return _Label(_serial(serial), _u32(page), _u32(erases[0] if erases else 0))
+
+
+class Spares:
+    """A table of the spare blocks of a part: it gives the blocks of a die and of a mount numbers, and where a call of the part failed it
+    says which calls come next. For a part of so many blocks on which nothing was done yet, or, `powered`, whose power has come: its
+    blocks are told next. `with` frees it. For one thread at a time."""
+
+    def __init__(self, plan: Plan, blocks: int, bad: Iterable[int], powered: bool = False):
+        self._at = None
+        handle = _Handle()
+        begin = _lib.mg_spares_power_up if powered else _lib.mg_spares_new
+        _must(begin(c.byref(handle), c.byref(_numbers(_Plan, Plan(*plan))), U32(_u32(blocks)), *_list(U32, map(_u32, bad))))
+        self._at = handle
+
+    def __enter__(self):
+        return self
+
+    def __exit__(self, *_):
+        self.close()
+
+    def __del__(self):
+        self.close()
+
+    def close(self) -> None:
+        if self._at is not None:
+            _lib.mg_spares_free(c.byref(self._at))
+            self._at = None
+
+    def __copy__(self):
+        raise TypeError("a table isn't copied")
+
+    def __deepcopy__(self, _):
+        raise TypeError("a table isn't copied")
+
+    def _call(self, function: str, *words) -> int:
+        if self._at is None:
+            raise ValueError("the table was freed")
+        return getattr(_lib, "mg_spares_" + function)(c.byref(self._at), *words)
+
+    def next(self) -> Move:
+        """What it needs next."""
+        said = _Move()
+        _must(self._call("next", c.byref(said)))
+        return Move(said.kind, said.block, said.page, said.from_)
+
+    def tell(self, labels: Iterable[Optional[Sequence[int]]]) -> None:
+        """Tells the labels of the block that is to be told, from its first cell on, as Mount.tell: (logical page, serial, erases of the
+        block), whose erases aren't looked at and may be left out, or None."""
+        _must(self._call("tell", *_list(_Label, map(_label, labels))))
+
+    def done(self, how: int) -> None:
+        """How the part carried that out: MOVE_DONE, MOVE_FAILED or MOVE_FAULT."""
+        _must(self._call("done", U32(_u32(how))))
+
+    def program_failed(self, number: int, page: int) -> None:
+        _must(self._call("program_failed", U32(_u32(number)), U32(_u32(page))))
+
+    def erase_failed(self, number: int) -> None:
+        _must(self._call("erase_failed", U32(_u32(number))))
+
+    def block(self, number: int) -> int:
+        """The part's block that has this number."""
+        said = U32()
+        _must(self._call("block", U32(_u32(number)), c.byref(said)))
+        return said.value
+
+    def use(self, block: int) -> Tuple[int, int]:
+        """What a block of the part is for, USE_BAD .. USE_NUMBER, and its number."""
+        becomes, number = U32(), U32()
+        _must(self._call("use", U32(_u32(block)), c.byref(becomes), c.byref(number)))
+        return becomes.value, number.value
+
+    def left(self) -> int:
+        """How many spare blocks are left."""
+        return self._call("left")
+
+
 class Mount:
     """A mount of a part after a loss of power, by the labels in its cells; `with` frees it. For one thread at a time."""
 
@@ -383,18 +497,13 @@ class Mount:
         """What it needs next."""
         said = _Step()
         _must(self._call("next", c.byref(said)))
-        return Step(said.kind, said.block, said.page, said.last == 1, said.logical, said.serial)
+        return Step(said.kind, said.block, said.page, said.last == 1, said.logical, said.serial, said.erases)
 
-    def tell(self, labels: Iterable[Optional[Tuple[int, int]]]) -> None:
-        """Tells what the cells of the block show that the step names, from the first one on: (logical page, serial), or None."""
-        told = []
-        for label in labels:
-            page, serial = (_NO_PAGE, 0) if label is None else label
-            if isinstance(serial, bool) or not isinstance(serial, int) or not 0 <= serial < 2**64:
-                raise ValueError(f"{serial!r} is no serial")
-            told.append(_Label(serial, _u32(page)))
+    def tell(self, labels: Iterable[Optional[Sequence[int]]]) -> None:
+        """Tells what the cells of the block show that the step names, from the first one on: (logical page, serial, erases of the block),
+        of a driver that keeps no counts (logical page, serial), or None."""
         why = _Why()
-        _must(self._call("tell", *_list(_Label, told), c.byref(why)), why)
+        _must(self._call("tell", *_list(_Label, map(_label, labels)), c.byref(why)), why)
 
     def done(self) -> None:
         """The call that the step names was made, and went well."""
@@ -427,24 +536,25 @@ def _as_arrays(checkpoint: Checkpoint):
     """A checkpoint as the library has it."""
     return (*_list(_Place, (_numbers(_Place, at or (_NOWHERE, 0)) for at in checkpoint.places)), *_list(_Name, map(_name, checkpoint.names)),
             *_list(_Block, (_numbers(_Block, b) for b in checkpoint.blocks)), *_list(U32, map(_u32, checkpoint.balances)),
-            U32(_u32(checkpoint.spare)))
+            U32(_u32(checkpoint.spare)), checkpoint.part and c.byref(_Part(_serial(checkpoint.part[0]), _u32(checkpoint.part[1]))))
 
 
 def _checkpoint_by(call, plan: Plan, tasks: int) -> Checkpoint:
     """What stands, as this call says it of a die of this plan and of `tasks` tasks."""
     places, names, blocks = (_Place * plan.logical)(), (_Name * plan.logical)(), (_Block * plan.blocks)()
-    balances, spare, why = (U32 * tasks)(), U32(), _Why()
+    balances, spare, part, why = (U32 * tasks)(), U32(), _Part(), _Why()
     _must(call("checkpoint", places, c.c_size_t(plan.logical), names, c.c_size_t(plan.logical), blocks, c.c_size_t(plan.blocks),
-               balances, c.c_size_t(tasks), c.byref(spare), c.byref(why)), why)
+               balances, c.c_size_t(tasks), c.byref(spare), c.byref(part), c.byref(why)), why)
     return Checkpoint([None if p.block == _NOWHERE else (p.block, p.page) for p in places], [bytes(n) for n in names],
-                      [Block(b.filled, b.erases) for b in blocks], list(balances), spare.value)
+                      [Block(b.filled, b.erases) for b in blocks], list(balances), spare.value, Part(part.serial, part.aside))
 
 
 class Die:
     """One die; `with` frees it. Calls of several threads wait for each other."""
 
     def __init__(self, plan: Plan, tasks: Iterable[Task], checkpoint: Optional[Checkpoint] = None):
-        """A die over a chip that is erased; with a checkpoint one that goes on from there, over a chip that is as that says."""
+        """A die over a chip that is erased; with a checkpoint one that goes on from there, over a chip that is as that says. That
+        stands: no slot begins that would spend it before checkpoint_void."""
         self._at = None
         self._lock = threading.RLock()
         tasks = list(tasks)
@@ -511,7 +621,7 @@ class Die:
         call = _Call()
         _must(self._call("begin", U32(_u32(caller)), c.byref(call)))
         return Call(call.kind, call.block, call.page, call.last == 1, call.slot, call.act, call.job,
-                    None if call.logical == _NO_PAGE else call.logical, bytes(call.name))
+                    None if call.logical == _NO_PAGE else call.logical, bytes(call.name), call.erases)
 
     def end(self, ok: bool, name: bytes = BLANK) -> Reply:
         """Ends the slot that has begun: whether the device did it, and the name of what a read gave."""
@@ -553,6 +663,10 @@ class Die:
     def checkpoint(self) -> Checkpoint:
         """What stands at a moment at which all is done or was waived, with the names of the pages."""
         return _checkpoint_by(self._call, *self._shape)
+
+    def checkpoint_void(self) -> None:
+        """The checkpoint from which the die was made is void: no die is made of it any more."""
+        _must(self._call("checkpoint_void"))
 
     def serial(self) -> int:
         """What the label of the next program bears."""
@@ -713,7 +827,7 @@ class Planned:
         call = _Call()
         _must(self._call("begin", U32(_u32(caller)), c.byref(call)))
         return Call(call.kind, call.block, call.page, call.last == 1, call.slot, call.act, call.job,
-                    None if call.logical == _NO_PAGE else call.logical, bytes(call.name))
+                    None if call.logical == _NO_PAGE else call.logical, bytes(call.name), call.erases)
 
     def end(self, ok: bool, name: bytes = BLANK) -> Reply:
         """Ends the slot that has begun: whether the device did it, and the name of what a read gave."""
@@ -738,6 +852,10 @@ class Planned:
     def checkpoint(self) -> Checkpoint:
         """What stands between two slots where nothing that was accepted is left, with the names of the pages."""
         return _checkpoint_by(self._call, *self._shape)
+
+    def checkpoint_void(self) -> None:
+        """The checkpoint from which the die was made is void: no die is made of it any more."""
+        _must(self._call("checkpoint_void"))
 
     def serial(self) -> int:
         """What the label of the next program bears. It rises over all lives."""

@@ -6,26 +6,44 @@
 #include <sys/mman.h>
 #include <unistd.h>
 
-static struct chip_page (*cells)[PAGES];
+static struct chip {
+    struct chip_page cells[BLOCKS + NOTE_BLOCKS][PAGES];
+    uint8_t is_marked[BLOCKS + NOTE_BLOCKS], has_failed[BLOCKS + NOTE_BLOCKS];
+    uint32_t erased[BLOCKS + NOTE_BLOCKS]; /* by block how often */
+} *chip;
 static long calls_left;    /* 0: the power stays */
-static long programs_left; /* 0: none fails */
+static long programs_left; /* 0: the chip has no fault */
+static long wears_one_in;  /* 0: no block fails */
 
 void chip_open(const char *file) {
-    const size_t size = sizeof(struct chip_page) * (BLOCKS + NOTE_BLOCKS) * PAGES;
     int fd = open(file, O_RDWR | O_CREAT, 0644);
-    bool is_new = fd >= 0 && lseek(fd, 0, SEEK_END) != (off_t)size;
-    if (fd < 0 || ftruncate(fd, (off_t)size)) abort();
-    cells = mmap(NULL, size, PROT_READ | PROT_WRITE, MAP_SHARED, fd, 0);
+    bool is_new = fd >= 0 && lseek(fd, 0, SEEK_END) != (off_t)sizeof *chip;
+    if (fd < 0 || ftruncate(fd, (off_t)sizeof *chip)) abort();
+    chip = mmap(NULL, sizeof *chip, PROT_READ | PROT_WRITE, MAP_SHARED, fd, 0);
     close(fd);
-    if (cells == MAP_FAILED) abort();
-    if (is_new) memset(cells, 0xFF, size);
+    if (chip == MAP_FAILED) abort();
+    if (!is_new) return;
+    memset(chip, 0, sizeof *chip);
+    memset(chip->cells, 0xFF, sizeof chip->cells);
+    uint32_t bad = (uint32_t)rand() % BLOCKS;
+    chip->is_marked[bad] = chip->has_failed[bad] = 1;
 }
 
 void chip_cut(long calls) { calls_left = calls; }
 
 void chip_fail(long programs) { programs_left = programs; }
 
+void chip_wear(long one_in) { wears_one_in = one_in; }
+
+uint32_t chip_erases(uint32_t block) { return chip->erased[block]; }
+
 static bool is_cut(void) { return calls_left > 0 && --calls_left == 0; }
+
+/* Whether this call fails for its block, as each one after it does. */
+static bool wears(uint32_t block) {
+    if (block < BLOCKS && wears_one_in > 0 && rand() % wears_one_in == 0) chip->has_failed[block] = 1;
+    return chip->has_failed[block];
+}
 
 bool chip_is_free(const struct chip_page *page) {
     const uint8_t *bytes = (const uint8_t *)page;
@@ -36,32 +54,42 @@ bool chip_is_free(const struct chip_page *page) {
 
 bool chip_read(uint32_t block, uint32_t page, struct chip_page *out) {
     if (is_cut()) _exit(77);
-    *out = cells[block][page];
+    *out = chip->cells[block][page];
     return true;
 }
 
-bool chip_program(uint32_t block, uint32_t page, const struct chip_page *in) {
-    if (!chip_is_free(&cells[block][page])) return false;
-    bool cut = is_cut(), fails = programs_left > 0 && --programs_left == 0;
-    if (cut || fails) { /* torn: some of its bytes are there, and maybe those of the spare area */
-        memcpy(cells[block][page].payload, in->payload, (size_t)rand() % PAYLOAD);
-        if (rand() & 1) memcpy(cells[block][page].spare, in->spare, SPARE);
+enum chip_end chip_program(uint32_t block, uint32_t page, const struct chip_page *in) {
+    struct chip_page *cell = &chip->cells[block][page];
+    if (!chip_is_free(cell)) return CHIP_FAULT;
+    bool cut = is_cut(), fault = programs_left > 0 && --programs_left == 0, failed = wears(block);
+    if (cut || fault || failed) { /* torn: some of its bytes are there, and maybe those of the spare area */
+        memcpy(cell->payload, in->payload, (size_t)rand() % PAYLOAD);
+        if (rand() & 1) memcpy(cell->spare, in->spare, SPARE);
         if (cut) _exit(77);
-        return false;
+        return fault ? CHIP_FAULT : CHIP_BLOCK_FAILED;
     }
-    cells[block][page] = *in;
-    return true;
+    *cell = *in;
+    return CHIP_DONE;
 }
 
-bool chip_erase_slot(uint32_t block, bool last) {
-    if (is_cut()) { /* some pages are erased, and some half */
+enum chip_end chip_erase_slot(uint32_t block, bool last) {
+    bool cut = is_cut(), failed = last && wears(block);
+    if (cut || failed) { /* some pages are erased, and some half */
         for (int page = 0; page < PAGES; page++) {
             size_t part = rand() & 1 ? sizeof(struct chip_page) : (size_t)rand() % sizeof(struct chip_page);
-            if (rand() & 1) memset(&cells[block][page], 0xFF, part);
+            if (rand() & 1) memset(&chip->cells[block][page], 0xFF, part);
         }
-        _exit(77);
+        if (cut) _exit(77);
+        return CHIP_BLOCK_FAILED;
     }
-    if (last) memset(cells[block], 0xFF, sizeof cells[block]);
-    else memset(cells[block][PAGES - 1].spare, 0, SPARE); /* what was there can't be relied on any more */
-    return true;
+    if (last) memset(chip->cells[block], 0xFF, sizeof chip->cells[block]), chip->erased[block]++;
+    else memset(chip->cells[block][PAGES - 1].spare, 0, SPARE); /* what was there can't be relied on any more */
+    return CHIP_DONE;
+}
+
+bool chip_is_marked(uint32_t block) { return chip->is_marked[block]; }
+
+void chip_mark(uint32_t block) {
+    if (is_cut()) _exit(77);
+    chip->is_marked[block] = 1;
 }

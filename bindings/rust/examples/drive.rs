@@ -1,6 +1,9 @@
 //! Drives a chip of 4 KiB pages, which is simulated here: what `../c/example.c` does, in Rust.
 
-use maulgreen::{check, Act, Call, Die, Entered, Label, Misfit, Mount, Name, Op, Outcome, Place, Plan, Planned, Refusal, Step, Terms};
+use maulgreen::{
+    check, Act, BlockUse, Call, Die, Entered, Label, Misfit, Mount, Move, Moved, Name, Op, Outcome, Part, Place, Plan, Planned, Refusal,
+    Spares, Step, Terms,
+};
 use std::collections::HashMap;
 
 const PAYLOAD: usize = 4096;
@@ -48,7 +51,7 @@ impl Driver {
                 }
                 (true, name_of(&payload))
             }
-            Call::Program { block, page, name } => {
+            Call::Program { block, page, name, .. } => {
                 if self.programs_left == Some(0) {
                     return (false, Name::BLANK);
                 }
@@ -177,6 +180,11 @@ fn main() -> Result<(), Refusal> {
     checkpoint.spare -= 1;
     let mut die = Die::resume(&plan, &checkpoint)?;
     assert_eq!(die.checkpoint()?, checkpoint);
+    assert_eq!(checkpoint.part, Part { serial: die.serial(), aside: 8 });
+    die.submit(1, 0, 0, 9, &[Op::Trim(0)])?;
+    assert_eq!(die.begin(9).err(), Some(Refusal::CheckpointStands));
+    die.checkpoint_void();
+    die.begin(9)?.end(true, Name::BLANK)?;
     play(&mut die, &mut driver, 30)?;
     println!("a shutdown, and a die that goes on");
 
@@ -190,11 +198,11 @@ fn main() -> Result<(), Refusal> {
     // Page 5 lies in a part's last block, which the die has under the number of the one aside: block 0.
     let mut mount = Mount::new(&plan)?;
     assert_eq!((mount.done(), mount.calls_left()), (Err(Refusal::WrongStep), 0));
-    assert_eq!(mount.tell(&[None, Some(Label { page: LOGICAL, serial: 1 })]), Err(Refusal::BadLabel { cell: 1 }));
+    assert_eq!(mount.tell(&[None, Some(Label { page: LOGICAL, serial: 1, erases: 0 })]), Err(Refusal::BadLabel { cell: 1 }));
     let mut slots = 0;
     while let Some(step) = mount.next_step()? {
         match step {
-            Step::Tell { block: 8 } => mount.tell(&[Some(Label { page: 5, serial: 41 })])?,
+            Step::Tell { block: 8 } => mount.tell(&[Some(Label { page: 5, serial: 41, erases: 6 })])?,
             Step::Tell { .. } => mount.tell(&[])?,
             Step::Erase { .. } => {
                 assert_eq!(mount.place(5)?, Some(Place { block: 8, page: 0 }));
@@ -206,6 +214,9 @@ fn main() -> Result<(), Refusal> {
     }
     let fifth = Name([171; 16]);
     let mut die = mount.end(&[Name::BLANK, Name::BLANK, Name::BLANK, Name::BLANK, Name::BLANK, fifth])?;
+    // Block 8 had 6 erases, and is block 0 here; one of which nothing is told counts one more.
+    let erases: Vec<u32> = die.checkpoint()?.blocks.iter().map(|block| block.erases).collect();
+    assert_eq!((erases[0], erases[4]), (6, 7));
     assert_eq!(mount.next_step(), Err(Refusal::WrongStep));
     assert_eq!((slots, die.serial(), die.part_block(0), die.place(5)), (9, 42, 8, Some(Place { block: 0, page: 0 })));
     die.submit(1, 0, 0, 1, &[Op::Read(5)])?;
@@ -213,6 +224,29 @@ fn main() -> Result<(), Refusal> {
     assert!(matches!(slot.call(), Call::Read { block: 0, page: 0, name, .. } if name == fifth));
     slot.end(true, fifth)?;
     println!("a mount, and the die that begins where it ends");
+
+    // Eleven blocks, of which block 1 is bad and block 10 is spare: it has the number 0 once page 0 of block 0 was copied.
+    let mut table = Spares::new(&plan, 11, &[1])?;
+    let mut erased = 0;
+    while let Some(Move::Erase { .. }) = table.next_move()? {
+        table.done(Moved::Done)?;
+        erased += 1;
+    }
+    assert_eq!((erased, table.left(), table.block(1)?, table.use_of(10)?), (10, 1, 2, BlockUse::Spare));
+    table.program_failed(0, 1)?;
+    assert_eq!(table.next_move()?, Some(Move::Copy { from: 0, to: Place { block: 10, page: 0 } }));
+    table.done(Moved::Done)?;
+    assert_eq!((table.next_move()?, table.block(0)?), (Some(Move::Program { place: Place { block: 10, page: 1 } }), 0));
+    table.done(Moved::Done)?;
+    assert_eq!((table.block(0)?, table.use_of(0)?, table.use_of(10)?), (10, BlockUse::Bad, BlockUse::Number(0)));
+    assert_eq!((table.erase_failed(3), table.next_move()), (Err(Refusal::NoSpare), Err(Refusal::NoSpare)));
+    let mut table = Spares::power_up(&plan, 9, &[])?;
+    for block in 0..9 {
+        assert_eq!(table.next_move()?, Some(Move::Tell { block }));
+        table.tell(&[Some(Label { page: 0, serial: u64::from(block) + 1, erases: 0 })])?;
+    }
+    assert_eq!((table.next_move()?, table.block(8)?, table.block(9)), (None, 8, Err(Refusal::NoBlock)));
+    println!("a table of spare blocks");
 
     // A die that keeps its plan is written down and goes on, and a mount ends in one.
     let plan = Plan { logical: 12, caps: vec![6], ..plan };
@@ -236,12 +270,16 @@ fn main() -> Result<(), Refusal> {
     written.balances[0] += 4;
     written.spare -= 4;
     let mut kept = Planned::resume(&plan, &[terms], 60, &written)?;
-    assert_eq!((kept.life().slots, kept.serial(), kept.checkpoint()?), (60, 1, written));
+    assert_eq!((kept.life().slots, kept.serial(), kept.checkpoint()?), (60, 2, written));
+    assert_eq!(kept.begin_slot(9).err(), Some(Refusal::CheckpointStands));
+    kept.checkpoint_void();
+    kept.begin_slot(9)?;
+    kept.end_slot(true, Name::BLANK)?;
     let mut mount = Mount::new(&plan)?;
     assert_eq!(mount.end_planned(&[terms], 100, &[]).err(), Some(Refusal::WrongStep));
     while let Some(step) = mount.next_step()? {
         match step {
-            Step::Tell { block: 8 } => mount.tell(&[Some(Label { page: 5, serial: 41 })])?,
+            Step::Tell { block: 8 } => mount.tell(&[Some(Label { page: 5, serial: 41, erases: 6 })])?,
             Step::Tell { .. } => mount.tell(&[])?,
             _ => mount.done()?,
         }

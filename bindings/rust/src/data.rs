@@ -110,8 +110,8 @@ pub enum Call {
     /// call, whichever it is: it programs the payload elsewhere; or it reads another page or erases, where the page was written
     /// or trimmed meanwhile, and the payload isn't needed.
     Read { block: u32, page: u32, name: Name, copy: bool },
-    /// Program the next free cell of the block with the payload of this name.
-    Program { block: u32, page: u32, name: Name },
+    /// Program the next free cell of the block with the payload of this name. The block was erased so often, which a label may bear.
+    Program { block: u32, page: u32, name: Name, erases: u32 },
     /// Do one slot of the erase of the block; the last one frees its pages.
     Erase { block: u32, last: bool },
     /// The slot trims the logical page, for which the chip does nothing. A driver that keeps a record of trims writes it now: where
@@ -121,10 +121,10 @@ pub enum Call {
 
 impl Call {
     pub(crate) fn of(call: &raw::Call) -> Call {
-        let raw::Call { kind, block, page, last, act, logical, name, .. } = *call;
+        let raw::Call { kind, block, page, last, act, logical, name, erases, .. } = *call;
         match kind {
             1 => Call::Read { block, page, name, copy: act == 4 },
-            2 => Call::Program { block, page, name },
+            2 => Call::Program { block, page, name, erases },
             3 => Call::Erase { block, last: last == 1 },
             4 => Call::Trim { page: logical },
             _ => Call::Nothing,
@@ -368,6 +368,14 @@ pub struct BlockCounts {
     pub erases: u32,
 }
 
+/// What is known of the part beneath a die: of a part with labels what the label of the next program bears, and the block that
+/// stands aside, by the part's number.
+#[derive(Clone, Copy, PartialEq, Eq, Debug)]
+pub struct Part {
+    pub serial: u64,
+    pub aside: u32,
+}
+
 /// What stands on a die at a moment at which all that was accepted is done or was waived.
 #[derive(Clone, PartialEq, Eq, Debug)]
 pub struct Checkpoint {
@@ -378,4 +386,5 @@ pub struct Checkpoint {
     pub balances: Vec<u32>,
     /// How many free pages nobody has a claim on.
     pub spare: u32,
+    pub part: Part,
 }

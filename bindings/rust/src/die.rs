@@ -1,7 +1,7 @@
 //! A die, and a slot that has begun.
 
 use crate::data::{
-    Begun, BlockCounts, Call, Certificate, Checkpoint, Entered, Entry, Job, Load, Memory, Name, Op, Outcome, Overdue, Place, Plan, Reply, Row, Waived,
+    Begun, BlockCounts, Call, Certificate, Checkpoint, Entered, Entry, Job, Load, Memory, Name, Op, Outcome, Overdue, Part, Place, Plan, Reply, Row, Waived,
     Worst,
 };
 use crate::raw;
@@ -73,7 +73,7 @@ unsafe impl Sync for Die {}
 
 /// The version of the interface that this crate was written for: a library of the same major number serves, whose minor one
 /// isn't below.
-const VERSION: u32 = 1 << 16 | 3;
+const VERSION: u32 = 2 << 16 | 0;
 
 pub(crate) fn must_fit() {
     // SAFETY: it takes nothing.
@@ -91,11 +91,12 @@ pub(crate) struct Written {
     pub(crate) blocks: Vec<raw::Block>,
     pub(crate) balances: Vec<u32>,
     pub(crate) spare: u32,
+    pub(crate) part: raw::Part,
 }
 
 impl Written {
     pub(crate) fn of(checkpoint: &Checkpoint) -> Written {
-        let Checkpoint { ref pages, ref blocks, ref balances, spare } = *checkpoint;
+        let Checkpoint { ref pages, ref blocks, ref balances, spare, part: Part { serial, aside } } = *checkpoint;
         let nowhere = raw::Place { block: NOWHERE, page: 0 };
         Written {
             places: pages.iter().map(|(at, _)| at.map_or(nowhere, |Place { block, page }| raw::Place { block, page })).collect(),
@@ -103,12 +104,13 @@ impl Written {
             blocks: blocks.iter().map(|&BlockCounts { filled, erases }| raw::Block { filled, erases }).collect(),
             balances: balances.clone(),
             spare,
+            part: raw::Part { serial, aside },
         }
     }
 }
 
 type TakeCheckpoint = unsafe extern "C" fn(
-    *mut raw::Handle, *mut raw::Place, usize, *mut Name, usize, *mut raw::Block, usize, *mut u32, usize, *mut u32, *mut raw::Why,
+    *mut raw::Handle, *mut raw::Place, usize, *mut Name, usize, *mut raw::Block, usize, *mut u32, usize, *mut u32, *mut raw::Part, *mut raw::Why,
 ) -> u32;
 
 /// What stands, as this call says it of a die with these counts of logical pages, blocks and tasks.
@@ -121,10 +123,10 @@ pub(crate) unsafe fn checkpoint_by(take: TakeCheckpoint, handle: &mut raw::Handl
     let mut names = vec![Name::BLANK; logical];
     let mut counts = vec![raw::Block::default(); blocks];
     let mut balances = vec![0; tasks];
-    let (mut spare, mut why) = (0, NO_NUMBERS);
+    let (mut spare, mut part, mut why) = (0, raw::Part::default(), NO_NUMBERS);
     let code = take(
         handle, places.as_mut_ptr(), places.len(), names.as_mut_ptr(), names.len(), counts.as_mut_ptr(), counts.len(),
-        balances.as_mut_ptr(), balances.len(), &mut spare, &mut why,
+        balances.as_mut_ptr(), balances.len(), &mut spare, &mut part, &mut why,
     );
     answer(code, &why)?;
     let place = |raw::Place { block, page }| (block != NOWHERE).then_some(Place { block, page });
@@ -133,6 +135,7 @@ pub(crate) unsafe fn checkpoint_by(take: TakeCheckpoint, handle: &mut raw::Handl
         blocks: counts.into_iter().map(|raw::Block { filled, erases }| BlockCounts { filled, erases }).collect(),
         balances,
         spare,
+        part: Part { serial: part.serial, aside: part.aside },
     })
 }
 
@@ -154,17 +157,20 @@ impl Die {
     ///
     /// Refused with the first that stands: `NoMemory`, which may come at any time; `Checkpoint` with what is wrong first with
     /// it, `BadPlan` coming behind [`Misfit::OtherShape`], and `WornOut` behind [`Misfit::SecondOpen`].
+    ///
+    /// The checkpoint stands: no slot begins that would spend it (`CheckpointStands`) before
+    /// [`checkpoint_void`](Die::checkpoint_void).
     pub fn resume(plan: &Plan, checkpoint: &Checkpoint) -> Result<Die, Refusal> {
         must_fit();
         let counts = [plan.logical as usize, plan.blocks as usize, plan.caps.len()];
         let (plan, tasks) = plan.raw();
-        let Written { places, names, blocks, balances, spare } = Written::of(checkpoint);
+        let Written { places, names, blocks, balances, spare, part } = Written::of(checkpoint);
         let (mut handle, mut why) = (raw::Handle::EMPTY, NO_NUMBERS);
         // SAFETY: the handle is empty, and stays so where this is refused; each count is its slice's.
         let code = unsafe {
             raw::mg_resume(
                 &mut handle, &plan, tasks.as_ptr(), tasks.len(), places.as_ptr(), places.len(), names.as_ptr(), names.len(),
-                blocks.as_ptr(), blocks.len(), balances.as_ptr(), balances.len(), spare, &mut why,
+                blocks.as_ptr(), blocks.len(), balances.as_ptr(), balances.len(), spare, &part, &mut why,
             )
         };
         answer(code, &why)?;
@@ -176,6 +182,12 @@ impl Die {
     pub fn checkpoint(&mut self) -> Result<Checkpoint, Refusal> {
         // SAFETY: the handle is full.
         unsafe { checkpoint_by(raw::mg_checkpoint, &mut self.handle, self.counts) }
+    }
+
+    /// The checkpoint from which the die was resumed is void: it is resumed from no more. From then on each slot may begin.
+    pub fn checkpoint_void(&mut self) {
+        // SAFETY: the handle is full, so it isn't refused.
+        unsafe { raw::mg_checkpoint_void(&mut self.handle) };
     }
 
     /// Accepts a job of 1 to 64 operations, and answers its number. Refused, where nothing changes, with the first that

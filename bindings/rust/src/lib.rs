@@ -17,7 +17,7 @@
 //!     let slot = die.begin(9)?;
 //!     let gave = match slot.call() {
 //!         Call::Read { block, page, .. } => chip[block as usize][page as usize],
-//!         Call::Program { block, page, name } => { chip[block as usize][page as usize] = name; name }
+//!         Call::Program { block, page, name, .. } => { chip[block as usize][page as usize] = name; name }
 //!         Call::Erase { .. } | Call::Trim { .. } | Call::Nothing => Name::BLANK,
 //!     };
 //!     slot.end(true, gave)?;
@@ -115,12 +115,14 @@ mod mount;
 mod planned;
 mod raw;
 mod refusals;
+mod spares;
 
 pub use data::{
-    Act, Begun, BlockCounts, Call, Certificate, Checkpoint, Entered, Entry, Job, Load, Memory, Name, Op, Outcome, Overdue, Place, Plan, Reply, Row,
+    Act, Begun, BlockCounts, Call, Certificate, Checkpoint, Entered, Entry, Job, Load, Memory, Name, Op, Outcome, Overdue, Part, Place, Plan, Reply, Row,
     TaskTimes, Times, Waived, Worst,
 };
 pub use die::{check, Die, Slot};
 pub use mount::{Label, Mount, Step};
+pub use spares::{BlockUse, Move, Moved, Spares};
 pub use planned::{Life, Planned, Taken, Terms};
 pub use refusals::{Flaw, Misfit, Refusal};

@@ -7,11 +7,13 @@ use crate::planned::{Planned, Terms};
 use crate::refusals::{answer, resumed, Refusal};
 use alloc::vec::Vec;
 
-/// What a program left in its cell: the logical page, and the program's serial, which is below 2^63.
+/// What a program left in its cell: the logical page, the program's serial, which is below 2^63, and how often its block was erased
+/// before it; 0 in all labels of a driver that keeps no counts.
 #[derive(Clone, Copy, PartialEq, Eq, Debug)]
 pub struct Label {
     pub page: u32,
     pub serial: u64,
+    pub erases: u32,
 }
 
 /// What a mount needs next. Blocks and cells are those of the part.
@@ -50,16 +52,16 @@ impl Mount {
         Ok(Mount { handle, counts })
     }
 
-    /// What it needs next; none where it has ended. `WrongStep` where it has ended in a die, or was refused memory for its calls.
+    /// What it needs next; none where it has ended. `WrongStep` where it has ended in a die, or was refused as its calls were to begin.
     pub fn next_step(&mut self) -> Result<Option<Step>, Refusal> {
         let mut said = raw::Step::default();
         // SAFETY: the handle is full, as in each call below, and the pointers come from references.
         plain(unsafe { raw::mg_mount_next(&mut self.handle, &mut said) })?;
-        let raw::Step { serial, kind, block, page, logical, last } = said;
+        let raw::Step { serial, kind, block, page, logical, last, erases } = said;
         let place = Place { block, page };
         Ok(match kind {
             1 => Some(Step::Read { place }),
-            2 => Some(Step::Program { place, label: Label { page: logical, serial } }),
+            2 => Some(Step::Program { place, label: Label { page: logical, serial, erases } }),
             3 => Some(Step::Erase { block, last: last == 1 }),
             4 => Some(Step::Tell { block }),
             _ => None,
@@ -68,13 +70,13 @@ impl Mount {
 
     /// Tells what the cells of the block show that is to be told next, from the first one on; cells that aren't told show nothing.
     /// Refused with the first that stands: `NoMemory`, `WrongStep`, `TooManyCells`, `BadLabel`, which leave the mount; and behind the
-    /// last block with `NoMemory`, after which nothing comes any more.
+    /// last block with `WornOut` or `NoMemory`, after which nothing comes any more.
     pub fn tell(&mut self, labels: &[Option<Label>]) -> Result<(), Refusal> {
         let labels: Vec<raw::Label> = labels
             .iter()
             .map(|label| match *label {
-                Some(Label { page, serial }) => raw::Label { serial, page },
-                None => raw::Label { serial: 0, page: NOWHERE },
+                Some(Label { page, serial, erases }) => raw::Label { serial, page, erases },
+                None => raw::Label { serial: 0, page: NOWHERE, erases: 0 },
             })
             .collect();
         let mut why = NO_NUMBERS;

@@ -92,17 +92,24 @@ impl Planned {
             return Err(Refusal::BadTerms);
         }
         let terms: Vec<raw::Terms> = terms.iter().map(Terms::raw).collect();
-        let Written { places, names, blocks, balances, spare } = Written::of(checkpoint);
+        let Written { places, names, blocks, balances, spare, part } = Written::of(checkpoint);
         let (mut handle, mut why) = (raw::Handle::EMPTY, raw::Unresumed::default());
         // SAFETY: the handle is empty, and stays so where this is refused; each count is its slice's.
         let code = unsafe {
             raw::mg_planned_resume(
                 &mut handle, &plan, tasks.as_ptr(), terms.as_ptr(), tasks.len(), longest, places.as_ptr(), places.len(), names.as_ptr(),
-                names.len(), blocks.as_ptr(), blocks.len(), balances.as_ptr(), balances.len(), spare, &mut why,
+                names.len(), blocks.as_ptr(), blocks.len(), balances.as_ptr(), balances.len(), spare, &part, &mut why,
             )
         };
         resumed(code, &why)?;
         Ok(Planned { handle, counts })
+    }
+
+    /// The checkpoint from which the die was resumed is void: it is resumed from no more. Before that no slot of it begins
+    /// (`CheckpointStands`).
+    pub fn checkpoint_void(&mut self) {
+        // SAFETY: the handle is full, so it isn't refused.
+        unsafe { raw::mg_planned_checkpoint_void(&mut self.handle) };
     }
 
     /// What stands between two slots where nothing that was accepted is left, with the names of the pages. The die stays as it is.

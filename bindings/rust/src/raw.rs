@@ -27,7 +27,7 @@ structs! {
     Load { demand: u64, common: u32 }
     Why { first: u32, second: u32 }
     Op { kind: u32, page: u32, name: Name }
-    Call { kind: u32, block: u32, page: u32, last: u32, slot: u32, act: u32, job: u32, logical: u32, name: Name }
+    Call { kind: u32, block: u32, page: u32, last: u32, slot: u32, act: u32, job: u32, logical: u32, name: Name, erases: u32 }
     Reply { slot: u32, act: u32, job: u32, page: u32, finished: u32, waived: u32, caller: u32, name: Name }
     Waived { job: u32, given: u32 }
     Entry { what: u32, caller: u32, job: u32, at: u32, waived: u32 }
@@ -40,13 +40,15 @@ structs! {
     Row { number: u32, release: u32, due: u32, work: u32, done: u32, completion: u32 }
     Place { block: u32, page: u32 }
     Block { filled: u32, erases: u32 }
-    Label { serial: u64, page: u32 }
+    Part { serial: u64, aside: u32 }
+    Label { serial: u64, page: u32, erases: u32 }
     Terms { period: u32, deadline: u32, held: u32, work: u32, writes: u32, collect_period: u32, collect_deadline: u32 }
     Taken { release: u64, due: u64, waits: u32, first: u32, jobs: u32 }
     Unasked { next: u64, number: u32 }
     Life { first: u64, slots: u32, now: u32 }
     Unresumed { first: u32, second: u32, third: u32 }
-    Step { serial: u64, kind: u32, block: u32, page: u32, logical: u32, last: u32 }
+    Step { serial: u64, kind: u32, block: u32, page: u32, logical: u32, last: u32, erases: u32 }
+    Move { kind: u32, block: u32, page: u32, from: u32 }
 }
 
 extern "C" {
@@ -76,13 +78,14 @@ extern "C" {
     pub fn mg_renew_giving_back(die: *mut Handle, why: *mut Why) -> u32;
     pub fn mg_checkpoint(
         die: *mut Handle, places: *mut Place, place_count: usize, names: *mut Name, name_count: usize, blocks: *mut Block,
-        block_count: usize, balances: *mut u32, balance_count: usize, spare: *mut u32, why: *mut Why,
+        block_count: usize, balances: *mut u32, balance_count: usize, spare: *mut u32, part: *mut Part, why: *mut Why,
     ) -> u32;
     pub fn mg_resume(
         die: *mut Handle, plan: *const Plan, tasks: *const Task, count: usize, places: *const Place, place_count: usize,
         names: *const Name, name_count: usize, blocks: *const Block, block_count: usize, balances: *const u32,
-        balance_count: usize, spare: u32, why: *mut Why,
+        balance_count: usize, spare: u32, part: *const Part, why: *mut Why,
     ) -> u32;
+    pub fn mg_checkpoint_void(die: *mut Handle) -> u32;
     pub fn mg_mount_new(mount: *mut Handle, plan: *const Plan, tasks: *const Task, count: usize) -> u32;
     pub fn mg_mount_free(mount: *mut Handle);
     pub fn mg_mount_next(mount: *mut Handle, step: *mut Step) -> u32;
@@ -91,6 +94,17 @@ extern "C" {
     pub fn mg_mount_calls_left(mount: *mut Handle) -> u64;
     pub fn mg_mount_place(mount: *mut Handle, page: u32, place: *mut Place) -> u32;
     pub fn mg_mount_end(mount: *mut Handle, names: *const Name, count: usize, die: *mut Handle) -> u32;
+    pub fn mg_spares_new(spares: *mut Handle, plan: *const Plan, blocks: u32, bad: *const u32, count: usize) -> u32;
+    pub fn mg_spares_power_up(spares: *mut Handle, plan: *const Plan, blocks: u32, bad: *const u32, count: usize) -> u32;
+    pub fn mg_spares_free(spares: *mut Handle);
+    pub fn mg_spares_next(spares: *mut Handle, next: *mut Move) -> u32;
+    pub fn mg_spares_tell(spares: *mut Handle, labels: *const Label, count: usize) -> u32;
+    pub fn mg_spares_done(spares: *mut Handle, how: u32) -> u32;
+    pub fn mg_spares_program_failed(spares: *mut Handle, number: u32, page: u32) -> u32;
+    pub fn mg_spares_erase_failed(spares: *mut Handle, number: u32) -> u32;
+    pub fn mg_spares_block(spares: *mut Handle, number: u32, block: *mut u32) -> u32;
+    pub fn mg_spares_use(spares: *mut Handle, block: u32, is: *mut u32, number: *mut u32) -> u32;
+    pub fn mg_spares_left(spares: *mut Handle) -> u32;
     pub fn mg_serial(die: *const Handle) -> u64;
     pub fn mg_part_block(die: *const Handle, block: u32, part_block: *mut u32) -> u32;
     pub fn mg_now(die: *const Handle) -> u32;
@@ -128,13 +142,14 @@ extern "C" {
     pub fn mg_planned_place(die: *const Handle, page: u32, place: *mut Place) -> u32;
     pub fn mg_planned_checkpoint(
         die: *mut Handle, places: *mut Place, place_count: usize, names: *mut Name, name_count: usize, blocks: *mut Block,
-        block_count: usize, balances: *mut u32, balance_count: usize, spare: *mut u32, why: *mut Why,
+        block_count: usize, balances: *mut u32, balance_count: usize, spare: *mut u32, part: *mut Part, why: *mut Why,
     ) -> u32;
     pub fn mg_planned_resume(
         die: *mut Handle, plan: *const Plan, tasks: *const Task, terms: *const Terms, count: usize, longest: u32, places: *const Place,
         place_count: usize, names: *const Name, name_count: usize, blocks: *const Block, block_count: usize, balances: *const u32,
-        balance_count: usize, spare: u32, why: *mut Unresumed,
+        balance_count: usize, spare: u32, part: *const Part, why: *mut Unresumed,
     ) -> u32;
+    pub fn mg_planned_checkpoint_void(die: *mut Handle) -> u32;
     pub fn mg_mount_end_planned(
         mount: *mut Handle, terms: *const Terms, count: usize, longest: u32, names: *const Name, name_count: usize, die: *mut Handle,
         why: *mut Unresumed,

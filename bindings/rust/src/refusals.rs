@@ -52,12 +52,14 @@ pub enum Refusal {
     WornOut { block: u32 },
     /// No released work that waits is due by now.
     NoneOverdue,
-    /// A mount needs something else next, or nothing comes any more.
+    /// A mount or table needs something else next, or nothing comes any more.
     WrongStep,
     /// More cells of a block were told than it has.
     TooManyCells,
     /// A label of a page that the plan doesn't have, or with a serial of 2^63 or more: the first such cell.
     BadLabel { cell: u32 },
+    /// The die was resumed from a checkpoint that isn't void yet, and the slot would spend it.
+    CheckpointStands,
     /// What is wrong with a certificate first.
     Certificate(Flaw),
     /// A checkpoint doesn't fit the plan.
@@ -86,6 +88,10 @@ pub enum Refusal {
     /// A task lacks more to its cap than alpha pages and what it may write in a period: the first such task, how many pages it has, and
     /// how many it needs.
     NotStocked { task: u32, have: u32, need: u32 },
+    /// A block failed and no spare one is left: what was programmed before can still be read.
+    NoSpare,
+    /// No block has this number, or a block doesn't have this page.
+    NoBlock,
     /// A number that maulgreen.h doesn't have.
     Other(u32),
 }
@@ -164,6 +170,7 @@ impl Refusal {
             WrongStep => 112,
             TooManyCells => 113,
             BadLabel { .. } => 114,
+            CheckpointStands => 115,
             RowsNotRising => 104,
             NotQuiet { .. } => 105,
             WornOut { .. } => 106,
@@ -188,6 +195,8 @@ impl Refusal {
             TooFewPages => 409,
             AskWaits { .. } => 410,
             NotStocked { .. } => 411,
+            NoSpare => 501,
+            NoBlock => 502,
             Other(number) => number,
         }
     }
@@ -248,6 +257,7 @@ pub(crate) fn answer(code: u32, why: &raw::Why) -> Result<(), Refusal> {
         112 => WrongStep,
         113 => TooManyCells,
         114 => BadLabel { cell: why.first },
+        115 => CheckpointStands,
         104 => RowsNotRising,
         105 => NotQuiet { job: why.first },
         106 => WornOut { block: why.first },
@@ -266,6 +276,8 @@ pub(crate) fn answer(code: u32, why: &raw::Why) -> Result<(), Refusal> {
         306 => Checkpoint(Misfit::OtherSum { accounts: why.first, free: why.second }),
         307 => Checkpoint(Misfit::SharedCell { page: why.first }),
         410 => AskWaits { task: why.first },
+        501 => NoSpare,
+        502 => NoBlock,
         other => Other(other),
     })
 }

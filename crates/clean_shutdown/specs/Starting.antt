@@ -1,5 +1,5 @@
 -- How a die is started on a part: from what a clean shutdown saved, or by a mount.
-use Rattle.std.specs.Prelude.{◌≡◌, ℕ, ◌+◌, ◌-◌, List, Option, Some, None}
+use Rattle.std.specs.Prelude.{◌≡◌, ℕ, ◌+◌, ◌-◌, List, Option, Some, None, ⊤}
 use Rattle.slot_types.specs.declared.pages.PageData.{PageData}
 use Rattle.slot_types.specs.declared.plans.DiePlan.{DiePlan}
 use Rattle.slot_types.specs.declared.plans.Shape.{Shape}
@@ -15,6 +15,7 @@ use Rattle.saving_nand.specs.declared.saved.Saved.{Saved}
 use Rattle.saving_nand.specs.Saving.{closed_labels}
 use Rattle.device_mount.specs.Mounted.{BeginsLife}
 use Rattle.device_mount.specs.Refusals.{RefusesMount}
+use Rattle.device_mount.specs.declared.refusals.MountRefusal.TheVariants as mounts
 use Rattle.clean_shutdown.specs.declared.refusals.StartRefusal.{StartRefusal}
 use Rattle.clean_shutdown.specs.declared.refusals.StartRefusal.TheVariants as starts
 
@@ -57,3 +58,9 @@ RefusesStart plan shape saved shown before after starts.NotTaken = after ≡ bef
 RefusesStart plan shape saved shown before after starts.NoMemory = (s : Saved) × (saved ≡ Some s) × (beside_one shape ≡ plan.shape)
 RefusesStart plan shape saved shown before after (starts.NotMounted why) =
     (¬ GoesOnFrom plan shape saved) × RefusesMount plan shape shown after why
+
+-- it is for memory alone, also where the part would be mounted
+abbrev pub IsForMemory : StartRefusal → Type 0
+IsForMemory starts.NotTaken = ⊥
+IsForMemory starts.NoMemory = ⊤
+IsForMemory (starts.NotMounted why) = why ≡ mounts.NoMemory

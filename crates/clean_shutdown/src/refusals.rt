@@ -15,7 +15,8 @@ pub enum StartRefusal {
     /// What was saved is of a part like the plan's, and memory was asked for and not had. No cell was touched, and
     /// nothing is saved any more. The part may be started again, by a mount.
     NoMemory,
-    /// Nothing was saved, or what was doesn't fit the plan; and the part isn't mounted: why.
+    /// Nothing was saved, or what was doesn't fit the plan; and the part isn't mounted: why. Unless it failed, no cell has
+    /// changed, and where that is `NoMemory` it may be started again at once.
     NotMounted { why: MountRefusal },
 }
 

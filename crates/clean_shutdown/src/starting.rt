@@ -8,7 +8,7 @@ ghost use Rattle.saving_nand.specs.declared.saved.Saved.{Saved as Stood};
 ghost use Rattle.device_mount.specs.Mounted.{HasBegun};
 ghost use Rattle.device_mount.specs.Refusals.{RefusesMount};
 ghost use Rattle.labelled_die.specs.Beside.{beside_of};
-ghost use Rattle.clean_shutdown.specs.Starting.{BeginsByMount, FitsPart, GoesOn, GoesOnFrom, RefusesStart, shown_of};
+ghost use Rattle.clean_shutdown.specs.Starting.{BeginsByMount, FitsPart, GoesOn, GoesOnFrom, IsForMemory, RefusesStart, shown_of};
 
 use crate::refusals::{NotStarted, StartRefusal};
 use device_mount::mount;
@@ -70,6 +70,9 @@ fn mounted<N: SavingNand>(
     ensures refused { IfErr result (λ no. RefusesStart plan (N.shape_of part) None
         (N.labels part).blocks 0 (N.failures no.part) no.refusal) }
     ensures known { IfErr result (λ no. ¬ (no.refusal ≡ StartRefusal.NoMemory)) }
+    ensures again { IfErr result (λ no. IsForMemory no.refusal
+        → IsPoweredUp (N.shape_of no.part) (N.blocks no.part) (N.labels no.part)
+        (N.failures no.part)) }
     ensures still { IfErr result (λ no. N.saved no.part ≡ None) }
 {
     match mount(alloc, plan, part) {
@@ -97,6 +100,9 @@ fn mounted_closed<N: SavingNand>(
         (closed_labels (N.shape_of part).pages (N.labels part).blocks) 0 (N.failures no.part)
         no.refusal) }
     ensures known { IfErr result (λ no. ¬ (no.refusal ≡ StartRefusal.NoMemory)) }
+    ensures again { IfErr result (λ no. IsForMemory no.refusal
+        → IsPoweredUp (N.shape_of no.part) (N.blocks no.part) (N.labels no.part)
+        (N.failures no.part)) }
     ensures still { IfErr result (λ no. N.saved no.part ≡ None) }
 {
     let mut closed = part;
@@ -161,7 +167,7 @@ fn started<N: SavingNand>(
     ensures refused { IfErr result (λ no. RefusesStart plan (N.shape_of part) (Some saved.now)
         (closed_labels (N.shape_of part).pages (N.labels part).blocks) 0 (N.failures no.part)
         no.refusal) }
-    ensures again { IfErr result (λ no. no.refusal ≡ StartRefusal.NoMemory
+    ensures again { IfErr result (λ no. IsForMemory no.refusal
         → IsPoweredUp (N.shape_of no.part) (N.blocks no.part) (N.labels no.part)
         (N.failures no.part)) }
     ensures still { IfErr result (λ no. N.saved no.part ≡ None) }
@@ -187,7 +193,7 @@ fn started<N: SavingNand>(
 /// device says that its cells are as they were left.
 ///
 /// Refused as [`StartRefusal`] lists; the part is handed back then, nothing is saved on it any more, and the plan is given
-/// up.
+/// up. Where only memory was lacking, also for a mount, no cell has changed, and the part may be started again at once.
 pub fn start_up<N: SavingNand>(
     alloc: Global,
     plan: DiePlan,
@@ -207,7 +213,7 @@ pub fn start_up<N: SavingNand>(
     ensures refused { IfErr result (λ no. RefusesStart plan (N.shape_of part) (N.saved part)
         (shown_of (N.shape_of part).pages (N.saved part) (N.labels part).blocks)
         (N.failures part) (N.failures no.part) no.refusal) }
-    ensures again { IfErr result (λ no. no.refusal ≡ StartRefusal.NoMemory
+    ensures again { IfErr result (λ no. IsForMemory no.refusal
         → IsPoweredUp (N.shape_of no.part) (N.blocks no.part) (N.labels no.part)
         (N.failures no.part)) }
     ensures still { IfErr result (λ no. N.saved no.part ≡ None) }

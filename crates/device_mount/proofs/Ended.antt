@@ -1,11 +1,9 @@
 -- Where a mount has ended, what stands on the device beside the block aside is the checkpoint, and the start of a life.
-use Rattle.std.proofs.Common.{◌≡◌, ◌≢◌, ◌⊎◌, ℕ, ◌+◌, ◌-◌, ◌<◌, ◌≤◌, ◌==◌, Bool, true, false, cond, List, [], ◌∷◌, length, get_or, set, map, take}
+use Rattle.std.proofs.Common.{◌≡◌, ◌≢◌, ◌⊎◌, ℕ, ◌+◌, ◌-◌, ◌<◌, ◌≤◌, Bool, false, cond, List, [], ◌∷◌, length, get_or, set, map, take}
 use Rattle.std.proofs.Common.{Option, Some, None, refl, ap, sym, ◌∙◌, subst, inl, inr, arith}
 use Rattle.std.specs.Prelude.{option_map, sum_by}
-use Rattle.std.proofs.Math.ListN.{get_or-map as get_mapped}
 use Rattle.std.proofs.lemmas.Bool.{cases_eq, cases_lt, eq-eqb, ne_eqb, true≢false}
-use Rattle.std.proofs.lemmas.List.{ext_get_or, get_or-map, get_or-set_other, get_or_past, length-map, length-set, map-set, set-set, take-map, take-set-le}
-use Rattle.std.proofs.lemmas.List.Sums.{sum_by-set}
+use Rattle.std.proofs.lemmas.List.{ext_get_or, get_or-map, get_or-set_same, get_or-set_other, get_or_past, length-map, length-set, map-set, take-map}
 use Rattle.slot_types.specs.Places.{place_of}
 use Rattle.slot_types.specs.declared.acts.Act.{Act}
 use Rattle.slot_types.specs.declared.pages.PageData.{PageData}
@@ -27,35 +25,75 @@ use Rattle.power_loss.specs.Labels.{Labels, Shown, label_at}
 use Rattle.power_loss.specs.Mounted.{all_count}
 use Rattle.power_loss.specs.Recovery.{AreIdle, AreMountActs, IsFreeBlock, IsRecoverable, cells_of, enough_of, full_accounts, labels_of, mounted_start, remounted_cells, remounted_labels}
 use Rattle.power_loss.proofs.Aside.ComingBack.{ends_beside}
-use Rattle.power_loss.proofs.Aside.Lists.{die_last, die_other, part_aside, part_other, without_at, without_length}
+use Rattle.power_loss.proofs.Aside.Lists.{die_last, die_other, part_aside, part_other}
 use Rattle.power_loss.proofs.Aside.Parts.{die_idle, places_at}
 use Rattle.power_loss.proofs.Remounting.{erased_within}
 use Rattle.labelled_nand.specs.PoweredUp.{AreBorne, counts_of}
 use Rattle.slot_core.specs.Resumptions.{resumed_start, start_with}
 use Rattle.part_mount.proofs.Bearing.{counted}
 use Rattle.slot_core.proofs.Resuming.{opening_again}
-use Rattle.labelled_die.proofs.Besides.{cell_is, without_set}
+use Rattle.labelled_die.proofs.Besides.{cell_is}
 use Rattle.die_mount.specs.Cutting.{GoesBy, labels_at}
 use Rattle.die_mount.specs.Ending as mount
 use Rattle.die_mount.specs.Ending.{IsEndOf, checkpoint_beside, start_beside}
+use Rattle.die_mount.specs.Erases as mount_erases
+use Rattle.die_mount.proofs.Counted.{counted_at as counted_there, counted_length}
 use Rattle.die_mount.specs.SoundMount.{StandsWell}
 use Rattle.die_mount.specs.Mounting.{IsAtEnd, Mounting, first_cells}
 use Rattle.slot_core.specs.Core.{Core, nothing_reserved}
 use Rattle.labelled_die.specs.Beside.{Beside, IsPartBeside, beside_of, blocks_beside}
-use Rattle.device_mount.specs.Mounted.{BeginsLife, HasEnded, IsMountedStart, with_erase, with_first_erase}
+use Rattle.device_mount.specs.Mounted.{BeginsLife, HasEnded, IsMountedStart}
 use Rattle.die_mount.specs.declared.mounted.Mounted.{Mounted}
 use Rattle.die_mount.specs.declared.stage.Stage.{Stage}
 use Rattle.die_mount.specs.declared.stage.Stage.TheVariants as stage
 use Rattle.part_mount.specs.Going.{GoesBySeen, HasLabelsAt}
-use Rattle.part_mount.specs.OnPart.{IsOnPart, IsSoundOnPart, OnPart, StandsAt, erased_more, once_erased}
+use Rattle.part_mount.specs.OnPart.{CountsOne, IsOnPart, IsSoundOnPart, OnPart, StandsAt, erased_more, once_erased}
 use Rattle.part_mount.proofs.Erased.{alike, free_kept}
 use Rattle.part_mount.proofs.GoingOn.{recoverable}
 use Rattle.device_mount.proofs.Once.{acts_once, cells_once, labels_once, once, remounted_once}
 
--- The erase of the first block in the checkpoint
+-- The counts of a mount that knows of the erase of its first block alone
+
+counted_once : (m : Mounting) → StandsWell m → (erased : ℕ) → erased < m.plan.shape.blocks + 1 → CountsOne erased m
+    → mount_erases.counted m.counts m.cells ≡ once_erased erased m.cells
+counted_once m w erased here one = λ i. record { blocks = blocks_are i; places = m.cells.places }
+  where
+    c : Cells
+    c = m.cells
+
+    more : Block
+    more = erased_more (block_at c erased)
+
+    with : Block → ℕ → Block
+    with s n = record s { erases = n + s.erases }
+
+    at : (b : ℕ) → b < length c.blocks → (b ≡ erased) ⊎ (b ≡ erased → ⊥) → block_at (mount_erases.counted m.counts c) b ≡ get_or (set c.blocks erased more) b free_block
+    at b below (inl is) =
+        let count : get_or m.counts b 0 ≡ 1 = one b ∙ ap (λ (t : Bool). cond t 1 0) (eq-eqb b erased is) in
+        let up : 1 + (block_at c erased).erases ≡ (block_at c erased).erases + 1 = omega arith in
+        counted_there m.counts c b below
+        ∙ (ap (with (block_at c b)) count
+        ∙ (ap (λ (k : ℕ). with (block_at c k) 1) is
+        ∙ ((λ i. record (block_at c erased) { erases = up i })
+        ∙ sym (ap (λ (k : ℕ). get_or (set c.blocks erased more) k free_block) is
+        ∙ get_or-set_same c.blocks erased more free_block (omega (arith, below, is))))))
+    at b below (inr other) =
+        let count : get_or m.counts b 0 ≡ 0 = one b ∙ ap (λ (t : Bool). cond t 1 0) (ne_eqb b erased other) in
+        let none : 0 + (block_at c b).erases ≡ (block_at c b).erases = omega arith in
+        counted_there m.counts c b below
+        ∙ (ap (with (block_at c b)) count
+        ∙ ((λ i. record (block_at c b) { erases = none i })
+        ∙ sym (get_or-set_other c.blocks erased b more free_block other)))
+
+    blocks_are : (mount_erases.counted m.counts c).blocks ≡ set c.blocks erased more
+    blocks_are = ext_get_or free_block (mount_erases.counted m.counts c).blocks (set c.blocks erased more)
+        (counted_length m.counts c ∙ sym (length-set c.blocks erased more))
+        (λ b below. at b (omega (arith, below, counted_length m.counts c)) (cases_eq b erased))
+
+-- The die's number of a block of the part
 
 module _ (last aside first : ℕ) (le : aside ≤ last) (here : first < last + 1) where
-  -- the die's number of that block, where it isn't the one aside
+  -- where it isn't the one aside
   own_is : first ≢ aside → (on_die last aside first < last) × (on_part last aside (on_die last aside first) ≡ first)
   own_is apart = by_case (cases_eq first last)
     where
@@ -69,109 +107,6 @@ module _ (last aside first : ℕ) (le : aside ≤ last) (here : first < last + 1
         part_other last aside (on_die last aside first) (λ (e : on_die last aside first ≡ aside). apart (sym (die_other last aside first other) ∙ e))
             ∙ die_other last aside first other,
       )
-
-  -- a change of the block aside isn't seen
-  aside_unseen : {A : Type 0} (none : A) (all : List A) (x : A) → length all ≡ last + 1
-      → without_aside last aside none (set all aside x) ≡ without_aside last aside none all
-  aside_unseen none all x e = by_case (cases_eq last aside)
-    where
-      by_case : (last ≡ aside) ⊎ (last ≡ aside → ⊥)
-          → take last (set (set all aside x) aside (get_or (set all aside x) last none)) ≡ take last (set all aside (get_or all last none))
-      by_case (inl is) =
-          ap (take last) (set-set all aside x (get_or (set all aside x) last none))
-          ∙ (take-set-le last all aside (get_or (set all aside x) last none) (omega (arith, is))
-          ∙ sym (take-set-le last all aside (get_or all last none) (omega (arith, is))))
-      by_case (inr other) =
-          ap (take last) (set-set all aside x (get_or (set all aside x) last none))
-          ∙ ap (λ y. take last (set all aside y)) (get_or-set_other all aside last x none other)
-
-  -- what the die's blocks are, where one erase more of the first one is counted
-  pub once_beside : (c : Cells) → length c.blocks ≡ last + 1 → map mount.counts_of (without_aside last aside free_block (once_erased first c).blocks)
-      ≡ cond (first == aside) (map mount.counts_of (without_aside last aside free_block c.blocks))
-      (with_erase (map mount.counts_of (without_aside last aside free_block c.blocks)) (on_die last aside first))
-  once_beside c e = by_case (cases_eq first aside)
-    where
-      own : List Block
-      own = without_aside last aside free_block c.blocks
-
-      more : Block
-      more = erased_more (block_at c first)
-
-      goes : Bool → List BlockCounts
-      goes t = cond t (map mount.counts_of own) (with_erase (map mount.counts_of own) (on_die last aside first))
-
-      by_case : (first ≡ aside) ⊎ (first ≡ aside → ⊥)
-          → map mount.counts_of (without_aside last aside free_block (set c.blocks first more)) ≡ goes (first == aside)
-      by_case (inl is) =
-          ap (λ (i : ℕ). map mount.counts_of (without_aside last aside free_block (set c.blocks i more))) is
-          ∙ (ap (map mount.counts_of) (aside_unseen free_block c.blocks more e) ∙ sym (ap goes (eq-eqb first aside is)))
-      by_case (inr apart) =
-          let b = on_die last aside first in
-          let k = own_is apart in
-          let at : get_or own b free_block ≡ block_at c first = without_at last aside free_block c.blocks b e k.0 ∙ ap (block_at c) k.1 in
-          ap (λ (i : ℕ). map mount.counts_of (without_aside last aside free_block (set c.blocks i more))) (sym k.1)
-          ∙ (ap (map mount.counts_of) (without_set last aside le free_block c.blocks b more e k.0)
-          ∙ (map-set mount.counts_of own b more
-          ∙ (ap (λ (s : BlockCounts). set (map mount.counts_of own) b (record s { erases = s.erases + 1 }))
-          (sym (get_mapped mount.counts_of own b free_block ∙ ap mount.counts_of at)) ∙ sym (ap goes (ne_eqb first aside apart)))))
-
-  pub free_beside : (plan : DiePlan) (c : Cells) → length c.blocks ≡ last + 1
-      → sum_by (free_in plan) (without_aside last aside free_block (once_erased first c).blocks) ≡ sum_by (free_in plan) (without_aside last aside free_block c.blocks)
-  free_beside plan c e = by_case (cases_eq first aside)
-    where
-      own : List Block
-      own = without_aside last aside free_block c.blocks
-
-      more : Block
-      more = erased_more (block_at c first)
-
-      by_case : (first ≡ aside) ⊎ (first ≡ aside → ⊥)
-          → sum_by (free_in plan) (without_aside last aside free_block (set c.blocks first more)) ≡ sum_by (free_in plan) own
-      by_case (inl is) =
-          ap (λ (i : ℕ). sum_by (free_in plan) (without_aside last aside free_block (set c.blocks i more))) is
-          ∙ ap (sum_by (free_in plan)) (aside_unseen free_block c.blocks more e)
-      by_case (inr apart) =
-          let b = on_die last aside first in
-          let k = own_is apart in
-          let at : get_or own b free_block ≡ block_at c first = without_at last aside free_block c.blocks b e k.0 ∙ ap (block_at c) k.1 in
-          let lt : b < length own = omega (arith, k.0, without_length last aside free_block c.blocks e) in
-          ap (λ (i : ℕ). sum_by (free_in plan) (without_aside last aside free_block (set c.blocks i more))) (sym k.1)
-          ∙ (ap (sum_by (free_in plan)) (without_set last aside le free_block c.blocks b more e k.0)
-          ∙ omega (arith, sum_by-set (free_in plan) own b more free_block lt, ap (free_in plan) at))
-
-pub checkpoint_once : (plan : DiePlan) (aside first : ℕ) (c : Cells) → length c.blocks ≡ plan.shape.blocks + 1 → aside ≤ plan.shape.blocks
-    → first < plan.shape.blocks + 1
-    → with_first_erase plan.shape.blocks aside first (checkpoint_beside plan aside c) ≡ checkpoint_beside plan aside (once_erased first c)
-checkpoint_once plan aside first c e le here = by_test (first == aside) refl
-  where
-    last : ℕ
-    last = plan.shape.blocks
-
-    cp : Checkpoint
-    cp = checkpoint_beside plan aside c
-
-    spare : (x : Cells) → ℕ
-    spare x = (full_accounts plan (sum_by (free_in plan) (die_cells last aside x).blocks)).spare
-
-    spare_same : spare c ≡ spare (once_erased first c)
-    spare_same = ap (λ (n : ℕ). (full_accounts plan n).spare) (sym (free_beside last aside first le here plan c e))
-
-    by_test : (t : Bool) → (first == aside) ≡ t
-        → cond t cp (record cp { blocks = with_erase cp.blocks (on_die last aside first) }) ≡ checkpoint_beside plan aside (once_erased first c)
-    by_test true is = λ i. record {
-      places = cp.places;
-      blocks = sym (once_beside last aside first le here c e
-          ∙ ap (λ (t : Bool). cond t cp.blocks (with_erase cp.blocks (on_die last aside first))) is) i;
-      spare = spare_same i;
-      balances = plan.caps;
-    }
-    by_test false is = λ i. record {
-      places = cp.places;
-      blocks = sym (once_beside last aside first le here c e
-          ∙ ap (λ (t : Bool). cond t cp.blocks (with_erase cp.blocks (on_die last aside first))) is) i;
-      spare = spare_same i;
-      balances = plan.caps;
-    }
 
 -- The device is as the checkpoint says
 
@@ -356,18 +291,14 @@ module _ (pages : List PageData) (seen : Shown) (first next : ℕ) (acts : List 
 
 -- A mount that has ended on its part
 
--- what `Mount::finish` tells, with the erase of the first block
-pub ended_so : (m : Mounting) → StandsWell m → IsAtEnd m → (erased : ℕ) → erased < m.plan.shape.blocks + 1 → (end : Mounted) → IsEndOf m end
-    → (plan : DiePlan) → plan ≡ m.plan → (c : Checkpoint) → c ≡ with_first_erase plan.shape.blocks end.aside erased end.checkpoint
-    → HasEnded m erased (record { aside = end.aside; checkpoint = c; next = end.next })
-ended_so m w h erased here end e plan same c is = record {
+-- what `Mount::finish` tells
+pub ended_so : (m : Mounting) → StandsWell m → IsAtEnd m → (erased : ℕ) → erased < m.plan.shape.blocks + 1 → CountsOne erased m → (end : Mounted)
+    → IsEndOf m end → HasEnded m erased end
+ended_so m w h erased here one end e = record {
   stands = w;
   at_end = h;
   free = e.free;
-  checkpoint = is
-      ∙ (ap (λ (p : DiePlan). with_first_erase p.shape.blocks end.aside erased end.checkpoint) same
-      ∙ (ap (with_first_erase m.plan.shape.blocks end.aside erased) e.checkpoint
-      ∙ checkpoint_once m.plan end.aside erased m.cells w.sound.blocks (omega (arith, e.free.stands, w.sound.blocks)) here));
+  checkpoint = e.checkpoint ∙ ap (checkpoint_beside m.plan end.aside) (counted_once m w erased here one);
   next = e.next;
 }
 
@@ -480,34 +411,3 @@ beside_shape shape_of blocks labels failures v on p aside shape =
     let e : shape_of p ≡ (part_of v.mount.plan).shape = shape ∙ on.shape in
     let less : (shape_of p).blocks - 1 ≡ v.mount.plan.shape.blocks = omega (arith, ap (λ (s : Shape). s.blocks) e) in
     λ i. record { blocks = less i; pages = (e i).pages; erase_slots = (e i).erase_slots }
-
--- A mount on a part whose serials go on stands as it did
-
-pub numbered_sound : {N : Type 0} (never : Bool) (shape_of : N → Shape) (blocks : N → List device.Block) (labels : N → Labels) (failures : N → ℕ) (v : OnPart N)
-    (p : N) (next : ℕ) → IsSoundOnPart never shape_of blocks labels failures v → v.failed ≡ false → shape_of p ≡ shape_of v.part → blocks p ≡ blocks v.part
-    → labels p ≡ record (labels v.part) { next = next } → failures p ≡ failures v.part
-    → IsSoundOnPart never shape_of blocks labels failures (record v { part = p })
-numbered_sound never shape_of blocks labels failures v p next s well shape bs ls fs =
-    let on = s.on well in
-    record {
-      on = λ _. record {
-        shape = shape ∙ on.shape;
-        first = on.first;
-        well = fs ∙ on.well;
-        borne = subst (λ (xs : List device.Block). AreBorne xs (labels p).blocks) (sym bs)
-            (subst (λ (l : Labels). AreBorne (blocks v.part) l.blocks) (sym ls) on.borne);
-        at = subst (λ (xs : List device.Block). StandsAt v.mount.plan v.erased v.mount.cells xs v.mount.stage) (sym bs) on.at;
-      };
-      faulted = λ failed. absurd (true≢false (sym failed ∙ well));
-      never = s.never;
-    }
-
-pub numbered_goes : {N : Type 0} (labels : N → Labels) (v : OnPart N) (p : N) (next : ℕ) → labels p ≡ record (labels v.part) { next = next }
-    → (pages : List PageData) (seen : Shown) → GoesBySeen labels pages seen v → GoesBySeen labels pages seen (record v { part = p })
-numbered_goes labels v p next ls pages seen g = record {
-  next = g.next;
-  acts = g.acts;
-  by = g.by;
-  has = subst (λ (l : Labels). HasLabelsAt pages seen v.erased g.next g.acts v.mount l.blocks v.mount.stage) (sym ls) g.has;
-  holds = g.holds;
-}

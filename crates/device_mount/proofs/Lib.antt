@@ -1,5 +1,5 @@
 pub mod Once
-pub mod Counting
+pub mod Untold
 pub mod Ended
 pub mod Starting
 pub mod Again

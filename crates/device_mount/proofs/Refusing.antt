@@ -1,7 +1,7 @@
 -- Why a part isn't mounted, and why one that stands is.
-use Rattle.std.proofs.Common.{◌≡◌, ◌⊎◌, ℕ, ◌<◌, List, get_or, Result, Ok, Err, ap, sym, ◌∙◌, subst, inl, inr, arith}
-use Rattle.std.specs.Prelude.{IfOk, OnOk}
-use Rattle.std.proofs.lemmas.Bool.{cases_eq}
+use Rattle.std.proofs.Common.{◌≡◌, ◌⊎◌, ℕ, ◌<◌, true, List, get_or, Result, Ok, Err, ap, sym, ◌∙◌, subst, inl, inr, arith}
+use Rattle.std.specs.Prelude.{IfErr, IfOk, OnOk, is_err}
+use Rattle.std.proofs.lemmas.Bool.{cases_eq, true≢false}
 use Rattle.slot_types.specs.declared.pages.PageData.{PageData}
 use Rattle.slot_types.specs.declared.plans.DiePlan.{DiePlan}
 use Rattle.slot_types.specs.declared.plans.Shape.{Shape}
@@ -88,3 +88,8 @@ on_ok_so (Err e) p = tt
 pub ok_both : {X E : Type 0} {P Q R : X → Type 0} (r : Result X E) → ((x : X) → P x → Q x → R x) → IfOk r P → IfOk r Q → IfOk r R
 ok_both (Ok x) f p q = f x p q
 ok_both (Err e) f p q = tt
+
+-- where a call failed, what it ensures of that is so
+pub of_err : {A E P : Type 0} (r : Result A E) → is_err r ≡ true → IfErr r (λ _. P) → P
+of_err (Ok x) fails h = absurd (true≢false (sym fails))
+of_err (Err e) fails h = h

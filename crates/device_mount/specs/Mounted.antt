@@ -1,34 +1,20 @@
 -- A die that began where a mount of its device ended.
-use Rattle.std.specs.Prelude.{◌≡◌, ℕ, ◌+◌, ◌==◌, if◌then◌else◌, false, List, [], slice_set}
+use Rattle.std.specs.Prelude.{◌≡◌, ℕ, false, List, []}
 use Rattle.slot_types.specs.declared.pages.PageData.{PageData}
 use Rattle.slot_types.specs.declared.plans.DiePlan.{DiePlan}
-use Rattle.die_checkpoint.specs.declared.checkpoint.BlockCounts.{BlockCounts}
-use Rattle.die_checkpoint.specs.declared.checkpoint.Checkpoint.{Checkpoint}
-use Rattle.die_checkpoint.specs.Counts.{counts_at}
 use Rattle.die_log.specs.Model.Start.{Start}
 use Rattle.die_mount.specs.declared.mounted.Mounted.{Mounted}
 use Rattle.die_mount.specs.Ending.{checkpoint_beside}
 use Rattle.die_mount.specs.Mounting.{IsAtEnd, Mounting}
 use Rattle.die_mount.specs.SoundMount.{StandsWell}
 use Rattle.part_mount.specs.OnPart.{once_erased}
-use Rattle.power_loss.specs.Aside.{MountsTo, most_rounds_beside, on_die}
+use Rattle.power_loss.specs.Aside.{MountsTo, most_rounds_beside}
 use Rattle.power_loss.specs.Labels.{Labels, Shown}
 use Rattle.power_loss.specs.Mounted.{all_count}
 use Rattle.power_loss.specs.Recovery.{FitRounds, IsFreeBlock}
 use Rattle.slot_core.specs.Core.{Core}
 use Rattle.labelled_die.specs.Beside.{Beside, labels_beside}
 use Rattle.labelled_die.specs.Labelled.{HasLabels}
-
--- The erase of the block that was erased first
-
--- what a checkpoint has of its blocks, with one erase more of one of them
-abbrev pub with_erase : List BlockCounts → (block : ℕ) → List BlockCounts
-with_erase counts block = slice_set counts block (record (counts_at counts block) { erases = (counts_at counts block).erases + 1 })
-
--- where that is the part's block which was erased first, unless it stands aside
-abbrev pub with_first_erase : (last aside erased : ℕ) → Checkpoint → Checkpoint
-with_first_erase last aside erased c =
-    if erased == aside then c else record c { blocks = with_erase c.blocks (on_die last aside erased) }
 
 -- a mount has ended so: a block stands aside, the device beside it is as the checkpoint says, and the serial goes on
 pub record HasEnded (m : Mounting) (erased : ℕ) (end : Mounted) : Type 0 where

@@ -1,14 +1,15 @@
 //! A whole mount of a part.
 
-ghost use Rattle.std.specs.Prelude.{◌≡◌, List, IfErr, IfOk};
+ghost use Rattle.std.specs.Prelude.{◌≡◌, ◌≢◌, List, IfErr, IfOk};
 ghost use Rattle.slot_types.specs.declared.pages.PageData.{PageData as Bytes};
+ghost use Rattle.labelled_die.specs.Scanning.{IsSamePart};
 ghost use Rattle.labelled_nand.specs.PoweredUp.{IsPoweredUp};
 ghost use Rattle.power_loss.specs.Aside.{StandsOnPart};
 ghost use Rattle.power_loss.specs.Mounted.{all_count};
 ghost use Rattle.device_mount.specs.Mounted.{BeginsLife, HasBegun};
 ghost use Rattle.device_mount.specs.Refusals.{RefusesMount};
 
-use crate::beginning::begin;
+use crate::beginning::{BegunMount, begin};
 use crate::ending::finish;
 use crate::refusals::{MountRefusal, NotMounted};
 use labelled_die::BesideNand;
@@ -28,7 +29,8 @@ use std::alloc::Global;
 /// handed back.
 ///
 /// Refused with the first cause that stands, as [`MountRefusal`] lists them; the part is handed back then, and the plan is
-/// given up. Once a slot of an erase was done on the part, it has to be powered up anew before the next mount.
+/// given up. All memory is taken before the first erase. So nothing on the part has changed where it is refused, for
+/// memory or else, unless the part failed: then it has to be powered up anew before the next mount.
 pub fn mount<N: LabelledNand>(
     alloc: Global,
     plan: DiePlan,
@@ -42,11 +44,13 @@ pub fn mount<N: LabelledNand>(
         → BeginsLife N.labels plan (N.labels part).blocks pages core) }
     ensures refused { IfErr result (λ no. RefusesMount plan (N.shape_of part)
         (N.labels part).blocks (N.failures no.part) no.refusal) }
+    ensures unchanged { IfErr result (λ no. no.refusal ≢ MountRefusal.DeviceFault
+        → IsSamePart N.shape_of N.failures N.blocks N.labels part no.part) }
     ensures lasts { IfOk result (λ core. N.lasts part → N.lasts core.device.part) }
     ensures lasts_still { IfErr result (λ no. N.lasts part → N.lasts no.part) }
 {
-    let mut mount = match begin(alloc, plan, part) {
-        Ok(mount) => mount,
+    let BegunMount { mut mount, memory } = match begin(alloc, plan, part) {
+        Ok(begun) => begun,
         Err(no) => return Err(no),
     };
     if mount.carry_all().is_err() {
@@ -55,11 +59,5 @@ pub fn mount<N: LabelledNand>(
             refusal: MountRefusal::DeviceFault,
         });
     }
-    match finish(alloc, mount) {
-        Ok(core) => Ok(core),
-        Err(mount) => Err(NotMounted {
-            part: mount.into_parts().part,
-            refusal: MountRefusal::NoMemory,
-        }),
-    }
+    Ok(finish(mount, memory))
 }

@@ -6,15 +6,14 @@ ghost use Rattle.device_mount.specs.Refusals.{refusal_of};
 use labelled_die::PartFault;
 
 /// Why a part isn't mounted, in the order in which the causes are looked at. Before its first call, the erase of a slot,
-/// a mount has gone over the whole part, and has all memory for its calls.
+/// a mount has gone over the whole part, and has all memory: for its calls, its end, and the die.
 #[derive(Clone, Copy, PartialEq, Eq, Debug, Drop)]
 pub enum MountRefusal {
     /// The plan may not be used, or it leaves no block of a part's 1,024 aside.
     BadPlan,
     /// The part's shape isn't the plan's with one block more.
     OtherShape,
-    /// Memory was asked for and not had. Nothing on the part has changed, or the mount has ended and may be finished
-    /// again.
+    /// Memory was asked for and not had. Nothing on the part has changed.
     NoMemory,
     /// A cell has a label of a page that the plan doesn't have, or with a serial of 2^63 or more: the first such cell.
     /// Nothing on the part has changed.

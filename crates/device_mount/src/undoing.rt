@@ -1,17 +1,18 @@
 //! A mount that undoes a block: no block is idle, since a mount before it was cut as it copied.
 
-ghost use Rattle.std.specs.Prelude.{◌≡◌, ◌↔◌, ◌+◌, ◌<◌, ◌≤◌, true, false, Some, IfErr, IfOk, IfSome, IsTrue, OnErr, OnOk, vec_capacity, take};
+ghost use Rattle.std.specs.Prelude.{◌≡◌, ◌≢◌, ◌↔◌, ◌+◌, ◌<◌, ◌≤◌, true, false, Some, IfErr, IfOk, IfSome, IsTrue, OnErr, OnOk, vec_capacity, take};
 ghost use Rattle.die_mount.specs.Beginning.{IsIdleIn, IsScanned};
 ghost use Rattle.die_mount.specs.Erasing.{IsFirstIdle};
 ghost use Rattle.die_mount.specs.Mounting.{BeginsWith};
 ghost use Rattle.die_mount.specs.Nexts.{BeginsFirst};
 ghost use Rattle.die_mount.specs.Scanned.{IsScanOf};
 ghost use Rattle.die_mount.specs.Told.{told_cells};
-ghost use Rattle.labelled_die.specs.Scanning.{IsSamePart};
+ghost use Rattle.labelled_die.specs.Scanning.{IsSamePart, IsUntold};
 ghost use Rattle.power_loss.specs.Aside.{part_of};
 ghost use Rattle.power_loss.specs.Labels.{FitPlan, Shown, labels_in};
 ghost use Rattle.power_loss.specs.Mounted.{all_count, bytes_at};
 ghost use Rattle.power_loss.specs.Recovery.{MayErase, without_block};
+ghost use Rattle.part_mount.specs.OnPart.{BeginsToCount};
 ghost use Rattle.device_mount.specs.Parts.{HasLabel, IsPartOf, KeepsPage, KeepsPages};
 ghost use Rattle.device_mount.specs.Refusals.{LosesPage, RefusesBegin, RefusesMount};
 
@@ -74,7 +75,7 @@ fn tell_again<N: LabelledNand>(
         Ok(()) => {}
         Err(refusal) => return Err(refusal),
     }
-    match scan.tell(cells.as_slice()) {
+    match scan.tell(cells.as_slice(), None) {
         Ok(()) => Ok(()),
         // The same labels were reported before.
         Err(_) => unreachable!(),
@@ -94,6 +95,8 @@ fn scan_without<N: LabelledNand>(
     ensures whole { IfOk result (λ scan. scan.told ≡ scan.shape.blocks) }
     ensures same { OnOk result (IsSamePart N.shape_of N.failures N.blocks N.labels part.old
         part.new) }
+    ensures unchanged { IfErr result (λ refusal. refusal ≢ MountRefusal.DeviceFault
+        → IsSamePart N.shape_of N.failures N.blocks N.labels part.old part.new) }
     ensures lasts { N.lasts part.old → N.lasts part.new }
     ensures refused { IfErr result (RefusesMount plan.now (N.shape_of part.old)
         (N.labels part.old).blocks (N.failures part.new)) }
@@ -252,10 +255,12 @@ fn undone(
     requires before { before.now.told ≡ before.now.shape.blocks }
     requires again { again.told ≡ again.shape.blocks }
     requires scanned { IsScanned plan again }
+    requires untold { IsUntold before.now.erases }
     ensures begins { IfOk result (λ mount. (seen : Shown) → IsScanOf (part_of plan) before.now seen
         → IsScanOf (part_of plan) again (without_block block seen)
         → MayErase (part_of plan) all_count seen block → BeginsWith plan seen mount) }
     ensures first { IfOk result (BeginsFirst plan) }
+    ensures counts { IfOk result BeginsToCount }
     ensures refused { IfErr result (RefusesBegin (IsIdleIn again block)) }
 {
     match Mount::undo(alloc, plan, before, again, block) {
@@ -264,6 +269,8 @@ fn undone(
         Err(BeginFault::NoIdleBlock) => Err(MountRefusal::NoIdleBlock),
         // The part was scanned with this plan.
         Err(BeginFault::BadPlan) => unreachable!(),
+        // No erases were reported.
+        Err(BeginFault::WornOut { .. }) => unreachable!(),
     }
 }
 
@@ -278,16 +285,20 @@ pub(crate) fn undo<N: LabelledNand>(
     requires part { IsPartOf N.shape_of N.blocks N.labels N.failures plan part.old }
     requires scanned { IsScanOf (part_of plan) before.now (N.labels part.old).blocks }
     requires whole { before.now.told ≡ before.now.shape.blocks }
+    requires untold { IsUntold before.now.erases }
     requires none { IsFirstIdle (part_of plan) (N.labels part.old).blocks (FirstErase.Undo block) }
     requires may { FitPlan (part_of plan) (N.labels part.old).blocks
         → MayErase (part_of plan) all_count (N.labels part.old).blocks block }
     ensures begins { IfOk result (λ mount. FitPlan (part_of plan) (N.labels part.old).blocks
         → BeginsWith plan (N.labels part.old).blocks mount) }
     ensures first { IfOk result (BeginsFirst plan) }
+    ensures counts { IfOk result BeginsToCount }
     ensures keeps { OnOk result (FitPlan (part_of plan) (N.labels part.old).blocks
         → KeepsPages plan (N.labels part.old).blocks block) }
     ensures same { OnOk result (IsSamePart N.shape_of N.failures N.blocks N.labels part.old
         part.new) }
+    ensures unchanged { IfErr result (λ refusal. refusal ≢ MountRefusal.DeviceFault
+        → IsSamePart N.shape_of N.failures N.blocks N.labels part.old part.new) }
     ensures lasts { N.lasts part.old → N.lasts part.new }
     ensures refused { IfErr result (RefusesMount plan (N.shape_of part.old)
         (N.labels part.old).blocks (N.failures part.new)) }

@@ -1,6 +1,7 @@
 -- A mount that begins: one block is idle, and each other one counts as closed.
 use Rattle.std.proofs.Common.{◌≡◌, ◌≢◌, ◌⊎◌, ℕ, ◌+◌, ◌-◌, ◌*◌, ◌/◌, ◌^◌, ◌<◌, ◌≤◌, ◌==◌, Bool, true, false, cond, List, length, Option, Some}
-use Rattle.std.proofs.Common.{refl, ap, sym, ◌∙◌, subst, inl, inr, arith, get_or, replicate}
+use Rattle.std.proofs.Common.{refl, ap, sym, ◌∙◌, subst, inl, inr, arith, get_or, map, replicate}
+use Rattle.std.specs.List.{range_with_len}
 use Rattle.std.specs.Prelude.{sum_by, count_by}
 use Rattle.std.proofs.Math.Nat.{div-le_self, div-lt_iff_lt-mul, mul-le-mul}
 use Rattle.std.proofs.lemmas.Bool.{cases_eq, cases_lt, eq-eqb, ne_eqb}
@@ -15,6 +16,7 @@ use Rattle.plan_rules.specs.Bound.{MeetsBound, fmax_of}
 use Rattle.page_map.specs.Placing.{HaveOwnCells}
 use Rattle.page_map.specs.PlacesFaults.{AreCells}
 use Rattle.page_map.proofs.Owners.{same_place}
+use Rattle.die_checkpoint.specs.Counts.{most_erases}
 use Rattle.die_log.specs.Model.Flash.{Block, Cells, block_at, free_block, free_in}
 use Rattle.die_log.specs.Invariants.SoundCells.{AreSoundCells, IsOpen}
 use Rattle.die_log.proofs.Cells.Acts.{in_block}
@@ -25,6 +27,7 @@ use Rattle.power_loss.specs.Mounted.{all_count, mounted_places}
 use Rattle.power_loss.specs.Recovery.{AreIdle, HasUnplaced, IsAbove, IsFreeBlock, MayErase, enough_of, remounted_block, without_block}
 use Rattle.power_loss.proofs.Compacting.{rounded}
 use Rattle.die_mount.specs.declared.stage.Stage.TheVariants as stage
+use Rattle.die_mount.specs.Erases.{AreCounts, AreUnworn, counts_with, erases_of}
 use Rattle.die_mount.specs.Mounting.{Mounting, BeginsWith, first_cells, most_calls, never_erased, round_calls}
 use Rattle.die_mount.specs.PartState.{closed_block, closed_but}
 use Rattle.die_mount.specs.SoundMount.{CountsPart, StandsWell}
@@ -32,10 +35,11 @@ use Rattle.die_mount.specs.SoundMount.{CountsPart, StandsWell}
 abbrev pub begun_cells : DiePlan → List (Option Place) → ℕ → Cells
 begun_cells plan places first = (closed_but (part_of plan).shape places first).cells
 
-abbrev pub begun : DiePlan → List (Option Place) → (first next : ℕ) → Mounting
-begun plan places first next = record {
+abbrev pub begun : DiePlan → List (Option Place) → (first next : ℕ) → List ℕ → Mounting
+begun plan places first next counts = record {
   plan = plan;
   cells = begun_cells plan places first;
+  counts = counts;
   next = next;
   rounds = most_rounds_beside plan;
   stage = stage.First first 0;
@@ -64,6 +68,34 @@ calls_few plan bound beside =
     let few : most_rounds_beside plan ≤ 262144 = omega (arith, rounds_few plan bound beside) in
     let all : most_rounds_beside plan * round_calls plan ≤ 262144 * 576 = mul-le-mul few each in
     omega (arith, all, bound.shape.few_slots)
+
+-- The counts with which it begins
+
+module _ (plan : DiePlan) (bound : MeetsBound plan) (beside : plan.shape.blocks < 1024) (told : List (Option ℕ)) (erased : ℕ) (unworn : AreUnworn plan told) where
+  abbrev begun_erases : List ℕ
+  begun_erases = map (counts_with told erased) (range_with_len 0 (plan.shape.blocks + 1))
+
+  erases_long : length begun_erases ≡ plan.shape.blocks + 1
+  erases_long = length-map-range_with_len (counts_with told erased) 0 (plan.shape.blocks + 1)
+
+  one : (n : ℕ) (t : Bool) → cond t (n + 1) n ≤ n + 1
+  one n true = omega arith
+  one n false = omega arith
+
+  erases_few : (b : ℕ) → get_or begun_erases b 0 + most_rounds_beside plan ≤ most_erases
+  erases_few b = by_case (cases_lt b (plan.shape.blocks + 1))
+    where
+      by_case : (b < plan.shape.blocks + 1) ⊎ (plan.shape.blocks + 1 ≤ b) → get_or begun_erases b 0 + most_rounds_beside plan ≤ most_erases
+      by_case (inl below) = omega (
+        arith,
+        get_or-map-range_with_len (counts_with told erased) 0 (plan.shape.blocks + 1) b b 0 below (omega arith),
+        one (erases_of told b) (b == erased),
+        unworn b below,
+      )
+      by_case (inr past) = omega (arith, get_or_past begun_erases b 0 (omega (arith, erases_long, past)), rounds_few plan bound beside)
+
+  pub are_counts : (counts : List ℕ) → counts ≡ begun_erases → AreCounts plan counts
+  are_counts counts e = subst (AreCounts plan) (sym e) (record { long = erases_long; unworn = erases_few })
 
 -- Cells
 
@@ -173,8 +205,8 @@ module _ (plan : DiePlan) (places : List (Option Place)) (first : ℕ) (lt : fir
         within_by b (inl e) = omega (arith, e)
         within_by b (inr e) = omega (arith, e)
 
-    pub begun_stands : (next : ℕ) → next ≤ 2 ^ 63 → StandsWell (begun plan places first next)
-    begun_stands next low = record {
+    pub begun_stands : (next : ℕ) (counts : List ℕ) → next ≤ 2 ^ 63 → AreCounts plan counts → StandsWell (begun plan places first next counts)
+    begun_stands next counts low are = record {
       bound = bound;
       beside = beside;
       sound = begun_sound;
@@ -185,12 +217,14 @@ module _ (plan : DiePlan) (places : List (Option Place)) (first : ℕ) (lt : fir
         reaches = omega (arith, begun_free, rounded (enough_of plan) plan.alpha bound.limits.some_alpha);
         erased = λ b. omega (arith, never b);
       };
+      counts = are.long;
+      unworn = are.unworn;
       few = omega arith;
       serials = omega (arith, calls_few plan bound beside, low);
     }
 
-    pub begun_counts : (next : ℕ) → CountsPart (begun plan places first next) (closed_but (part_of plan).shape places first)
-    begun_counts next = record {
+    pub begun_counts : (next : ℕ) (counts : List ℕ) → CountsPart (begun plan places first next counts) (closed_but (part_of plan).shape places first)
+    begun_counts next counts = record {
       shape = refl;
       free = sym begun_free;
       last = λ a opened. absurd (none_open a opened);
@@ -225,10 +259,10 @@ module _ (plan : DiePlan) (places : List (Option Place)) (first : ℕ) (lt : fir
       all_long : length (first_cells plan first seen).blocks ≡ plan.shape.blocks + 1
       all_long = length-map-range_with_len (remounted_block (part_of plan) first never_erased) 0 (plan.shape.blocks + 1)
 
-  pub begins : (next : ℕ) (seen : Shown) → count_by (is_in first) places ≡ 0
+  pub begins : (next : ℕ) (counts : List ℕ) (seen : Shown) → count_by (is_in first) places ≡ 0
       → mounted_places all_count plan.logical (without_block first seen) ≡ places → MayErase (part_of plan) all_count seen first
-      → IsAbove seen all_count next → BeginsWith plan seen (begun plan places first next)
-  begins next seen none found may above = record {
+      → IsAbove seen all_count next → BeginsWith plan seen (begun plan places first next counts)
+  begins next counts seen none found may above = record {
     erased = first;
     may = may;
     next = next;

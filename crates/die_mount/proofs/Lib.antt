@@ -10,5 +10,6 @@ pub mod Rounds
 pub mod Stepping
 pub mod Beginning
 pub mod Outcomes
+pub mod Counted
 pub mod Cutting
 pub mod Ending

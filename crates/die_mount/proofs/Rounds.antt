@@ -136,6 +136,7 @@ abbrev pub copied_mount : Mounting → ℕ → Place → Stage → Mounting
 copied_mount m page to after = record {
   plan = m.plan;
   cells = cells_after_program_in page (Some to.block) m.cells;
+  counts = m.counts;
   next = m.next + 1;
   rounds = m.rounds;
   stage = after;
@@ -286,7 +287,7 @@ pub record IsBetween (m : Mounting) : Type 0 where
 
 -- the mount once it was chosen what comes next
 abbrev pub chosen_mount : Mounting → ℕ → Stage → Mounting
-chosen_mount m left after = record { plan = m.plan; cells = m.cells; next = m.next; rounds = left; stage = after }
+chosen_mount m left after = record { plan = m.plan; cells = m.cells; counts = m.counts; next = m.next; rounds = left; stage = after }
 
 -- the state of the mount's part, with the number of its free pages
 abbrev pub state_of : Mounting → (last : ℕ) → PartState
@@ -409,6 +410,7 @@ abbrev pub slot_mount : Mounting → ℕ → Stage → Mounting
 slot_mount m b after = record {
   plan = m.plan;
   cells = after_erase (part_of m.plan) b m.cells;
+  counts = m.counts;
   next = m.next;
   rounds = m.rounds;
   stage = after;

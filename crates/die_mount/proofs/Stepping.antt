@@ -48,7 +48,7 @@ pub record Steps (old new : Mounting) (p : PartState) : Type 0 where
 
 -- with these cells, serial, rounds and stage
 abbrev pub remade : Mounting → Cells → (next rounds : ℕ) → Stage → Mounting
-remade m c next rounds after = record { plan = m.plan; cells = c; next = next; rounds = rounds; stage = after }
+remade m c next rounds after = record { plan = m.plan; cells = c; counts = m.counts; next = next; rounds = rounds; stage = after }
 
 -- pages lie in cells of their blocks
 pub lie_within : (plan : DiePlan) (c : Cells) → AreSoundCells plan c → LieWithin plan.shape.pages c
@@ -56,7 +56,7 @@ lie_within plan c s page q e = omega (arith, s.placed page q e, s.within q.block
 
 -- with another stage alone
 abbrev pub staged : Mounting → Stage → Mounting
-staged m after = record { plan = m.plan; cells = m.cells; next = m.next; rounds = m.rounds; stage = after }
+staged m after = record { plan = m.plan; cells = m.cells; counts = m.counts; next = m.next; rounds = m.rounds; stage = after }
 
 -- A copy
 
@@ -82,6 +82,8 @@ copy_steps m p page from to after w k at n r shape free last =
         beside = w.beside;
         sound = copied_sound m page from to b w.beside s h;
         at = at_next (copied_mount m page to after) from.block (from.page + 1) after (copied_emptying m page from to b w.beside s h after) n;
+        counts = w.counts;
+        unworn = w.unworn;
         few = omega (arith, less, w.few);
         serials = omega (arith, less, w.serials);
       };
@@ -94,6 +96,7 @@ copy_steps m p page from to after w k at n r shape free last =
         plan = refl;
         cells = ap (λ (x : Option ℕ). cells_after_program_in page x m.cells) (sym h.opens)
             ∙ ap (λ (st : Stage). cells_after (part_of m.plan) (carried_at st) m.cells) (sym at);
+        counts = refl;
         next = ap (λ (st : Stage). m.next + programs_at st) (sym at);
         may = λ act e. subst (MayMount (part_of m.plan) m.cells) (same_Some (does.CopyProgram page) act (sym (ap act_at at) ∙ e))
             (copied_may m page from to b w.beside s h);
@@ -230,6 +233,8 @@ read_steps m p page from to w k cells at is =
           opens = cell.opens;
           next = cell.next;
         };
+        counts = w.counts;
+        unworn = w.unworn;
         few = omega (arith, less, w.few);
         serials = omega (arith, less, w.serials);
       };
@@ -237,6 +242,7 @@ read_steps m p page from to w k cells at is =
       step = record {
         plan = refl;
         cells = ap (λ (st : Stage). cells_after (part_of m.plan) (carried_at st) m.cells) (sym at);
+        counts = refl;
         next = omega (arith, ap programs_at at);
         may = λ act e. absurd (none-some act (sym (ap act_at at) ∙ e));
         less = less;
@@ -276,6 +282,8 @@ first_steps m p block slots w k at more =
         beside = w.beside;
         sound = w.sound;
         at = record { idle = h.idle; free = h.free; more = more; reaches = h.reaches; erased = h.erased };
+        counts = w.counts;
+        unworn = w.unworn;
         few = omega (arith, less, w.few);
         serials = omega (arith, less, w.serials);
       };
@@ -283,6 +291,7 @@ first_steps m p block slots w k at more =
       step = record {
         plan = refl;
         cells = ap (λ (st : Stage). cells_after (part_of m.plan) (carried_at st) m.cells) (sym at);
+        counts = refl;
         next = omega (arith, ap programs_at at);
         may = λ act e. absurd (none-some act (sym (ap act_at at) ∙ e));
         less = less;
@@ -323,6 +332,8 @@ first_chosen m p block slots left after w k at last x =
         beside = w.beside;
         sound = w.sound;
         at = chosen_at m w.bound w.beside w.sound i p.last left after x;
+        counts = w.counts;
+        unworn = w.unworn;
         few = omega (arith, less, w.few);
         serials = omega (arith, less, w.serials);
       };
@@ -330,6 +341,7 @@ first_chosen m p block slots left after w k at last x =
       step = record {
         plan = refl;
         cells = ap (λ (st : Stage). cells_after (part_of m.plan) (carried_at st) m.cells) (sym at);
+        counts = refl;
         next = omega (arith, ap programs_at at);
         may = λ act e. absurd (none-some act (sym (ap act_at at) ∙ e));
         less = less;
@@ -370,6 +382,8 @@ slot_steps m p r b slots w k at more shape last free =
         beside = w.beside;
         sound = slot_sound m b slots w.bound w.beside w.sound h;
         at = more_at m b slots w.bound w.beside w.sound h more;
+        counts = w.counts;
+        unworn = w.unworn;
         few = omega (arith, less, w.few);
         serials = omega (arith, less, w.serials);
       };
@@ -381,6 +395,7 @@ slot_steps m p r b slots w k at more shape last free =
       step = record {
         plan = refl;
         cells = ap (λ (st : Stage). cells_after (part_of m.plan) (carried_at st) m.cells) (sym at);
+        counts = refl;
         next = omega (arith, ap programs_at at);
         may = λ act e. subst (MayMount (part_of m.plan) m.cells) (same_Some (does.Erase b) act (sym (ap act_at at) ∙ e))
             (slot_may m b slots w.bound w.beside w.sound h);
@@ -433,6 +448,8 @@ slot_chosen m p r b slots left after w k at last shape same_last free x =
         beside = w.beside;
         sound = sound;
         at = chosen_at n w.bound w.beside sound i r.last left after x;
+        counts = w.counts;
+        unworn = w.unworn;
         few = omega (arith, less, w.few);
         serials = omega (arith, less, w.serials);
       };
@@ -444,6 +461,7 @@ slot_chosen m p r b slots left after w k at last shape same_last free x =
       step = record {
         plan = refl;
         cells = ap (λ (st : Stage). cells_after (part_of m.plan) (carried_at st) m.cells) (sym at);
+        counts = refl;
         next = omega (arith, ap programs_at at);
         may = λ act e. subst (MayMount (part_of m.plan) m.cells) (same_Some (does.Erase b) act (sym (ap act_at at) ∙ e))
             (slot_may m b slots w.bound w.beside w.sound h);

@@ -1,5 +1,5 @@
 -- Why a mount can't go on after its scan.
-use Rattle.std.specs.Prelude.{◌≡◌, ℕ, ◌<◌, length, count_by}
+use Rattle.std.specs.Prelude.{◌≡◌, ℕ, ◌<◌, List, Option, length, count_by}
 use Rattle.slot_types.specs.Places.{is_in}
 use Rattle.slot_types.specs.declared.plans.DiePlan.{DiePlan}
 use Rattle.power_loss.specs.Aside.{part_of}
@@ -8,6 +8,7 @@ use Rattle.power_loss.specs.Mounted.{all_count, mounted_places}
 use Rattle.power_loss.specs.Recovery.{IsAbove, MayErase, without_block}
 use Rattle.die_mount.specs.declared.begin_fault.BeginFault.{BeginFault}
 use Rattle.die_mount.specs.declared.begin_fault.BeginFault.TheVariants as begin
+use Rattle.die_mount.specs.Erases.{AreUnworn, IsFirstWorn}
 use Rattle.die_mount.specs.Faults.{IsMountPlan}
 use Rattle.die_mount.specs.Mounting.{Mounting, BeginsWith}
 use Rattle.die_mount.specs.Scanned.{Scanned}
@@ -26,11 +27,12 @@ pub record IsIdleIn (s : Scanned) (block : ℕ) : Type 0 where
 abbrev pub HasIdle : Scanned → Type 0
 HasIdle s = (block : ℕ) × IsIdleIn s block
 
--- a fault stands, and none before it does, where a block has to be idle
-abbrev pub HasBeginFault : DiePlan → Scanned → (IsIdle : Type 0) → BeginFault → Type 0
-HasBeginFault plan s IsIdle begin.BadPlan = ¬ IsScanned plan s
-HasBeginFault plan s IsIdle begin.NoIdleBlock = IsScanned plan s × (¬ IsIdle)
-HasBeginFault plan s IsIdle begin.NoMemory = IsScanned plan s × IsIdle
+-- a fault stands, and none before it does, where a block has to be idle, and where this was reported of erases
+abbrev pub HasBeginFault : DiePlan → Scanned → List (Option ℕ) → (IsIdle : Type 0) → BeginFault → Type 0
+HasBeginFault plan s told IsIdle begin.BadPlan = ¬ IsScanned plan s
+HasBeginFault plan s told IsIdle begin.NoIdleBlock = IsScanned plan s × (¬ IsIdle)
+HasBeginFault plan s told IsIdle (begin.WornOut block) = IsScanned plan s × IsIdle × IsFirstWorn plan told block
+HasBeginFault plan s told IsIdle begin.NoMemory = IsScanned plan s × IsIdle × AreUnworn plan told
 
 -- it begins with what was seen, where each page that is found without this block is found there, where the block may be
 -- erased, and where the serial is above all

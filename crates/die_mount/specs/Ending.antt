@@ -9,6 +9,7 @@ use Rattle.die_log.specs.Model.Start.{Start}
 use Rattle.power_loss.specs.Aside.{die_cells}
 use Rattle.power_loss.specs.Recovery.{IsFreeBlock, full_accounts, mounted_start}
 use Rattle.die_mount.specs.declared.mounted.Mounted.{Mounted}
+use Rattle.die_mount.specs.Erases.{counted}
 use Rattle.die_mount.specs.Mounting.{Mounting}
 
 -- where a log starts on the die beside this block of the part, with full accounts and these pages
@@ -30,8 +31,9 @@ checkpoint_beside plan aside c =
       balances = plan.caps;
     }
 
--- a wholly free block stands aside, what stands on the die beside it, and the serial goes on
+-- a wholly free block stands aside, what stands on the die beside it, where each block counts all the erases that it
+-- has had, and the serial goes on
 pub record IsEndOf (m : Mounting) (end : Mounted) : Type 0 where
   pub free : IsFreeBlock m.cells end.aside
-  pub checkpoint : end.checkpoint ≡ checkpoint_beside m.plan end.aside m.cells
+  pub checkpoint : end.checkpoint ≡ checkpoint_beside m.plan end.aside (counted m.counts m.cells)
   pub next : end.next ≡ m.next

@@ -6,9 +6,11 @@ pub mod Faults
 pub mod PartState
 pub mod SoundPart
 pub mod Mounting
+pub mod Erases
 pub mod SoundMount
 pub mod Choosing
 pub mod Beginning
 pub mod Cutting
 pub mod Ending
+pub mod EndRoom
 pub mod Nexts

@@ -21,11 +21,13 @@ use Rattle.die_mount.specs.declared.stage.MountCall.{MountCall}
 use Rattle.die_mount.specs.declared.stage.MountCall.TheVariants as calls
 use Rattle.die_mount.specs.PartState.{IsFewest}
 
--- the die's plan, the part's cells, the serial of the next program, how many more blocks may have to be emptied, and how
--- far it is. Until its first block is erased the cells are those that it will have then
+-- the die's plan; the part's cells; by block how often it was erased before the mount's rounds, which the cells count;
+-- the serial of the next program, how many more blocks may have to be emptied, and how far it is. Until its first block
+-- is erased the cells and the counts are those that it will have then
 pub record Mounting : Type 0 where
   pub plan : DiePlan
   pub cells : Cells
+  pub counts : List ℕ
   pub next : ℕ
   pub rounds : ℕ
   pub stage : Stage
@@ -173,7 +175,7 @@ pub record IsTaken (m : Mounting) (b : ℕ) : Type 0 where
 
 -- How it came there
 
--- how often each block was erased nobody knows
+-- the cells count the erases of its rounds alone
 abbrev pub never_erased : ℕ → ℕ
 never_erased b = 0
 
@@ -244,6 +246,7 @@ pub record BeginsWith (plan : DiePlan) (seen : Shown) (m : Mounting) : Type 0 wh
 pub record IsStep (old new : Mounting) : Type 0 where
   pub plan : new.plan ≡ old.plan
   pub cells : new.cells ≡ cells_after (part_of old.plan) (carried_at old.stage) old.cells
+  pub counts : new.counts ≡ old.counts
   pub next : new.next ≡ old.next + programs_at old.stage
   pub may : (act : Act) → act_at old.stage ≡ Some act → MayMount (part_of old.plan) old.cells act
   pub less : calls_left new < calls_left old

@@ -8,14 +8,15 @@ use Rattle.power_loss.specs.Labels.{Label as Stands, Shown, label_at}
 use Rattle.power_loss.specs.Mounted.{Found, all_count, found_in}
 use Rattle.die_mount.specs.declared.newest.Newest.{Newest}
 
--- the part's shape; by page the cell of its newest label, and its serial; how many blocks were reported; and where the
--- greatest serial stands
+-- the part's shape; by page the cell of its newest label, and its serial; how many blocks were reported; where the
+-- greatest serial stands; and by block how often it was erased, as was reported, if it was
 pub record Scanned : Type 0 where
   pub shape : Shape
   pub places : List (Option Place)
   pub serials : List ℕ
   pub told : ℕ
   pub newest : Option Newest
+  pub erases : List (Option ℕ)
 
 -- the cell and the serial of a page's newest label
 abbrev pub found_of : List (Option Place) → List ℕ → ℕ → Option Found

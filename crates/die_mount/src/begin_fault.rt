@@ -7,6 +7,9 @@ pub enum BeginFault {
     BadPlan,
     /// A page is found in each block, or in the block that is to be undone.
     NoIdleBlock,
+    /// With the erases that a mount may do of it, one and one in each round, a block would have had more than 4,293,918,718:
+    /// the first such block.
+    WornOut { block: u32 },
     /// Memory was asked for and not had.
     NoMemory,
 }

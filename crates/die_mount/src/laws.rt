@@ -11,6 +11,7 @@ ghost use Rattle.power_loss.specs.Mounted.{all_count};
 ghost use Rattle.power_loss.specs.Recovery.{FitRounds, IsFreeBlock};
 ghost use Rattle.die_mount.specs.Cutting.{GoesBy, MaySeeCut, StartsLog};
 ghost use Rattle.die_mount.specs.Ending.{start_beside};
+ghost use Rattle.die_mount.specs.Erases.{counted};
 ghost use Rattle.die_mount.specs.Mounting.{Mounting, BeginsWith, IsAtEnd, IsMountOf, IsStep, acts_after, calls_left, most_calls};
 
 use crate::stage::Stage;
@@ -44,11 +45,12 @@ pub fn a_mount_that_ends_starts_a_log()
 {}
 
 /// There the mount goes to the die beside any wholly free block, by what it saw: a log may start on that die, with full
-/// accounts and with just the pages that were found, and the serial of its next program is the mount's.
+/// accounts, with just the pages that were found and with each block's erases before the mount and in it, and the serial
+/// of its next program is the mount's.
 pub fn a_mount_that_ends_leaves_a_die()
     ensures { (pages : List PageData) (before : Shown) (erased next : ℕ) (acts : List Act) (m : Mounting)
         → GoesBy pages before erased next acts m → IsAtEnd m → (aside : ℕ) → IsFreeBlock m.cells aside
-        → (first : Labels) × MountsTo m.plan all_count before (start_beside m.plan aside m.cells pages) first
+        → (first : Labels) × MountsTo m.plan all_count before (start_beside m.plan aside (counted m.counts m.cells) pages) first
         × (first.next ≡ m.next) }
 {}
 

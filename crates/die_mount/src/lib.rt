@@ -3,6 +3,8 @@
 #![tactic(auto)]
 
 mod begin_fault;
+mod end_memory;
+mod erases;
 mod erasing;
 mod label;
 mod laws;
@@ -14,6 +16,7 @@ mod scan;
 mod stage;
 
 pub use begin_fault::BeginFault;
+pub use end_memory::EndMemory;
 pub use erasing::FirstErase;
 pub use label::Label;
 pub use laws::{

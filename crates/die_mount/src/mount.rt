@@ -1,17 +1,21 @@
 //! A mount after the scan: which call of the part comes next, until a die may start.
 
-ghost use Rattle.std.specs.Prelude.{◌≡◌, ◌≢◌, ◌⊎◌, ◌+◌, ◌<◌, ◌≤◌, ◌^◌, ℕ, [], List, Some, None, length, IfOk, IfErr, IfNone};
+ghost use Rattle.std.specs.Prelude.{◌≡◌, ◌≢◌, ◌⊎◌, ◌+◌, ◌<◌, ◌≤◌, ◌^◌, ℕ, [], List, Option, Some, None, length, map, slice_index_or, IfOk, IfErr, IfNone, OnOk};
+ghost use Rattle.std.specs.List.{range_with_len};
 ghost use Rattle.slot_types.specs.Places.{place_of};
 ghost use Rattle.slot_types.specs.Refusal.{FailsForMemory};
 ghost use Rattle.slot_types.specs.declared.acts.Act.{Act};
 ghost use Rattle.die_checkpoint.specs.Fits.{Fits};
-ghost use Rattle.die_log.specs.Model.Flash.{cells_after};
+ghost use Rattle.die_log.specs.Model.Flash.{block_at, cells_after};
 ghost use Rattle.power_loss.specs.Aside.{part_of};
 ghost use Rattle.power_loss.specs.Labels.{Shown, FitPlan};
 ghost use Rattle.power_loss.specs.Mounted.{all_count};
 ghost use Rattle.power_loss.specs.Recovery.{AreIdle, IsFreeBlock, MayErase, MayMount, without_block};
 ghost use Rattle.die_mount.specs.Beginning.{BeginsAt, HasBeginFault, HasIdle, IsIdleIn, IsScanned};
 ghost use Rattle.die_mount.specs.Ending.{IsEndOf};
+ghost use Rattle.die_mount.specs.EndRoom.{room_for};
+ghost use Rattle.die_mount.specs.Erases.{AreCounts, AreUnworn, CountsFrom, WearsOut, counts_with};
+ghost use Rattle.die_mount.specs.Faults.{IsMountPlan};
 ghost use Rattle.die_mount.specs.Scanned.{IsScanOf};
 ghost use Rattle.die_mount.specs.Choosing.{HasClosed, IsChosen, IsNextIn, LieFrom, LieWithin};
 ghost use Rattle.die_mount.specs.Mounting.{BeginsWith, IsAtEnd, IsMountOf, IsStep, IsTaken, acts_after, act_at, call_at, calls_left, carried_at, ends_erase_at};
@@ -20,6 +24,8 @@ ghost use Rattle.die_mount.specs.Nexts.{BeginsFirst, IsNextStage, IsPastFirst};
 ghost use Rattle.die_mount.specs.SoundMount.{StandsWell};
 
 use crate::begin_fault::BeginFault;
+use crate::end_memory::EndMemory;
+use crate::erases::{counts_of, first_worn};
 use crate::label::Label;
 use crate::mounted::Mounted;
 use crate::part::Part;
@@ -41,6 +47,8 @@ use std::marker::Model;
 pub struct Mount {
     plan: DiePlan,
     part: Part,
+    /// By block how often it was erased before the rounds.
+    counts: Vec<u32>,
     /// Of the next program.
     serial: u64,
     /// How many blocks may have to be emptied in addition to the one that is at work.
@@ -64,7 +72,7 @@ impl Model for Mount {
 
 impl Mount {
     /// A mount that erases a block in which no page is found. All its memory is taken here; the scan is used up, also
-    /// where the mount is refused.
+    /// where the mount is refused. Erases are counted on from what was reported to the scan.
     ///
     /// Refused with the first fault that stands, as [`BeginFault`] lists them. Where no block is idle, a mount was cut
     /// as it copied, and [`undo`](Mount::undo) goes on.
@@ -73,21 +81,24 @@ impl Mount {
         ensures ok { IfOk result (λ mount. (seen : Shown) → IsScanOf (part_of plan) scan seen
             → FitPlan (part_of plan) seen → BeginsWith plan seen mount) }
         ensures first { IfOk result (BeginsFirst plan) }
-        ensures fault { IfErr result (HasBeginFault plan scan (HasIdle scan)) }
+        ensures counts { IfOk result (CountsFrom scan.erases) }
+        ensures fault { IfErr result (HasBeginFault plan scan scan.erases (HasIdle scan)) }
     {
         if !scan.fits(&plan) {
             return Err(BeginFault::BadPlan);
         }
         let serial = scan.next_serial();
-        match scan.idle_block() {
-            Some(block) => begin(alloc, plan, scan, block, serial),
-            None => Err(BeginFault::NoIdleBlock),
-        }
+        let Some(block) = scan.idle_block() else {
+            return Err(BeginFault::NoIdleBlock);
+        };
+        let counts = counts_after(alloc, &plan, scan.erases(), block)?;
+        begin(alloc, plan, scan, block, serial, counts)
     }
 
     /// A mount that undoes a block, where no block is idle: that which [`Scan::first_erase`] names. It goes by a scan
     /// to which the labels of each other block were reported again, and none of that one. All its memory is taken here;
-    /// the second scan is used up, also where the mount is refused.
+    /// the second scan is used up, also where the mount is refused. Erases are counted on from what was
+    /// reported to the first scan.
     ///
     /// Refused with the first fault that stands, as [`BeginFault`] lists them.
     pub fn undo(
@@ -103,7 +114,9 @@ impl Mount {
             → IsScanOf (part_of plan) again (without_block block seen)
             → MayErase (part_of plan) all_count seen block → BeginsWith plan seen mount) }
         ensures first { IfOk result (BeginsFirst plan) }
-        ensures fault { IfErr result (HasBeginFault plan again (IsIdleIn again block)) }
+        ensures counts { IfOk result (CountsFrom before.now.erases) }
+        ensures fault { IfErr result
+            (HasBeginFault plan again before.now.erases (IsIdleIn again block)) }
     {
         if !again.fits(&plan) {
             return Err(BeginFault::BadPlan);
@@ -111,7 +124,8 @@ impl Mount {
         if !again.is_idle(block) {
             return Err(BeginFault::NoIdleBlock);
         }
-        begin(alloc, plan, again, block, before.next_serial())
+        let counts = counts_after(alloc, &plan, before.erases(), block)?;
+        begin(alloc, plan, again, block, before.next_serial(), counts)
     }
 
     /// The next call of the part; none once enough pages are free. It is one that the part may do: what is read is
@@ -145,6 +159,15 @@ impl Mount {
             Stage::Erase { slots, .. } => slots + 1 == self.plan.shape.erase_slots,
             _ => false,
         }
+    }
+
+    /// How often a block of the part was erased, as the mount counts: what the label of a program in it bears. The erase
+    /// of its first block is counted from the beginning on. 0 where there is no such block.
+    pub fn erases(&self, block: u32) -> u32
+        ensures { result ≡ slice_index_or self.now.counts block 0
+            + (block_at self.now.cells block).erases }
+    {
+        self.part.erases(block, self.counts.as_slice())
     }
 
     /// The plan of the die.
@@ -201,17 +224,28 @@ impl Mount {
     /// of its first program. The mount stays as it is.
     ///
     /// The checkpoint fits the plan: each balance is its cap, pages lie where the mount left them, and of each block as
-    /// many cells count as programmed as the mount left programmed. A block's erases are those of this mount, without
-    /// its first one, before which the counting begins: no label tells of others. It takes memory for 12 bytes by page
-    /// and 8 by block. Refused with `NoMemory` alone, and may be called again then.
+    /// many cells count as programmed as the mount left programmed. A block's erases are those that were reported to the
+    /// scan, and those of this mount. Where a block had no good label they may be off. It takes memory for 12 bytes by
+    /// page and 8 by block. Refused with `NoMemory` alone, and may be called again then.
     pub fn finish(&self, alloc: Global) -> Result<Mounted, Refusal>
         requires { self.now.stage ≡ Stage.Done }
         ensures end { IfOk result (IsEndOf self.now) }
         ensures fits { IfOk result (λ end. Fits self.now.plan end.checkpoint) }
         ensures refused { FailsForMemory result }
     {
+        let memory = EndMemory::take(alloc, &self.plan)?;
+        Ok(self.finish_in(memory))
+    }
+
+    /// The same in memory that was taken before, so that it is never refused.
+    pub fn finish_in(&self, memory: EndMemory) -> Mounted
+        requires ended { self.now.stage ≡ Stage.Done }
+        requires room { memory ≡ room_for self.now.plan }
+        ensures end { IsEndOf self.now result }
+        ensures fits { Fits self.now.plan result.checkpoint }
+    {
         match self.part.free_block() {
-            Some(aside) => self.end_beside(alloc, aside),
+            Some(aside) => self.end_beside(memory, aside),
             None => unreachable!(),
         }
     }
@@ -219,28 +253,31 @@ impl Mount {
 
 impl Mount {
     /// The end beside a block of which no cell is programmed.
-    fn end_beside(&self, alloc: Global, aside: u32) -> Result<Mounted, Refusal>
+    fn end_beside(&self, memory: EndMemory, aside: u32) -> Mounted
         requires stage { self.now.stage ≡ Stage.Done }
         requires free { IsFreeBlock self.now.cells aside }
-        ensures end { IfOk result (IsEndOf self.now) }
-        ensures fits { IfOk result (λ end. Fits self.now.plan end.checkpoint) }
-        ensures refused { FailsForMemory result }
+        requires room { memory ≡ room_for self.now.plan }
+        ensures end { IsEndOf self.now result }
+        ensures fits { Fits self.now.plan result.checkpoint }
     {
+        let EndMemory {
+            places,
+            blocks,
+            balances,
+        } = memory;
         let last = self.plan.shape.blocks;
-        let places = self.part.places_beside(alloc, last, aside)?;
-        let blocks = self.part.blocks_beside(alloc, last, aside)?;
-        let balances = Items::from_vec(Vec::from_slice(alloc, self.plan.caps.as_slice())?);
-        Ok(Mounted {
+        let before = self.counts.as_slice();
+        Mounted {
             aside,
             checkpoint: Checkpoint {
-                places,
-                blocks,
+                places: self.part.places_beside(places, last, aside),
+                blocks: self.part.blocks_beside(blocks, last, aside, before),
                 // The goal has the pages of the block aside, and those of full accounts.
                 spare: self.part.free() - self.goal,
-                balances,
+                balances: Items::from_vec(balances),
             },
             next: self.serial,
-        })
+        }
     }
 
     /// The block that is erased first had one slot more of its erase.
@@ -305,19 +342,47 @@ impl Mount {
     }
 }
 
-/// A mount that erases this block, and goes on with this serial.
+/// By block how often it was erased, with the erase of the block that is erased first. Refused where a block may wear out,
+/// or else where there is no memory.
+fn counts_after(
+    alloc: Global,
+    plan: &DiePlan,
+    told: &[Option<u32>],
+    erased: u32,
+) -> Result<Vec<u32>, BeginFault>
+    requires may { IsMountPlan plan.now }
+    ensures counts { IfOk result (λ counts. counts.items
+        ≡ map (counts_with told.now erased) (range_with_len 0 (plan.now.shape.blocks + 1))) }
+    ensures fit { IfOk result (λ counts. AreCounts plan.now counts.items) }
+    ensures unworn { OnOk result (AreUnworn plan.now told.now) }
+    ensures fault { IfErr result (WearsOut plan.now told.now) }
+{
+    if let Some(block) = first_worn(plan, told) {
+        return Err(BeginFault::WornOut { block });
+    }
+    match counts_of(alloc, plan, told, erased) {
+        Ok(counts) => Ok(counts),
+        Err(_) => Err(BeginFault::NoMemory),
+    }
+}
+
+/// A mount that erases this block, and goes on with this serial and with these counts.
 fn begin(
     alloc: Global,
     plan: DiePlan,
     scan: Scan,
     block: u32,
     serial: u64,
+    counts: Vec<u32>,
 ) -> Result<Mount, BeginFault>
     requires fits { IsScanned plan scan }
     requires idle { IsIdleIn scan block }
     requires serial { serial ≤ 2 ^ 63 }
+    requires counts { AreCounts plan counts.items }
     ensures ok { IfOk result (BeginsAt plan scan block serial) }
     ensures first { IfOk result (BeginsFirst plan) }
+    ensures counts { IfOk result (λ mount.
+        (mount.counts ≡ counts.items) × (mount.stage ≡ Stage.First block 0)) }
     ensures err { IfErr result (λ fault. fault ≡ BeginFault.NoMemory) }
 {
     let fmax = figures(&plan).fmax;
@@ -333,6 +398,7 @@ fn begin(
         stage: Stage::First { block, slots: 0 },
         plan,
         part,
+        counts,
     })
 }
 

@@ -1,6 +1,7 @@
 //! The cells of a part, as a mount goes on.
 
 ghost use Rattle.std.specs.Prelude.{◌≡◌, ◌⊎◌, ◌==◌, ◌<◌, ◌≤◌, ◌+◌, ◌^◌, ℕ, None, length, map, option_map, IfOk, IfSome, IfNone, position};
+ghost use Rattle.std.specs.Prelude.{[], slice_index_or, vec_capacity};
 ghost use Rattle.slot_types.specs.Refusal.{FailsForMemory};
 ghost use Rattle.slot_types.specs.Places.{owner_of, place_of};
 ghost use Rattle.slot_types.specs.declared.plans.DiePlan.{DiePlan};
@@ -9,6 +10,7 @@ ghost use Rattle.page_map.specs.Placing.{HaveOwnCells, IsCell};
 ghost use Rattle.die_log.specs.Model.Flash.{block_at, free_block, valid};
 ghost use Rattle.power_loss.specs.Aside.{on_die, renumbered, renumbered_places, without_aside};
 ghost use Rattle.die_mount.specs.Ending.{counts_of};
+ghost use Rattle.die_mount.specs.Erases.{counted};
 ghost use Rattle.die_mount.specs.SoundPart.{block_of, is_unfilled};
 ghost use Rattle.die_mount.specs.PartState.{closed_but, is_open_at, next_cell_of, with_erase_slot, with_program, IsFewest, IsFirstPage};
 
@@ -195,6 +197,20 @@ impl Part {
         }
     }
 
+    /// How often a block was erased, with the erases that it has had before; 0 where there is no such block.
+    pub(crate) fn erases(&self, block: u32, before: &[u32]) -> u32
+        requires few { slice_index_or before.now block 0
+            + (block_at self.now.cells block).erases < 2 ^ 32 }
+        ensures { result ≡ slice_index_or before.now block 0
+            + (block_at self.now.cells block).erases }
+    {
+        let own = match self.blocks.get(block as usize) {
+            Some(own) => own.erases,
+            None => 0,
+        };
+        erases_before(before, block) + own
+    }
+
     /// The first block of which no cell is programmed.
     pub(crate) fn free_block(&self) -> Option<u32>
         ensures { result ≡ position (λ t. t.filled == 0) self.now.cells.blocks }
@@ -205,44 +221,51 @@ impl Part {
         }
     }
 
-    /// By page its cell, as a die on the blocks beside one numbers it. Refused with `NoMemory` alone.
+    /// By page its cell, as a die on the blocks beside one numbers it. It takes no memory.
     pub(crate) fn places_beside(
         &self,
-        alloc: Global,
+        room: Vec<Option<Place>>,
         last: u32,
         aside: u32,
-    ) -> Result<Items<Option<Place>>, Refusal>
-        ensures places { IfOk result (λ places.
-            places ≡ renumbered_places (on_die last aside) self.now.cells.places) }
-        ensures refused { FailsForMemory result }
+    ) -> Items<Option<Place>>
+        requires empty { room.items ≡ [] }
+        requires room { length self.now.cells.places ≤ vec_capacity room }
+        ensures { result ≡ renumbered_places (on_die last aside) self.now.cells.places }
     {
-        let mut places = Items::new(alloc);
+        let mut places = room;
         for page in 0..self.map.pages() {
-            places.push(renumbered(self.map.place(page), last, aside))?;
+            places.push_reserved(renumbered(self.map.place(page), last, aside));
         }
-        Ok(places)
+        Items::from_vec(places)
     }
 
-    /// By block what a checkpoint says of it, without the last block and with that one in place of the one aside.
-    /// Refused with `NoMemory` alone.
+    /// By block what a checkpoint says of it, with the erases that it has had before, without the last block and with
+    /// that one in place of the one aside. It takes no memory.
     pub(crate) fn blocks_beside(
         &self,
-        alloc: Global,
+        room: Vec<BlockCounts>,
         last: u32,
         aside: u32,
-    ) -> Result<Items<BlockCounts>, Refusal>
+        before: &[u32],
+    ) -> Items<BlockCounts>
+        requires empty { room.items ≡ [] }
+        requires room { last ≤ vec_capacity room }
         requires last { last + 1 ≡ self.now.shape.blocks }
         requires aside { aside ≤ last }
-        ensures blocks { IfOk result (λ blocks. blocks
-            ≡ map counts_of (without_aside last aside free_block self.now.cells.blocks)) }
-        ensures refused { FailsForMemory result }
+        requires few { (block : ℕ) → slice_index_or before.now block 0
+            + (block_at self.now.cells block).erases < 2 ^ 32 }
+        ensures { result ≡ map counts_of (without_aside last aside free_block
+            (counted before.now self.now.cells).blocks) }
     {
-        let mut blocks = Items::new(alloc);
+        let mut blocks = room;
         for block in 0..last {
             let from = if block == aside { last } else { block };
-            blocks.push(counts_of(self.blocks[from as usize]))?;
+            blocks.push_reserved(counts_of(
+                self.blocks[from as usize],
+                erases_before(before, from),
+            ));
         }
-        Ok(blocks)
+        Items::from_vec(blocks)
     }
 
     /// The page lies in the next cell of a block, which was programmed.
@@ -300,13 +323,24 @@ fn first_unfilled(blocks: &[PartBlock]) -> Option<usize>
     blocks.iter().position(|block| block.filled == 0)
 }
 
-/// What a checkpoint says of a block.
-fn counts_of(block: PartBlock) -> BlockCounts
-    ensures { result ≡ counts_of (block_of block) }
+/// What a checkpoint says of a block that has had so many erases before.
+fn counts_of(block: PartBlock, before: u32) -> BlockCounts
+    requires few { before + block.erases < 2 ^ 32 }
+    ensures { result ≡ record { filled = block.filled; erases = before + block.erases } }
 {
     BlockCounts {
         filled: block.filled,
-        erases: block.erases,
+        erases: before + block.erases,
+    }
+}
+
+/// How often a block was erased before; 0 where there is no such block.
+fn erases_before(before: &[u32], block: u32) -> u32
+    ensures { result ≡ slice_index_or before.now block 0 }
+{
+    match before.get(block as usize) {
+        Some(erases) => *erases,
+        None => 0,
     }
 }
 

@@ -1,7 +1,7 @@
 //! The scan of a part: what is reported of its cells, block by block, and what a mount makes of that.
 
-ghost use Rattle.std.specs.Prelude.{◌≡◌, ◌<◌, ◌++◌, ◌∷◌, ◌↔◌, ◌≤◌, ◌^◌, ℕ, [], List, Option, length, count_by, Err, IfOk, IfErr, OnOk, OnErr};
-ghost use Rattle.std.specs.Prelude.{IsTrue, IfSome, IfNone, slice_index_or};
+ghost use Rattle.std.specs.Prelude.{◌≡◌, ◌+◌, ◌<◌, ◌++◌, ◌∷◌, ◌↔◌, ◌≤◌, ◌^◌, ℕ, [], List, Option, length, count_by, Err, IfOk, IfErr, OnOk, OnErr};
+ghost use Rattle.std.specs.Prelude.{IsTrue, IfSome, IfNone, None, replicate, slice_index_or, slice_set};
 ghost use Rattle.slot_types.specs.Places.{is_in, place_of};
 ghost use Rattle.slot_types.specs.declared.pages.PageData.{PageData};
 ghost use Rattle.slot_types.specs.declared.plans.DiePlan.{DiePlan};
@@ -56,6 +56,8 @@ pub struct Scan {
     /// How many blocks were reported.
     told: u32,
     newest: Option<Newest>,
+    /// By block how often it was erased, as was reported, if it was.
+    erases: Vec<Option<u32>>,
 }
 
 impl Model for Scan {
@@ -78,6 +80,8 @@ impl Scan {
     /// memory for it.
     pub fn new(alloc: Global, plan: &DiePlan) -> Result<Scan, MountFault>
         ensures ok { IfOk result (λ scan. IsScanOf (part_of plan.now) scan []) }
+        ensures untold { IfOk result (λ scan.
+            scan.erases ≡ replicate (plan.now.shape.blocks + 1) None) }
         ensures fault { IfErr result (HasMountFault plan.now) }
     {
         if bound(plan).is_err() || plan.shape.blocks >= MAX_BLOCKS {
@@ -94,23 +98,31 @@ impl Scan {
         let Ok(serials) = vec![in alloc; 0; plan.logical as usize] else {
             return Err(MountFault::NoMemory);
         };
+        let Ok(erases) = vec![in alloc; None; shape.blocks as usize] else {
+            return Err(MountFault::NoMemory);
+        };
         Ok(Scan {
             shape,
             map,
             serials,
             told: 0,
             newest: None,
+            erases,
         })
     }
 
     /// Tells the labels of the next block, cell by cell from the first one on: none for a cell that isn't good. Cells
-    /// past the end of the list have none. It takes time for each of them once, and no memory.
+    /// past the end of the list have none. And tells how often the block was erased, where its labels say so: the
+    /// greatest count of them. A block of which none is reported is taken to have had one erase more than any other, which
+    /// may be off. It takes time for each cell once, and no memory.
     ///
     /// Refused with the first fault that stands, as [`ScanFault`] lists them; then the scan stays as it was.
-    pub fn tell(&mut self, cells: &[Option<Label>]) -> Result<(), ScanFault>
+    pub fn tell(&mut self, cells: &[Option<Label>], erases: Option<u32>) -> Result<(), ScanFault>
         ensures ok { OnOk result ((plan : DiePlan) (seen : Shown) (shown : List (Option Stands))
             → IsScanOf plan self.old seen → cells.now ≡ told_cells shown
             → IsScanOf plan self.new (seen ++ shown ∷ [])) }
+        ensures erases { OnOk result (self.new.erases
+            ≡ slice_set self.old.erases self.old.told erases) }
         ensures fits { OnOk result (IsNextBlock self.old cells.now) }
         ensures fault { IfErr result (HasScanFault self.old cells.now) }
         ensures stays { OnErr result (self.new ≡ self.old) }
@@ -126,6 +138,7 @@ impl Scan {
         }
         take_block(&mut self.map, &mut self.serials, self.told, cells);
         self.newest = newer(self.newest, self.told, greatest_in(cells));
+        self.erases[self.told as usize] = erases;
         self.told += 1;
         Ok(())
     }
@@ -263,7 +276,14 @@ impl Scan {
         None
     }
 
-    /// The part's shape, and where the pages lie. The memory of the serials is given back.
+    /// By block how often it was erased, as was reported, if it was.
+    pub(crate) fn erases(&self) -> &[Option<u32>]
+        ensures { result.now ≡ self.now.erases }
+    {
+        self.erases.as_slice()
+    }
+
+    /// The part's shape, and where the pages lie. The rest of the memory is given back.
     pub(crate) fn into_map(self) -> (Shape, PageMap)
         ensures shape { result.0 ≡ self.shape }
         ensures map { result.1 ≡ record { shape = self.shape; places = self.places } }

@@ -13,9 +13,8 @@ use Rattle.die_service.specs.Passes.{DieView, HasGrown, AddsEntry, AddsNone}
 use Rattle.slot_core.specs.Calls.{MayRefuse}
 use Rattle.die_service.specs.Runs.{AskedEvent, asked_event, accepted_by, slots_in, slot_counted, place_beyond, with_refused, refused_from, stop_or, stop_of}
 use Rattle.die_service.specs.Runs.{IsReasoned}
-use Rattle.die_service.specs.Stores.{DiePass}
-use Rattle.die_service.specs.Drives.{Course, place_after, Far, Asks, IsFit}
-use Rattle.die_service.proofs.LastPasses.{same_plan}
+use Rattle.die_service.specs.Drives.{place_after}
+use Rattle.die_service.specs.PassWorks.{Far, IsFit}
 use Rattle.die_service.proofs.Joining.{still_live, made_later, grown_joined, added_joined}
 use Rattle.die_log.specs.Model.Start.{Start}
 
@@ -250,42 +249,17 @@ far_refuses never v w event refused a = record {
         (subst (λ (e : Event). IsReasoned never a.grown.topic v [] e by w) (ap (λ s. s.event) h.1)
         (subst (λ (r : RefusedAt). IsReasoned never a.grown.topic v [] event r w) (err_is refused by (ap (λ s. s.reply) h.1)) here))
 
--- And what was noted
-
-pub asks_joins : (never : Bool) (p q r : DiePass) (c d e : Course) (xs ys : List AskedEvent) → Asks never p c xs q d → Asks never q d ys r e
-    → Asks never p c (xs ++ ys) r e
-asks_joins never p q r c d e xs ys a b =
-    let plan_is : b.start ≡ a.start = same_plan b.start a.start (sym b.far.about_is ∙ (a.same.3 ∙ a.far.about_is)) in record {
-      same = (b.same.0 ∙ a.same.0, b.same.1 ∙ a.same.1, b.same.2 ∙ a.same.2, b.same.3 ∙ a.same.3);
-      start = a.start;
-      far = far_joins never a.start p.view q.view r.view xs ys a.same.1 a.same.2 a.far
-          (subst (λ (start : Start). Far never start q.view ys r.view) plan_is b.far);
-      place = b.place ∙ (ap (λ n. place_after n ys) a.place ∙ sym (place_more c.place xs ys));
-      refused = b.refused ∙ (ap (λ l. l ++ refused_from d.place ys) a.refused
-          ∙ (append_assoc c.refused (refused_from c.place xs) (refused_from d.place ys)
-          ∙ ap (λ l. c.refused ++ l) (ap (λ n. refused_from c.place xs ++ refused_from n ys) a.place ∙ sym (refused_more c.place xs ys))));
-    }
-
-pub asks_none : (never : Bool) (p : DiePass) (c : Course) → IsFit p.view → Asks never p c [] p c
-asks_none never p c fit = record {
-  same = (refl, refl, refl, refl);
-  start = fit.0;
-  far = record {
-    about_is = fit.1.0;
-    starts = ([], sym (append-nil p.view.seen));
-    exact = fit.1.1;
-    joined = λ live p mine other. refl;
-    live = refl;
-    later = omega arith;
-    sole = λ h. h;
-    alone = λ h. sym (append-nil p.view.seen);
-    own = sym (append-nil (calls_by p.view.number p.view.seen));
-    refused = λ before after event refused is. absurd (no_more before after (asked_event event (Err refused)) is);
-  };
-  place = refl;
-  refused = sym (append-nil c.refused);
+-- a pass that was asked nothing
+pub far_none : (never : Bool) (v : DieView) (fit : IsFit v) → Far never fit.0 v [] v
+far_none never v fit = record {
+  about_is = fit.1.0;
+  starts = ([], sym (append-nil v.seen));
+  exact = fit.1.1;
+  joined = λ live p mine other. refl;
+  live = refl;
+  later = omega arith;
+  sole = λ h. h;
+  alone = λ h. sym (append-nil v.seen);
+  own = sym (append-nil (calls_by v.number v.seen));
+  refused = λ before after event refused is. absurd (no_more before after (asked_event event (Err refused)) is);
 }
-
--- the pass knows its die still
-pub still_fit : (never : Bool) (p q : DiePass) (c d : Course) (saids : List AskedEvent) → Asks never p c saids q d → IsFit q.view
-still_fit never p q c d saids a = (a.start, (a.same.3 ∙ a.far.about_is, a.far.exact))

@@ -1,7 +1,7 @@
 -- The rows of a feed, and what a course reads of them.
 use Rattle.std.proofs.Common.{◌≡◌, ℕ, zero, suc, ◌+◌, ◌-◌, ◌<◌, ◌≤◌, Bool, true, false, true≢false, List, [], ◌∷◌, ◌++◌, Option, Some, None}
 use Rattle.std.proofs.Common.{refl, sym, ap, ◌∙◌, subst, arith, length, take, drop, slice_get, get_or, add-one, length-append}
-use Rattle.std.specs.Prelude.{option_map, not, ◌&&◌, nat_le}
+use Rattle.std.specs.Prelude.{option_map, not, ◌&&◌, nat_le, OnOk, Result, Ok, Err}
 use Rattle.std.proofs.lemmas.Bool.Decides.{nat_tests}
 use Rattle.std.specs.List.{AllByRecursion}
 use Rattle.std.proofs.Math.Seq.{drop-append_seam}
@@ -307,16 +307,15 @@ none_yet clock place at feed is later =
     let a = get_some (λ (a : Arrival). a.at) (slice_get feed place) at is in
     subst (NoneDue clock) (sym (drop_next feed place a.0 a.1)) (none_by clock a.0 (drop (place + 1) feed) (omega (arith, a.2, later)))
 
-abbrev pub on : ℕ → ℕ → ℕ → List Arrival → List Op → List RefusedEvent → Course
-on from slots place feed ops refused = record
-    { from = from; slots = slots; rest = drop place feed; place = place; ops = ops; refused = refused }
+abbrev pub on : ℕ → List Arrival → List Op → List RefusedEvent → Course
+on place feed ops refused = record { rest = drop place feed; place = place; ops = ops; refused = refused }
 
 -- the next event comes now
-pub comes_now : (from slots clock place at : ℕ) (feed : List Arrival) (event : Event) (old ops : List Op) (refused : List RefusedEvent)
+pub comes_now : (clock place at : ℕ) (feed : List Arrival) (event : Event) (old ops : List Op) (refused : List RefusedEvent)
     → option_map (λ (a : Arrival). a.at) (slice_get feed place) ≡ Some at → at ≤ clock
     → option_map (λ (a : Arrival). a.event) (slice_get feed place) ≡ Some event → AllArrive feed
-    → Comes clock (on from slots place feed old refused) event (on from slots (place + 1) feed ops refused)
-comes_now from slots clock place at feed event old ops refused is by event_is arrive =
+    → Comes clock (on place feed old refused) event (on (place + 1) feed ops refused)
+comes_now clock place at feed event old ops refused is by event_is arrive =
     let a = get_some (λ (a : Arrival). a.at) (slice_get feed place) at is in
     let same : a.0.event ≡ event = same_Some a.0.event event (sym (ap (option_map (λ (a : Arrival). a.event)) a.1) ∙ event_is) in record {
       arrival = a.0;
@@ -328,3 +327,23 @@ comes_now from slots clock place at feed event old ops refused is by event_is ar
       place = refl;
       refused = refl;
     }
+
+-- One event more at the end
+
+get_front : {A : Type 0} (xs : List A) (n : ℕ) (x : A) → n < length xs → slice_get (xs ++ x ∷ []) n ≡ slice_get xs n
+get_front [] n x below = absurd (omega (arith, below))
+get_front (y ∷ xs) zero x below = refl
+get_front (y ∷ xs) (suc n) x below = get_front xs n x (omega (arith, below))
+
+last_stays : (place : ℕ) (feed : List Arrival) (x : Arrival) → place ≤ length feed → last_ops place (feed ++ x ∷ []) ≡ last_ops place feed
+last_stays zero feed x within = refl
+last_stays (suc place) feed x within = ap ops_if (get_front feed place x (omega (arith, within)))
+
+pub course_more : {T E : Type 0} (r : Result T E) (feed new : List Arrival) (place : ℕ) (x : Arrival) (refused noted : List RefusedEvent)
+    → place ≤ length feed → noted ≡ refused → OnOk r (new ≡ feed ++ x ∷ [])
+    → OnOk r (on place new (last_ops place new) noted ≡ record (on place feed (last_ops place feed) refused) { rest = drop place feed ++ x ∷ [] })
+course_more (Err e) feed new place x refused noted within same is = tt
+course_more (Ok u) feed new place x refused noted within same is =
+    let rest : drop place new ≡ drop place feed ++ x ∷ [] = ap (drop place) is ∙ drop-append-le place feed (x ∷ []) within in
+    let ops : last_ops place new ≡ last_ops place feed = ap (last_ops place) is ∙ last_stays place feed x within in
+    λ i. record { rest = rest i; place = place; ops = ops i; refused = same i }

@@ -1,80 +1,143 @@
--- The dies of a store, each with its pass and its batch, before a run and after it.
-use Rattle.std.proofs.Common.{◌≡◌, ℕ, zero, suc, ◌+◌, ◌<◌, ◌≤◌, Bool, List, [], ◌∷◌, length, map, get_or, refl, ap, sym, ◌∙◌, subst, arith}
+-- The dies of a store, each with its pass and its feed, before a run and after it.
+use Rattle.std.proofs.Common.{◌≡◌, ℕ, suc, ◌+◌, ◌<◌, ◌≤◌, Bool, List, [], ◌∷◌, ◌++◌, length, map, get_or, Option, Some, None, refl, ap, sym, ◌∙◌}
+use Rattle.std.proofs.Common.{subst, arith, append_assoc, append-nil, IsSome}
+use Rattle.std.specs.List.{AllByRecursion}
 use Rattle.std.proofs.lemmas.List.{length-map}
-use Rattle.atomic_table.specs.Seated.{TableId}
-use Rattle.die_service.specs.declared.batches.Batch.{Batch}
 use Rattle.die_service.specs.declared.ends.DieEnd.{DieEnd}
-use Rattle.turn_lock.specs.Views.{IsSamePass}
-use Rattle.die_service.specs.Runs.{HasRun, HaveRun}
+use Rattle.die_service.specs.declared.feeds.Arrival.{Arrival}
+use Rattle.atomic_table.specs.Seated.{TableId}
+use Rattle.turn_lock.specs.Views.{IsLive, IsSamePass}
+use Rattle.die_service.specs.Runs.{Batch, HasRun, HaveRun, whole_batch}
 use Rattle.die_service.specs.Stores.{DiePass}
-use Rattle.die_service.specs.Drives.{Course, WorkerState, first_states, whole_course, batch_at, IsFirstState, end_at}
-use Rattle.die_service.specs.Work.{WorkCall, WorksOff, WorkOff}
+use Rattle.die_service.specs.Drives.{Course, WorkerState, first_state, whole_course, end_at}
+use Rattle.die_service.specs.PassWorks.{AreReady, AreWaiting, HaveEnded, IsFit, MayCall}
+use Rattle.die_service.specs.Work.{WorkCall, EndsAs, EndAs}
+use Rattle.die_service.proofs.PassRuns.{has_run}
 
-abbrev starting : List DiePass → List Batch → List WorkerState
-starting ps batches = first_states ps (map whole_course batches)
+module _ {W : Type 0} (does : W → WorkCall → W → Type 0) where
+  abbrev Worked : Type 0
+  Worked = Option (WorkerState W) × Option (DieEnd × W)
 
-pub starting_length : (ps : List DiePass) (batches : List Batch) → length ps ≡ length batches → length (starting ps batches) ≡ length ps
-starting_length [] [] same = refl
-starting_length [] (b ∷ batches) same = refl
-starting_length (p ∷ ps) [] same = absurd (omega (arith, same))
-starting_length (p ∷ ps) (b ∷ batches) same = ap suc (starting_length ps batches (omega (arith, same)))
-
--- the dies of these workers are at the start of their batches
-abbrev AreStarting : {W : Type 0} → List (WorkerState × W) → List DiePass → List Batch → Type 0
-AreStarting {W} xs ps batches = map (λ (x : WorkerState × W). x.0) xs ≡ starting ps batches
-
-module _ {A : Type 0} where
-  head_is : (x y : A) (xs ys : List A) → x ∷ xs ≡ y ∷ ys → x ≡ y
-  head_is x y xs ys e = cc
-
-  tail_is : (x y : A) (xs ys : List A) → x ∷ xs ≡ y ∷ ys → xs ≡ ys
-  tail_is x y xs ys e = cc
-
-module _ {W : Type 0} where
-  pub starts_at : (xs : List (WorkerState × W)) (ps : List DiePass) (batches : List Batch) → AreStarting xs ps batches
-      → (k : ℕ) (d : WorkerState × W) → k < length xs → IsFirstState (get_or xs k d).0
-  starts_at [] ps batches is k d below = absurd (omega (arith, below))
-  starts_at (x ∷ xs) [] batches is k d below = absurd (omega (arith, ap length is))
-  starts_at (x ∷ xs) (p ∷ ps) [] is k d below = absurd (omega (arith, ap length is))
-  starts_at (x ∷ xs) (p ∷ ps) (b ∷ batches) is zero d below = subst IsFirstState (sym (head_is x.0 _ _ _ is)) refl
-  starts_at (x ∷ xs) (p ∷ ps) (b ∷ batches) is (suc k) d below = starts_at xs ps batches (tail_is x.0 _ _ _ is) k d (omega (arith, below))
-
-module _ {W : Type 0} (never : Bool) (does : W → WorkCall → W → Type 0) where
-  -- what each worker of a list works off, they all work off
-  pub all_work : (die : ℕ) (xs ys : List (WorkerState × W)) → length ys ≡ length xs
-      → ((i : ℕ) (d : WorkerState × W) → i < length xs → WorksOff never does (die + i) (get_or xs i d) (get_or ys i d))
-      → WorkOff never does die xs ys
-  all_work die [] [] same each = tt
-  all_work die [] (y ∷ ys) same each = absurd (omega (arith, same))
-  all_work die (x ∷ xs) [] same each = absurd (omega (arith, same))
-  all_work die (x ∷ xs) (y ∷ ys) same each = (
-    subst (λ (n : ℕ). WorksOff never does n x y) (omega arith) (each 0 x (omega arith)),
-    all_work (suc die) xs ys (omega (arith, same))
-        (λ i d below. subst (λ (n : ℕ). WorksOff never does n (get_or xs i d) (get_or ys i d)) (omega arith)
+  -- what each worker of a list does, they all do
+  pub all_end : (die slots : ℕ) (xs ys : List Worked) → length ys ≡ length xs
+      → ((i : ℕ) (d : Worked) → i < length xs → EndsAs does (die + i) slots (get_or xs i d) (get_or ys i d)) → EndAs does die slots xs ys
+  all_end die slots [] [] same each = tt
+  all_end die slots [] (y ∷ ys) same each = absurd (omega (arith, same))
+  all_end die slots (x ∷ xs) [] same each = absurd (omega (arith, same))
+  all_end die slots (x ∷ xs) (y ∷ ys) same each = (
+    subst (λ (n : ℕ). EndsAs does n slots x y) (omega arith) (each 0 x (omega arith)),
+    all_end (suc die) slots xs ys (omega (arith, same))
+        (λ i d below. subst (λ (n : ℕ). EndsAs does n slots (get_or xs i d) (get_or ys i d)) (omega arith)
         (each (suc i) d (omega (arith, below)))),
   )
 
-  pub worked_length : (die : ℕ) (xs ys : List (WorkerState × W)) → WorkOff never does die xs ys → length ys ≡ length xs
-  worked_length die [] [] off = refl
-  worked_length die [] (y ∷ ys) off = absurd off
-  worked_length die (x ∷ xs) [] off = absurd off
-  worked_length die (x ∷ xs) (y ∷ ys) off = ap suc (worked_length (suc die) xs ys off.1)
+  pub end_length : (die slots : ℕ) (xs ys : List Worked) → EndAs does die slots xs ys → length ys ≡ length xs
+  end_length die slots [] [] off = refl
+  end_length die slots [] (y ∷ ys) off = absurd off
+  end_length die slots (x ∷ xs) [] off = absurd off
+  end_length die slots (x ∷ xs) (y ∷ ys) off = ap suc (end_length (suc die) slots xs ys off.1)
 
-  pub all_run : (die : ℕ) (ps : List DiePass) (batches : List Batch) (xs ys : List (WorkerState × W)) → length ps ≡ length batches
-      → AreStarting xs ps batches → WorkOff never does die xs ys
-      → HaveRun never batches ps (map (λ (y : WorkerState × W). end_at y.0) ys) (map (λ (y : WorkerState × W). y.0.pass) ys)
-  all_run die [] [] [] [] same is off = tt
-  all_run die [] [] [] (y ∷ ys) same is off = absurd off
-  all_run die [] [] (x ∷ xs) ys same is off = absurd (omega (arith, ap length is))
-  all_run die [] (b ∷ batches) xs ys same is off = absurd (omega (arith, same))
-  all_run die (p ∷ ps) [] xs ys same is off = absurd (omega (arith, same))
-  all_run die (p ∷ ps) (b ∷ batches) [] ys same is off = absurd (omega (arith, ap length is))
-  all_run die (p ∷ ps) (b ∷ batches) (x ∷ xs) [] same is off = absurd off
-  all_run die (p ∷ ps) (b ∷ batches) (x ∷ xs) (y ∷ ys) same is off =
-      let first = subst (λ (s : WorkerState). IsSamePass s.pass y.0.pass × HasRun never (batch_at s.course) s.pass.view (end_at y.0) y.0.pass.view)
-      (head_is x.0 _ _ _ is) (off.0.0, off.0.1.0) in
-      (first.0, first.1, all_run (suc die) ps batches xs ys (omega (arith, same)) (tail_is x.0 _ _ _ is) off.1)
+abbrev pub PassState : Type 0
+PassState = Option (WorkerState DiePass) × Option (DieEnd × DiePass)
 
+-- Those that wait
+
+-- all wait, once these do, too
+abbrev pub WaitOn : List DiePass → List Course → List PassState → List DiePass → List Course → Type 0
+WaitOn passes courses made ps cs = (xs : List PassState) → AreWaiting ps cs xs → AreWaiting passes courses (made ++ xs)
+
+pub waits_one : (passes ps : List DiePass) (courses cs : List Course) (made news : List PassState) (p : DiePass) (c : Course)
+    (x : PassState) → WaitOn passes courses made (p ∷ ps) (c ∷ cs) → news ≡ made ++ x ∷ [] → x ≡ (Some (first_state p c), None)
+    → WaitOn passes courses news ps cs
+waits_one passes ps courses cs made news p c x on is here xs rest =
+    subst (AreWaiting passes courses) (sym (ap (λ l. l ++ xs) is ∙ append_assoc made (x ∷ []) xs)) (on (x ∷ xs) (here, rest))
+
+pub waits_all : (passes : List DiePass) (courses : List Course) (made : List PassState) → WaitOn passes courses made [] []
+    → AreWaiting passes courses made
+waits_all passes courses made on = subst (AreWaiting passes courses) (append-nil made) (on [] tt)
+
+pub waits_long : (ps : List DiePass) (cs : List Course) (xs : List PassState) → AreWaiting ps cs xs → length xs ≡ length ps
+waits_long [] [] [] waits = refl
+waits_long [] [] (x ∷ xs) waits = absurd waits
+waits_long [] (c ∷ cs) xs waits = absurd waits
+waits_long (p ∷ ps) [] xs waits = absurd waits
+waits_long (p ∷ ps) (c ∷ cs) [] waits = absurd waits
+waits_long (p ∷ ps) (c ∷ cs) (x ∷ xs) waits = ap suc (waits_long ps cs xs waits.1)
+
+pub few_wait : (locks : List TableId) (passes taken : List DiePass) (cs : List Course) (xs first : List PassState)
+    → map (λ (p : DiePass). p.lock) passes ≡ locks → taken ≡ passes → AreWaiting taken cs xs → first ≡ xs → length locks ≤ 8
+    → length first ≤ 8
+few_wait locks passes taken cs xs first own same waits are few =
+    omega (arith, few, waits_long taken cs xs waits, ap length same, ap length are, ap length own, length-map passes (λ (p : DiePass). p.lock))
+
+pub ready_more : (ps : List DiePass) (p : DiePass) → AreReady ps → IsLive p.view → IsFit p.view → AreReady (ps ++ p ∷ [])
+ready_more [] p ready live fit = (live, fit, tt)
+ready_more (q ∷ ps) p ready live fit = (ready.0, ready.1, ready_more ps p ready.2 live fit)
+
+-- Those that were run
+
+-- all that waited were run
+pub all_ran : (never : Bool) (die slots : ℕ) (ps : List DiePass) (cs : List Course) (xs ys : List PassState) → AreWaiting ps cs xs
+    → EndAs (MayCall never) die slots xs ys → AllByRecursion (λ (y : PassState). IsSome y.1) ys
+all_ran never die slots [] [] [] [] waits off = tt
+all_ran never die slots [] [] [] (y ∷ ys) waits off = absurd off
+all_ran never die slots [] [] (x ∷ xs) ys waits off = absurd waits
+all_ran never die slots [] (c ∷ cs) xs ys waits off = absurd waits
+all_ran never die slots (p ∷ ps) [] xs ys waits off = absurd waits
+all_ran never die slots (p ∷ ps) (c ∷ cs) [] ys waits off = absurd waits
+all_ran never die slots (p ∷ ps) (c ∷ cs) (x ∷ xs) [] waits off = absurd off
+all_ran never die slots (p ∷ ps) (c ∷ cs) (x ∷ xs) (y ∷ ys) waits off =
+    let went = subst (λ (s : PassState). EndsAs (MayCall never) die slots s y) waits.0 off.0 in (
+      subst (λ (s : PassState). IsSome s.1) (sym went.2) refl,
+      all_ran never (suc die) slots ps cs xs ys waits.1 off.1,
+    )
+
+pub ended_more : (xs : List PassState) (ends : List DieEnd) (qs : List DiePass) (x : PassState) (end : DieEnd) (q : DiePass)
+    → HaveEnded xs ends qs → x.1 ≡ Some (end, q) → HaveEnded (xs ++ x ∷ []) (ends ++ end ∷ []) (qs ++ q ∷ [])
+ended_more [] [] [] x end q ended is = (is, tt)
+ended_more [] [] (r ∷ qs) x end q ended is = absurd ended
+ended_more [] (e ∷ ends) qs x end q ended is = absurd ended
+ended_more (y ∷ xs) [] qs x end q ended is = absurd ended
+ended_more (y ∷ xs) (e ∷ ends) [] x end q ended is = absurd ended
+ended_more (y ∷ xs) (e ∷ ends) (r ∷ qs) x end q ended is = (ended.0, ended_more xs ends qs x end q ended.1 is)
+
+pub ended_long : (xs : List PassState) (ends : List DieEnd) (qs : List DiePass) → HaveEnded xs ends qs
+    → (length ends ≡ length xs) × (length qs ≡ length xs)
+ended_long [] [] [] ended = (refl, refl)
+ended_long [] [] (r ∷ qs) ended = absurd ended
+ended_long [] (e ∷ ends) qs ended = absurd ended
+ended_long (y ∷ xs) [] qs ended = absurd ended
+ended_long (y ∷ xs) (e ∷ ends) [] ended = absurd ended
+ended_long (y ∷ xs) (e ∷ ends) (r ∷ qs) ended = let rest = ended_long xs ends qs ended.1 in (ap suc rest.0, ap suc rest.1)
+
+-- each die was run with its pass and its feed: these are the ends, and the passes
+pub all_run : (never : Bool) (die slots : ℕ) (ps : List DiePass) (feeds : List (List Arrival)) (xs ys : List PassState) (ends : List DieEnd)
+    (qs : List DiePass) → AreReady ps → AreWaiting ps (map whole_course feeds) xs → EndAs (MayCall never) die slots xs ys
+    → HaveEnded ys ends qs → HaveRun never (map (whole_batch slots) feeds) ps ends qs
+all_run never die slots [] [] [] [] [] [] ready waits off ended = tt
+all_run never die slots [] [] [] [] [] (q ∷ qs) ready waits off ended = absurd ended
+all_run never die slots [] [] [] [] (end ∷ ends) qs ready waits off ended = absurd ended
+all_run never die slots [] [] [] (y ∷ ys) ends qs ready waits off ended = absurd off
+all_run never die slots [] [] (x ∷ xs) ys ends qs ready waits off ended = absurd waits
+all_run never die slots [] (feed ∷ feeds) xs ys ends qs ready waits off ended = absurd waits
+all_run never die slots (p ∷ ps) [] xs ys ends qs ready waits off ended = absurd waits
+all_run never die slots (p ∷ ps) (feed ∷ feeds) [] ys ends qs ready waits off ended = absurd waits
+all_run never die slots (p ∷ ps) (feed ∷ feeds) (x ∷ xs) [] ends qs ready waits off ended = absurd off
+all_run never die slots (p ∷ ps) (feed ∷ feeds) (x ∷ xs) (y ∷ ys) [] qs ready waits off ended = absurd ended
+all_run never die slots (p ∷ ps) (feed ∷ feeds) (x ∷ xs) (y ∷ ys) (end ∷ ends) [] ready waits off ended = absurd ended
+all_run never die slots (p ∷ ps) (feed ∷ feeds) (x ∷ xs) (y ∷ ys) (end ∷ ends) (q ∷ qs) ready waits off ended =
+    let went = subst (λ (s : PassState). EndsAs (MayCall never) die slots s y) waits.0 off.0 in
+    let one = has_run never die slots p feed went.0 ready.0 ready.1 went.1 in
+    let same : (end_at went.0, went.0.work) ≡ (end, q) = came (ap (λ (s : PassState). s.1) (sym went.2) ∙ ended.0) in (
+      subst (λ (x : DieEnd × DiePass). IsSamePass p x.1) same one.0,
+      subst (λ (x : DieEnd × DiePass). HasRun never (whole_batch slots feed) p.view x.0 x.1.view) same one.1,
+      all_run never (suc die) slots ps feeds xs ys ends qs ready.2 waits.1 off.1 ended.1,
+    )
+  where
+    came : {a b : DieEnd × DiePass} → Some a ≡ Some b → a ≡ b
+    came {a} {b} e = cc
+
+-- a run leaves the passes with their dies
 pub same_locks : (never : Bool) (batches : List Batch) (ps : List DiePass) (ends : List DieEnd) (qs : List DiePass)
     → HaveRun never batches ps ends qs
     → map (λ (p : DiePass). p.lock) qs ≡ map (λ (p : DiePass). p.lock) ps
@@ -86,29 +149,3 @@ same_locks never [] (p ∷ ps) ends qs ran = absurd ran
 same_locks never (b ∷ batches) [] ends qs ran = absurd ran
 same_locks never (b ∷ batches) (p ∷ ps) [] qs ran = absurd ran
 same_locks never (b ∷ batches) (p ∷ ps) (end ∷ ends) [] ran = absurd ran
-
--- the dies of a store before a run
-module _ {W : Type 0} (dies : List TableId) (ps qs : List DiePass) (batches : List Batch) (courses : List Course) (xs : List (WorkerState × W))
-    (own : map (λ (p : DiePass). p.lock) ps ≡ dies) (all : length batches ≡ length dies)
-    (taken : qs ≡ ps) (cut : courses ≡ map whole_course batches)
-    (made : map (λ (x : WorkerState × W). x.0) xs ≡ first_states qs courses) where
-  starting_is : AreStarting xs ps batches
-  starting_is = rw (made, taken, cut) refl
-
-  as_many : length ps ≡ length batches
-  as_many = omega (arith, all, ap length own, length-map ps (λ (p : DiePass). p.lock))
-
-  pub drivers_length : length xs ≡ length ps
-  drivers_length = sym (length-map xs (λ (x : WorkerState × W). x.0)) ∙ (ap length starting_is ∙ starting_length ps batches as_many)
-
-  pub all_ready : (ys : List (WorkerState × W)) → ys ≡ xs → (k : ℕ) (d : WorkerState × W) → k < length ys → IsFirstState (get_or ys k d).0
-  all_ready ys same = starts_at ys ps batches (ap (map (λ (x : WorkerState × W). x.0)) same ∙ starting_is)
-
-  pub few_ready : (ys : List (WorkerState × W)) → ys ≡ xs → length dies ≤ 8 → length ys ≤ 8
-  few_ready ys same few = omega (arith, few, ap length same, drivers_length, ap length own, length-map ps (λ (p : DiePass). p.lock))
-
-  -- and after it
-  pub have_run : (never : Bool) (does : W → WorkCall → W → Type 0) (ys zs : List (WorkerState × W)) → ys ≡ xs → WorkOff never does 0 ys zs
-      → HaveRun never batches ps (map (λ (z : WorkerState × W). end_at z.0) zs) (map (λ (z : WorkerState × W). z.0.pass) zs)
-  have_run never does ys zs same off =
-      all_run never does 0 ps batches ys zs as_many (ap (map (λ (x : WorkerState × W). x.0)) same ∙ starting_is) off

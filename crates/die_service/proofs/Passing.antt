@@ -1,5 +1,5 @@
 -- What a call in the die's turn tells its pass.
-use Rattle.std.proofs.Common.{◌≡◌, ℕ, Bool, List, [], ◌∷◌, ◌++◌, Result, Ok, Err, IfOk, IfErr, Option, Some, None, if◌then◌else◌, sym, ◌∙◌}
+use Rattle.std.proofs.Common.{◌≡◌, ℕ, ◌<◌, Bool, List, [], ◌∷◌, ◌++◌, Result, Ok, Err, IfOk, IfErr, Option, Some, None, if◌then◌else◌, sym, ◌∙◌}
 use Rattle.std.proofs.Common.{subst}
 use Rattle.std.proofs.lemmas.List.{append-nil}
 use Rattle.std.specs.Prelude.{is_ok}
@@ -8,16 +8,25 @@ use Rattle.slot_types.specs.declared.events.Event.TheVariants.{Submit, Collect, 
 use Rattle.slot_types.specs.declared.events.Op.{Op}
 use Rattle.slot_types.specs.declared.refusals.Refusal.{Refusal}
 use Rattle.slot_types.specs.declared.replies.Reply.{Reply}
+use Rattle.slot_types.specs.declared.replies.Reply.TheVariants as replies
+use Rattle.slot_types.specs.declared.replies.SlotReply.{SlotReply}
 use Rattle.turn_lock.specs.Log.{entry, calls_by}
 use Rattle.turn_lock.specs.Passes.{Replies}
 use Rattle.die_log.specs.Model.Log.{Log}
 use Rattle.slot_core.specs.declared.events.ReplyNote.{ReplyNote}
 use Rattle.slot_core.specs.Events.{reply_of_note}
 use Rattle.die_log.specs.Model.Answers.{answer, answer_by, refusal_of, IsAccepted}
+use Rattle.turn_lock.specs.Views.{IsSamePass}
 use Rattle.die_service.specs.declared.refused.RefusedAt.{RefusedAt}
+use Rattle.die_service.specs.PassWorks.{MayCall}
+use Rattle.die_service.specs.Runs.{asked_event}
+use Rattle.die_service.specs.Logs.{log_of}
+use Rattle.die_service.specs.Stores.{DiePass}
+use Rattle.die_service.specs.Work.{Asked}
 use Rattle.die_service.specs.Replies.{HasExactLog, MayReply, result_of_note}
 use Rattle.die_service.specs.Passes.{DieView, AddsEntry, AddsNone, IsTakenReply, IsSlotReply}
 use Rattle.die_log.specs.Model.Start.{Start}
+use Rattle.die_service.proofs.SlotNumbers.{slot_below}
 
 -- what the lock says of a call
 abbrev Said : Bool → DieView → Event → Result Reply RefusedAt → DieView → Type 0
@@ -70,6 +79,30 @@ pub noted_left : (never : Bool) (v : DieView) (event : Event) (result : Result R
     → IfErr result (λ refused. AddsNone never v event refused w)
 noted_left never v event (Ok note) w said own = tt
 noted_left never v event (Err refused) w said own = left never v event (Err refused) w said own
+
+-- .. by a worker
+
+pub noted_called : (never : Bool) (p q : DiePass) (event : Event) (result : Result ReplyNote RefusedAt) → IsSamePass p q
+    → Said never p.view event (result_of_note result) q.view → Owns p.view event (result_of_note result) q.view
+    → IfOk result (λ note. MayCall never p (Asked (asked_event event (Ok (reply_of_note note)))) q)
+noted_called never p q event (Ok note) same said own = (same, noted_added never p.view event (Ok note) q.view said own)
+noted_called never p q event (Err refused) same said own = tt
+
+pub noted_refused : (never : Bool) (p q : DiePass) (event : Event) (result : Result ReplyNote RefusedAt) → IsSamePass p q
+    → Said never p.view event (result_of_note result) q.view → Owns p.view event (result_of_note result) q.view
+    → IfErr result (λ refused. MayCall never p (Asked (asked_event event (Err refused))) q)
+noted_refused never p q event (Ok note) same said own = tt
+noted_refused never p q event (Err refused) same said own = (same, noted_left never p.view event (Err refused) q.view said own)
+
+pub slot_called : (never : Bool) (p q : DiePass) (note : ReplyNote) (slot : SlotReply) → IsSamePass p q
+    → Said never p.view Slot (result_of_note (Ok note)) q.view → Owns p.view Slot (result_of_note (Ok note)) q.view
+    → reply_of_note note ≡ replies.Slot slot → MayCall never p (Asked (asked_event Slot (Ok (replies.Slot slot)))) q
+slot_called never p q note slot same said own is =
+    subst (λ (r : Reply). MayCall never p (Asked (asked_event Slot (Ok r))) q) is (noted_called never p q Slot (Ok note) same said own)
+
+pub slot_few : (never : Bool) (p q : DiePass) (slot : SlotReply) → MayCall never p (Asked (asked_event Slot (Ok (replies.Slot slot)))) q
+    → slot.slot < 1048576
+slot_few never p q slot call = slot_below call.1.grown.topic (log_of call.1.before.seen) slot call.1.answered
 
 -- Which replies a die gives
 

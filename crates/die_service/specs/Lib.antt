@@ -7,4 +7,9 @@ pub mod Feeds
 pub mod Runs
 pub mod Drives
 pub mod Work
+pub mod PassWorks
+pub mod OwnRuns
+pub mod Runners
+pub mod Posts
+pub mod Shares
 pub mod PlannedRuns

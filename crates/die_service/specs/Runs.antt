@@ -10,7 +10,6 @@ use Rattle.slot_types.specs.declared.replies.Reply.TheVariants as replies
 use Rattle.slot_types.specs.declared.replies.SlotReply.{SlotReply}
 use Rattle.turn_lock.specs.Log.{times, StartsWith, entry, calls_by}
 use Rattle.turn_lock.specs.Views.{IsLive, IsSamePass}
-use Rattle.die_service.specs.declared.batches.Batch.{Batch}
 use Rattle.die_service.specs.declared.ends.DieEnd.{DieEnd}
 use Rattle.die_service.specs.declared.ends.RefusedEvent.{RefusedEvent}
 use Rattle.die_service.specs.declared.feeds.Arrival.{Arrival}
@@ -31,6 +30,12 @@ pub record AskedEvent : Type 0 where
 
 abbrev pub asked_event : Event → Result Reply RefusedAt → AskedEvent
 asked_event event reply = record { event = event; reply = reply }
+
+-- what comes to a die in a run: the events of a feed, and `slots` slots from slot `from` on
+pub record Batch : Type 0 where
+  pub from : ℕ
+  pub slots : ℕ
+  pub feed : List Arrival
 
 abbrev pub AllArrive : List Arrival → Type 0
 AllArrive feed = All (λ arrival. IsArrival arrival.event) feed

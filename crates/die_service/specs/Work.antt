@@ -1,14 +1,18 @@
--- What a worker calls in a run: its dies, and the hook around each slot.
-use Rattle.std.specs.Prelude.{ℕ, suc, ◌+◌, Bool, List, [], ◌∷◌, map, Result, Ok, Err}
+-- What a worker calls in a run: a die, and the hook around each slot.
+use Rattle.std.specs.Prelude.{◌≡◌, ℕ, suc, ◌+◌, ◌≤◌, ◌++◌, List, [], ◌∷◌, drop, map, Option, Some, None, Result, Ok, Err}
 use Rattle.std.specs.List.{FoldsTo}
+use Rattle.slot_types.specs.Arrivals.{IsArrival}
+use Rattle.slot_types.specs.Arriving.{arrivals_by, arrivals_after}
 use Rattle.slot_types.specs.declared.events.Event.{Event}
 use Rattle.slot_types.specs.declared.events.Event.TheVariants as events
 use Rattle.slot_types.specs.declared.replies.Reply.{Reply}
 use Rattle.slot_types.specs.declared.replies.Reply.TheVariants as replies
-use Rattle.turn_lock.specs.Views.{IsSamePass}
+use Rattle.slot_types.specs.declared.replies.SlotReply.{SlotReply}
+use Rattle.die_service.specs.declared.ends.DieEnd.{DieEnd}
+use Rattle.die_service.specs.declared.feeds.Arrival.{Arrival}
 use Rattle.die_service.specs.declared.refused.RefusedAt.{RefusedAt}
-use Rattle.die_service.specs.Runs.{AskedEvent, asked_event, HasRun}
-use Rattle.die_service.specs.Drives.{WorkerState, batch_at, end_at, BringsOne, Brings, TakesSlot, IsStopped}
+use Rattle.die_service.specs.Runs.{AskedEvent, asked_event, comes_at, AreAsked, InClockOrder, slots_in, refused_from, stop_of}
+use Rattle.die_service.specs.Drives.{WorkerState, end_at, place_after}
 
 -- Calls
 
@@ -36,39 +40,72 @@ abbrev pub calls_for : ℕ → ℕ → List AskedEvent → List WorkCall
 calls_for die clock [] = []
 calls_for die clock (s ∷ saids) = with_call die clock s.event s.reply (calls_for die (clock_beyond clock s.event s.reply) saids)
 
--- What comes of a die and of the work, where each call turns the work `u` into the work `v` as `does` says
+-- What comes of a die and of the work, where each call turns one work into the next as `does` says
 
-module _ {W : Type 0} (never_fails : Bool) (does : W → WorkCall → W → Type 0) where
-  -- the next event was asked, and nothing else was called
-  pub record WorksOne (clock : ℕ) (s : WorkerState) (u : W) (t : WorkerState) (v : W) : Type 0 where
-    pub brings : BringsOne never_fails clock s t
-    pub calls : does u (Asked (asked_event brings.arrival.event brings.reply)) v
+module _ {W : Type 0} (does : W → WorkCall → W → Type 0) where
+  -- these were asked, by these calls: the feed is so much shorter, and those of it that were refused are noted
+  pub record Asks (calls : List WorkCall) (s : WorkerState W) (saids : List AskedEvent) (t : WorkerState W) : Type 0 where
+    pub made : FoldsTo does s.work calls t.work
+    pub place : t.course.place ≡ place_after s.course.place saids
+    pub rest : t.course.rest ≡ drop (place_after 0 saids) s.course.rest
+    pub refused : t.course.refused ≡ s.course.refused ++ refused_from s.course.place saids
 
-  -- the events that come by the clock were asked, and nothing else was called
-  pub record WorksDue (clock : ℕ) (s : WorkerState) (u : W) (t : WorkerState) (v : W) : Type 0 where
-    pub brings : Brings never_fails clock s t
-    pub calls : FoldsTo does u (map Asked brings.fed) v
+  -- the next event of the feed came by the clock, and was asked
+  pub record WorksOne (clock : ℕ) (s t : WorkerState W) : Type 0 where
+    pub arrival : Arrival
+    pub by : arrival.at ≤ clock
+    pub arrives : IsArrival arrival.event
+    pub next : s.course.rest ≡ arrival ∷ t.course.rest
+    pub reply : Result Reply RefusedAt
+    pub asks : let said = asked_event arrival.event reply in Asks (Asked said ∷ []) s (said ∷ []) t
+    pub slots : t.slots ≡ s.slots
+    pub stop : t.stop ≡ s.stop
 
-  -- a slot was asked, and carried out under this number, and nothing else was called
-  pub record WorksSlot (s : WorkerState) (u : W) (slot : ℕ) (t : WorkerState) (v : W) : Type 0 where
-    pub takes : TakesSlot never_fails s slot t
-    pub calls : does u (Asked (asked_event events.Slot (Ok (replies.Slot takes.reply)))) v
+  -- the events that come by the clock were asked, and no slot
+  pub record WorksDue (clock : ℕ) (s t : WorkerState W) : Type 0 where
+    pub fed : List AskedEvent
+    pub asks : Asks (map Asked fed) s fed t
+    pub asked : AreAsked (arrivals_by comes_at clock s.course.rest) fed
+    pub left : t.course.rest ≡ arrivals_after comes_at clock s.course.rest
+    pub no_slot : slots_in fed ≡ 0
+    pub no_stop : stop_of fed ≡ None
+    pub slots : t.slots ≡ s.slots
+    pub stop : t.stop ≡ s.stop
 
-  -- a slot was asked, and refused, and nothing else was called
-  pub record WorksStop (s : WorkerState) (u : W) (t : WorkerState) (v : W) : Type 0 where
-    pub stops : IsStopped never_fails s t
-    pub calls : does u (Asked (asked_event events.Slot (Err stops.refused))) v
+  -- a slot was asked, and carried out under this number
+  pub record WorksSlot (s : WorkerState W) (slot : ℕ) (t : WorkerState W) : Type 0 where
+    pub reply : SlotReply
+    pub slot_is : slot ≡ reply.slot
+    pub call : does s.work (Asked (asked_event events.Slot (Ok (replies.Slot reply)))) t.work
+    pub course : t.course ≡ s.course
+    pub slots : t.slots ≡ s.slots + 1
+    pub stop : t.stop ≡ s.stop
 
-  -- the slots of a batch were asked of a die, with the events of its feed and the hook around each slot, and nothing
-  -- else was called
-  abbrev pub WorksOff : ℕ → WorkerState × W → WorkerState × W → Type 0
-  WorksOff die s t =
-      IsSamePass s.0.pass t.0.pass
-      × ((run : HasRun never_fails (batch_at s.0.course) s.0.pass.view (end_at t.0) t.0.pass.view)
-      × FoldsTo does s.1 (calls_for die s.0.course.from run.saids) t.1)
+  -- a slot was asked, and refused
+  pub record WorksStop (s t : WorkerState W) : Type 0 where
+    pub refused : RefusedAt
+    pub call : does s.work (Asked (asked_event events.Slot (Err refused))) t.work
+    pub course : t.course ≡ s.course
+    pub slots : t.slots ≡ s.slots
+    pub stop : t.stop ≡ Some refused
 
-  -- so of each die, from this number on
-  abbrev pub WorkOff : ℕ → List (WorkerState × W) → List (WorkerState × W) → Type 0
-  WorkOff die [] [] = Unit {0}
-  WorkOff die (s ∷ ss) (t ∷ ts) = WorksOff die s t × WorkOff (suc die) ss ts
-  WorkOff die _ _ = ⊥
+  -- `slots` slots were asked of a die with the clock from `from` on, with the events of its feed and the hook around each
+  -- slot, and nothing else was called
+  pub record WorksOff (die from slots : ℕ) (s t : WorkerState W) : Type 0 where
+    pub saids : List AskedEvent
+    pub ordered : InClockOrder slots from s.course.rest saids
+    pub asks : Asks (calls_for die from saids) s saids t
+    pub slots_are : t.slots ≡ slots_in saids
+    pub stop_is : t.stop ≡ stop_of saids
+    pub whole : t.stop ≡ None → t.slots ≡ slots
+
+  -- a die that is still to be run is run, from slot 0 on, and what came of it is kept
+  abbrev pub EndsAs : ℕ → ℕ → Option (WorkerState W) × Option (DieEnd × W) → Option (WorkerState W) × Option (DieEnd × W) → Type 0
+  EndsAs die slots (Some s, ended) new = (t : WorkerState W) × WorksOff die 0 slots s t × (new ≡ (None, Some (end_at t, t.work)))
+  EndsAs die slots (None, ended) new = new ≡ (None, ended)
+
+  -- so each die, from this number on
+  abbrev pub EndAs : ℕ → ℕ → List (Option (WorkerState W) × Option (DieEnd × W)) → List (Option (WorkerState W) × Option (DieEnd × W)) → Type 0
+  EndAs die slots [] [] = Unit {0}
+  EndAs die slots (s ∷ ss) (t ∷ ts) = EndsAs die slots s t × EndAs (suc die) slots ss ts
+  EndAs die slots _ _ = ⊥

@@ -1,27 +1,24 @@
-//! A batch on its way to its die.
+//! A feed on its way to its die.
 
-ghost use Rattle.std.specs.Prelude.{◌≡◌, ◌<◌, ◌++◌, ◌∷◌, ◌-◌, [], length, IfOk, IfSome, IfNone};
+ghost use Rattle.std.specs.Prelude.{◌≡◌, ◌<◌, ◌++◌, ◌∷◌, ◌-◌, [], length, IfOk, IfSome, IfNone, OnErr, OnOk};
+ghost use Rattle.slot_types.specs.Arrivals.{arrival_of};
 ghost use Rattle.slot_types.specs.Refusal.{FailsForMemory};
 ghost use Rattle.slot_core.specs.Events.{with_ops};
 ghost use Rattle.die_service.specs.Runs.{AllArrive};
 ghost use Rattle.die_service.specs.Drives.{Comes, NoneDue, whole_course};
 
-use crate::batches::Batch;
 use crate::ends::{RefusedEvent, RefusedList};
 use crate::feeds::Feed;
 use crate::refused::RefusedAt;
 use slot_core::EventHead;
-use slot_types::{LentOps, Refusal};
+use slot_types::{JobHead, LentOps, Refusal};
 use std::alloc::Global;
 use std::marker::Model;
 
-/// A batch, the events of which come one after the other, with room to note each that is refused. So no event takes
-/// memory, and none is given back before the run of its die ends.
+/// A feed, the events of which come one after the other, with room to note each that is refused. So no event takes
+/// memory as it comes.
 #[derive(Drop)]
 pub(crate) struct Course {
-    // The slot at which the clock begins, and how many slots are asked for.
-    from: u32,
-    slots: u32,
     feed: Feed,
     // How many events came.
     place: usize,
@@ -37,8 +34,6 @@ impl Model for Course {
     ghost Value = { drives.Course };
 
     ghost view = { λ c. record {
-      from = c.from;
-      slots = c.slots;
       rest = drop c.place c.feed;
       place = c.place;
       ops = last_ops c.place c.feed;
@@ -46,42 +41,52 @@ impl Model for Course {
     } };
 
     ghost invariant = { λ c.
-        AllArrive c.feed × (length c.refused.items ≤ c.place) × (c.place ≤ vec_capacity c.refused) × (length c.feed ≤ vec_capacity c.refused) };
+        AllArrive c.feed × (length c.refused.items ≤ c.place) × (c.place ≤ length c.feed) × (length c.feed ≤ vec_capacity c.refused) };
 }
 
 impl Course {
-    /// The whole of a batch. The only refusal is out of memory.
-    pub(crate) fn new(alloc: Global, batch: Batch) -> Result<Course, Refusal>
-        requires arrive { AllArrive batch.feed }
-        ensures whole { IfOk result (λ course. course ≡ whole_course batch) }
+    /// The whole of a feed. The only refusal is out of memory.
+    pub(crate) fn new(alloc: Global, feed: Feed) -> Result<Course, Refusal>
+        requires arrive { AllArrive feed }
+        ensures whole { IfOk result (λ course. course ≡ whole_course feed) }
         ensures refused { FailsForMemory result }
     {
-        let Batch { from, slots, feed } = batch;
         let refused = Vec::with_capacity(alloc, feed.len())?;
         Ok(Course {
-            from,
-            slots,
             feed,
             place: 0,
             refused,
         })
     }
 
-    /// The slot at which the clock begins.
-    pub(crate) fn from(&self) -> u32
-        ensures { result ≡ self.now.from }
+    /// The course of no event. It takes no memory.
+    pub(crate) fn empty(alloc: Global) -> Course
+        ensures { result ≡ whole_course [] }
     {
-        self.from
+        Course {
+            feed: Feed::new(alloc),
+            place: 0,
+            refused: Vec::new(alloc),
+        }
     }
 
-    /// How many slots are asked for.
-    pub(crate) fn slots(&self) -> u32
-        ensures { result ≡ self.now.slots }
+    /// Adds an event at the end, a job of these operations, which are lent, or a collection. Refused with NoMemory, the
+    /// course stays as it was.
+    #[inline(always)]
+    pub(crate) fn add(&mut self, at: u32, head: JobHead, ops: &LentOps) -> Result<(), Refusal>
+        ensures ok { OnOk result (self.new ≡ record self.old {
+          rest = self.old.rest ++ record { at = at; event = arrival_of head ops.now } ∷ [];
+        }) }
+        ensures refused { FailsForMemory result }
+        ensures err { OnErr result (self.new ≡ self.old) }
     {
-        self.slots
+        let noted = self.refused.len();
+        self.refused.reserve(self.feed.len() + 1 - noted)?;
+        self.feed.push_lent(at, head, ops)
     }
 
     /// Goes on to the next event, if it comes by this slot. Its operations are then those of the course.
+    #[inline(always)]
     pub(crate) fn next_due(&mut self, clock: u32) -> Option<EventHead>
         ensures due { IfSome result (λ head.
             Comes clock self.old (with_ops head self.new.ops) self.new) }
@@ -121,12 +126,20 @@ impl Course {
         });
     }
 
-    /// Frees the feed. The events that were refused stay.
-    pub(crate) fn end(&mut self, alloc: Global)
-        ensures gone { self.new.rest ≡ [] }
-        ensures refused { self.new.refused ≡ self.old.refused }
+    /// The events that were refused.
+    pub(crate) fn refused(&self) -> &[RefusedEvent]
+        ensures { result.now ≡ self.now.refused }
     {
-        self.feed = Feed::new(alloc);
+        self.refused.as_slice()
+    }
+
+    /// Takes all events away. The memory stays.
+    pub(crate) fn clear(&mut self)
+        ensures { self.new ≡ whole_course [] }
+    {
+        self.feed.clear();
+        self.refused.clear();
+        self.place = 0;
     }
 
     /// The events that were refused.

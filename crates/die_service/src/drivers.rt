@@ -1,60 +1,55 @@
-//! A die with its pass and its feed, as one worker has them.
+//! A die as one worker has it, with its feed.
 
 ghost use Rattle.std.specs.Prelude.{◌≡◌, ◌<◌, [], false, IsTrue, IfSome, IfNone};
-ghost use Rattle.die_service.specs.Drives.{first_state, end_at, Asks, IsFit, IsFirstState, NoneDue};
+ghost use Rattle.die_service.specs.Drives.{IsFirstState, NoneDue, end_at, first_state};
 ghost use Rattle.die_service.specs.Work.{WorksOne, WorksDue, WorksSlot, WorksStop, WorksOff};
 
-use crate::callers::Caller;
 use crate::courses::Course;
-use crate::die::{Die, DiePass};
 use crate::ends::DieEnd;
 use crate::refused::RefusedAt;
 use crate::work::Work;
-use flash_die::Nand;
-use std::alloc::Global;
+use slot_types::MAX_SLOT;
 use std::marker::Model;
-use std::sync::Wait;
 
-/// A die, a pass of it, and what it is still to be asked.
+/// What a worker calls for a die, and what the die is still to be asked.
 #[derive(Drop)]
-pub(crate) struct Driver<'a, N: Nand> {
-    caller: Caller<'a, N>,
-    course: Course,
+pub(crate) struct Driver<W: Work> {
+    pub(crate) work: W,
+    pub(crate) course: Course,
     // How many slots were carried out.
     slots: u32,
     // Why a slot was refused.
     stop: Option<RefusedAt>,
 }
 
-impl<'a, N: Nand> Model for Driver<'a, N> {
+impl<W: Work> Model for Driver<W> {
     ghost use Rattle.die_service.specs.Drives as drives;
 
-    ghost Value = { drives.WorkerState };
+    ghost Value = { drives.WorkerState W };
 
-    ghost view = { λ d. record { pass = d.caller; course = d.course; slots = d.slots; stop = d.stop } };
+    ghost view = { λ d. record { work = d.work; course = d.course; slots = d.slots; stop = d.stop } };
 }
 
-impl<'a, N: Nand> Driver<'a, N> {
+impl<W: Work> Driver<W> {
     /// A die of which nothing was asked yet.
-    pub(crate) fn new(die: &'a Die<N>, pass: DiePass<N>, course: Course) -> Driver<'a, N>
-        requires { pass.lock ≡ die.now }
-        ensures { result ≡ first_state pass course }
+    pub(crate) fn new(work: W, course: Course) -> Driver<W>
+        ensures { result ≡ first_state work course }
     {
         Driver {
-            caller: Caller::new(die, pass),
+            work,
             course,
             slots: 0,
             stop: None,
         }
     }
 
-    /// The pass, and what came of it.
-    pub(crate) fn into_end(self) -> (DieEnd, DiePass<N>)
-        ensures end { result.0 ≡ end_at self.entry }
-        ensures pass { result.1 ≡ self.entry.pass }
+    /// What the worker called, and what came of it.
+    pub(crate) fn into_end(self) -> (DieEnd, W)
+        ensures end { result.0 ≡ end_at self }
+        ensures work { result.1 ≡ self.work }
     {
         let Driver {
-            caller,
+            work,
             course,
             slots,
             stop,
@@ -64,32 +59,19 @@ impl<'a, N: Nand> Driver<'a, N> {
             refused: course.into_refused(),
             stop,
         };
-        (end, caller.into_pass())
-    }
-
-    /// Sees what the die has done.
-    fn look(&mut self)
-        ensures asks { Asks N.never_fails self.old.pass self.old.course [] self.new.pass
-            self.new.course }
-        ensures course { self.new.course ≡ self.old.course }
-        ensures slots { self.new.slots ≡ self.old.slots }
-        ensures stop { self.new.stop ≡ self.old.stop }
-    {
-        self.caller.look();
+        (end, work)
     }
 
     /// Asks for the next event, if it comes by this slot, and says whether it did.
     #[inline(always)]
-    fn bring_one<W: Work, R: Wait>(&mut self, rt: &R, work: &mut W, clock: u32) -> bool
-        ensures brought { IsTrue result
-            → WorksOne N.never_fails W.does clock self.old work.old self.new work.new }
+    fn bring_one(&mut self, clock: u32) -> bool
+        ensures brought { IsTrue result → WorksOne W.does clock self.old self.new }
         ensures none { result ≡ false → NoneDue clock self.old.course.rest × (self.new ≡ self.old) }
-        ensures idle { result ≡ false → work.new ≡ work.old }
     {
         let Some(head) = self.course.next_due(clock) else {
             return false;
         };
-        match work.event(rt, &mut self.caller, head, &self.course.ops()) {
+        match self.work.event(head, &self.course.ops()) {
             Ok(_) => {}
             Err(refused) => self.course.note(refused),
         }
@@ -98,23 +80,21 @@ impl<'a, N: Nand> Driver<'a, N> {
 
     /// Asks for the events that come by this slot.
     #[inline(always)]
-    fn bring_due<W: Work, R: Wait>(&mut self, rt: &R, work: &mut W, clock: u32)
-        requires { IsFit self.old.pass.view }
-        ensures { WorksDue N.never_fails W.does clock self.old work.old self.new work.new }
+    fn bring_due(&mut self, clock: u32)
+        ensures { WorksDue W.does clock self.old self.new }
     {
-        while self.bring_one(rt, work, clock) {}
+        while self.bring_one(clock) {}
     }
 
     /// Asks for a slot, and answers its number if it was carried out.
-    fn take_slot<W: Work, R: Wait>(&mut self, rt: &R, work: &mut W) -> Option<u32>
+    #[inline(always)]
+    fn take_slot(&mut self) -> Option<u32>
         requires { self.old.slots < 4294967295 }
-        ensures taken { IfSome result (λ slot.
-            WorksSlot N.never_fails W.does self.old work.old slot self.new work.new) }
-        ensures few { IfSome result (λ slot. slot < 1048576) }
-        ensures stopped { IfNone result (
-            WorksStop N.never_fails W.does self.old work.old self.new work.new) }
+        ensures taken { IfSome result (λ slot. WorksSlot W.does self.old slot self.new) }
+        ensures few { IfSome result (λ slot. slot < MAX_SLOT) }
+        ensures stopped { IfNone result (WorksStop W.does self.old self.new) }
     {
-        match work.slot(rt, &mut self.caller) {
+        match self.work.slot() {
             Ok(note) => {
                 self.slots = self.slots + 1;
                 Some(note.slot())
@@ -126,39 +106,36 @@ impl<'a, N: Nand> Driver<'a, N> {
         }
     }
 
-    /// Asks for the slots of its batch, and before each for the events that come by it. Then the feed is freed, so that
-    /// the dies that run later find its memory.
-    pub(crate) fn run<W: Work, R: Wait>(&mut self, rt: &R, alloc: Global, work: &mut W, number: u32)
+    /// Asks for `slots` slots with the clock from `from` on, and before each for the events that come by it.
+    pub(crate) fn run(&mut self, number: u32, from: u32, slots: u32)
         requires { IsFirstState self.old }
-        ensures ran { WorksOff N.never_fails W.does number (self.old, work.old)
-            (self.new, work.new) }
-        ensures gone { self.new.course.rest ≡ [] }
+        ensures { WorksOff W.does number from slots self.old self.new }
     {
-        self.drive(rt, work, number);
-        self.course.end(alloc);
-    }
-
-    /// Asks for the slots of its batch, and before each for the events that come by it.
-    fn drive<W: Work, R: Wait>(&mut self, rt: &R, work: &mut W, number: u32)
-        requires { IsFirstState self.old }
-        ensures { WorksOff N.never_fails W.does number (self.old, work.old)
-            (self.new, work.new) }
-    {
-        // It says that the pass is live.
-        let _ = self.caller.number();
-        let slots = self.course.slots();
-        let from = self.course.from();
-        self.look();
         let mut clock = from;
         for _done in 0..slots {
-            self.bring_due(rt, work, clock);
-            work.before(number, clock);
-            let Some(slot) = self.take_slot(rt, work) else {
+            self.bring_due(clock);
+            self.work.before(number, clock);
+            let Some(slot) = self.take_slot() else {
                 return;
             };
-            work.after(number, slot);
+            self.work.after(number, slot);
             clock = slot + 1;
         }
-        self.bring_due(rt, work, clock);
+        self.bring_due(clock);
+    }
+
+    /// Forgets what came of it: as if nothing had been asked yet.
+    pub(crate) fn forget(&mut self)
+        ensures { self.new ≡ first_state self.old.work self.old.course }
+    {
+        self.slots = 0;
+        self.stop = None;
+    }
+
+    /// Why a slot was refused, if one was.
+    pub(crate) fn stop(&self) -> Option<RefusedAt>
+        ensures { result ≡ self.now.stop }
+    {
+        self.stop
     }
 }

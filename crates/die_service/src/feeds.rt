@@ -288,6 +288,14 @@ impl Feed {
         self.push_row(at, EventHead::Arrive(head), ops)
     }
 
+    /// Takes all events away. The memory stays.
+    pub fn clear(&mut self)
+        ensures { self.new ≡ [] }
+    {
+        self.rows.clear();
+        self.ops.clear();
+    }
+
     /// The slot before which the event of a place comes.
     pub(crate) fn at(&self, place: usize) -> u32
         requires { place < length self.now }

@@ -17,9 +17,7 @@
 //! for the die's turn, and nothing is claimed of how long.
 #![tactic(auto)]
 
-mod batches;
 mod book;
-mod callers;
 mod closing;
 mod courses;
 mod die;
@@ -28,25 +26,36 @@ mod ends;
 mod feeds;
 mod gate;
 mod laws;
+mod long_runs;
 mod opening;
+mod owned_dies;
+mod pass_works;
+mod posts;
 mod promised;
 mod queries;
 mod refused;
 mod renewing;
+mod run_dies;
+mod runner;
 mod runs;
+mod shares;
 mod store;
 mod work;
+mod worked;
 mod workers;
 
-pub use batches::Batch;
 pub use closing::{StillOpen, close};
 pub use die::{Die, DiePass};
 pub use ends::{DieEnd, DieEnds, RefusedEvent, RefusedList};
 pub use feeds::{Arrival, Feed, FeedItem};
 pub use gate::{FreeGate, Gate};
 pub use laws::a_run_alone_has_one_answer;
+pub use long_runs::Run;
 pub use promised::{planned_feeds_go_as_planned, promises, seen_keeps_promises};
 pub use refused::RefusedAt;
 pub use renewing::{NotRenewed, renew_each};
-pub use runs::{run_batches, run_slots};
+pub use run_dies::RunDie;
+pub use runner::Runner;
+pub use runs::run_slots;
 pub use store::{StillClosed, Store};
+pub use workers::Signals;

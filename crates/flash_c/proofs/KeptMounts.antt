@@ -26,7 +26,7 @@ use Rattle.flash_c.specs.PlannedResuming.{BeginsKept, IsOver, IsUnbegun, KeepsAt
 
 module _ (m : Mounting) (end : Mounted) (plan : DiePlan) (terms : Terms) (longest : ℕ) (is : IsEndOf m end) (same : plan ≡ m.plan) where
   pub keeps_at : (names : List PageData) (kept : KeptDie) → m.stage ≡ stage.Done → GoesOnPlanned plan terms longest end.checkpoint names kept.plan
-      → kept.plan.part ≡ record { aside = end.aside; serial = end.next } → HasRoom terms (vec_capacity kept.ops) → KeepsAt m terms longest names kept
+      → kept.plan.part ≡ record { aside = end.aside; serial = end.next; stands = false } → HasRoom terms (vec_capacity kept.ops) → KeepsAt m terms longest names kept
   keeps_at names kept ended on part room = record {
     ended = ended;
     end = end;
@@ -52,11 +52,11 @@ module _ (m : Mounting) (end : Mounted) (plan : DiePlan) (terms : Terms) (longes
   pub keeps_boxed : {B : Type 0} (result : Result B OngoingResumeRefusal) (made : Result KeptDie OngoingResumeRefusal) (value : B → KeptDie)
       (names : List PageData) → m.stage ≡ stage.Done → IfOk result (λ b. made ≡ Ok (value b))
       → IfOk made (λ kept. GoesOnPlanned plan terms longest end.checkpoint names kept.plan)
-      → IfOk made (λ kept. kept.plan.part ≡ record { aside = end.aside; serial = end.next })
+      → IfOk made (λ kept. kept.plan.part ≡ record { aside = end.aside; serial = end.next; stands = false })
       → IfOk made (λ kept. HasRoom terms (vec_capacity kept.ops)) → IfOk result (λ b. KeepsAt m terms longest names (value b))
   keeps_boxed (Ok b) made value names ended box on part room = keeps_at names (value b) ended
       (subst (λ (r : Result KeptDie OngoingResumeRefusal). IfOk r (λ k. GoesOnPlanned plan terms longest end.checkpoint names k.plan)) box on)
-      (subst (λ (r : Result KeptDie OngoingResumeRefusal). IfOk r (λ k. k.plan.part ≡ record { aside = end.aside; serial = end.next })) box part)
+      (subst (λ (r : Result KeptDie OngoingResumeRefusal). IfOk r (λ k. k.plan.part ≡ record { aside = end.aside; serial = end.next; stands = false })) box part)
       (subst (λ (r : Result KeptDie OngoingResumeRefusal). IfOk r (λ k. HasRoom terms (vec_capacity k.ops))) box room)
   keeps_boxed (Err e) made value names ended box on part room = tt
 

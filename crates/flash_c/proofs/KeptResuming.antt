@@ -1,5 +1,5 @@
 -- A die that keeps its plan goes on from what the arrays say, or where a mount has ended; or it doesn't.
-use Rattle.std.proofs.Common.{◌≡◌, ◌≢◌, ◌⊎◌, ℕ, List, Option, Some, None, Result, Ok, Err, refl, sym, ap, subst, ◌∙◌, inl, inr}
+use Rattle.std.proofs.Common.{◌≡◌, ◌≢◌, ◌⊎◌, ℕ, List, Option, Some, None, Result, Ok, Err, refl, true, sym, subst, ◌∙◌, inl, inr}
 use Rattle.std.specs.Prelude.{IfErr, IfOk, IfSome, IsSome, vec_capacity}
 use Rattle.slot_types.specs.declared.pages.PageData.{PageData}
 use Rattle.slot_types.specs.declared.plans.DiePlan.{DiePlan}
@@ -7,7 +7,7 @@ use Rattle.demand_rules.specs.declared.terms.Terms.{Terms}
 use Rattle.die_checkpoint.specs.declared.checkpoint.Checkpoint.{Checkpoint}
 use Rattle.ongoing_die.specs.declared.refusals.OngoingResumeRefusal.{OngoingResumeRefusal}
 use Rattle.ongoing_die.specs.Resuming.{RefusesOngoingResume, out_of_memory}
-use Rattle.stepped_die.specs.Parts.{fresh_part}
+use Rattle.stepped_die.specs.declared.part.Part.{Part}
 use Rattle.stepped_plan.specs.Resuming.{GoesOnPlanned}
 use Rattle.flash_c.specs.declared.kept.KeptDie.{KeptDie}
 use Rattle.flash_c.specs.declared.recoveries.Recovery.{Recovery}
@@ -22,18 +22,19 @@ is_kept is = subst IsSome (sym is) refl
 module _ (own plan : DiePlan) (own_terms terms : Terms) (longest : ℕ) (own_c c : Checkpoint) (plan_is : own ≡ plan) (terms_are : own_terms ≡ terms)
     (c_is : own_c ≡ c) (made : Result KeptDie OngoingResumeRefusal) where
   -- the die that was made of the arrays goes on from what they stand for
-  pub says_resumed : (own_names names : List PageData) (kept : KeptDie) {value : Option KeptDie} → own_names ≡ names → made ≡ Ok kept
-      → IfOk made (λ k. GoesOnPlanned own own_terms longest own_c own_names k.plan) → IfOk made (λ k. k.plan.part ≡ fresh_part own)
-      → IfOk made (λ k. HasRoom own_terms (vec_capacity k.ops)) → value ≡ Some kept → IfSome value (SaysResumed plan terms longest c names)
-  says_resumed own_names names kept names_are ok on part room is =
-      subst (λ (v : Option KeptDie). IfSome v (SaysResumed plan terms longest c names)) (sym is) (record {
+  pub says_resumed : (own_names names : List PageData) (own_part part_then : Part) (kept : KeptDie) {value : Option KeptDie} → own_names ≡ names
+      → record own_part { stands = true } ≡ part_then → made ≡ Ok kept
+      → IfOk made (λ k. GoesOnPlanned own own_terms longest own_c own_names k.plan) → IfOk made (λ k. k.plan.part ≡ record own_part { stands = true })
+      → IfOk made (λ k. HasRoom own_terms (vec_capacity k.ops)) → value ≡ Some kept → IfSome value (SaysResumed plan terms longest c names part_then)
+  says_resumed own_names names own_part part_then kept names_are part_is ok on part room is =
+      subst (λ (v : Option KeptDie). IfSome v (SaysResumed plan terms longest c names part_then)) (sym is) (record {
         goes_on = subst (λ (ns : List PageData). GoesOnPlanned plan terms longest c ns kept.plan) names_are
             (subst (λ (k : Checkpoint). GoesOnPlanned plan terms longest k own_names kept.plan) c_is
             (subst (λ (t : Terms). GoesOnPlanned plan t longest own_c own_names kept.plan) terms_are
             (subst (λ (p : DiePlan). GoesOnPlanned p own_terms longest own_c own_names kept.plan) plan_is
             (subst (λ (x : Result KeptDie OngoingResumeRefusal).
             IfOk x (λ k. GoesOnPlanned own own_terms longest own_c own_names k.plan)) ok on))));
-        part = subst (λ (x : Result KeptDie OngoingResumeRefusal). IfOk x (λ k. k.plan.part ≡ fresh_part own)) ok part ∙ ap fresh_part plan_is;
+        part = subst (λ (x : Result KeptDie OngoingResumeRefusal). IfOk x (λ k. k.plan.part ≡ record own_part { stands = true })) ok part ∙ part_is;
         room = subst (λ (t : Terms). HasRoom t (vec_capacity kept.ops)) terms_are
             (subst (λ (x : Result KeptDie OngoingResumeRefusal). IfOk x (λ k. HasRoom own_terms (vec_capacity k.ops))) ok room);
       })

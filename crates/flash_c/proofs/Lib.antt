@@ -2,6 +2,7 @@ pub mod LooseValues
 pub mod HandleSteps
 pub mod MountHandleSteps
 pub mod PlannedHandleSteps
+pub mod SpareHandleSteps
 pub mod Mounting
 pub mod Faults
 pub mod Unresumed

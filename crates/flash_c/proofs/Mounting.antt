@@ -200,7 +200,7 @@ of_ok {A = A} r x is h = subst (λ s. OnOk s A) is h
 
 -- a die
 pub begins_at : (m : Mounting) (end : Mounted) (plan : DiePlan) (names : List PageData) (die : Stepped) → m.stage ≡ stage.Done → IsEndOf m end
-    → plan ≡ m.plan → GoesOn plan end.checkpoint names die → die.part ≡ record { aside = end.aside; serial = end.next } → BeginsAt m names die
+    → plan ≡ m.plan → GoesOn plan end.checkpoint names die → die.part ≡ record { aside = end.aside; serial = end.next; stands = false } → BeginsAt m names die
 begins_at m end plan names die ended is same on part = record {
   ended = ended;
   end = end;

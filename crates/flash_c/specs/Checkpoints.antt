@@ -1,5 +1,5 @@
 -- A checkpoint as C has it: an array by logical page, one by block, one by task.
-use Rattle.std.specs.Prelude.{◌≡◌, ◌==◌, ℕ, List, map, Option, Some, None, if◌then◌else◌}
+use Rattle.std.specs.Prelude.{◌≡◌, true, ◌==◌, ℕ, List, map, Option, Some, None, if◌then◌else◌}
 use Rattle.slot_types.specs.declared.pages.Place.{Place}
 use Rattle.slot_types.specs.declared.plans.DiePlan.{DiePlan}
 use Rattle.die_checkpoint.specs.declared.checkpoint.BlockCounts.{BlockCounts}
@@ -12,10 +12,12 @@ use Rattle.stepped_die.specs.declared.refusals.StepCheckpointRefusal.{StepCheckp
 use Rattle.stepped_die.specs.declared.refusals.StepCheckpointRefusal.TheVariants as steps
 use Rattle.stepped_die.specs.declared.refusals.StepRenewalRefusal.{StepRenewalRefusal}
 use Rattle.stepped_die.specs.declared.refusals.StepRenewalRefusal.TheVariants as renewals
+use Rattle.stepped_die.specs.declared.part.Part.{Part}
 use Rattle.stepped_die.specs.Stepped.{Stepped}
 use Rattle.stepped_die.specs.Steps.{RefusesRenewing}
 use Rattle.stepped_die.specs.Names.{RefusesNames}
 use Rattle.flash_c.specs.declared.shapes.FlashBlock.{FlashBlock}
+use Rattle.flash_c.specs.declared.shapes.FlashPart.{FlashPart}
 use Rattle.flash_c.specs.declared.shapes.FlashPlace.{FlashPlace}
 use Rattle.flash_c.specs.declared.shapes.FlashWhy.{FlashWhy}
 use Rattle.flash_c.specs.Codes.{renewal_code, renewal_why, two}
@@ -40,6 +42,13 @@ counts_of counts = record { filled = counts.filled; erases = counts.erases }
 
 abbrev pub counts_in : FlashBlock → BlockCounts
 counts_in block = record { filled = block.filled; erases = block.erases }
+
+-- what is known of the part beneath a die: as it is reported, and as a resumed die has it, whose checkpoint stands
+abbrev pub part_of : Part → FlashPart
+part_of part = record { serial = part.serial; aside = part.aside }
+
+abbrev pub part_in : FlashPart → Part
+part_in part = record { aside = part.aside; serial = part.serial; stands = true }
 
 -- the checkpoint that these stand for
 abbrev pub checkpoint_in : List FlashPlace → List FlashBlock → List ℕ → ℕ → Checkpoint

@@ -16,6 +16,7 @@ abbrev pub code_of : StepRefusal → ℕ
 code_of (steps.Die refusal) = number_of refusal
 code_of steps.Begun = 100
 code_of steps.NotBegun = 101
+code_of steps.CheckpointStands = 115
 
 abbrev pub two : ℕ → ℕ → FlashWhy
 two first second = record { first = first; second = second }

@@ -1,5 +1,6 @@
 pub mod Handles
 pub mod Mounts
+pub mod Spares
 pub mod Codes
 pub mod Counts
 pub mod Names

@@ -1,5 +1,5 @@
 -- A die that keeps its plan itself, as C has it.
-use Rattle.std.specs.Prelude.{◌≡◌, ℕ, ◌+◌, ◌<◌, ◌≤◌, ◌==◌, Bool, List, length, map, take, Option, Some, None, if◌then◌else◌, slice_index_or, Result, Ok, Err, IfSome, All, vec_capacity}
+use Rattle.std.specs.Prelude.{◌≡◌, ℕ, ◌<◌, ◌≤◌, ◌==◌, Bool, List, length, map, take, Option, Some, None, if◌then◌else◌, slice_index_or, Ok, Err, IfSome, All, vec_capacity}
 use Rattle.slot_types.specs.Refusal.{number_of}
 use Rattle.slot_types.specs.declared.events.Op.{Op}
 use Rattle.slot_types.specs.declared.pages.PageData.{PageData}
@@ -146,6 +146,7 @@ ask_why _ = unasked 0 0
 abbrev pub slot_code : PlanSlotStop → ℕ
 slot_code slot_stops.Begun = 100
 slot_code slot_stops.NotBegun = 101
+slot_code slot_stops.CheckpointStands = 115
 slot_code (slot_stops.Slot slots.DeviceFault) = number_of because.DeviceFault
 slot_code (slot_stops.Slot (slots.Ended stop)) = life_code stop
 

@@ -1,5 +1,5 @@
 -- A die that keeps its plan is written down, and goes on from there or where a mount ended, as C has it.
-use Rattle.std.specs.Prelude.{◌≡◌, ◌≢◌, ℕ, List, Option, Some, None, Ok, Err, vec_capacity}
+use Rattle.std.specs.Prelude.{false, ◌≡◌, ◌≢◌, ℕ, List, Option, Some, None, Ok, Err, vec_capacity}
 use Rattle.slot_types.specs.declared.pages.PageData.{PageData}
 use Rattle.slot_types.specs.declared.plans.DiePlan.{DiePlan}
 use Rattle.demand_rules.specs.declared.terms.Terms.{Terms}
@@ -17,8 +17,8 @@ use Rattle.ongoing_die.specs.declared.refusals.OngoingResumeRefusal.{OngoingResu
 use Rattle.ongoing_die.specs.declared.refusals.OngoingResumeRefusal.TheVariants as refuses
 use Rattle.ongoing_die.specs.Resuming.{RefusesOngoingResume, out_of_memory}
 use Rattle.stepped_die.specs.declared.refusals.StepRenewalRefusal.TheVariants as renewals
+use Rattle.stepped_die.specs.declared.part.Part.{Part}
 use Rattle.stepped_die.specs.declared.resumptions.NamedCheckpoint.{NamedCheckpoint}
-use Rattle.stepped_die.specs.Parts.{fresh_part}
 use Rattle.stepped_plan.specs.declared.refusals.PlanCheckpointRefusal.{PlanCheckpointRefusal}
 use Rattle.stepped_plan.specs.declared.refusals.PlanCheckpointRefusal.TheVariants as stops
 use Rattle.stepped_plan.specs.Resuming.{GoesOnPlanned, IsPlanCheckpoint}
@@ -91,10 +91,10 @@ pub record SaysUnwritten (die : Stepping) (code : ℕ) (why : FlashWhy) : Type 0
 
 -- Resumed
 
--- a die that goes on from a checkpoint, with room for the operations of its asks
-pub record SaysResumed (plan : DiePlan) (terms : Terms) (longest : ℕ) (c : Checkpoint) (names : List PageData) (kept : KeptDie) : Type 0 where
+-- a die that goes on from a checkpoint, beneath which this is known of the part, with room for the operations of its asks
+pub record SaysResumed (plan : DiePlan) (terms : Terms) (longest : ℕ) (c : Checkpoint) (names : List PageData) (part_then : Part) (kept : KeptDie) : Type 0 where
   pub goes_on : GoesOnPlanned plan terms longest c names kept.plan
-  pub part : kept.plan.part ≡ fresh_part plan
+  pub part : kept.plan.part ≡ part_then
   pub room : HasRoom terms (vec_capacity kept.ops)
 
 -- none goes on, for this
@@ -116,7 +116,7 @@ pub record KeepsAt (m : Mounting) (terms : Terms) (longest : ℕ) (names : List 
   pub end : Mounted
   pub is : IsEndOf m end
   pub goes_on : GoesOnPlanned m.plan terms longest end.checkpoint names kept.plan
-  pub part : kept.plan.part ≡ record { aside = end.aside; serial = end.next }
+  pub part : kept.plan.part ≡ record { aside = end.aside; serial = end.next; stands = false }
   pub room : HasRoom terms (vec_capacity kept.ops)
 
 abbrev pub BeginsKept : Recovery → Terms → ℕ → List PageData → KeptDie → Type 0

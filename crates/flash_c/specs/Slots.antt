@@ -83,9 +83,9 @@ abbrev pub next_page : Option (ℕ × NextAct) → ℕ
 next_page None = no_page
 next_page (Some runs) = act_page runs.1
 
--- what the driver is asked: its kind, the cell or block, and the name
+-- what the driver is asked: its kind, the cell or block, the name, and of a program how often its block was erased
 abbrev pub call_by : ℕ → ℕ → ℕ → ℕ → Option Call → FlashCall
-call_by slot act job logical None = record { kind = 0; block = 0; page = 0; last = 0; slot = slot; act = act; job = job; logical = logical; name = no_name }
+call_by slot act job logical None = record { kind = 0; block = 0; page = 0; last = 0; slot = slot; act = act; job = job; logical = logical; name = no_name; erases = 0 }
 call_by slot act job logical (Some (calls.Read place bytes)) = record {
   kind = 1;
   block = place.block;
@@ -96,8 +96,9 @@ call_by slot act job logical (Some (calls.Read place bytes)) = record {
   job = job;
   logical = logical;
   name = name_of bytes;
+  erases = 0;
 }
-call_by slot act job logical (Some (calls.Program place bytes)) = record {
+call_by slot act job logical (Some (calls.Program place bytes erases)) = record {
   kind = 2;
   block = place.block;
   page = place.page;
@@ -107,6 +108,7 @@ call_by slot act job logical (Some (calls.Program place bytes)) = record {
   job = job;
   logical = logical;
   name = name_of bytes;
+  erases = erases;
 }
 call_by slot act job logical (Some (calls.Erase block last)) = record {
   kind = 3;
@@ -118,6 +120,7 @@ call_by slot act job logical (Some (calls.Erase block last)) = record {
   job = job;
   logical = logical;
   name = no_name;
+  erases = 0;
 }
 call_by slot act job logical (Some (calls.Trim trimmed)) = record {
   kind = 4;
@@ -129,6 +132,7 @@ call_by slot act job logical (Some (calls.Trim trimmed)) = record {
   job = job;
   logical = logical;
   name = no_name;
+  erases = 0;
 }
 
 abbrev pub call_of : Begun → FlashCall

@@ -51,6 +51,7 @@ names =
     ∷ code_name 112 (codes "WrongStep")
     ∷ code_name 113 (codes "TooManyCells")
     ∷ code_name 114 (codes "BadLabel")
+    ∷ code_name 115 (codes "CheckpointStands")
     ∷ code_name 201 (codes "Empty")
     ∷ code_name 202 (codes "NotRising")
     ∷ code_name 203 (codes "UnknownJob")
@@ -81,6 +82,8 @@ plan_names =
     ∷ code_name 409 (codes "TooFewPages")
     ∷ code_name 410 (codes "AskWaits")
     ∷ code_name 411 (codes "NotStocked")
+    ∷ code_name 501 (codes "NoSpare")
+    ∷ code_name 502 (codes "NoBlock")
     ∷ []
 
 abbrev pub name_among : List CodeName → ℕ → List ℕ

@@ -28,12 +28,12 @@ use std::alloc::Global;
 
 /// The version of this interface, 1.3: 65,536 times the major number, which changes where something that was there
 /// changes, and the minor one, which changes where something is added.
-pub const VERSION: u32 = 0x10003;
+pub const VERSION: u32 = 0x20000;
 
 /// The version of this interface.
 #[unsafe(no_mangle)]
 pub extern "C" fn flash_version() -> u32
-    ensures { result ≡ 65539 }
+    ensures { result ≡ 131072 }
 {
     VERSION
 }

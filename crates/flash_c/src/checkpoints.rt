@@ -1,6 +1,6 @@
 //! A die is written down at a quiet moment, and goes on from there.
 
-ghost use Rattle.std.specs.Prelude.{◌≡◌, ◌≢◌, None, Some, IsSome, IfSome, IfOk, map};
+ghost use Rattle.std.specs.Prelude.{◌≡◌, ◌≢◌, false, None, Some, IsSome, IfSome, IfOk, map};
 ghost use Rattle.slot_types.specs.Refusal.{FailsForMemory};
 ghost use Rattle.die_log.specs.Model.Flash.{contents};
 ghost use Rattle.die_log.specs.Model.Opening.{renewed_start};
@@ -11,7 +11,7 @@ ghost use Rattle.stepped_die.specs.Names.{GoesOn};
 ghost use Rattle.flash_c.specs.Lists.{array_with};
 ghost use Rattle.flash_c.specs.Names.{name_of, page_in};
 ghost use Rattle.flash_c.specs.Plans.{plan_in, IsTimed};
-ghost use Rattle.flash_c.specs.Checkpoints.{place_of, place_in, counts_of, counts_in, checkpoint_in, SaysCheckpoint, SaysUntaken, SaysFault};
+ghost use Rattle.flash_c.specs.Checkpoints.{place_of, place_in, counts_of, counts_in, checkpoint_in, part_of, part_in, SaysCheckpoint, SaysUntaken, SaysFault};
 ghost use Rattle.flash_c.specs.Codes.{two};
 ghost use Rattle.flash_c.specs.Conversions.{number_in};
 
@@ -22,12 +22,12 @@ use crate::handles::{Handle, put, take};
 use crate::lists::put_names;
 use crate::names::page_in;
 use crate::plans::plan_in;
-use crate::shapes::{FlashBlock, FlashName, FlashPlace, FlashPlan, FlashTask, FlashWhy};
+use crate::shapes::{FlashBlock, FlashName, FlashPart, FlashPlace, FlashPlan, FlashTask, FlashWhy};
 use crate::times::is_timed;
 use die_checkpoint::{BlockCounts, Checkpoint};
 use slot_types::{Items, PageData, Place, Refusal};
 use std::alloc::Global;
-use stepped_die::SteppedDie;
+use stepped_die::{Part, SteppedDie};
 
 /// The block of a page that lies nowhere.
 const NOWHERE: u32 = u32::MAX;
@@ -155,8 +155,27 @@ pub(crate) fn checkpoint_in(
     })
 }
 
+pub(crate) fn part_of(part: Part) -> FlashPart
+    ensures { result ≡ part_of part }
+{
+    FlashPart {
+        serial: part.serial,
+        aside: part.aside,
+    }
+}
+
+pub(crate) fn part_in(part: &FlashPart) -> Part
+    ensures { result ≡ part_in part.now }
+{
+    Part {
+        aside: part.aside,
+        serial: part.serial,
+        stands: true,
+    }
+}
+
 /// What stands on a die at a quiet moment, into the arrays as far as there is room: by logical page its cell and its name,
-/// by block its counts, by task its balance.
+/// by block its counts, by task its balance; and what is known of the part.
 #[unsafe(no_mangle)]
 pub extern "C" fn flash_checkpoint(
     alloc: Global,
@@ -166,6 +185,7 @@ pub extern "C" fn flash_checkpoint(
     blocks: &mut [FlashBlock],
     balances: &mut [u32],
     spare: &mut u32,
+    part: &mut FlashPart,
     why: &mut FlashWhy,
 ) -> u32
     ghost held: { Stepped }
@@ -178,11 +198,12 @@ pub extern "C" fn flash_checkpoint(
         blocks.old blocks.new balances.old balances.new spare.new }
     ensures names { result ≡ 0 → names.new
         ≡ array_with name_of names.old (contents held.core.start held.core.log) }
+    ensures part { result ≡ 0 → part.new ≡ part_of held.part }
     ensures well { result ≡ 0 → why.new ≡ why.old }
     ensures cause { result ≢ 0 → SaysUntaken held result why.new }
     ensures silent { result ≢ 0 → (places.new ≡ places.old) × (names.new ≡ names.old)
         × (blocks.new ≡ blocks.old)
-        × (balances.new ≡ balances.old) × (spare.new ≡ spare.old) }
+        × (balances.new ≡ balances.old) × (spare.new ≡ spare.old) × (part.new ≡ part.old) }
 {
     let mut boxed = take(alloc, die);
     let taken = boxed.checkpoint(alloc);
@@ -198,12 +219,13 @@ pub extern "C" fn flash_checkpoint(
             put_blocks(blocks, taken.checkpoint.blocks.as_slice());
             put_numbers(balances, taken.checkpoint.balances.as_slice());
             *spare = taken.checkpoint.spare;
+            *part = part_of(taken.part);
             OK
         }
     }
 }
 
-/// Makes a die in an empty handle that goes on from a checkpoint.
+/// Makes a die in an empty handle that goes on from a checkpoint, which stands until it is said void.
 #[unsafe(no_mangle)]
 pub extern "C" fn flash_resume(
     alloc: Global,
@@ -215,12 +237,14 @@ pub extern "C" fn flash_resume(
     blocks: &[FlashBlock],
     balances: &[u32],
     spare: u32,
+    part: &FlashPart,
     why: &mut FlashWhy,
 ) -> u32
     requires empty { die.old.value ≡ None }
     ensures made { result ≡ 0 → IsSome die.new.value }
     ensures goes_on { result ≡ 0 → IfSome die.new.value (GoesOn (plan_in plan.now tasks.now)
         (checkpoint_in places.now blocks.now balances.now spare) (map page_in names.now)) }
+    ensures part { result ≡ 0 → IfSome die.new.value (λ made. made.part ≡ part_in part.now) }
     ensures refused { result ≢ 0 → die.new.value ≡ None }
     ensures timed { result ≡ 0 → IsTimed (plan_in plan.now tasks.now) }
     ensures cause { IsTimed (plan_in plan.now tasks.now) → result ≢ 0 → result ≢ 1
@@ -256,7 +280,7 @@ pub extern "C" fn flash_resume(
         *why = no_numbers();
         return BAD_PLAN;
     }
-    let made = match SteppedDie::resume(alloc, plan, &checkpoint, pages.as_slice()) {
+    let made = match SteppedDie::resume(alloc, plan, &checkpoint, pages.as_slice(), part_in(part)) {
         Ok(made) => made,
         Err(fault) => {
             *why = fault_why(fault);
@@ -273,4 +297,17 @@ pub extern "C" fn flash_resume(
             NO_MEMORY
         }
     }
+}
+
+/// The checkpoint from which the die was resumed is void.
+#[unsafe(no_mangle)]
+pub extern "C" fn flash_checkpoint_void(alloc: Global, die: &mut Handle)
+    ghost held: { Stepped }
+    requires full { die.old.value ≡ Some held }
+    ensures void { die.new.value
+        ≡ Some (record held { part = record held.part { stands = false } }) }
+{
+    let mut boxed = take(alloc, die);
+    boxed.checkpoint_void();
+    put(die, boxed);
 }

@@ -55,6 +55,9 @@ pub const TOO_MANY_CELLS: u32 = 113;
 /// A label of a page that the plan doesn't have, or with a serial of 2^63 or more.
 pub const BAD_LABEL: u32 = 114;
 
+/// A checkpoint stands from which the die was resumed, and a slot would spend it.
+pub const CHECKPOINT_STANDS: u32 = 115;
+
 /// The faults of a certificate are 201 to 207.
 pub const VERDICTS: u32 = 200;
 
@@ -115,6 +118,12 @@ pub const ASK_WAITS: u32 = 410;
 /// A task has too few pages to go on with.
 pub const NOT_STOCKED: u32 = 411;
 
+/// A block failed, and no spare one is left.
+pub const NO_SPARE: u32 = 501;
+
+/// No block has this number, or a block doesn't have this page.
+pub const NO_BLOCK: u32 = 502;
+
 /// The number of a refusal of the store.
 pub(crate) fn of_refusal(refusal: Refusal) -> u32
     ensures { result ≡ code_of (StepRefusal.Die refusal) }
@@ -130,6 +139,7 @@ pub(crate) fn of_step(refusal: StepRefusal) -> u32
         StepRefusal::Die(refusal) => of_refusal(refusal),
         StepRefusal::Begun => BEGUN,
         StepRefusal::NotBegun => NOT_BEGUN,
+        StepRefusal::CheckpointStands => CHECKPOINT_STANDS,
     }
 }
 

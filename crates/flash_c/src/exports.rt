@@ -7,7 +7,7 @@ ghost use Rattle.slot_core.specs.Calls.{HasEntered};
 ghost use Rattle.slot_core.specs.Core.{nothing_reserved, with_slots, with_arrivals};
 ghost use Rattle.slot_core.specs.Renewals.{MayBeRenewed, renewed_core};
 ghost use Rattle.stepped_die.specs.Stepped.{Stepped};
-ghost use Rattle.stepped_die.specs.Steps.{IsNew, HasBegun, HasFailed, RefusesArrival};
+ghost use Rattle.stepped_die.specs.Steps.{IsNew, HasBegun, HasFailed, RefusesArrival, WouldSpend};
 ghost use Rattle.flash_c.specs.Codes.{two};
 ghost use Rattle.flash_c.specs.Names.{page_in, is_of_a_kind, ops_looked_at, ops_in};
 ghost use Rattle.flash_c.specs.Plans.{plan_in, IsTimed};
@@ -209,6 +209,7 @@ pub extern "C" fn flash_begin(
         HasBegun caller begun held after × (call.new ≡ call_of begun))) }
     ensures cause { result ≢ 0 → SaysUnbegun held result }
     ensures memory { 0 < held.core.reserved.slots → result ≢ 1 }
+    ensures stands { result ≡ 0 → ¬ WouldSpend held }
     ensures refused { result ≢ 0 → die.new.value ≡ Some held }
     ensures silent { result ≢ 0 → call.new ≡ call.old }
 {

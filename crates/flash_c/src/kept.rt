@@ -1,12 +1,11 @@
 //! A die that keeps its plan, as a handle of C has it.
 
-ghost use Rattle.std.specs.Prelude.{◌≡◌, ◌≢◌, ◌⊎◌, ◌≤◌, length, map, take, vec_capacity, IfOk, IfErr};
+ghost use Rattle.std.specs.Prelude.{◌≡◌, ◌≢◌, ◌⊎◌, ◌≤◌, true, false, length, map, take, vec_capacity, IfOk, IfErr};
 ghost use Rattle.ongoing_die.specs.OngoingPlans.{RefusesOngoing};
 ghost use Rattle.ongoing_die.specs.Resuming.{RefusesOngoingResume, out_of_memory};
 ghost use Rattle.planned_die.specs.declared.lacks.Shortage.{Shortage};
 ghost use Rattle.planned_die.specs.declared.resumptions.PlanResumeRefusal.TheVariants as plans;
 ghost use Rattle.ongoing_die.specs.declared.refusals.OngoingResumeRefusal.TheVariants as refuses;
-ghost use Rattle.stepped_die.specs.Parts.{fresh_part};
 ghost use Rattle.stepped_plan.specs.Calls.{IsNewPlan, IsPlanAsk};
 ghost use Rattle.stepped_plan.specs.Resuming.{GoesOnPlanned};
 ghost use Rattle.flash_c.specs.Names.{op_in};
@@ -21,6 +20,7 @@ use planned_die::PlanRefusal;
 use slot_core::ResumeRefusal;
 use slot_types::{DiePlan, Op, PageData, Refusal, TaskNo};
 use std::alloc::Global;
+use stepped_die::Part;
 use stepped_plan::{
     AskKind, OngoingRefusal, OngoingResumeRefusal, PlanAskStop, PlanResumeRefusal, SteppedPlan,
     Taken,
@@ -74,10 +74,11 @@ impl KeptDie {
         longest: u32,
         checkpoint: &Checkpoint,
         names: &[PageData],
+        part: Part,
     ) -> Result<KeptDie, OngoingResumeRefusal>
         ensures goes_on { IfOk result (λ kept.
             GoesOnPlanned plan terms longest checkpoint.now names.now kept.plan) }
-        ensures part { IfOk result (λ kept. kept.plan.part ≡ fresh_part plan) }
+        ensures part { IfOk result (λ kept. kept.plan.part ≡ record part { stands = true }) }
         ensures room { IfOk result (λ kept. HasRoom terms (vec_capacity kept.ops)) }
         ensures refused { IfErr result (λ refusal. refusal ≢ out_of_memory
             → RefusesOngoingResume plan terms longest checkpoint.now plan.shape refusal) }
@@ -86,7 +87,7 @@ impl KeptDie {
             Ok(ops) => ops,
             Err(_) => return Err(no_memory()),
         };
-        match SteppedPlan::resume(alloc, plan, terms, longest, checkpoint, names) {
+        match SteppedPlan::resume(alloc, plan, terms, longest, checkpoint, names, part) {
             Ok(plan) => Ok(KeptDie { plan, ops }),
             Err(refusal) => Err(refusal),
         }
@@ -104,7 +105,8 @@ impl KeptDie {
         ensures goes_on { IfOk result (λ kept.
             GoesOnPlanned plan terms longest end.now.checkpoint names.now kept.plan) }
         ensures part { IfOk result (λ kept.
-            kept.plan.part ≡ record { aside = end.now.aside; serial = end.now.next }) }
+            kept.plan.part
+            ≡ record { aside = end.now.aside; serial = end.now.next; stands = false }) }
         ensures room { IfOk result (λ kept. HasRoom terms (vec_capacity kept.ops)) }
         ensures refused { IfErr result (λ refusal. refusal ≢ out_of_memory
             → RefusesOngoingResume plan terms longest end.now.checkpoint plan.shape refusal) }

@@ -26,5 +26,8 @@ mod recoveries;
 mod said;
 mod shapes;
 mod slots;
+mod spare_handles;
+mod spare_tables;
+mod spares;
 mod texts;
 mod times;

@@ -1,6 +1,6 @@
 //! What C does with a mount.
 
-ghost use Rattle.std.specs.Prelude.{◌≡◌, ◌≢◌, [], None, Some, IsSome, IfSome, IfOk, IfErr, map};
+ghost use Rattle.std.specs.Prelude.{◌≡◌, ◌≢◌, ◌+◌, ℕ, [], List, Option, None, Some, IsSome, IfSome, IfOk, IfErr, map, replicate};
 ghost use Rattle.slot_types.specs.Refusal.{FailsForMemory};
 ghost use Rattle.power_loss.specs.Aside.{on_part};
 ghost use Rattle.stepped_die.specs.Stepped.{Stepped};
@@ -8,12 +8,14 @@ ghost use Rattle.flash_c.specs.declared.recoveries.Recovery.{Recovery as Stage};
 ghost use Rattle.flash_c.specs.declared.recoveries.Recovery.TheVariants as recovery;
 ghost use Rattle.flash_c.specs.Checkpoints.{place_of};
 ghost use Rattle.flash_c.specs.Codes.{two};
-ghost use Rattle.flash_c.specs.Mounts.{BeginsDie, HasCalled, HasSeen, HasTold, IsFirstScan, calls_left_of, label_in, place_at, step_at};
+ghost use Rattle.flash_c.specs.Mounts.{BeginsDie, HasCalled, HasCounts, HasSeen, HasTold, IsFirstScan, calls_left_of, erases_of, erases_told, greater_of, label_in, place_at, step_at, told_after};
 ghost use Rattle.flash_c.specs.Names.{page_in};
 ghost use Rattle.flash_c.specs.Plans.{plan_in, IsTimed};
 
 use crate::checkpoints::{pages_in, place_of};
-use crate::codes::{BAD_LABEL, BAD_PLAN, NO_MEMORY, OK, TOO_MANY_CELLS, WRONG_STEP, no_numbers};
+use crate::codes::{
+    BAD_LABEL, BAD_PLAN, NO_MEMORY, OK, TOO_MANY_CELLS, WORN_OUT, WRONG_STEP, no_numbers,
+};
 use crate::handles::{Handle, put, take};
 use crate::mount_handles::{MountHandle, put_mount, take_mount};
 use crate::plans::{copy_of, plan_in};
@@ -25,8 +27,41 @@ use slot_types::{PageData, Refusal};
 use std::alloc::Global;
 use stepped_die::SteppedDie;
 
+/// The larger of two counts, where there is one.
+fn greater_of(most: Option<u32>, erases: Option<u32>) -> Option<u32>
+    ensures { result ≡ greater_of most erases }
+{
+    match (most, erases) {
+        (Some(most), Some(erases)) => Some(most.max(erases)),
+        (None, erases) => erases,
+        (most, None) => most,
+    }
+}
+
+/// How often a block was erased whose cells show this: the greatest count of a good one.
+fn erases_told(labels: &[FlashLabel]) -> Option<u32>
+    ensures { result ≡ erases_told labels.now }
+{
+    let mut most = None;
+    for k in 0..labels.len() {
+        most = greater_of(most, erases_of(&labels[k]));
+    }
+    most
+}
+
 /// The page of a label that isn't there.
 const NO_LABEL: u32 = u32::MAX;
+
+/// How often a cell's block was erased, where it is good.
+fn erases_of(label: &FlashLabel) -> Option<u32>
+    ensures { result ≡ erases_of label.now }
+{
+    if label.page == NO_LABEL {
+        None
+    } else {
+        Some(label.erases)
+    }
+}
 
 fn label_in(label: &FlashLabel) -> Option<Label>
     ensures { result ≡ label_in label.now }
@@ -81,7 +116,19 @@ fn of_begin(fault: BeginFault) -> u32
     match fault {
         BeginFault::BadPlan => BAD_PLAN,
         BeginFault::NoIdleBlock => WRONG_STEP,
+        BeginFault::WornOut { .. } => WORN_OUT,
         BeginFault::NoMemory => NO_MEMORY,
+    }
+}
+
+/// The block that it names.
+fn begin_why(fault: BeginFault) -> FlashWhy {
+    match fault {
+        BeginFault::WornOut { block } => FlashWhy {
+            first: block,
+            second: 0,
+        },
+        _ => no_numbers(),
     }
 }
 
@@ -96,6 +143,8 @@ pub extern "C" fn flash_mount_new(
     requires empty { mount.old.value ≡ None }
     ensures made { result ≡ 0 → IfSome mount.new.value (λ made.
         IsFirstScan made × HasSeen (plan_in plan.now tasks.now) [] made) }
+    ensures untold { result ≡ 0 → IfSome mount.new.value
+        (HasCounts (replicate (plan.now.blocks + 1) None)) }
     ensures full { result ≡ 0 → IsSome mount.new.value }
     ensures timed { result ≡ 0 → IsTimed (plan_in plan.now tasks.now) }
     ensures refused { result ≢ 0 → mount.new.value ≡ None }
@@ -155,8 +204,8 @@ pub extern "C" fn flash_mount_next(
     }
 }
 
-/// Tells the labels of the next block. Where that was the last one, the mount takes the memory for its calls; where
-/// there is none, it is over.
+/// Tells the labels of the next block, and how often it was erased, as the greatest count of them says. Where that was the
+/// last one, the mount takes the memory for its calls; where there is none, or a block would be worn out, it is over.
 #[unsafe(no_mangle)]
 pub extern "C" fn flash_mount_tell(
     alloc: Global,
@@ -168,8 +217,11 @@ pub extern "C" fn flash_mount_tell(
     requires full { mount.old.value ≡ Some held }
     ensures full { IsSome mount.new.value }
     ensures told { result ≡ 0 → IfSome mount.new.value (HasTold (map label_in labels.now) held) }
+    ensures counts { result ≡ 0 → IfSome mount.new.value (λ after. (told : List (Option ℕ))
+        → HasCounts told held → HasCounts (told_after held (erases_told labels.now) told) after) }
     ensures well { result ≡ 0 → why.new ≡ why.old }
 {
+    let erases = erases_told(labels);
     let labels = match labels_in(alloc, labels) {
         Ok(labels) => labels,
         Err(_) => {
@@ -179,7 +231,7 @@ pub extern "C" fn flash_mount_tell(
     };
     let mut boxed = take_mount(alloc, mount);
     let before = std::mem::replace(&mut *boxed, Recovery::Over);
-    let (after, said) = taken(alloc, before, labels.as_slice());
+    let (after, said) = taken(alloc, before, labels.as_slice(), erases);
     let _ = std::mem::replace(&mut *boxed, after);
     put_mount(mount, boxed);
     match said {
@@ -189,7 +241,7 @@ pub extern "C" fn flash_mount_tell(
             of_scan(fault)
         }
         Err(TellFault::Begin(fault)) => {
-            *why = no_numbers();
+            *why = begin_why(fault);
             of_begin(fault)
         }
     }
@@ -202,6 +254,8 @@ pub extern "C" fn flash_mount_done(alloc: Global, mount: &mut MountHandle) -> u3
     requires full { mount.old.value ≡ Some held }
     ensures full { IsSome mount.new.value }
     ensures called { result ≡ 0 → IfSome mount.new.value (HasCalled held) }
+    ensures counts { IfSome mount.new.value (λ after. (told : List (Option ℕ))
+        → HasCounts told held → HasCounts told after) }
     ensures refused { result ≢ 0 → (result ≡ 112) × (mount.new.value ≡ Some held) }
 {
     let mut boxed = take_mount(alloc, mount);

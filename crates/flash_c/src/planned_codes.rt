@@ -5,9 +5,10 @@ ghost use Rattle.flash_c.specs.Planned.{ask_code, ask_why, life_code, plan_code,
 ghost use Rattle.flash_c.specs.PlannedResuming.{three, unresumed_code, unresumed_why, unwritten_code, unwritten_why};
 
 use crate::codes::{
-    ASK_WAITS, BAD_TERMS, BEGUN, LIFE_END, NO_LIFE, NO_MEMORY, NOT_BEGUN, NOT_STOCKED, OTHER_SHAPE,
-    SHORT_LIFE, TOO_FEW_PAGES, TOO_MANY_WRITES, TOO_MUCH_DEMAND, TOO_SOON, WAITS_ALREADY, WORN_OUT,
-    fault_why, no_numbers, of_fault, of_refusal, of_renewal, renewal_why,
+    ASK_WAITS, BAD_TERMS, BEGUN, CHECKPOINT_STANDS, LIFE_END, NO_LIFE, NO_MEMORY, NOT_BEGUN,
+    NOT_STOCKED, OTHER_SHAPE, SHORT_LIFE, TOO_FEW_PAGES, TOO_MANY_WRITES, TOO_MUCH_DEMAND,
+    TOO_SOON, WAITS_ALREADY, WORN_OUT, fault_why, no_numbers, of_fault, of_refusal, of_renewal,
+    renewal_why,
 };
 use crate::shapes::{FlashUnasked, FlashUnresumed, FlashWhy};
 use demand_rules::{DemandFault, TermsFault};
@@ -119,6 +120,7 @@ pub(crate) fn of_slot(stop: PlanSlotStop) -> u32
     match stop {
         PlanSlotStop::Begun => BEGUN,
         PlanSlotStop::NotBegun => NOT_BEGUN,
+        PlanSlotStop::CheckpointStands => CHECKPOINT_STANDS,
         PlanSlotStop::Slot(SlotStop::DeviceFault) => of_refusal(Refusal::DeviceFault),
         PlanSlotStop::Slot(SlotStop::Ended(stop)) => of_life(stop),
     }

@@ -1,6 +1,6 @@
 //! A die that keeps its plan is written down, and goes on from there or where a mount ended.
 
-ghost use Rattle.std.specs.Prelude.{◌≡◌, ◌≢◌, ◌⊎◌, None, Some, IsSome, IfSome, IfOk, IfErr, map};
+ghost use Rattle.std.specs.Prelude.{◌≡◌, ◌≢◌, ◌⊎◌, false, None, Some, IsSome, IfSome, IfOk, IfErr, map};
 ghost use Rattle.die_mount.specs.declared.stage.Stage.TheVariants as stage;
 ghost use Rattle.ongoing_die.specs.Resuming.{out_of_memory};
 ghost use Rattle.ongoing_die.specs.Standing.{OngoingParts};
@@ -13,13 +13,15 @@ ghost use Rattle.stepped_plan.specs.Stages.{AreParts};
 ghost use Rattle.flash_c.specs.declared.kept.KeptDie.{KeptDie};
 ghost use Rattle.flash_c.specs.declared.recoveries.Recovery.{Recovery as Stage};
 ghost use Rattle.flash_c.specs.declared.recoveries.Recovery.TheVariants as recovery;
-ghost use Rattle.flash_c.specs.Checkpoints.{checkpoint_in};
+ghost use Rattle.flash_c.specs.Checkpoints.{checkpoint_in, part_in, part_of};
 ghost use Rattle.flash_c.specs.Names.{page_in};
 ghost use Rattle.flash_c.specs.Planned.{terms_in};
 ghost use Rattle.flash_c.specs.PlannedResuming.{BeginsKept, HasNotEnded, IsUnbegun, KeepsAt, NoneKeeps, SaysResumed, SaysUnmounted, SaysUnresumed, SaysUnwritten, SaysWritten, three};
 ghost use Rattle.flash_c.specs.Plans.{plan_in};
 
-use crate::checkpoints::{checkpoint_in, pages_in, put_blocks, put_numbers, put_places};
+use crate::checkpoints::{
+    checkpoint_in, pages_in, part_in, part_of, put_blocks, put_numbers, put_places,
+};
 use crate::codes::{NO_MEMORY, OK, WRONG_STEP};
 use crate::kept::{KeptDie, boxed, no_memory};
 use crate::lists::put_names;
@@ -30,7 +32,8 @@ use crate::planned_said::terms_in;
 use crate::plans::{copy_of, plan_in};
 use crate::recoveries::Recovery;
 use crate::shapes::{
-    FlashBlock, FlashName, FlashPlace, FlashPlan, FlashTask, FlashTerms, FlashUnresumed, FlashWhy,
+    FlashBlock, FlashName, FlashPart, FlashPlace, FlashPlan, FlashTask, FlashTerms, FlashUnresumed,
+    FlashWhy,
 };
 use demand_rules::Terms;
 use die_mount::Mount;
@@ -39,7 +42,7 @@ use std::alloc::Global;
 use stepped_plan::OngoingResumeRefusal;
 
 /// What stands on a die between two slots, into the arrays as far as there is room: by logical page its cell and its name, by block
-/// its counts, by task its balance.
+/// its counts, by task its balance; and what is known of the part.
 #[unsafe(no_mangle)]
 pub extern "C" fn flash_planned_checkpoint(
     alloc: Global,
@@ -49,6 +52,7 @@ pub extern "C" fn flash_planned_checkpoint(
     blocks: &mut [FlashBlock],
     balances: &mut [u32],
     spare: &mut u32,
+    part: &mut FlashPart,
     why: &mut FlashWhy,
 ) -> u32
     ghost held: { KeptDie }
@@ -56,10 +60,12 @@ pub extern "C" fn flash_planned_checkpoint(
     ensures same { die.new.value ≡ Some held }
     ensures said { result ≡ 0 → SaysWritten held.plan places.old places.new names.old names.new
         blocks.old blocks.new balances.old balances.new spare.new }
+    ensures part { result ≡ 0 → part.new ≡ part_of held.plan.part }
     ensures well { result ≡ 0 → why.new ≡ why.old }
     ensures cause { result ≢ 0 → SaysUnwritten held.plan result why.new }
     ensures silent { result ≢ 0 → (places.new ≡ places.old) × (names.new ≡ names.old)
-        × (blocks.new ≡ blocks.old) × (balances.new ≡ balances.old) × (spare.new ≡ spare.old) }
+        × (blocks.new ≡ blocks.old) × (balances.new ≡ balances.old) × (spare.new ≡ spare.old)
+        × (part.new ≡ part.old) }
 {
     let mut boxed = take_kept(alloc, die);
     let taken = boxed.plan.checkpoint(alloc);
@@ -75,12 +81,13 @@ pub extern "C" fn flash_planned_checkpoint(
             put_blocks(blocks, taken.checkpoint.blocks.as_slice());
             put_numbers(balances, taken.checkpoint.balances.as_slice());
             *spare = taken.checkpoint.spare;
+            *part = part_of(taken.part);
             OK
         }
     }
 }
 
-/// Makes a die in an empty handle that goes on from a checkpoint.
+/// Makes a die in an empty handle that goes on from a checkpoint, which stands until it is said void.
 #[unsafe(no_mangle)]
 pub extern "C" fn flash_planned_resume(
     alloc: Global,
@@ -94,13 +101,14 @@ pub extern "C" fn flash_planned_resume(
     blocks: &[FlashBlock],
     balances: &[u32],
     spare: u32,
+    part: &FlashPart,
     why: &mut FlashUnresumed,
 ) -> u32
     requires empty { die.old.value ≡ None }
     ensures made { result ≡ 0 → IsSome die.new.value }
     ensures goes_on { result ≡ 0 → IfSome die.new.value (SaysResumed (plan_in plan.now tasks.now)
         (terms_in terms.now) longest (checkpoint_in places.now blocks.now balances.now spare)
-        (map page_in names.now)) }
+        (map page_in names.now) (part_in part.now)) }
     ensures refused { result ≢ 0 → die.new.value ≡ None }
     ensures cause { result ≢ 0 → result ≢ 1 → SaysUnresumed (plan_in plan.now tasks.now)
         (terms_in terms.now) longest (checkpoint_in places.now blocks.now balances.now spare) result
@@ -125,7 +133,15 @@ pub extern "C" fn flash_planned_resume(
             return NO_MEMORY;
         }
     };
-    let made = KeptDie::resume(alloc, plan, terms, longest, &checkpoint, pages.as_slice());
+    let made = KeptDie::resume(
+        alloc,
+        plan,
+        terms,
+        longest,
+        &checkpoint,
+        pages.as_slice(),
+        part_in(part),
+    );
     match boxed(alloc, made) {
         Ok(kept) => {
             put_kept(die, kept);
@@ -245,6 +261,20 @@ fn kept_of(
         alloc,
         KeptDie::mounted(alloc, plan, terms, longest, &end, names),
     )
+}
+
+/// The checkpoint from which the die was resumed is void.
+#[unsafe(no_mangle)]
+pub extern "C" fn flash_planned_checkpoint_void(alloc: Global, die: &mut PlannedHandle)
+    ghost held: { KeptDie }
+    requires full { die.old.value ≡ Some held }
+    ensures void { die.new.value ≡ Some (record held {
+      plan = record held.plan { part = record held.plan.part { stands = false } };
+    }) }
+{
+    let mut boxed = take_kept(alloc, die);
+    boxed.plan.checkpoint_void();
+    put_kept(die, boxed);
 }
 
 /// What the label of the die's next program bears.

@@ -8,7 +8,7 @@ ghost use Rattle.power_loss.specs.Mounted.{all_count};
 ghost use Rattle.power_loss.specs.Recovery.{MayErase, without_block};
 ghost use Rattle.die_mount.specs.Scanned.{IsScanOf};
 ghost use Rattle.die_mount.specs.Told.{told_cells};
-ghost use Rattle.flash_c.specs.Mounts.{HasCalled, HasSeen, HasTold, IsFirstScan, TellsAgain, calling, step_at, telling};
+ghost use Rattle.flash_c.specs.Mounts.{HasCalled, HasCounts, HasSeen, HasTold, IsFirstScan, TellsAgain, calling, erases_in, step_at, telling, told_after};
 
 use crate::counts::flag;
 use crate::shapes::FlashStep;
@@ -47,7 +47,11 @@ impl Recovery {
         match self {
             Recovery::Scan { scan, .. } => Some(telling(scan.told())),
             Recovery::Again { again, .. } => Some(telling(again.told())),
-            Recovery::Calls { mount } => Some(calling(mount.next(), mount.ends_erase())),
+            Recovery::Calls { mount } => {
+                let next = mount.next();
+                let erases = erases_in(mount, next);
+                Some(calling(next, mount.ends_erase(), erases))
+            }
             Recovery::Over => None,
         }
     }
@@ -64,12 +68,23 @@ fn telling(block: u32) -> FlashStep
         page: 0,
         logical: 0,
         last: 0,
+        erases: 0,
+    }
+}
+
+/// How often the block was erased that a call of a mount programs; else 0.
+fn erases_in(mount: &Mount, call: Option<MountCall>) -> u32
+    ensures { result ≡ erases_in mount.now call }
+{
+    match call {
+        Some(MountCall::Program { place, .. }) => mount.erases(place.block),
+        _ => 0,
     }
 }
 
 /// A call of the part is to be made, or none any more.
-fn calling(call: Option<MountCall>, last: bool) -> FlashStep
-    ensures { result ≡ calling call last }
+fn calling(call: Option<MountCall>, last: bool, erases: u32) -> FlashStep
+    ensures { result ≡ calling call last erases }
 {
     match call {
         None => FlashStep {
@@ -79,6 +94,7 @@ fn calling(call: Option<MountCall>, last: bool) -> FlashStep
             page: 0,
             logical: 0,
             last: 0,
+            erases: 0,
         },
         Some(MountCall::Read { place }) => FlashStep {
             serial: 0,
@@ -87,6 +103,7 @@ fn calling(call: Option<MountCall>, last: bool) -> FlashStep
             page: place.page,
             logical: 0,
             last: 0,
+            erases: 0,
         },
         Some(MountCall::Program { place, label }) => FlashStep {
             serial: label.serial,
@@ -95,6 +112,7 @@ fn calling(call: Option<MountCall>, last: bool) -> FlashStep
             page: place.page,
             logical: label.page,
             last: 0,
+            erases,
         },
         Some(MountCall::EraseSlot { block }) => FlashStep {
             serial: 0,
@@ -103,24 +121,32 @@ fn calling(call: Option<MountCall>, last: bool) -> FlashStep
             page: 0,
             logical: 0,
             last: flag(last),
+            erases: 0,
         },
     }
 }
 
-/// The mount once the next block is reported; or as it was, and why.
-fn told(recovery: Recovery, labels: &[Option<Label>]) -> (Recovery, Result<(), ScanFault>)
+/// The mount once the next block is reported, and how often it was erased; or as it was, and why. Where blocks are reported
+/// again their erases aren't looked at.
+fn told(
+    recovery: Recovery,
+    labels: &[Option<Label>],
+    erases: Option<u32>,
+) -> (Recovery, Result<(), ScanFault>)
     ensures first { OnOk result.1 ((plan : DiePlan) (seen : Shown) (shown : List (Option Stands))
         → HasSeen plan seen recovery → IsFirstScan recovery → labels.now ≡ told_cells shown
         → HasSeen plan (seen ++ shown ∷ []) result.0) }
     ensures again { OnOk result.1 ((plan : DiePlan) (seen : Shown) (block : ℕ)
         → HasSeen plan seen recovery → TellsAgain recovery block
         → labels.now ≡ told_cells (labels_in seen block) → HasSeen plan seen result.0) }
+    ensures counts { OnOk result.1 ((told : List (Option ℕ)) → HasCounts told recovery
+        → HasCounts (told_after recovery erases told) result.0) }
     ensures stays { OnErr result.1 (result.0 ≡ recovery) }
 {
     match recovery {
         Recovery::Scan { plan, scan } => {
             let mut scan = scan;
-            let said = scan.tell(labels);
+            let said = scan.tell(labels, erases);
             (Recovery::Scan { plan, scan }, said)
         }
         Recovery::Again {
@@ -131,9 +157,9 @@ fn told(recovery: Recovery, labels: &[Option<Label>]) -> (Recovery, Result<(), S
         } => {
             let mut again = again;
             let said = if again.told() == block {
-                again.tell(&[])
+                again.tell(&[], None)
             } else {
-                again.tell(labels)
+                again.tell(labels, None)
             };
             let next = Recovery::Again {
                 plan,
@@ -150,8 +176,10 @@ fn told(recovery: Recovery, labels: &[Option<Label>]) -> (Recovery, Result<(), S
 /// The mount with its calls, where all blocks were reported, or reported again where that has to be; else as it was. It takes
 /// all the memory of the calls.
 fn begun(alloc: Global, recovery: Recovery) -> Result<Recovery, BeginFault>
-    ensures { IfOk result (λ after. (plan : DiePlan) (seen : Shown) → HasSeen plan seen recovery
+    ensures seen { IfOk result (λ after. (plan : DiePlan) (seen : Shown) → HasSeen plan seen recovery
         → FitPlan (part_of plan) seen → HasSeen plan seen after) }
+    ensures counts { IfOk result (λ after. (told : List (Option ℕ)) → HasCounts told recovery
+        → HasCounts told after) }
 {
     match recovery {
         Recovery::Scan { plan, scan } => {
@@ -186,8 +214,9 @@ fn begun(alloc: Global, recovery: Recovery) -> Result<Recovery, BeginFault>
 /// The mount by a whole scan: with its calls, or with a second scan where no block is idle.
 fn begun_of(alloc: Global, plan: DiePlan, scan: Scan) -> Result<Recovery, BeginFault>
     requires whole { scan.told ≡ scan.shape.blocks }
-    ensures { IfOk result (λ after. (seen : Shown) → IsScanOf (part_of plan) scan seen
+    ensures seen { IfOk result (λ after. (seen : Shown) → IsScanOf (part_of plan) scan seen
         → FitPlan (part_of plan) seen → HasSeen plan seen after) }
+    ensures counts { IfOk result (HasCounts scan.erases) }
 {
     match scan.first_erase() {
         FirstErase::Idle { .. } => calls_of(Mount::new(alloc, plan, scan)),
@@ -214,9 +243,10 @@ fn undone_of(
 ) -> Result<Recovery, BeginFault>
     requires before { before.told ≡ before.shape.blocks }
     requires again { again.told ≡ again.shape.blocks }
-    ensures { IfOk result (λ after. (seen : Shown) → IsScanOf (part_of plan) before seen
+    ensures seen { IfOk result (λ after. (seen : Shown) → IsScanOf (part_of plan) before seen
         → IsScanOf (part_of plan) again (take again.told (without_block block seen))
         → MayErase (part_of plan) all_count seen block → HasSeen plan seen after) }
+    ensures counts { IfOk result (HasCounts before.erases) }
 {
     calls_of(Mount::undo(alloc, plan, &before, again, block))
 }
@@ -245,10 +275,13 @@ pub(crate) fn taken(
     alloc: Global,
     recovery: Recovery,
     labels: &[Option<Label>],
+    erases: Option<u32>,
 ) -> (Recovery, Result<(), TellFault>)
-    ensures { OnOk result.1 (HasTold labels.now recovery result.0) }
+    ensures told { OnOk result.1 (HasTold labels.now recovery result.0) }
+    ensures counts { OnOk result.1 ((told : List (Option ℕ)) → HasCounts told recovery
+        → HasCounts (told_after recovery erases told) result.0) }
 {
-    let (after, said) = told(recovery, labels);
+    let (after, said) = told(recovery, labels, erases);
     match said {
         Err(fault) => (after, Err(TellFault::Scan(fault))),
         Ok(()) => match begun(alloc, after) {
@@ -261,6 +294,7 @@ pub(crate) fn taken(
 /// The mount once its next call was made; or as it was, where it needs none.
 pub(crate) fn called(recovery: Recovery) -> (Recovery, bool)
     ensures called { result.1 ≡ true → HasCalled recovery result.0 }
+    ensures counts { (told : List (Option ℕ)) → HasCounts told recovery → HasCounts told result.0 }
     ensures stays { result.1 ≡ false → result.0 ≡ recovery }
 {
     match recovery {

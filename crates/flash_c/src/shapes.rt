@@ -74,6 +74,8 @@ pub struct FlashCall {
     pub logical: u32,
     /// What is programmed, or what a read has to give.
     pub name: FlashName,
+    /// Of a program how often its block was erased so far, as the die counts.
+    pub erases: u32,
 }
 
 /// What a slot did. `act`: 0 idle, 1 read, 2 write, 3 trim, 4 copy read, 5 copy program, 6 erase.
@@ -207,6 +209,17 @@ pub struct FlashBlock {
 pub struct FlashLabel {
     pub serial: u64,
     pub page: u32,
+    /// How often the cell's block was erased before the program.
+    pub erases: u32,
+}
+
+/// What is known of the part beneath a die: what the label of the next program bears, and the block that stands aside, by the
+/// part's number.
+#[repr(C)]
+#[derive(Clone, Copy, Drop)]
+pub struct FlashPart {
+    pub serial: u64,
+    pub aside: u32,
 }
 
 /// What a mount needs next: 0 nothing any more, 1 a read, 2 a program, 3 one slot of an erase, 4 to be told a block.
@@ -222,6 +235,8 @@ pub struct FlashStep {
     pub logical: u32,
     /// 1 where the slot of the erase is its last.
     pub last: u32,
+    /// Of a program how often its block was erased so far, as the mount counts.
+    pub erases: u32,
 }
 
 /// What a task asks for of a die that keeps its plan. All times are in slots.
@@ -283,4 +298,16 @@ pub struct FlashUnresumed {
     pub second: u32,
     /// How many pages the task needs.
     pub third: u32,
+}
+
+/// What a table of spare blocks needs next: 0 nothing any more, 1 the report of a block, 2 a whole erase, 3 a copy from the
+/// cell of another block with the same page, 4 the program that failed. Blocks are the part's.
+#[repr(C)]
+#[derive(Clone, Copy, Drop)]
+pub struct FlashMove {
+    pub kind: u32,
+    pub block: u32,
+    pub page: u32,
+    /// Of a copy the block whose cell is copied.
+    pub from: u32,
 }

@@ -144,6 +144,7 @@ fn made(
     page: u32,
     last: u32,
     name: FlashName,
+    erases: u32,
 ) -> FlashCall
     ensures { result
         ≡ record {
@@ -156,6 +157,7 @@ fn made(
           job = job;
           logical = logical;
           name = name;
+          erases = erases;
         } }
 {
     FlashCall {
@@ -168,6 +170,7 @@ fn made(
         job,
         logical,
         name,
+        erases,
     }
 }
 
@@ -179,7 +182,7 @@ pub(crate) fn call_of(begun: Begun) -> FlashCall
     let job = next_job(begun.runs);
     let logical = next_page(begun.runs);
     match begun.call {
-        None => made(slot, act, job, logical, 0, 0, 0, 0, NO_NAME),
+        None => made(slot, act, job, logical, 0, 0, 0, 0, NO_NAME, 0),
         Some(Call::Read { place, bytes }) => {
             made(
                 slot,
@@ -191,9 +194,16 @@ pub(crate) fn call_of(begun: Begun) -> FlashCall
                 place.page,
                 0,
                 name_of(bytes),
+                0,
             )
         }
-        Some(Call::Program { place, bytes }) => {
+        Some(
+            Call::Program {
+                place,
+                bytes,
+                erases,
+            },
+        ) => {
             made(
                 slot,
                 act,
@@ -204,11 +214,12 @@ pub(crate) fn call_of(begun: Begun) -> FlashCall
                 place.page,
                 0,
                 name_of(bytes),
+                erases,
             )
         }
         Some(Call::Erase { block, last }) => {
-            made(slot, act, job, logical, 3, block, 0, flag(last), NO_NAME)
+            made(slot, act, job, logical, 3, block, 0, flag(last), NO_NAME, 0)
         }
-        Some(Call::Trim { .. }) => made(slot, act, job, logical, 4, 0, 0, 0, NO_NAME),
+        Some(Call::Trim { .. }) => made(slot, act, job, logical, 4, 0, 0, 0, NO_NAME, 0),
     }
 }

@@ -8,7 +8,7 @@ ghost use Rattle.flash_c.specs.Conversions.{number_in};
 /// The name of a refusal's number.
 pub(crate) fn name_of(refusal: u32) -> &'static str
     ensures name { result.now ≡ name_at refusal }
-    ensures short { length result.now ≤ 13 }
+    ensures short { length result.now ≤ 16 }
 {
     if refusal > 400 {
         plan_name_of(refusal)
@@ -20,7 +20,7 @@ pub(crate) fn name_of(refusal: u32) -> &'static str
 /// The name of a number up to 400.
 fn own_name_of(refusal: u32) -> &'static str
     ensures name { result.now ≡ name_among names refusal }
-    ensures short { length result.now ≤ 13 }
+    ensures short { length result.now ≤ 16 }
 {
     match refusal {
         0 => "Ok",
@@ -63,6 +63,7 @@ fn own_name_of(refusal: u32) -> &'static str
         112 => "WrongStep",
         113 => "TooManyCells",
         114 => "BadLabel",
+        115 => "CheckpointStands",
         201 => "Empty",
         202 => "NotRising",
         203 => "UnknownJob",
@@ -81,10 +82,10 @@ fn own_name_of(refusal: u32) -> &'static str
     }
 }
 
-/// The name of a number above 400: of a refusal of a die that keeps its plan.
+/// The name of a number above 400: of a refusal of a die that keeps its plan, or of a table of spare blocks.
 fn plan_name_of(refusal: u32) -> &'static str
     ensures name { result.now ≡ name_among plan_names refusal }
-    ensures short { length result.now ≤ 13 }
+    ensures short { length result.now ≤ 16 }
 {
     match refusal {
         401 => "TooManyWrites",
@@ -98,6 +99,8 @@ fn plan_name_of(refusal: u32) -> &'static str
         409 => "TooFewPages",
         410 => "AskWaits",
         411 => "NotStocked",
+        501 => "NoSpare",
+        502 => "NoBlock",
         _ => "Unknown",
     }
 }

@@ -50,6 +50,22 @@ erasing_outside pages cells filled erasing erases block same past =
     ap (λ (x : Block). x.erasing) (get_or_past (blocks_of pages cells filled erasing erases) block free_block
     (omega (arith, same, past, count_is pages cells filled erasing erases)))
 
+-- what the list of its erases says of a block
+
+pub erases_in : (pages : ℕ) (cells : List PageData) (filled erasing erases : List ℕ) (block n : ℕ) → length filled ≡ length erases
+    → block < length erases → n ≡ get_or erases block n → (block_at (blocks_of pages cells filled erasing erases) block).erases ≡ n
+erases_in pages cells filled erasing erases block n same within look =
+    let below : block < length filled = omega (arith, same, within) in
+    ap (λ (x : Block). x.erases) (block_is pages cells filled erasing erases block below)
+    ∙ sym (get_or_read erases block n within look 0)
+
+pub erases_outside : (pages : ℕ) (cells : List PageData) (filled erasing erases : List ℕ) (block : ℕ)
+    → length filled ≡ length erases → length erases ≤ block
+    → (block_at (blocks_of pages cells filled erasing erases) block).erases ≡ 0
+erases_outside pages cells filled erasing erases block same past =
+    ap (λ (x : Block). x.erases) (get_or_past (blocks_of pages cells filled erasing erases) block free_block
+    (omega (arith, same, past, count_is pages cells filled erasing erases)))
+
 -- what a lookup's test says
 pub within : {a b : ℕ} → true ≡ ltb a b → a < b
 within {a = a} {b = b} test = ltb-true a b (sym test)

@@ -124,6 +124,16 @@ impl MemoryNand {
             None => 1 == self.shape.erase_slots,
         }
     }
+
+    /// How often a block was erased; 0 where the device doesn't have it.
+    pub fn erases(&self, block: u32) -> u32
+        ensures { result ≡ (block_at self.now.blocks block).erases }
+    {
+        match self.erases.get(block as usize) {
+            Some(erases) => *erases,
+            None => 0,
+        }
+    }
 }
 
 impl Nand for MemoryNand {

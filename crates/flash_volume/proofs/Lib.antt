@@ -12,6 +12,8 @@ pub mod Worn
 pub mod Stepping
 pub mod Pigeon
 pub mod Resuming
+pub mod Unused
 pub mod FreeBlocks
 pub mod FreeMarks
 pub mod FirstCells
+pub mod Binding

@@ -13,3 +13,4 @@ pub mod FirstCells
 pub mod Calls
 pub mod Steps
 pub mod Checkpoints
+pub mod Memory

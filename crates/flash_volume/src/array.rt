@@ -10,13 +10,14 @@ ghost use Rattle.victim_pick.specs.Candidates.{count_of, HasNone, IsLeast};
 ghost use Rattle.page_map.specs.Placing.{blank_map, placing_without};
 ghost use Rattle.flash_die.specs.Flash.{IsFresh, blank, block_at, blocks_after_program, blocks_after_erase_slot};
 ghost use Rattle.flash_volume.specs.Cells.{filled_of, first_worn, is_worn_beyond, open_in, left_open, next_cell, content_at, contents, free_cells};
-ghost use Rattle.flash_volume.specs.Array.{IsSoundArray, no_candidates, without_candidate};
+ghost use Rattle.flash_volume.specs.Array.{IsSoundArray, IsSoundState, without_candidate};
 ghost use Rattle.flash_volume.specs.ArrayCalls.{HasPlaced, HasErased, EndsWithDevice};
 ghost use Rattle.flash_volume.specs.Acts.{IsFirstInBlock};
 
 use crate::candidates::{close_when_filled, leave};
 use crate::fills::Fills;
 use crate::placed_pages::PlacedPages;
+use crate::tables::Tables;
 use flash_die::{Nand, NandCall};
 use slot_types::{PageData, Place, Refusal};
 use std::alloc::Global;
@@ -62,30 +63,35 @@ impl<N: Nand> Model for PageArray<N> {
 }
 
 impl<N: Nand> PageArray<N> {
-    /// An array of `logical` pages on a fresh device, none of which was written.
-    pub(crate) fn new(alloc: Global, device: N, logical: u32) -> Result<Self, Refusal>
-        requires limits { IsShape (N.shape_of device) }
-        requires fresh { IsFresh (N.shape_of device) (N.blocks device) (N.failures device) }
-        ensures ok { IfOk result (λ array. array ≡ record {
-          failed = false;
-          device = device;
-          placing = blank_map (N.shape_of device) logical;
-          candidates = no_candidates
-              (N.shape_of device);
-        }) }
-        ensures sound { IfOk result (IsSoundArray N.shape_of N.failures N.blocks) }
-        ensures err { FailsForMemory result }
+    /// An array over a device to which these tables belong.
+    pub(crate) fn over(device: N, tables: Tables) -> Self
+        requires { IsSoundState (N.shape_of device) (N.failures device) (N.blocks device)
+            tables.placed tables.fills tables.erases.items
+            tables.writing tables.victims }
+        ensures { result
+            ≡ record {
+              failed = false;
+              device = device;
+              placing = tables.placed;
+              candidates = tables.victims;
+            } }
     {
-        let shape = device.shape();
-        Ok(PageArray {
+        let Tables {
+            placed,
+            fills,
+            writing,
+            erases,
+            victims,
+        } = tables;
+        PageArray {
             device,
-            placed: PlacedPages::new(alloc, shape, logical)?,
-            fills: Fills::of(alloc, vec![in alloc; 0; shape.blocks as usize]?)?,
-            erases: vec![in alloc; 0; shape.blocks as usize]?,
-            writing: None,
-            victims: Victims::new(alloc, shape.blocks, shape.pages)?,
+            placed,
+            fills,
+            writing,
+            erases,
+            victims,
             failed: false,
-        })
+        }
     }
 
     /// Whether the device has failed.

@@ -8,6 +8,7 @@ mod collection;
 mod faults;
 mod fills;
 mod free_blocks;
+mod memory;
 mod next_calls;
 mod placed_pages;
 mod resumed;
@@ -15,4 +16,5 @@ mod tables;
 mod volume;
 
 pub use collection::{Began, CollectStep, Collected, Collection, Copied};
+pub use memory::VolumeMemory;
 pub use volume::Volume;

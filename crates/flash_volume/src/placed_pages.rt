@@ -47,26 +47,19 @@ impl PlacedPages {
         })
     }
 
-    /// Of a die of fewer than 2^32 cells, where each page lies where `places` has it, and no two in one cell. Refused
-    /// with `NoMemory` alone.
-    pub(crate) fn of_places(
-        alloc: Global,
-        shape: Shape,
-        places: &[Option<Place>],
-    ) -> Result<Self, Refusal>
-        requires cells { AreCells shape places.now }
-        requires few_cells { shape.blocks * shape.pages < 2 ^ 32 }
-        requires few { length places.now < 2 ^ 32 }
-        ensures ok { IfOk result (λ placed.
-            placed ≡ record { shape = shape; places = places.now }) }
-        ensures err { FailsForMemory result }
+    /// Lets each page lie where `places` has it, and no two in one cell, where none lies anywhere yet. It takes no
+    /// memory.
+    pub(crate) fn bind_all(&mut self, places: &[Option<Place>])
+        requires blank { self.old ≡ blank_map self.old.shape (length places.now) }
+        requires cells { AreCells self.old.shape places.now }
+        requires apart { HaveOwnCells places.now }
+        ensures { self.new ≡ record { shape = self.old.shape; places = places.now } }
     {
-        let map = match PageMap::of_places(alloc, shape, places) {
-            Ok(map) => map,
-            Err(_) => return Err(Refusal::NoMemory),
-        };
-        let firsts = vec![in alloc; 0; shape.blocks as usize]?;
-        Ok(PlacedPages { map, firsts })
+        for page in 0..self.map.pages() {
+            if let Some(place) = places[page as usize] {
+                self.bind(page, place);
+            }
+        }
     }
 
     /// The map.

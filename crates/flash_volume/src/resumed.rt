@@ -1,66 +1,19 @@
-//! A volume that goes on over a device as it was left, and what it takes for that.
+//! What stands in a volume, from which another one goes on.
 
-ghost use Rattle.std.specs.Prelude.{◌≡◌, ◌<◌, ℕ, slice_index, false, length, map, IfOk, IfErr};
+ghost use Rattle.std.specs.Prelude.{◌≡◌, ◌<◌, ℕ, slice_index, false, length, map, IfOk};
 ghost use Rattle.slot_types.specs.Refusal.{FailsForMemory};
-ghost use Rattle.die_checkpoint.specs.Fits.{Fits};
 ghost use Rattle.die_checkpoint.specs.Counts.{counts_at};
-ghost use Rattle.flash_volume.specs.Array.{IsSoundState};
 ghost use Rattle.flash_volume.specs.Cells.{contents};
-ghost use Rattle.flash_volume.specs.Checkpoints.{IsIdle, IsAsLeft, resumed_volume, checkpoint_of, counts_of};
+ghost use Rattle.flash_volume.specs.Checkpoints.{IsIdle, IsAsLeft, checkpoint_of, counts_of};
 
 use crate::array::PageArray;
-use crate::tables::Tables;
 use crate::volume::Volume;
 use die_checkpoint::{BlockCounts, Checkpoint};
 use flash_die::Nand;
-use page_ledger::Ledger;
-use slot_types::{DiePlan, Items, Refusal};
+use slot_types::{Items, Refusal};
 use std::alloc::Global;
 
 impl<N: Nand> Volume<N> {
-    /// A volume that goes on from a checkpoint, over the device that it was taken of. It calls no device, and looks at
-    /// each block, page and cell once.
-    ///
-    /// The checkpoint fits the plan, and the device is of the plan's shape and as the checkpoint says; the last is
-    /// trusted, since a device can't be asked. The device is handed back where memory is refused, the only cause; the
-    /// plan is given up then.
-    pub fn resume(
-        alloc: Global,
-        plan: DiePlan,
-        device: N,
-        checkpoint: &Checkpoint,
-    ) -> Result<Self, N>
-        requires fits { Fits plan checkpoint.now }
-        requires shape { N.shape_of device ≡ plan.shape }
-        requires left { IsAsLeft checkpoint.now (N.blocks device) (N.failures device) }
-        ensures ok { IfOk result (λ volume.
-            volume ≡ resumed_volume N.blocks plan checkpoint.now device) }
-        ensures err { IfErr result (λ returned. returned ≡ device) }
-    {
-        let tables = match Tables::of(alloc, &plan, checkpoint) {
-            Ok(tables) => tables,
-            Err(_) => return Err(device),
-        };
-        let running = match vec![in alloc; None; plan.caps.len()] {
-            Ok(running) => running,
-            Err(_) => return Err(device),
-        };
-        let ledger = match Ledger::resume(
-            alloc,
-            plan,
-            checkpoint.spare,
-            checkpoint.balances.as_slice(),
-        ) {
-            Ok(ledger) => ledger,
-            Err(_) => return Err(device),
-        };
-        Ok(Volume {
-            ledger,
-            array: PageArray::over(device, tables),
-            running,
-        })
-    }
-
     /// What stands: where each page lies, of each block its programmed pages and its erases, the spare pages and the
     /// balances. It doesn't have what jobs hold, nor what collections do. Where no block is in erase, the device is as
     /// it says. Refused with `NoMemory` alone.
@@ -92,37 +45,6 @@ impl<N: Nand> Volume<N> {
 }
 
 impl<N: Nand> PageArray<N> {
-    /// An array over a device to which these tables belong.
-    fn over(device: N, tables: Tables) -> Self
-        requires { IsSoundState (N.shape_of device) (N.failures device) (N.blocks device)
-            tables.placed tables.fills tables.erases.items
-            tables.writing tables.victims }
-        ensures { result
-            ≡ record {
-              failed = false;
-              device = device;
-              placing = tables.placed;
-              candidates = tables.victims;
-            } }
-    {
-        let Tables {
-            placed,
-            fills,
-            writing,
-            erases,
-            victims,
-        } = tables;
-        PageArray {
-            device,
-            placed,
-            fills,
-            writing,
-            erases,
-            victims,
-            failed: false,
-        }
-    }
-
     /// What a checkpoint says of the blocks.
     fn counts(&self, alloc: Global) -> Result<Vec<BlockCounts>, Refusal>
         requires alive { self.now.failed ≡ false }

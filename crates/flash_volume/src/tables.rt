@@ -1,19 +1,22 @@
-//! What an array of pages keeps beside its device, made from a checkpoint.
+//! What an array of pages keeps beside its device: blank, and then as a checkpoint has it.
 
-ghost use Rattle.std.specs.Prelude.{◌≡◌, ◌<◌, ◌≤◌, ℕ, length, map, position, count_by, slice_index, IfOk, IfSome};
+ghost use Rattle.std.specs.Prelude.{◌≡◌, ◌<◌, ◌≤◌, ◌^◌, ℕ, length, map, position, count_by, IfOk, IfSome};
 ghost use Rattle.slot_types.specs.Refusal.{FailsForMemory};
 ghost use Rattle.slot_types.specs.Places.{is_in};
+ghost use Rattle.slot_types.specs.Shapes.{IsShape};
 ghost use Rattle.die_checkpoint.specs.Counts.{counts_at};
 ghost use Rattle.die_checkpoint.specs.Fits.{Fits};
 ghost use Rattle.die_checkpoint.specs.declared.checkpoint.BlockCounts.{BlockCounts};
+ghost use Rattle.flash_volume.specs.Array.{no_candidates};
 ghost use Rattle.flash_volume.specs.Cells.{is_open_with};
 ghost use Rattle.flash_volume.specs.Checkpoints.{AreClosedBelow, AreTablesOf};
+ghost use Rattle.flash_volume.specs.Memory.{AreBlank};
 
 use crate::fills::Fills;
 use crate::placed_pages::PlacedPages;
 use die_checkpoint::{BlockCounts, Checkpoint};
 use page_map::PageMap;
-use slot_types::{DiePlan, Refusal};
+use slot_types::{DiePlan, Refusal, Shape};
 use std::alloc::Global;
 use victim_pick::Victims;
 
@@ -32,59 +35,76 @@ pub(crate) struct Tables {
 }
 
 impl Tables {
-    /// The tables of a checkpoint. Refused with `NoMemory` alone.
-    pub(crate) fn of(
-        alloc: Global,
-        plan: &DiePlan,
-        checkpoint: &Checkpoint,
-    ) -> Result<Self, Refusal>
-        requires fits { Fits plan.now checkpoint.now }
-        ensures ok { IfOk result (AreTablesOf plan.now.shape checkpoint.now) }
+    /// Tables of a device on which nothing was written. Refused with `NoMemory` alone.
+    pub(crate) fn blank(alloc: Global, shape: Shape, logical: u32) -> Result<Self, Refusal>
+        requires limits { IsShape shape }
+        ensures ok { IfOk result (AreBlank shape logical) }
         ensures err { FailsForMemory result }
     {
+        let placed = PlacedPages::new(alloc, shape, logical)?;
+        let fills = Fills::of(alloc, vec![in alloc; 0; shape.blocks as usize]?)?;
+        let erases = vec![in alloc; 0; shape.blocks as usize]?;
+        let victims = Victims::new(alloc, shape.blocks, shape.pages)?;
+        Ok(Tables {
+            placed,
+            fills,
+            writing: None,
+            erases,
+            victims,
+        })
+    }
+
+    /// Blank tables become those of a checkpoint. It takes no memory.
+    pub(crate) fn resume(self, plan: &DiePlan, checkpoint: &Checkpoint) -> Tables
+        requires fits { Fits plan.now checkpoint.now }
+        requires blank { AreBlank plan.now.shape plan.now.logical self }
+        ensures { AreTablesOf plan.now.shape checkpoint.now result }
+    {
+        let Tables {
+            mut placed,
+            mut fills,
+            writing: _,
+            mut erases,
+            mut victims,
+        } = self;
         let blocks = checkpoint.blocks.as_slice();
-        let placed = PlacedPages::of_places(alloc, plan.shape, checkpoint.places.as_slice())?;
-        let fills = Fills::of(alloc, fills_of(alloc, blocks)?)?;
+        placed.bind_all(checkpoint.places.as_slice());
+        put_fills(&mut fills, blocks);
+        put_erases(&mut erases, blocks);
+        close_all(&mut victims, plan.shape, blocks, placed.map());
         let writing = match open_at(fills.as_slice(), plan.shape.pages) {
             Some(block) => Some(block as u32),
             None => None,
         };
-        let erases = erases_of(alloc, blocks)?;
-        let victims = closed_blocks(alloc, plan, blocks, placed.map())?;
-        Ok(Tables {
+        Tables {
             placed,
             fills,
             writing,
             erases,
             victims,
-        })
+        }
     }
 }
 
-/// By block how many of its cells are programmed.
-fn fills_of(alloc: Global, blocks: &[BlockCounts]) -> Result<Vec<u32>, Refusal>
-    ensures ok { IfOk result (λ fills.
-        fills.items ≡ map (λ (b : BlockCounts). b.filled) blocks.now) }
-    ensures err { FailsForMemory result }
+/// By block how many of its cells are programmed, as a checkpoint has it.
+fn put_fills(fills: &mut Fills, blocks: &[BlockCounts])
+    requires len { length fills.old ≡ length blocks.now }
+    requires few { length blocks.now < 2 ^ 32 }
+    ensures { fills.new ≡ map (λ (b : BlockCounts). b.filled) blocks.now }
 {
-    let mut fills = vec![in alloc; 0; blocks.len()]?;
     for block in 0..blocks.len() {
-        fills[block] = blocks[block].filled;
+        fills.set(block as u32, blocks[block].filled);
     }
-    Ok(fills)
 }
 
-/// By block its finished erases.
-fn erases_of(alloc: Global, blocks: &[BlockCounts]) -> Result<Vec<u32>, Refusal>
-    ensures ok { IfOk result (λ erases.
-        erases.items ≡ map (λ (b : BlockCounts). b.erases) blocks.now) }
-    ensures err { FailsForMemory result }
+/// By block its finished erases, as a checkpoint has them.
+fn put_erases(erases: &mut [u32], blocks: &[BlockCounts])
+    requires { length erases.old ≡ length blocks.now }
+    ensures { erases.new ≡ map (λ (b : BlockCounts). b.erases) blocks.now }
 {
-    let mut erases = vec![in alloc; 0; blocks.len()]?;
     for block in 0..blocks.len() {
         erases[block] = blocks[block].erases;
     }
-    Ok(erases)
 }
 
 /// The open block.
@@ -97,29 +117,19 @@ fn open_at(fills: &[u32], pages: u32) -> Option<usize>
         .position(|filled| 0 < *filled && *filled < pages)
 }
 
-/// The closed blocks, as candidates for a collection.
-fn closed_blocks(
-    alloc: Global,
-    plan: &DiePlan,
-    blocks: &[BlockCounts],
-    map: &PageMap,
-) -> Result<Victims, Refusal>
-    requires blocks { length blocks.now ≡ plan.now.shape.blocks }
-    requires shape { map.now.shape ≡ plan.now.shape }
+/// The closed blocks become candidates for a collection, where none is one yet.
+fn close_all(victims: &mut Victims, shape: Shape, blocks: &[BlockCounts], map: &PageMap)
+    requires none { victims.old ≡ no_candidates shape }
+    requires blocks { length blocks.now ≡ shape.blocks }
+    requires shape { map.now.shape ≡ shape }
     requires few { (block : ℕ) → count_by (is_in block) map.now.places
         ≤ (counts_at blocks.now block).filled }
-    ensures ok { IfOk result (λ victims.
-        AreClosedBelow plan.now.shape.pages blocks.now map.now.places victims
-        plan.now.shape.blocks) }
-    ensures err { FailsForMemory result }
+    ensures { AreClosedBelow shape.pages blocks.now map.now.places victims.new shape.blocks }
 {
-    let pages = plan.shape.pages;
-    let mut victims = Victims::new(alloc, plan.shape.blocks, pages)?;
-    for block in 0..plan.shape.blocks {
+    for block in 0..shape.blocks {
         let counts = blocks[block as usize];
-        if counts.filled == pages {
+        if counts.filled == shape.pages {
             victims.close(block, map.valid(block), counts.erases);
         }
     }
-    Ok(victims)
 }

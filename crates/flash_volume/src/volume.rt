@@ -16,6 +16,7 @@ ghost use Rattle.flash_volume.specs.Pages.{HasRead, HasWritten, KeepsBooks, next
 
 use crate::array::PageArray;
 use crate::collection::Collection;
+use crate::memory::VolumeMemory;
 use flash_die::{Nand, NandCall};
 use page_ledger::Ledger;
 use slot_types::{DiePlan, PageData, Refusal, TaskNo};
@@ -72,13 +73,7 @@ impl<N: Nand> Volume<N> {
         ensures ok { IfOk result (λ volume. volume ≡ fresh_volume plan device) }
         ensures err { FailsForMemory result }
     {
-        let array = PageArray::new(alloc, device, plan.logical)?;
-        let running = vec![in alloc; None; plan.caps.len()]?;
-        Ok(Volume {
-            ledger: Ledger::new(alloc, plan)?,
-            array,
-            running,
-        })
+        Ok(VolumeMemory::take(alloc, plan)?.begin(device))
     }
 
     /// The plan of the die.

@@ -4,7 +4,7 @@ use Rattle.std.specs.Prelude.{All}
 use Rattle.std.specs.List.{AllZip}
 use Rattle.std.proofs.lemmas.List.{length-map, map-append, take_more}
 use Rattle.std.proofs.lemmas.List.Elements.{All-append, All-cons, All-nil}
-use Rattle.task_script.proofs.SameDies.{zip_append}
+use Rattle.task_script.proofs.Gathering.{zip_append}
 use Rattle.flashplan_kept_runs.specs.KeptDies.{AreWithin, HasEmptyLog, KeptDie, KeptStart, begins_of}
 
 -- one more of both

@@ -1,6 +1,7 @@
 -- The calls that a mount made, and what they cost.
-use Rattle.std.specs.Prelude.{◌≡◌, ℕ, ◌+◌, ◌-◌, ◌^◌, min, if◌then◌else◌, Bool, List, [], ◌∷◌, Option, Some, None}
+use Rattle.std.specs.Prelude.{◌≡◌, ℕ, ◌+◌, ◌-◌, ◌^◌, min, if◌then◌else◌, Bool, List, [], ◌∷◌, Option, Some, None, slice_index_or}
 use Rattle.slot_types.specs.declared.pages.PageData.{PageData}
+use Rattle.die_log.specs.Model.Flash.{block_at}
 use Rattle.die_mount.specs.declared.stage.MountCall.{MountCall}
 use Rattle.die_mount.specs.declared.stage.MountCall.TheVariants as does
 use Rattle.die_mount.specs.Mounting.{Mounting, IsStep, call_at, ends_erase_at}
@@ -15,11 +16,15 @@ abbrev pub WentOn : Mounting → List Mounting → Mounting → Type 0
 WentOn first [] m = m ≡ first
 WentOn first (before ∷ earlier) m = WentOn first earlier before × IsStep before m
 
+-- how often a block was erased, as a mount counts
+abbrev pub erases_by : Mounting → ℕ → ℕ
+erases_by m block = slice_index_or m.counts block 0 + (block_at m.cells block).erases
+
 -- the call of the part that a call of a mount is; a program has the bytes that were read last
-abbrev pub part_call : PageData → MountCall → PartCall
-part_call bytes (does.EraseSlot block) = calls.EraseSlot block
-part_call bytes (does.Read place) = calls.Read place
-part_call bytes (does.Program place label) = calls.Program place label bytes
+abbrev pub part_call : Mounting → PageData → MountCall → PartCall
+part_call m bytes (does.EraseSlot block) = calls.EraseSlot block
+part_call m bytes (does.Read place) = calls.Read place
+part_call m bytes (does.Program place label) = calls.Program place label (erases_by m place.block) bytes
 
 -- one more, up to the greatest number of 64 bits
 abbrev pub one_more : ℕ → ℕ

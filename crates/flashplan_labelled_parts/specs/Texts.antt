@@ -17,6 +17,7 @@ unmounted_text unmounted.NoMemory = codes "NoMemory"
 unmounted_text unmounted.BadPlan = codes "the part isn't one of the plan"
 unmounted_text unmounted.BadLabel = codes "a label isn't one of the part's"
 unmounted_text unmounted.NoIdleBlock = codes "no block is idle, and none may be undone"
+unmounted_text (unmounted.WornOut block) = codes "block " ++ decimal block ++ codes " is worn out"
 unmounted_text (unmounted.Lost page) = codes "page " ++ decimal page ++ codes " is in the newest block alone"
 unmounted_text (unmounted.Misused misuse) = misuse_text misuse
 unmounted_text unmounted.Endless = codes "the mount doesn't end"

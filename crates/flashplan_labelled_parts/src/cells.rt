@@ -12,6 +12,10 @@ pub enum Cell {
     Blank,
     /// It shows no label.
     Torn,
-    /// It shows a label, and the bytes of a page.
-    Good { label: Label, bytes: PageData },
+    /// It shows a label, how often its block was erased, and the bytes of a page.
+    Good {
+        label: Label,
+        erases: u32,
+        bytes: PageData,
+    },
 }

@@ -40,6 +40,20 @@ fn labels_of(alloc: Global, part: &Part, block: u32) -> Result<Vec<Option<Label>
     Ok(labels)
 }
 
+/// How often a block was erased, by the label that says the most; none where it shows none.
+fn erases_of(part: &Part, block: u32) -> Option<u32> {
+    let mut most = None;
+    for page in 0..part.pages() {
+        if let Some(Cell::Good { erases, .. }) = part.cell(Place { block, page }) {
+            most = match most {
+                Some(before) if erases <= before => Some(before),
+                _ => Some(erases),
+            };
+        }
+    }
+    most
+}
+
 /// What a scan has of a part, without the labels of a block, if one is named.
 fn scan_part(
     alloc: Global,
@@ -58,7 +72,10 @@ fn scan_part(
         } else {
             labels_of(alloc, part, block)?
         };
-        if scan.tell(labels.as_slice()).is_err() {
+        if scan
+            .tell(labels.as_slice(), erases_of(part, block))
+            .is_err()
+        {
             return Err(Unmounted::BadLabel);
         }
     }
@@ -103,6 +120,7 @@ fn unbegun(fault: BeginFault) -> Unmounted {
     match fault {
         BeginFault::BadPlan => Unmounted::BadPlan,
         BeginFault::NoIdleBlock => Unmounted::NoIdleBlock,
+        BeginFault::WornOut { block } => Unmounted::WornOut { block },
         BeginFault::NoMemory => Unmounted::NoMemory,
     }
 }
@@ -149,13 +167,14 @@ impl PartMount {
 
     /// What a call of the mount is to the part.
     fn part_call(&self, call: MountCall) -> PartCall
-        ensures { result ≡ part_call self.now.held call }
+        ensures { result ≡ part_call self.now.mount self.now.held call }
     {
         match call {
             MountCall::Read { place } => PartCall::Read { place },
             MountCall::Program { place, label } => PartCall::Program {
                 place,
                 label,
+                erases: self.mount.erases(place.block),
                 bytes: self.held,
             },
             MountCall::EraseSlot { block } => PartCall::EraseSlot { block },
@@ -164,7 +183,7 @@ impl PartMount {
 
     /// The call of the part that comes next; none at its end.
     pub(crate) fn next(&self) -> Option<PartCall>
-        ensures { result ≡ option_map (part_call self.now.held)
+        ensures { result ≡ option_map (part_call self.now.mount self.now.held)
             (call_at self.now.mount.next self.now.mount.stage) }
     {
         match self.mount.next() {

@@ -10,10 +10,11 @@ pub enum PartCall {
     Read {
         place: Place,
     },
-    /// Programs a cell with a page and its label.
+    /// Programs a cell with a page, its label, and how often the block was erased.
     Program {
         place: Place,
         label: Label,
+        erases: u32,
         bytes: PageData,
     },
     /// Does one slot of the erase of a block.

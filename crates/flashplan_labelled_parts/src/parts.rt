@@ -125,8 +125,16 @@ impl Part {
             PartCall::Program {
                 place,
                 label,
+                erases,
                 bytes,
-            } => self.program(place, Cell::Good { label, bytes }),
+            } => {
+                let good = Cell::Good {
+                    label,
+                    erases,
+                    bytes,
+                };
+                self.program(place, good)
+            }
             PartCall::EraseSlot { block } => self.erase_slot(block),
         }
     }

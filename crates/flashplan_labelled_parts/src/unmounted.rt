@@ -19,6 +19,8 @@ pub enum Unmounted {
     BadLabel,
     /// A page is found in each block, also where the newest is undone.
     NoIdleBlock,
+    /// With the mount this block might have too many erases.
+    WornOut { block: u32 },
     /// This page is found in the newest block alone, which is to be undone.
     Lost { page: u32 },
     /// A call that no part does.
@@ -86,6 +88,7 @@ impl Display for Unmounted {
             Unmounted::BadPlan => f.write_str("the part isn't one of the plan"),
             Unmounted::BadLabel => f.write_str("a label isn't one of the part's"),
             Unmounted::NoIdleBlock => f.write_str("no block is idle, and none may be undone"),
+            Unmounted::WornOut { block } => write!(f, "block {block} is worn out"),
             Unmounted::Lost { page } => write!(f, "page {page} is in the newest block alone"),
             Unmounted::Misused(misuse) => f.write_str(misuse_text(*misuse)),
             Unmounted::Endless => f.write_str("the mount doesn't end"),

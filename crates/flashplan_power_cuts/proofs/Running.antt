@@ -1,5 +1,5 @@
 -- What a slot or a row is to a die on a part, as one that runs the rows of a script, and to what is noted of its writes.
-use Rattle.std.proofs.Common.{◌≡◌, ◌⊎◌, ℕ, ◌+◌, List, [], ◌∷◌, ◌++◌, Option, Some, None, Result, ap, ◌∙◌, sym, subst, inl, inr, false, true, refl}
+use Rattle.std.proofs.Common.{◌≡◌, ◌⊎◌, ℕ, ◌+◌, List, ◌++◌, Some, None, Result, ap, ◌∙◌, sym, subst, inl, inr, false, true, refl}
 use Rattle.std.specs.Prelude.{IfSome}
 use Rattle.std.proofs.lemmas.List.{append-nil, length_push}
 use Rattle.slot_types.specs.Arrivals.{IsArrival}
@@ -21,7 +21,7 @@ use Rattle.stepped_die.specs.Stepped.{Stepped}
 use Rattle.stepped_die.specs.declared.calls.Begun.{Begun}
 use Rattle.stepped_die.specs.declared.refusals.StepRefusal.{StepRefusal}
 use Rattle.stepped_die.specs.declared.refusals.StepRefusal.TheVariants as steps
-use Rattle.flashplan_script_runs.specs.RunningDies.{Accepts, CarriesSlot, IsAsked, RefusesSlot, RunningDie, running_of as core_running}
+use Rattle.flashplan_script_runs.specs.RunningDies.{Accepts, CarriesSlot, RefusesSlot, RunningDie, running_of as core_running}
 use Rattle.flashplan_script_runs.proofs.Calls.{not_both}
 use Rattle.flashplan_power_cuts.specs.declared.cut_dies.Ended.{Ended}
 use Rattle.flashplan_power_cuts.specs.declared.cut_dies.Ended.TheVariants as ends

@@ -1,5 +1,5 @@
 -- A run of what a reader has left is one of its text.
-use Rattle.std.proofs.Common.{◌≡◌, ℕ, List, length, map, ◌∙◌, Option, Some}
+use Rattle.std.proofs.Common.{◌≡◌, ℕ, List, length, map, Option, Some}
 use Rattle.std.specs.Prelude.{slice_get, option_map}
 use Rattle.std.proofs.lemmas.List.{length-map}
 use Rattle.slot_types.specs.declared.plans.DiePlan.{DiePlan}

@@ -30,7 +30,7 @@ IsUnplaced die page = place_of (cells die.core.start die.core.log).places page �
 
 -- the write that a slot makes, by its call and by what it does
 abbrev pub write_by : Option Call → Option (ℕ × NextAct) → Option PageWrite
-write_by (Some (calls.Program place bytes)) (Some (job, acts.Write page)) = Some (record { page = page; bytes = bytes })
+write_by (Some (calls.Program place bytes erases)) (Some (job, acts.Write page)) = Some (record { page = page; bytes = bytes })
 write_by call runs = None
 
 -- that of the slot which has begun

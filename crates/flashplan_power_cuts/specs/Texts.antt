@@ -44,7 +44,7 @@ runs_text (Some (job, act)) = act_text job act
 -- where it does that; of an erase, in which of its slots
 abbrev pub cell_text : PartCall → ℕ → List ℕ
 cell_text (calls.Read place) slot = codes " block " ++ decimal place.block ++ codes " cell " ++ decimal place.page
-cell_text (calls.Program place label bytes) slot =
+cell_text (calls.Program place label erases bytes) slot =
     codes " block " ++ decimal place.block ++ codes " cell " ++ decimal place.page ++ codes ", serial " ++ decimal label.serial
 cell_text (calls.EraseSlot block) slot = codes " block " ++ decimal block ++ codes ", slot " ++ decimal slot
 

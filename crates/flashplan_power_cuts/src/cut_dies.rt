@@ -102,12 +102,19 @@ pub fn part_call(die: &SteppedDie, begun: &Begun) -> Option<PartCall> {
         Some(Call::Read { place, .. }) => Some(PartCall::Read {
             place: on_part(die, place),
         }),
-        Some(Call::Program { place, bytes }) => Some(PartCall::Program {
+        Some(
+            Call::Program {
+                place,
+                bytes,
+                erases,
+            },
+        ) => Some(PartCall::Program {
             place: on_part(die, place),
             label: Label {
                 page: programmed(act_of(begun)),
                 serial: die.part().serial,
             },
+            erases,
             bytes,
         }),
         Some(Call::Erase { block, .. }) => Some(PartCall::EraseSlot {
@@ -222,6 +229,8 @@ fn step_die(alloc: Global, die: &mut SteppedDie, beneath: &mut Beneath) -> Resul
     ensures idle { OnOk result (die.new.begun ≡ None) }
     ensures earlier { beneath.new.earlier.items ≡ beneath.old.earlier.items }
 {
+    // It was begun afresh or by a mount: nobody keeps a checkpoint of it.
+    die.checkpoint_void();
     let begun = match die.begin(alloc, 0) {
         Ok(begun) => begun,
         Err(StepRefusal::Die(Refusal::NoMemory)) => return Err(Ended::NoMemory),

@@ -22,7 +22,11 @@ fn saved_page(place: Option<Place>, names: &Items<PageData>, page: usize) -> Sav
 fn saved_of(alloc: Global, taken: NamedCheckpoint) -> Result<SavedDie, Refusal>
     ensures { FailsForMemory result }
 {
-    let NamedCheckpoint { checkpoint, names } = taken;
+    let NamedCheckpoint {
+        checkpoint,
+        names,
+        ..
+    } = taken;
     let mut pages = Items::new(alloc);
     let mut page: usize = 0;
     for place in checkpoint.places.as_slice() {

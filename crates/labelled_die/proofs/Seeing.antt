@@ -1,7 +1,8 @@
 -- What a look at one cell more, and at one block more, adds to what is shown.
-use Rattle.std.proofs.Common.{◌≡◌, ℕ, ◌+◌, ◌<◌, List, [], ◌∷◌, ◌++◌, length, refl, ap, sym, ◌∙◌, subst, arith}
+use Rattle.std.proofs.Common.{◌≡◌, ◌⊎◌, ℕ, ◌+◌, ◌<◌, ◌≤◌, List, [], ◌∷◌, ◌++◌, length, Option, None, get_or, set, refl, ap, sym, ◌∙◌, subst, inl, inr, arith}
+use Rattle.std.proofs.lemmas.Bool.{cases_eq, cases_lt}
 use Rattle.std.specs.Prelude.{option_map}
-use Rattle.std.proofs.lemmas.List.{length-map, map-append}
+use Rattle.std.proofs.lemmas.List.{get_or_past, get_or-set_other, get_or-set_same, length-map, length-set, map-append}
 use Rattle.std.proofs.lemmas.List.FromFn.{length-map-range_with_len, map-range_with_len_more}
 use Rattle.slot_types.specs.declared.pages.Place.{Place}
 use Rattle.slot_types.specs.declared.plans.DiePlan.{DiePlan}
@@ -11,7 +12,7 @@ use Rattle.die_mount.specs.Faults.{IsFirstBad, IsMountPlan}
 use Rattle.die_mount.specs.Told.{HaveFitLabels, told_cells, told_label}
 use Rattle.labelled_die.specs.declared.scanning.PartFault.{PartFault}
 use Rattle.labelled_die.specs.declared.scanning.PartFault.TheVariants as faults
-use Rattle.labelled_die.specs.Scanning.{blocks_shown, cells_shown, IsOtherLabel, IsSamePart, RefusesBlock, RefusesScan}
+use Rattle.labelled_die.specs.Scanning.{blocks_shown, cells_shown, IsOtherLabel, IsSamePart, IsUntold, RefusesBlock, RefusesScan}
 use Rattle.power_loss.specs.Aside.{part_of}
 use Rattle.power_loss.specs.Labels.{Labels, Shown, label_at}
 
@@ -68,3 +69,12 @@ refuses plan shape blocks block failures (faults.OtherLabel b cell) may is fit h
   }),
 )
 refuses plan shape blocks block failures faults.DeviceFault may is fit h = (may, is, h)
+
+-- a block more of whose erases nothing is reported
+pub untold_on : (old new : List (Option ℕ)) (at : ℕ) → new ≡ set old at None → IsUntold old → IsUntold new
+untold_on old new at is none block = ap (λ (told : List (Option ℕ)). get_or told block None) is ∙ by_case (cases_eq block at) (cases_lt at (length old))
+  where
+    by_case : (block ≡ at) ⊎ (block ≡ at → ⊥) → (at < length old) ⊎ (length old ≤ at) → get_or (set old at None) block None ≡ None
+    by_case (inl own) (inl below) = ap (λ (k : ℕ). get_or (set old at None) k None) own ∙ get_or-set_same old at None None below
+    by_case (inl own) (inr past) = get_or_past (set old at None) block None (omega (arith, own, past, length-set old at None))
+    by_case (inr other) any = get_or-set_other old at block None None other ∙ none block

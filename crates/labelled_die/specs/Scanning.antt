@@ -1,5 +1,5 @@
 -- What a scan of a part shows a mount.
-use Rattle.std.specs.Prelude.{◌≡◌, ◌≢◌, ℕ, ◌<◌, List, Option, map}
+use Rattle.std.specs.Prelude.{◌≡◌, ◌≢◌, ℕ, ◌<◌, List, Option, None, map, slice_index_or}
 use Rattle.std.specs.List.{range_with_len}
 use Rattle.slot_types.specs.declared.plans.DiePlan.{DiePlan}
 use Rattle.slot_types.specs.declared.plans.Shape.{Shape}
@@ -22,6 +22,10 @@ blocks_shown blocks pages count = map (λ block. cells_shown blocks block pages)
 -- each cell of a part of this shape
 abbrev pub shown_by : Shape → Shown → Shown
 shown_by shape blocks = blocks_shown blocks shape.pages shape.blocks
+
+-- of no block was reported how often it was erased
+abbrev pub IsUntold : List (Option ℕ) → Type 0
+IsUntold told = (block : ℕ) → slice_index_or told block None ≡ None
 
 -- a look changes nothing on a part
 pub record IsSamePart {N : Type 0} (shape_of : N → Shape) (failures : N → ℕ) (blocks : N → List Block) (labels : N → Labels) (before after : N)

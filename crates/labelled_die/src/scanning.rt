@@ -1,6 +1,6 @@
 //! The scan of a part: what its cells show is reported to a mount.
 
-ghost use Rattle.std.specs.Prelude.{◌≡◌, ◌+◌, ◌<◌, ◌≤◌, ◌↔◌, ℕ, [], Option, option_map, length, IsTrue, IfOk, IfErr, OnOk, OnErr};
+ghost use Rattle.std.specs.Prelude.{◌≡◌, ◌≢◌, ◌+◌, ◌<◌, ◌≤◌, ◌↔◌, ℕ, [], Option, option_map, length, IsTrue, IfOk, IfErr, OnOk, OnErr};
 ghost use Rattle.std.specs.Prelude.{vec_capacity};
 ghost use Rattle.slot_types.specs.declared.pages.PageData.{PageData};
 ghost use Rattle.flash_die.specs.Flash.{block_at};
@@ -10,7 +10,7 @@ ghost use Rattle.die_mount.specs.Faults.{IsMountPlan};
 ghost use Rattle.die_mount.specs.Scanned.{IsScanOf};
 ghost use Rattle.die_mount.specs.Told.{HaveFitLabels, told_cells, told_label};
 ghost use Rattle.labelled_nand.specs.Looks.{Shows};
-ghost use Rattle.labelled_die.specs.Scanning.{blocks_shown, cells_shown, shown_by, IsSamePart, RefusesBlock, RefusesScan};
+ghost use Rattle.labelled_die.specs.Scanning.{blocks_shown, cells_shown, shown_by, IsSamePart, IsUntold, RefusesBlock, RefusesScan};
 
 use die_mount::{Label, MountFault, Scan, ScanFault};
 use labelled_nand::{LabelledNand, Look};
@@ -86,6 +86,7 @@ fn is_mount_plan(plan: &DiePlan) -> bool
 /// A scan of a part of this shape, to which nothing was reported yet.
 fn first_scan(alloc: Global, plan: &DiePlan, shape: Shape) -> Result<Scan, PartFault>
     ensures scan { IfOk result (λ scan. IsScanOf (part_of plan.now) scan []) }
+    ensures untold { IfOk result (λ scan. IsUntold scan.erases) }
     ensures plan { OnOk result (IsMountPlan plan.now) }
     ensures shape { OnOk result (shape ≡ (part_of plan.now).shape) }
     ensures fault { IfErr result (λ fault. (blocks : Shown) (failures : ℕ)
@@ -125,12 +126,16 @@ fn tell_block<N: LabelledNand>(
     requires room { plan.now.shape.pages ≤ vec_capacity cells.old }
     requires scan { IsScanOf (part_of plan.now) scan.old
         (blocks_shown (N.labels part.old).blocks plan.now.shape.pages block) }
+    requires untold { IsUntold scan.old.erases }
     ensures scan { OnOk result (IsScanOf (part_of plan.now) scan.new
         (blocks_shown (N.labels part.old).blocks plan.now.shape.pages (block + 1))) }
+    ensures untold { OnOk result (IsUntold scan.new.erases) }
     ensures fit { OnOk result (HaveFitLabels plan.now.logical
         (told_cells (cells_shown (N.labels part.old).blocks block plan.now.shape.pages))) }
     ensures same { OnOk result (IsSamePart N.shape_of N.failures N.blocks N.labels part.old
         part.new) }
+    ensures unchanged { IfErr result (λ fault. fault ≢ PartFault.DeviceFault
+        → IsSamePart N.shape_of N.failures N.blocks N.labels part.old part.new) }
     ensures lasts { N.lasts part.old → N.lasts part.new }
     ensures room { vec_capacity cells.new ≡ vec_capacity cells.old }
     ensures fault { IfErr result (RefusesBlock plan.now (N.labels part.old).blocks block
@@ -139,7 +144,7 @@ fn tell_block<N: LabelledNand>(
     if look_at(part, block, plan.shape.pages, cells).is_err() {
         return Err(PartFault::DeviceFault);
     }
-    match scan.tell(cells.as_slice()) {
+    match scan.tell(cells.as_slice(), None) {
         Ok(()) => Ok(()),
         Err(ScanFault::BadLabel { cell }) => Err(PartFault::OtherLabel { block, cell }),
         // There are as many blocks as the scan has, and as many cells as a block has.
@@ -148,19 +153,23 @@ fn tell_block<N: LabelledNand>(
     }
 }
 
-/// Looks at each cell of a part, and reports the labels to a scan. The part has one block more than the plan, and none
-/// of its blocks is in erase. It takes time for each cell once, and memory for the scan.
+/// Looks at each cell of a part, and reports the labels to a scan, and of erases nothing: a device counts them from power-up
+/// on. The part has one block more than the plan, and none of its blocks is in erase. It takes time for each cell once, and memory for the scan.
 ///
-/// Refused with the first fault that stands, as [`PartFault`] lists them; nothing on the part has changed then.
+/// Refused with the first fault that stands, as [`PartFault`] lists them; nothing on the part has changed then, unless
+/// the part failed.
 pub fn scan<N: LabelledNand>(alloc: Global, plan: &DiePlan, part: &mut N) -> Result<Scan, PartFault>
     requires counted { length (N.blocks part.old) ≡ (N.shape_of part.old).blocks }
     requires quiet { (block : ℕ) → (block_at (N.blocks part.old) block).erasing ≡ 0 }
     requires well { N.failures part.old ≡ 0 }
     ensures scanned { IfOk result (λ scan. IsScanOf (part_of plan.now) scan
         (shown_by (N.shape_of part.old) (N.labels part.old).blocks)) }
+    ensures untold { IfOk result (λ scan. IsUntold scan.erases) }
     ensures whole { IfOk result (λ scan. scan.told ≡ scan.shape.blocks) }
     ensures same { OnOk result (IsSamePart N.shape_of N.failures N.blocks N.labels part.old
         part.new) }
+    ensures unchanged { IfErr result (λ fault. fault ≢ PartFault.DeviceFault
+        → IsSamePart N.shape_of N.failures N.blocks N.labels part.old part.new) }
     ensures lasts { N.lasts part.old → N.lasts part.new }
     ensures plan { OnOk result (IsMountPlan plan.now) }
     ensures shape { OnOk result (N.shape_of part.old ≡ (part_of plan.now).shape) }

@@ -1,46 +1,27 @@
 //! The accounts of a die that goes on from a quiet moment.
 
-ghost use Rattle.std.specs.Prelude.{◌≡◌, ◌+◌, ◌-◌, ◌*◌, ◌≤◌, ℕ, length, sum, slice_index, IfOk};
-ghost use Rattle.slot_types.specs.Refusal.{FailsForMemory};
-ghost use Rattle.plan_rules.specs.Bound.{MeetsBound};
+ghost use Rattle.std.specs.Prelude.{◌≡◌, ◌+◌, ◌-◌, ◌*◌, ◌≤◌, ℕ, length, sum, slice_index};
+ghost use Rattle.plan_rules.specs.Accounts.{opening_accounts};
 ghost use Rattle.page_ledger.specs.Quiet.{quiet_accounts};
 
 use crate::accounts::Ledger;
-use slot_types::{DiePlan, Refusal};
-use std::alloc::Global;
 
 impl Ledger {
-    /// The accounts at a quiet moment: the spare pages and the balances are these, each hold is 0, each reserve
-    /// `pages - alpha`. They have no more pages than the die, and no balance is above its cap.
-    ///
-    /// `NoMemory` where memory for the accounts is refused; the plan is given up then.
-    pub fn resume(
-        alloc: Global,
-        plan: DiePlan,
-        spare: u32,
-        balances: &[u32],
-    ) -> Result<Self, Refusal>
-        requires bound { MeetsBound plan }
-        requires tasks { length balances.now ≡ length plan.caps }
-        requires capped { (task : ℕ) → slice_index balances.now task ≤ slice_index plan.caps task }
-        requires room { spare + sum balances.now + length plan.caps
-            * (plan.shape.pages - plan.alpha)
-            ≤ plan.shape.blocks * plan.shape.pages }
-        ensures ok { IfOk result (λ ledger. ledger ≡ quiet_accounts plan spare balances.now) }
-        ensures err { FailsForMemory result }
+    /// The accounts at a quiet moment take the place of those of a die on which nothing was written: the spare pages
+    /// and the balances are these, each hold is 0, each reserve `pages - alpha`. They have no more pages than the die,
+    /// and no balance is above its cap. It takes no memory.
+    pub fn resume(&mut self, spare: u32, balances: &[u32])
+        requires opening { self.old ≡ opening_accounts self.old.plan }
+        requires tasks { length balances.now ≡ length self.old.plan.caps }
+        requires capped { (task : ℕ) → slice_index balances.now task
+            ≤ slice_index self.old.plan.caps task }
+        requires room { spare + sum balances.now + length self.old.plan.caps
+            * (self.old.plan.shape.pages - self.old.plan.alpha)
+            ≤ self.old.plan.shape.blocks * self.old.plan.shape.pages }
+        ensures { self.new ≡ quiet_accounts self.old.plan spare balances.now }
     {
-        let tasks = plan.caps.len();
-        let reserve = plan.shape.pages - plan.alpha;
-        let balances = Vec::from_slice(alloc, balances)?;
-        let holds = vec![in alloc; 0; tasks]?;
-        let reserves = vec![in alloc; reserve; tasks]?;
-        Ok(Ledger {
-            plan,
-            spare,
-            balances,
-            holds,
-            reserves,
-        })
+        self.spare = spare;
+        self.balances.copy_from_slice(balances);
     }
 
     /// The balances, by task.

@@ -1,5 +1,5 @@
 -- A call of the mount on its device: it may be made, and the device is as the mount again.
-use Rattle.std.proofs.Common.{◌≡◌, ℕ, ◌+◌, ◌<◌, List, Some, ap, sym, ◌∙◌, subst}
+use Rattle.std.proofs.Common.{◌≡◌, ℕ, ◌+◌, ◌<◌, ◌==◌, cond, get_or, List, Some, ap, sym, ◌∙◌, subst}
 use Rattle.slot_types.specs.declared.pages.PageData.{PageData}
 use Rattle.slot_types.specs.declared.plans.DiePlan.{DiePlan}
 use Rattle.slot_types.specs.declared.plans.Shape.{Shape}
@@ -56,6 +56,7 @@ module _ {N : Type 0} (shape_of : N → Shape) (blocks : N → List Block) (labe
         (subst (λ (bs : List Block). StandsAt after.mount.plan v.erased after.mount.cells bs after.mount.stage)
         (sym (k.blocks_are ∙ ap (λ (n : ℕ). blocks_by n v.held call (blocks v.part)) (slots_are v on)))
         (stands_on v.mount after.mount v.erased (blocks v.part) v.held w k.step call on.at k.is k.stage));
+    one = λ b. ap (λ (counts : List ℕ). get_or counts b 0) k.step.counts ∙ (on.one b ∙ ap (λ (erased : ℕ). cond (b == erased) 1 0) (sym k.erased));
   }
 
   -- and goes by what was seen

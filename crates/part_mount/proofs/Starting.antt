@@ -19,7 +19,7 @@ use Rattle.die_mount.specs.declared.stage.MountCall.{MountCall}
 use Rattle.die_mount.specs.declared.stage.MountCall.TheVariants as calls
 use Rattle.die_mount.specs.declared.stage.Stage.TheVariants as stage
 use Rattle.part_mount.specs.Going.{GoesBySeen, HasLabelsAt, HoldsAt}
-use Rattle.part_mount.specs.OnPart.{IsSoundOnPart, OnPart, StandsAt, closed_beside}
+use Rattle.part_mount.specs.OnPart.{BeginsToCount, CountsOne, IsSoundOnPart, OnPart, StandsAt, closed_beside}
 use Rattle.labelled_nand.specs.PoweredUp.{IsPoweredUp, counts_of}
 
 -- the block of an erase
@@ -51,15 +51,16 @@ stands_first m first shape blocks closed shape_is b e =
 
 pub begins_on : {N : Type 0} (never : Bool) (shape_of : N → Shape) (blocks : N → List device.Block) (labels : N → Labels) (failures : N → ℕ) (v : OnPart N)
     → IsPoweredUp (shape_of v.part) (blocks v.part) (labels v.part) (failures v.part) → shape_of v.part ≡ (part_of v.mount.plan).shape
-    → BeginsFirst v.mount.plan v.mount → call_at v.mount.next v.mount.stage ≡ Some (calls.EraseSlot v.erased) → v.failed ≡ false
+    → BeginsFirst v.mount.plan v.mount → BeginsToCount v.mount → call_at v.mount.next v.mount.stage ≡ Some (calls.EraseSlot v.erased) → v.failed ≡ false
     → IsSoundOnPart never shape_of blocks labels failures v
-begins_on never shape_of blocks labels failures v up shape_is b e well = record {
+begins_on never shape_of blocks labels failures v up shape_is b counts e well = record {
   on = λ _. record {
     shape = shape_is;
     first = subst (λ (i : ℕ). i < v.mount.plan.shape.blocks + 1) (first_is v.mount b.block v.erased b.stage_is e) b.stands;
     well = up.well;
     borne = up.borne;
     at = stands_first v.mount v.erased (shape_of v.part) (blocks v.part) up.closed shape_is b e;
+    one = subst (λ (i : ℕ). CountsOne i v.mount) (first_is v.mount b.block v.erased b.stage_is e) (counts b.block b.stage_is);
   };
   faulted = λ failed. absurd (true≢false (sym failed ∙ well));
   never = λ _. well;

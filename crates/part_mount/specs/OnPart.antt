@@ -1,5 +1,5 @@
 -- A part on which a mount is carried out.
-use Rattle.std.specs.Prelude.{◌≡◌, ℕ, ◌+◌, ◌<◌, Bool, true, false, List, map, replicate, slice_set}
+use Rattle.std.specs.Prelude.{◌≡◌, ℕ, ◌+◌, ◌<◌, ◌==◌, if◌then◌else◌, Bool, true, false, List, map, replicate, slice_index_or, slice_set}
 use Rattle.slot_types.specs.declared.pages.PageData.{PageData}
 use Rattle.slot_types.specs.declared.plans.DiePlan.{DiePlan}
 use Rattle.slot_types.specs.declared.plans.Shape.{Shape}
@@ -30,7 +30,7 @@ on_part part mount erased held failed = record { part = part; mount = mount; era
 abbrev pub erased_more : Block → Block
 erased_more s = record s { erases = s.erases + 1 }
 
--- the erase of the first block is one that a mount doesn't count
+-- the erase of the first block is one that the cells of a mount don't count
 abbrev pub once_erased : (erased : ℕ) → Cells → Cells
 once_erased erased c = record c { blocks = slice_set c.blocks erased (erased_more (block_at c erased)) }
 
@@ -51,6 +51,14 @@ StandsAt plan erased c blocks (stage.Program page from to) = map counts_of block
 StandsAt plan erased c blocks (stage.Erase block slots) = map counts_of blocks ≡ (once_erased erased c).blocks
 StandsAt plan erased c blocks stage.Done = map counts_of blocks ≡ (once_erased erased c).blocks
 
+-- the mount counts the erase of its first block, and knows of no other one before its rounds
+abbrev pub CountsOne : (erased : ℕ) → Mounting → Type 0
+CountsOne erased m = (b : ℕ) → slice_index_or m.counts b 0 ≡ (if b == erased then 1 else 0)
+
+-- so it is as the mount begins
+abbrev pub BeginsToCount : Mounting → Type 0
+BeginsToCount m = (erased : ℕ) → m.stage ≡ stage.First erased 0 → CountsOne erased m
+
 -- the part has the mount's blocks, and each label is that of its cell
 pub record IsOnPart {N : Type 0} (shape_of : N → Shape) (blocks : N → List device.Block) (labels : N → Labels) (failures : N → ℕ) (v : OnPart N)
     : Type 0 where
@@ -59,6 +67,7 @@ pub record IsOnPart {N : Type 0} (shape_of : N → Shape) (blocks : N → List d
   pub well : failures v.part ≡ 0
   pub borne : AreBorne (blocks v.part) (labels v.part).blocks
   pub at : StandsAt v.mount.plan v.erased v.mount.cells (blocks v.part) v.mount.stage
+  pub one : CountsOne v.erased v.mount
 
 -- unless a call has failed, which it never does on a device that never fails; then it was the only one
 pub record IsSoundOnPart {N : Type 0} (never_fails : Bool) (shape_of : N → Shape) (blocks : N → List device.Block) (labels : N → Labels)

@@ -9,7 +9,7 @@ ghost use Rattle.power_loss.specs.Aside.{StandsOnPart, part_of};
 ghost use Rattle.power_loss.specs.Labels.{Shown};
 ghost use Rattle.power_loss.specs.Mounted.{all_count};
 ghost use Rattle.part_mount.specs.Going.{GoesBySeen};
-ghost use Rattle.part_mount.specs.OnPart.{IsSoundOnPart, on_part};
+ghost use Rattle.part_mount.specs.OnPart.{BeginsToCount, IsSoundOnPart, on_part};
 ghost use Rattle.labelled_nand.specs.PoweredUp.{IsPoweredUp};
 
 use crate::carrying::carry_out;
@@ -36,7 +36,7 @@ pub struct PartMount<N: LabelledNand> {
 pub struct MountParts<N> {
     pub part: N,
     pub mount: Mount,
-    /// The block that it erases first. A mount doesn't count that erase (`Mount::finish`), and the part does.
+    /// The block that it erases first.
     pub erased: u32,
     /// What was read last.
     pub held: PageData,
@@ -71,12 +71,14 @@ impl<N: LabelledNand> PartMount<N> {
     /// nothing was done of it yet.
     ///
     /// That the part is as a device that was powered up is the caller's to know: each block counts as closed, and a
-    /// cell with a label holds the label's bytes.
+    /// cell with a label holds the label's bytes. The device counts erases from power-up on, so none were reported to the
+    /// mount before.
     pub fn new(part: N, mount: Mount) -> PartMount<N>
         requires powered { IsPoweredUp (N.shape_of part) (N.blocks part) (N.labels part)
             (N.failures part) }
         requires shape { N.shape_of part ≡ (part_of mount.plan).shape }
         requires first { BeginsFirst mount.plan mount }
+        requires counts { BeginsToCount mount }
         ensures part { result.part ≡ part }
         ensures mount { result.mount ≡ mount }
         ensures well { result.failed ≡ false }
@@ -176,22 +178,6 @@ impl<N: LabelledNand> PartMount<N> {
             erased: self.erased,
             held: self.held,
             failed: self.failed,
-        }
-    }
-
-    /// A mount that goes on with parts of which the same is true.
-    pub fn from_parts(parts: MountParts<N>) -> PartMount<N>
-        requires sound { IsSoundOnPart N.never_fails N.shape_of N.blocks N.labels N.failures
-            (on_part parts.part parts.mount parts.erased parts.held parts.failed) }
-        ensures { result
-            ≡ on_part parts.part parts.mount parts.erased parts.held parts.failed }
-    {
-        PartMount {
-            part: parts.part,
-            mount: parts.mount,
-            erased: parts.erased,
-            held: parts.held,
-            failed: parts.failed,
         }
     }
 }

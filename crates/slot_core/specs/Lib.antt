@@ -8,6 +8,7 @@ pub mod Readings
 pub mod MarkedWorst
 pub mod Renewals
 pub mod Resumptions
+pub mod Memory
 pub mod WithinSlot
 pub mod OpEffects
 pub mod Needs

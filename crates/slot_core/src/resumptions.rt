@@ -1,22 +1,19 @@
 //! A die is written down at a quiet moment, and goes on from there.
 
 ghost use Rattle.std.specs.Prelude.{◌≡◌, [], false, IfOk, IfErr, OnOk};
+ghost use Rattle.die_checkpoint.specs.Faults.{HasCheckpointFault};
 ghost use Rattle.die_checkpoint.specs.Fits.{Fits};
 ghost use Rattle.flash_volume.specs.Checkpoints.{IsAsLeft};
-ghost use Rattle.die_log.specs.Model.Start.{Start};
 ghost use Rattle.die_log.specs.Model.Opening.{renewed_start};
 ghost use Rattle.slot_core.specs.Renewals.{MayBeRenewed};
 ghost use Rattle.slot_core.specs.Core.{nothing_reserved};
 ghost use Rattle.slot_core.specs.Resumptions.{checkpoint_of, resumed_start, RefusesCheckpoint, RefusesResume};
 
 use crate::die_core::DieCore;
+use crate::memory::DieMemory;
 use crate::renewals::RenewalRefusal;
 use die_checkpoint::{Checkpoint, CheckpointFault};
-use event_log::EventLog;
 use flash_die::Nand;
-use flash_volume::Volume;
-use job_table::JobTable;
-use log_start::LogStart;
 use slot_types::DiePlan;
 use std::alloc::Global;
 
@@ -44,14 +41,6 @@ pub enum ResumeRefusal {
 pub struct NotResumed<N> {
     pub device: N,
     pub refusal: ResumeRefusal,
-}
-
-/// A mark of the start that the caller picks by these.
-fn start_by<N: Nand>(_plan: &DiePlan, _device: &N, _checkpoint: &Checkpoint) -> LogStart
-    ghost start: { Start }
-    ensures { result ≡ start }
-{
-    LogStart::at()
 }
 
 impl<N: Nand> DieCore<N> {
@@ -144,40 +133,32 @@ impl<N: Nand> DieCore<N> {
             let refusal = ResumeRefusal::OtherDevice;
             return Err(NotResumed { device, refusal });
         }
-        match checkpoint.check(alloc, &plan) {
-            Ok(()) => {}
+        match memory_for(alloc, plan, checkpoint) {
+            Ok(memory) => Ok(memory.resume(device, checkpoint)),
             Err(fault) => {
                 let refusal = ResumeRefusal::Unfit { fault };
-                return Err(NotResumed { device, refusal });
+                Err(NotResumed { device, refusal })
             }
         }
-        let no_memory = ResumeRefusal::Unfit {
-            fault: CheckpointFault::NoMemory,
-        };
-        let table = match JobTable::new(alloc, plan.caps.len() as u32) {
-            Ok(table) => table,
-            Err(_) => {
-                return Err(NotResumed {
-                    device,
-                    refusal: no_memory,
-                });
-            }
-        };
-        let start = start_by(&plan, &device, checkpoint);
-        match Volume::resume(alloc, plan, device, checkpoint) {
-            Err(device) => Err(NotResumed {
-                device,
-                refusal: no_memory,
-            }),
-            Ok(volume) => Ok(DieCore {
-                volume,
-                table,
-                events: EventLog::new(alloc),
-                present: 0,
-                reserved: 0,
-                lasting: 0,
-                start,
-            }),
-        }
+    }
+}
+
+/// The memory of a die of a plan that a checkpoint fits. Refused with the checkpoint's first fault.
+fn memory_for(
+    alloc: Global,
+    plan: DiePlan,
+    checkpoint: &Checkpoint,
+) -> Result<DieMemory, CheckpointFault>
+    ensures plan { IfOk result (λ memory. memory ≡ plan) }
+    ensures fits { OnOk result (Fits plan checkpoint.now) }
+    ensures fault { IfErr result (HasCheckpointFault plan checkpoint.now) }
+{
+    match checkpoint.check(alloc, &plan) {
+        Ok(()) => {}
+        Err(fault) => return Err(fault),
+    }
+    match DieMemory::take(alloc, plan) {
+        Ok(memory) => Ok(memory),
+        Err(_) => Err(CheckpointFault::NoMemory),
     }
 }

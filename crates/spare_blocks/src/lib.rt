@@ -17,5 +17,5 @@ pub use cells::{BlockUse, Cell, Ended, Erased, Mark};
 pub use labelled::LabelledWearing;
 pub use memory::{Failures, WearingMemory};
 pub use part::WearingNand;
-pub use powering::NotPowered;
+pub use powering::{Group, Labelled, NotPowered, group_of, needed, with_cell};
 pub use table::BlockTable;

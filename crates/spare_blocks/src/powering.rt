@@ -17,10 +17,10 @@ use std::alloc::Global;
 
 /// What is seen of a block that has a label: its first one, in which cell, and the last cell that has one.
 #[derive(Clone, Copy, PartialEq, Eq, Debug, Drop)]
-pub(crate) struct Labelled {
-    pub(crate) first: u32,
-    pub(crate) mark: Mark,
-    pub(crate) last: u32,
+pub struct Labelled {
+    pub first: u32,
+    pub mark: Mark,
+    pub last: u32,
 }
 
 /// The label of a cell, if it has one.
@@ -34,7 +34,7 @@ fn mark_in(cell: Option<Cell>) -> Option<Mark>
 }
 
 /// What is seen of a block once its next cell was looked at, too.
-fn with_cell(seen: Option<Labelled>, page: u32, mark: Option<Mark>) -> Option<Labelled>
+pub fn with_cell(seen: Option<Labelled>, page: u32, mark: Option<Mark>) -> Option<Labelled>
     ensures { result ≡ with_cell page mark seen }
 {
     match (seen, mark) {
@@ -169,7 +169,7 @@ fn seen_at(all: &[Option<Labelled>], block: usize) -> Option<Labelled>
 
 /// What a block of the part is among those that were seen.
 #[derive(Clone, Copy, PartialEq, Eq, Debug, Drop)]
-pub(crate) enum Group {
+pub enum Group {
     /// It has labels, and of the blocks with its first label it has the most: it needs a number.
     Own,
     /// Another block has its first label, and more.
@@ -178,7 +178,8 @@ pub(crate) enum Group {
     Blank,
 }
 
-fn group_of(all: &[Option<Labelled>], block: usize) -> Group
+/// What a block of the part is among those that were seen.
+pub fn group_of(all: &[Option<Labelled>], block: usize) -> Group
     ensures { IsGroup all.now block result }
 {
     match seen_at(all, block) {
@@ -194,7 +195,7 @@ fn group_of(all: &[Option<Labelled>], block: usize) -> Group
 }
 
 /// How many blocks need a number.
-fn needed(all: &[Option<Labelled>]) -> u32 {
+pub fn needed(all: &[Option<Labelled>]) -> u32 {
     let mut count: u32 = 0;
     for block in 0..all.len() {
         if group_of(all, block) == Group::Own {

@@ -1,5 +1,5 @@
 -- What becomes of a slot that has begun: it is carried out, or it fails, and an arrival after it leaves it as it is.
-use Rattle.std.proofs.Common.{◌≡◌, ◌↔◌, ℕ, ◌+◌, ◌<◌, Bool, true, false, Option, Some, None, Ok, Err, refl, sym, ap, subst, ◌∙◌, inl, inr, arith}
+use Rattle.std.proofs.Common.{◌≡◌, ◌↔◌, ℕ, ◌<◌, Bool, true, false, Option, Some, None, Ok, Err, refl, sym, ap, subst, ◌∙◌, inl, inr}
 use Rattle.std.specs.Prelude.{Result, IfSome}
 use Rattle.std.proofs.lemmas.Bool.{true≢false, cases_lt}
 use Rattle.slot_types.specs.Arrivals.{IsArrival}
@@ -12,12 +12,10 @@ use Rattle.slot_types.specs.declared.replies.Reply.TheVariants as replies
 use Rattle.flash_die.specs.declared.nand.NandCall.{NandCall}
 use Rattle.die_log.specs.Model.Log.{now}
 use Rattle.die_log.specs.Model.Answers.{answer, reply_if_accepted}
-use Rattle.die_log.specs.Model.NeededCalls.{needed_call}
 use Rattle.die_log.specs.Results.Promises.{KeepsPromises}
 use Rattle.die_log.proofs.Legality.{accepted_answer}
 use Rattle.slot_core.specs.Calls.{reserved_after, HasEntered, FindsFault, RefusesCall, IsCall, reply_as}
 use Rattle.slot_core.specs.Core.{Core, Reserved}
-use Rattle.slot_core.specs.Needs.{MadeAndFailed}
 use Rattle.slot_core.proofs.Calling.{has_entered, arrival_stays, stopped_only}
 use Rattle.slot_core.proofs.Slotting.{slot_unrefused}
 use Rattle.stepped_die.specs.declared.calls.Begun.{Begun}

@@ -1,5 +1,5 @@
 -- A die's serial is the number of its next program.
-use Rattle.std.proofs.Common.{◌≡◌, ℕ, ◌+◌, ◌<◌, ◌^◌, ◌==◌, Bool, true, false, cond, List, Option, Some, None, refl, ap, sym, ◌∙◌, subst, arith}
+use Rattle.std.proofs.Common.{◌≡◌, ℕ, ◌+◌, ◌<◌, ◌^◌, Bool, true, false, cond, List, Option, Some, None, refl, ap, sym, ◌∙◌, subst, arith}
 use Rattle.std.specs.Prelude.{option_map}
 use Rattle.slot_types.specs.Places.{place_of}
 use Rattle.slot_types.specs.declared.acts.Act.TheVariants as does
@@ -10,8 +10,8 @@ use Rattle.slot_types.specs.declared.plans.DiePlan.{DiePlan}
 use Rattle.slot_types.specs.declared.replies.Reply.{Reply}
 use Rattle.slot_types.specs.declared.replies.SlotReply.{SlotReply}
 use Rattle.flash_die.specs.Memory.{Memory}
-use Rattle.flash_die.specs.declared.nand.NandCall.{NandCall}
 use Rattle.flash_die.specs.declared.nand.NandCall.TheVariants as needs
+use Rattle.die_checkpoint.specs.declared.checkpoint.Checkpoint.{Checkpoint}
 use Rattle.die_log.specs.Model.Answers.{answer}
 use Rattle.die_log.specs.Model.Flash.{Cells, block_at, cells, content, contents, open_block, ran_by}
 use Rattle.die_log.specs.Model.Log.{Carried, Log}
@@ -22,6 +22,7 @@ use Rattle.slot_core.specs.NextSlot.{next_by, next_slot}
 use Rattle.stepped_die.specs.declared.calls.Call.{Call}
 use Rattle.stepped_die.specs.declared.part.Part.{Part}
 use Rattle.stepped_die.specs.DeviceCalls.{call_reported, reported_by}
+use Rattle.stepped_die.specs.Names.{GoesOn}
 use Rattle.stepped_die.specs.Numbered.{NumbersPrograms, first_labels}
 use Rattle.stepped_die.specs.Parts.{serial_after}
 use Rattle.stepped_die.specs.Stepped.{IsStepped, Stepped, mirror_of}
@@ -97,3 +98,8 @@ fresh_numbers plan die n = (
   subst (λ (x : Start). IsLabelled x (first_labels plan)) (sym n.start) (first_labelled plan),
   ap (λ (x : Part). x.serial) n.part ∙ sym (ap (λ (log : Log). (labels die.core.start (first_labels plan) log).next) n.log),
 )
+
+-- a die that was resumed with its serial
+pub resumed_numbers : (first : Labels) (plan : DiePlan) (c : Checkpoint) (names : List PageData) (die : Stepped) → GoesOn plan c names die
+    → die.part.serial ≡ first.next → NumbersPrograms first die
+resumed_numbers first plan c names die on is = is ∙ sym (ap (λ (log : Log). (labels die.core.start first log).next) on.log)

@@ -1,5 +1,5 @@
 -- A call of a die has one answer, and leaves one die, unless memory is refused to it.
-use Rattle.std.proofs.Common.{◌≡◌, ◌≤◌, ◌⊎◌, ◌↔◌, ℕ, Bool, true, false, Option, Some, None, Ok, Err, refl, sym, ap, subst, ◌∙◌, inl, inr}
+use Rattle.std.proofs.Common.{◌≡◌, ◌<◌, ◌≤◌, ◌⊎◌, ◌↔◌, ℕ, Bool, true, false, Option, Some, None, Ok, Err, refl, sym, ap, subst, ◌∙◌, inl, inr}
 use Rattle.std.specs.Prelude.{Result, IfOk, IfErr, IsSome, OnErr, OnOk}
 use Rattle.std.proofs.lemmas.Bool.{true≢false}
 use Rattle.slot_types.specs.Arrivals.{IsArrival}
@@ -25,7 +25,7 @@ use Rattle.stepped_die.specs.declared.refusals.StepRefusal.{StepRefusal}
 use Rattle.stepped_die.specs.declared.refusals.StepRefusal.TheVariants as refuses
 use Rattle.stepped_die.specs.DeviceCalls.{Changes, IsDone}
 use Rattle.stepped_die.specs.Parts.{serial_after}
-use Rattle.stepped_die.specs.Steps.{HasBegun, HasEnded, HasFailed, HoldsBack, RefusesArrival, RefusesBeginning}
+use Rattle.stepped_die.specs.Steps.{HasBegun, HasEnded, HasFailed, HoldsBack, RefusesArrival, RefusesBeginning, WouldSpend}
 use Rattle.stepped_die.specs.Stepped.{Stepped, mirror_of}
 use Rattle.stepped_die.proofs.Ending.{Mirror}
 
@@ -89,6 +89,7 @@ module _ (caller release : ℕ) (event : Event) (before : Stepped) (arrives : Is
   by_log r (Ok n) left right runs is a b = absurd (not_both (answer before.core.start before.core.log event) r n is b.taken.answered)
   by_log r (Err refuses.Begun) left right runs is a b = let e = (a.held runs).1 ((b.held runs).0 refl) in absurd cc
   by_log r (Err refuses.NotBegun) left right runs is a b = absurd b.cause
+  by_log r (Err refuses.CheckpointStands) left right runs is a b = absurd b.cause
   by_log r (Err (refuses.Die s)) left right runs is a b = by (refused_by event s before.core right.core arrives b.cause)
     where
       by : (s ≡ NoMemory) ⊎ ((before.core.stopped ≡ true) × (s ≡ DieStopped))
@@ -106,6 +107,7 @@ module _ (caller release : ℕ) (event : Event) (before : Stepped) (arrives : Is
   one_refused refuses.Begun other left right a b =
       inl (refused_alike refuses.Begun other before left right a.refused b.refused ((b.held a.cause.0).1 a.cause.1))
   one_refused refuses.NotBegun other left right a b = absurd a.cause
+  one_refused refuses.CheckpointStands other left right a b = absurd a.cause
   one_refused (refuses.Die r) other left right a b = by (refused_by event r before.core left.core arrives a.cause)
     where
       by : (r ≡ NoMemory) ⊎ ((before.core.stopped ≡ true) × (r ≡ DieStopped))
@@ -140,20 +142,24 @@ pub record Begins (caller : ℕ) (result : Result Begun StepRefusal) (before aft
   pub twice : before.core.stopped ≡ false → ((result ≡ Err refuses.Begun) ↔ IsSome before.begun)
   pub end : before.core.stopped ≡ false → before.begun ≡ None
       → ((result ≡ Err (refuses.Die ClockEnd)) ↔ (MAX_SLOT ≤ now before.core.log))
+  pub stands : before.core.stopped ≡ false → before.begun ≡ None → now before.core.log < MAX_SLOT
+      → ((result ≡ Err refuses.CheckpointStands) ↔ WouldSpend before)
   pub begun : IfOk result (λ begun. HasBegun caller begun before after)
   pub refused : OnErr result (after ≡ before)
   pub cause : IfErr result (RefusesBeginning before)
 
--- a slot isn't begun for one of four causes
+-- a slot isn't begun for one of five causes
 refuses_beginning : (before : Stepped) (d : StepRefusal) → RefusesBeginning before d
     → ((d ≡ refuses.Die DieStopped) × (before.core.stopped ≡ true))
     ⊎ ((d ≡ refuses.Begun) × (before.core.stopped ≡ false) × IsSome before.begun)
     ⊎ ((d ≡ refuses.Die ClockEnd) × (before.core.stopped ≡ false) × (MAX_SLOT ≤ now before.core.log))
+    ⊎ ((d ≡ refuses.CheckpointStands) × (before.core.stopped ≡ false) × (before.begun ≡ None) × (now before.core.log < MAX_SLOT) × WouldSpend before)
     ⊎ ((d ≡ refuses.Die NoMemory) × (before.core.reserved.slots ≡ 0))
 refuses_beginning before (refuses.Die DieStopped) h = inl (refl, h)
 refuses_beginning before refuses.Begun h = inr (inl (refl, h.0, h.1))
 refuses_beginning before (refuses.Die ClockEnd) h = inr (inr (inl (refl, h.0, h.1)))
-refuses_beginning before (refuses.Die NoMemory) h = inr (inr (inr (refl, h.1)))
+refuses_beginning before refuses.CheckpointStands h = inr (inr (inr (inl (refl, h.0, h.1, h.2, h.3))))
+refuses_beginning before (refuses.Die NoMemory) h = inr (inr (inr (inr (refl, h.1))))
 refuses_beginning before _ h = absurd h
 
 none_or_some : {A : Type 0} (o : Option A) → (o ≡ None) ⊎ IsSome o
@@ -197,11 +203,14 @@ module _ (caller : ℕ) (before : Stepped) where
       by : ((d ≡ refuses.Die DieStopped) × (before.core.stopped ≡ true))
           ⊎ ((d ≡ refuses.Begun) × (before.core.stopped ≡ false) × IsSome before.begun)
           ⊎ ((d ≡ refuses.Die ClockEnd) × (before.core.stopped ≡ false) × (MAX_SLOT ≤ now before.core.log))
+          ⊎ ((d ≡ refuses.CheckpointStands) × (before.core.stopped ≡ false) × (before.begun ≡ None) × (now before.core.log < MAX_SLOT)
+          × WouldSpend before)
           ⊎ ((d ≡ refuses.Die NoMemory) × (before.core.reserved.slots ≡ 0)) → AgreeBegun (Err d) other left right
       by (inl (is, stops)) = alike (b.stopped.1 stops ∙ sym (ap Err is))
       by (inr (inl (is, runs, some))) = alike ((b.twice runs).1 some ∙ sym (ap Err is))
       by (inr (inr (inl (is, runs, last)))) = alike (at_end (Err d) other left right runs last a b (ap Err is) ∙ sym (ap Err is))
-      by (inr (inr (inr (is, none)))) = inr (none, inl (ap Err is))
+      by (inr (inr (inr (inl (is, runs, none, few, spends))))) = alike ((b.stands runs none few).1 spends ∙ sym (ap Err is))
+      by (inr (inr (inr (inr (is, none))))) = inr (none, inl (ap Err is))
 
   pub one_beginning : (one other : Result Begun StepRefusal) (left right : Stepped) → SaysBegun one left → SaysBegun other right
       → AgreeBegun one other left right
@@ -243,7 +252,7 @@ one_reply o s t is also = cc
 one_change : (call : Option Call) (before left right : Memory) → Changes before call left → Changes before call right → left ≡ right
 one_change None before left right a b = a ∙ sym b
 one_change (Some (calls.Read place bytes)) before left right a b = a.0 ∙ sym b.0
-one_change (Some (calls.Program place bytes)) before left right a b = a ∙ sym b
+one_change (Some (calls.Program place bytes erases)) before left right a b = a.0 ∙ sym b.0
 one_change (Some (calls.Erase block last)) before left right a b = a.0 ∙ sym b.0
 one_change (Some (calls.Trim page)) before left right a b = a ∙ sym b
 

@@ -22,11 +22,11 @@ pub record DoesWell (before : Memory) (call : NandCall) (well : Bool) (after : M
   pub ends_well : well ≡ true
   pub does : Does before call after
 
--- what a driver is reported of a call: of a read what the cell was programmed with, of an erase whether the slot is its
--- last
+-- what a driver is reported of a call: of a read what the cell was programmed with, of a program how often its block was
+-- erased, of an erase whether the slot is its last
 abbrev pub reported_of : Memory → NandCall → Call
 reported_of device (needs.Read place) = calls.Read place (cell_at device.blocks place)
-reported_of device (needs.Program place page bytes) = calls.Program place bytes
+reported_of device (needs.Program place page bytes) = calls.Program place bytes (block_at device.blocks place.block).erases
 reported_of device (needs.EraseSlot block) = calls.Erase block ((block_at device.blocks block).erasing + 1 == device.shape.erase_slots)
 
 abbrev pub call_reported : Memory → Option NandCall → Option Call
@@ -46,16 +46,25 @@ reported_by device slot = reported_for device slot.ran slot.call
 abbrev pub IsDone : Option Call → Bool → PageData → Type 0
 IsDone None ok bytes = ⊤
 IsDone (Some (calls.Read place programmed)) ok bytes = (ok ≡ true) × (bytes ≡ programmed)
-IsDone (Some (calls.Program place programmed)) ok bytes = ok ≡ true
+IsDone (Some (calls.Program place programmed erases)) ok bytes = ok ≡ true
 IsDone (Some (calls.Erase block last)) ok bytes = ok ≡ true
 IsDone (Some (calls.Trim page)) ok bytes = ok ≡ true
+
+-- after it a checkpoint that stood before isn't what stands
+abbrev pub Spends : Option Call → Type 0
+Spends None = ⊥
+Spends (Some (calls.Read place bytes)) = ⊥
+Spends (Some (calls.Program place bytes erases)) = ⊤
+Spends (Some (calls.Erase block last)) = ⊤
+Spends (Some (calls.Trim page)) = ⊤
 
 -- what was asked is all that the cells of the mirror have had; where nothing was asked, and where a page is trimmed, they are
 -- as they were
 abbrev pub Changes : Memory → Option Call → Memory → Type 0
 Changes before None after = after ≡ before
 Changes before (Some (calls.Read place bytes)) after = (after ≡ before) × (bytes ≡ cell_at before.blocks place)
-Changes before (Some (calls.Program place bytes)) after = after ≡ record before { blocks = blocks_after_program before.blocks place.block bytes }
+Changes before (Some (calls.Program place bytes erases)) after =
+    (after ≡ record before { blocks = blocks_after_program before.blocks place.block bytes }) × (erases ≡ (block_at before.blocks place.block).erases)
 Changes before (Some (calls.Erase block last)) after =
     (after ≡ record before { blocks = blocks_after_erase_slot before.blocks before.shape.erase_slots block })
     × (last ≡ ((block_at before.blocks block).erasing + 1 == before.shape.erase_slots))

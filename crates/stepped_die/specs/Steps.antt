@@ -1,5 +1,5 @@
 -- What beginning and ending a slot does, and why a call is refused.
-use Rattle.std.specs.Prelude.{◌≡◌, ◌≤◌, ℕ, Bool, true, false, Option, Some, None, [], IfSome, IsSome, ⊤}
+use Rattle.std.specs.Prelude.{◌≡◌, ◌<◌, ◌≤◌, ℕ, Bool, true, false, Option, Some, None, [], IfSome, IsSome, ⊤}
 use Rattle.slot_types.specs.declared.plans.DiePlan.{DiePlan}
 use Rattle.slot_types.specs.declared.pages.PageData.{PageData}
 use Rattle.slot_types.specs.declared.events.Event.{Event}
@@ -25,7 +25,7 @@ use Rattle.stepped_die.specs.declared.refusals.StepRenewalRefusal.{StepRenewalRe
 use Rattle.stepped_die.specs.declared.refusals.StepRenewalRefusal.TheVariants as unrenewed
 use Rattle.stepped_die.specs.Parts.{fresh_part, serial_after}
 use Rattle.stepped_die.specs.Stepped.{Stepped, mirror_of}
-use Rattle.stepped_die.specs.DeviceCalls.{IsDone, Changes, reported_by}
+use Rattle.stepped_die.specs.DeviceCalls.{IsDone, Changes, Spends, reported_by}
 
 -- a die on which nothing was done
 pub record IsNew (plan : DiePlan) (die : Stepped) : Type 0 where
@@ -44,6 +44,10 @@ RefusesNewDie plan BadShape = ¬ IsShape plan.shape
 RefusesNewDie plan BadPlan = IsShape plan.shape × ¬ MeetsBound plan
 RefusesNewDie plan NoMemory = ⊤
 RefusesNewDie plan _ = ⊥
+
+-- the present slot would spend the checkpoint from which the die was resumed, and that stands
+abbrev pub WouldSpend : Stepped → Type 0
+WouldSpend die = (die.part.stands ≡ true) × Spends (reported_by (mirror_of die.core) (next_slot die.core.start die.core.log))
 
 -- A slot has begun: it is the log's present one, and what is reported is what it needs, and for whom.
 -- Memory is reserved for it, and nothing else has changed: it isn't in the log.
@@ -87,17 +91,21 @@ abbrev pub RefusesArrival : ℕ → Event → Stepped → Stepped → StepRefusa
 RefusesArrival release event before after (refuses.Die refusal) = RefusesCall event refusal before.core after.core
 RefusesArrival release event before after refuses.Begun = (before.core.stopped ≡ false) × HoldsBack release before.begun
 RefusesArrival release event before after refuses.NotBegun = ⊥
+RefusesArrival release event before after refuses.CheckpointStands = ⊥
 
 -- why the log isn't started anew: as the die refuses it, or as a slot has begun
 abbrev pub RefusesRenewing : Stepped → StepRenewalRefusal → Type 0
 RefusesRenewing die (unrenewed.Die refusal) = RefusesRenewal die.core refusal
 RefusesRenewing die unrenewed.Begun = (die.core.stopped ≡ false) × IsSome die.begun
 
--- Why a slot isn't begun: a fault has stopped the die; else one has begun; else the present slot is the last; else there is no memory, which
+-- Why a slot isn't begun: a fault has stopped the die; else one has begun; else the present slot is the last; else it would spend a
+-- checkpoint that stands; else there is no memory, which
 -- slots that are reserved don't need.
 abbrev pub RefusesBeginning : Stepped → StepRefusal → Type 0
 RefusesBeginning die (refuses.Die DieStopped) = die.core.stopped ≡ true
 RefusesBeginning die refuses.Begun = (die.core.stopped ≡ false) × IsSome die.begun
 RefusesBeginning die (refuses.Die ClockEnd) = (die.core.stopped ≡ false) × (MAX_SLOT ≤ now die.core.log)
+RefusesBeginning die refuses.CheckpointStands =
+    (die.core.stopped ≡ false) × (die.begun ≡ None) × (now die.core.log < MAX_SLOT) × WouldSpend die
 RefusesBeginning die (refuses.Die NoMemory) = (die.core.stopped ≡ false) × (die.core.reserved.slots ≡ 0)
 RefusesBeginning die _ = ⊥

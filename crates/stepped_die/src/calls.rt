@@ -7,13 +7,25 @@ use slot_types::{JobNo, PageData, Place};
 #[derive(Clone, Copy, PartialEq, Eq, Debug, Drop)]
 pub enum Call {
     /// Read the cell, which was programmed with these bytes.
-    Read { place: Place, bytes: PageData },
-    /// Program the cell with these bytes.
-    Program { place: Place, bytes: PageData },
+    Read {
+        place: Place,
+        bytes: PageData,
+    },
+    /// Program the cell with these bytes, in a block that was erased so often, as the die counts.
+    Program {
+        place: Place,
+        bytes: PageData,
+        erases: u32,
+    },
     /// Do one slot of the erase of the block, which is its last slot or not.
-    Erase { block: u32, last: bool },
+    Erase {
+        block: u32,
+        last: bool,
+    },
     /// Note, if notes are kept, that the logical page is blank from now on.
-    Trim { page: u32 },
+    Trim {
+        page: u32,
+    },
 }
 
 /// A slot that has begun.

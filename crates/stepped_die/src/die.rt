@@ -1,6 +1,6 @@
 //! A die whose slots are begun and ended.
 
-ghost use Rattle.std.specs.Prelude.{◌≡◌, ◌≢◌, ◌⊎◌, ◌↔◌, ◌≤◌, [], true, false, None, IsSome, IsOk, IfOk, IfErr, OnOk, OnErr};
+ghost use Rattle.std.specs.Prelude.{◌≡◌, ◌≢◌, ◌⊎◌, ◌↔◌, ◌<◌, ◌≤◌, [], true, false, None, IsSome, IsOk, IfOk, IfErr, OnOk, OnErr};
 ghost use Rattle.slot_types.specs.declared.refusals.Refusal.{Refusal};
 ghost use Rattle.slot_types.specs.declared.events.Event.TheVariants as events;
 ghost use Rattle.slot_types.specs.declared.limits.TheConstants.{MAX_SLOT};
@@ -12,13 +12,13 @@ ghost use Rattle.slot_core.specs.WithinSlot.{idle_reply};
 ghost use Rattle.slot_core.specs.Overdues.{overdue_of};
 ghost use Rattle.slot_core.specs.Renewals.{MayBeRenewed, renewed_core};
 ghost use Rattle.power_loss.specs.Aside.{on_part};
-ghost use Rattle.stepped_die.specs.Steps.{HoldsBack};
+ghost use Rattle.stepped_die.specs.Steps.{HoldsBack, WouldSpend};
 ghost use Rattle.slot_core.specs.Core.{nothing_reserved, with_slots, with_arrivals};
 ghost use Rattle.stepped_die.specs.DeviceCalls.{IsDone, call_reported, reported_by};
 
 use crate::calls::{Begun, Call};
 use crate::mirror::MirrorNand;
-use crate::part::{Part, on_part, serial_after};
+use crate::part::{Part, on_part, serial_after, spends};
 use crate::refusals::{StepRefusal, StepRenewalRefusal};
 use flash_die::NandCall;
 use plan_rules::bound;
@@ -168,7 +168,9 @@ impl SteppedDie {
     /// into the log; memory is reserved for the slot, so that its end needs none.
     ///
     /// Refused, where nothing changes, with `DieStopped` where a fault has stopped the die; `Begun` where a slot has
-    /// begun; `ClockEnd` where the present slot is 1,048,576; `NoMemory`, never while slots are reserved.
+    /// begun; `ClockEnd` where the present slot is 1,048,576; `CheckpointStands` where the slot would spend a checkpoint
+    /// from which the die was resumed, by a program, a slot of an erase or a trim, and its owner hasn't said that it is
+    /// void ([`checkpoint_void`](SteppedDie::checkpoint_void)); `NoMemory`, never while slots are reserved.
     pub fn begin(&mut self, alloc: Global, caller: u32) -> Result<Begun, StepRefusal>
         ensures stopped { (result ≡ Err (StepRefusal.Die Refusal.DieStopped))
             ↔ (self.old.core.stopped ≡ true) }
@@ -177,6 +179,9 @@ impl SteppedDie {
         ensures end { self.old.core.stopped ≡ false → self.old.begun ≡ None
             → ((result ≡ Err (StepRefusal.Die Refusal.ClockEnd))
             ↔ (MAX_SLOT ≤ now self.old.core.log)) }
+        ensures stands { self.old.core.stopped ≡ false → self.old.begun ≡ None
+            → now self.old.core.log < MAX_SLOT
+            → ((result ≡ Err StepRefusal.CheckpointStands) ↔ WouldSpend self.old) }
         ensures begun { IfOk result (λ begun. HasBegun caller begun self.old self.new) }
         ensures refused { OnErr result (self.new ≡ self.old) }
         ensures cause { IfErr result (RefusesBeginning self.old) }
@@ -192,13 +197,25 @@ impl SteppedDie {
             Ok(next) => next,
             Err(refusal) => return Err(StepRefusal::Die(refusal)),
         };
+        let call = reported_by(self.core.device(), &next);
+        if self.part.stands && spends(call) {
+            return Err(StepRefusal::CheckpointStands);
+        }
         match self.core.reserve(1) {
             Ok(()) => {}
             Err(refusal) => return Err(StepRefusal::Die(refusal)),
         }
-        let call = reported_by(self.core.device(), &next);
         self.begun = Some(begun_by(caller, slot, call, next.ran));
         Ok(begun_by(caller, slot, call, next.ran))
+    }
+
+    /// Its owner says that the checkpoint from which the die was resumed is void: it will be resumed from no more. From
+    /// then on each slot may begin. Where none stands nothing changes.
+    pub fn checkpoint_void(&mut self)
+        ensures { self.new
+            ≡ record self.old { part = record self.old.part { stands = false } } }
+    {
+        self.part.stands = false;
     }
 
     /// Ends the slot that has begun: whether the driver did what it was asked, and the bytes that were read, if a cell
@@ -344,7 +361,8 @@ impl SteppedDie {
     }
 
     /// What is known of the part: the block that stands aside, and the serial of the next program, within a slot that
-    /// has begun, too. It rises by one with each program, up to 2^64 - 1. A fresh die begins with 1.
+    /// has begun, too. It rises by one with each program, up to 2^64 - 1. A fresh die begins with 1. And whether a
+    /// checkpoint stands from which the die was resumed.
     pub fn part(&self) -> Part
         ensures { result ≡ self.now.part }
     {
@@ -390,7 +408,14 @@ fn call_reported(device: &MirrorNand, call: Option<NandCall>) -> Option<Call>
             let bytes = device.cell(place);
             Some(Call::Read { place, bytes })
         }
-        Some(NandCall::Program(place, _, bytes)) => Some(Call::Program { place, bytes }),
+        Some(NandCall::Program(place, _, bytes)) => {
+            let erases = device.erases(place.block);
+            Some(Call::Program {
+                place,
+                bytes,
+                erases,
+            })
+        }
         Some(NandCall::EraseSlot(block)) => {
             let last = device.ends_erase(block);
             Some(Call::Erase { block, last })

@@ -3,7 +3,7 @@
 //! Each law is a function that does nothing. The premises of a law of one answer are the clauses of a call that decide,
 //! said of two answers `one` and `other`, which leave the dies `left` and `right`, where there was the die `before`.
 
-ghost use Rattle.std.specs.Prelude.{◌≡◌, ◌⊎◌, ◌↔◌, ◌≤◌, ℕ, Bool, true, false, None, Result, IfOk, IfErr, IsSome, OnErr, OnOk};
+ghost use Rattle.std.specs.Prelude.{◌≡◌, ◌⊎◌, ◌↔◌, ◌<◌, ◌≤◌, ℕ, Bool, true, false, None, Result, IfOk, IfErr, IsSome, OnErr, OnOk};
 ghost use Rattle.slot_types.specs.Arrivals.{IsArrival};
 ghost use Rattle.slot_types.specs.declared.events.Event.{Event};
 ghost use Rattle.slot_types.specs.declared.limits.TheConstants.{MAX_SLOT};
@@ -22,7 +22,7 @@ ghost use Rattle.stepped_die.specs.declared.calls.Begun.{Begun};
 ghost use Rattle.stepped_die.specs.declared.refusals.StepRefusal.{StepRefusal};
 ghost use Rattle.stepped_die.specs.Arrivals.{WaitsAfter};
 ghost use Rattle.stepped_die.specs.Stepped.{Stepped};
-ghost use Rattle.stepped_die.specs.Steps.{HasBegun, HasEnded, HasFailed, HoldsBack, RefusesArrival, RefusesBeginning};
+ghost use Rattle.stepped_die.specs.Steps.{HasBegun, HasEnded, HasFailed, HoldsBack, RefusesArrival, RefusesBeginning, WouldSpend};
 
 /// A job or collection that is accepted with a release above the present slot leaves what that slot is answered, and
 /// the call of the device that it needs.
@@ -77,6 +77,10 @@ pub fn beginning_a_slot_has_one_answer()
         (before.core.stopped ≡ false → before.begun ≡ None
         → ((other ≡ Err (StepRefusal.Die Refusal.ClockEnd)) ↔ (MAX_SLOT ≤ now before.core.log)))
         →
+        (before.core.stopped ≡ false → before.begun ≡ None → now before.core.log < MAX_SLOT
+        → ((one ≡ Err StepRefusal.CheckpointStands) ↔ WouldSpend before)) →
+        (before.core.stopped ≡ false → before.begun ≡ None → now before.core.log < MAX_SLOT
+        → ((other ≡ Err StepRefusal.CheckpointStands) ↔ WouldSpend before)) →
         IfOk one (λ begun. HasBegun caller begun before left) →
         IfOk other (λ begun. HasBegun caller begun before right) →
         OnErr one (left ≡ before) → OnErr other (right ≡ before) →

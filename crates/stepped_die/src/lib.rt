@@ -19,6 +19,6 @@ pub use laws::{
 };
 pub use mirror::MirrorNand;
 pub use mount_laws::{a_mounted_die_begins_a_life, serials_number_programs};
-pub use part::{Part, on_part, serial_after};
+pub use part::{Part, on_part, serial_after, spends};
 pub use refusals::{StepCheckpointRefusal, StepRefusal, StepRenewalRefusal};
 pub use resumptions::{NamedCheckpoint, names_of};

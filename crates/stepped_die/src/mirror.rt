@@ -75,6 +75,13 @@ impl MirrorNand {
         self.memory.cell(place)
     }
 
+    /// How often a block was erased.
+    pub fn erases(&self, block: u32) -> u32
+        ensures { result ≡ (block_at self.now.memory.blocks block).erases }
+    {
+        self.memory.erases(block)
+    }
+
     /// Whether the next slot of the block's erase is its last.
     pub fn ends_erase(&self, block: u32) -> bool
         ensures { result

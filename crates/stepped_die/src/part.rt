@@ -1,7 +1,8 @@
 //! What a die's driver has to know of the part beneath it.
 
-ghost use Rattle.std.specs.Prelude.{◌≡◌};
+ghost use Rattle.std.specs.Prelude.{◌≡◌, ◌↔◌, true};
 ghost use Rattle.power_loss.specs.Aside.{on_part};
+ghost use Rattle.stepped_die.specs.DeviceCalls.{Spends};
 ghost use Rattle.stepped_die.specs.Parts.{fresh_part, serial_after};
 
 use crate::calls::Call;
@@ -12,6 +13,8 @@ use slot_types::DiePlan;
 pub struct Part {
     /// The number that the part gives the block which stands aside.
     pub aside: u32,
+    /// Whether a checkpoint stands from which the die was resumed: its owner hasn't said that it is void.
+    pub stands: bool,
     /// What the label of the next program bears: more than that of each program before it.
     pub serial: u64,
 }
@@ -24,6 +27,7 @@ impl Part {
         Part {
             aside: plan.shape.blocks,
             serial: 1,
+            stands: false,
         }
     }
 }
@@ -35,6 +39,20 @@ pub fn serial_after(call: Option<Call>, serial: u64) -> u64
     match call {
         Some(Call::Program { .. }) => serial.saturating_add(1),
         _ => serial,
+    }
+}
+
+/// Whether a checkpoint that stood before the call isn't what stands after it: a program, a slot of an erase and a trim
+/// spend one. A read doesn't.
+pub fn spends(call: Option<Call>) -> bool
+    ensures { (result ≡ true) ↔ Spends call }
+{
+    match call {
+        None => false,
+        Some(Call::Read { .. }) => false,
+        Some(Call::Program { .. }) => true,
+        Some(Call::Erase { .. }) => true,
+        Some(Call::Trim { .. }) => true,
     }
 }
 

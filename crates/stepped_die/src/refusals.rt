@@ -12,6 +12,8 @@ pub enum StepRefusal {
     Begun,
     /// No slot has begun.
     NotBegun,
+    /// A checkpoint stands from which the die was resumed, and the slot would spend it.
+    CheckpointStands,
 }
 
 /// Why a die isn't renewed.

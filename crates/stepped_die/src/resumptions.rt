@@ -1,6 +1,6 @@
 //! A die is written down at a quiet moment with the names of its pages, and goes on from there.
 
-ghost use Rattle.std.specs.Prelude.{◌≡◌, ◌↔◌, false, IsSome, IfOk, IfErr, OnOk};
+ghost use Rattle.std.specs.Prelude.{◌≡◌, ◌↔◌, true, false, IsSome, IfOk, IfErr, OnOk};
 ghost use Rattle.slot_types.specs.Refusal.{FailsForMemory};
 ghost use Rattle.die_checkpoint.specs.Fits.{Fits};
 ghost use Rattle.die_checkpoint.specs.Faults.{HasCheckpointFault};
@@ -10,7 +10,6 @@ ghost use Rattle.die_log.specs.Model.Opening.{renewed_start};
 ghost use Rattle.slot_core.specs.Renewals.{MayBeRenewed};
 ghost use Rattle.slot_core.specs.Resumptions.{checkpoint_of, start_with};
 ghost use Rattle.stepped_die.specs.Names.{GoesOn, RefusesNames, pages_named};
-ghost use Rattle.stepped_die.specs.Parts.{fresh_part};
 
 use crate::die::SteppedDie;
 use crate::mirror::MirrorNand;
@@ -28,6 +27,8 @@ pub struct NamedCheckpoint {
     pub checkpoint: Checkpoint,
     /// By logical page its name, which is blank where the page lies nowhere.
     pub names: Items<PageData>,
+    /// What was known of the part: the block that stands aside, and the serial of the next program.
+    pub part: Part,
 }
 
 /// By logical page the name of what its cell was programmed with; blank where it lies nowhere. Refused with `NoMemory` alone.
@@ -51,8 +52,9 @@ pub fn names_of(
 }
 
 impl SteppedDie {
-    /// What stands at a quiet moment, as [`DieCore::checkpoint`], and by logical page its name, which is what was written to it
-    /// last. The die stays as it is. [`resume`](SteppedDie::resume) goes on from there as [`renew`](SteppedDie::renew) would have.
+    /// What stands at a quiet moment, as [`DieCore::checkpoint`], by logical page its name, which is what was written to it
+    /// last, and what is known of the part. The die stays as it is. [`resume`](SteppedDie::resume) goes on from there as
+    /// [`renew`](SteppedDie::renew) would have.
     ///
     /// Refused with `DieStopped` where a fault has stopped the die; else `Begun` where a slot has begun; else as the die refuses
     /// it, or with `NoMemory`.
@@ -68,6 +70,7 @@ impl SteppedDie {
             (pages_named taken.checkpoint.places taken.names)
             ≡ renewed_start self.old.core.start self.old.core.log) }
         ensures fits { IfOk result (λ taken. Fits self.old.core.start.plan taken.checkpoint) }
+        ensures part { IfOk result (λ taken. taken.part ≡ self.old.part) }
         ensures may { OnOk result (MayBeRenewed self.old.core) }
         ensures cause { IfErr result (RefusesNames self.old) }
         ensures unchanged { self.new ≡ self.old }
@@ -85,13 +88,22 @@ impl SteppedDie {
             Err(refusal) => return Err(StepCheckpointRefusal::Die(refusal)),
         };
         match names_of(alloc, self.core.device(), checkpoint.places.as_slice()) {
-            Ok(names) => Ok(NamedCheckpoint { checkpoint, names }),
+            Ok(names) => Ok(NamedCheckpoint {
+                checkpoint,
+                names,
+                part: self.part,
+            }),
             Err(_) => Err(StepCheckpointRefusal::Die(CheckpointRefusal::NoMemory)),
         }
     }
 
     /// A die that goes on from a checkpoint, over a device as it was left: at slot 0, with an empty log. `names` has by logical
-    /// page the name of what lies there; a page that lies nowhere, or that has no name, is blank.
+    /// page the name of what lies there; a page that lies nowhere, or that has no name, is blank. `part` has the block aside
+    /// and the serial of the next program, as the checkpoint had them; a part without labels has those of a fresh die
+    /// ([`Part::fresh`]).
+    ///
+    /// The checkpoint stands from then on: no slot begins that would spend it, until its owner has said that it is void
+    /// ([`checkpoint_void`](SteppedDie::checkpoint_void)).
     ///
     /// Refused with the first cause that stands, as [`CheckpointFault`] lists them.
     pub fn resume(
@@ -99,9 +111,10 @@ impl SteppedDie {
         plan: DiePlan,
         checkpoint: &Checkpoint,
         names: &[PageData],
+        part: Part,
     ) -> Result<SteppedDie, CheckpointFault>
         ensures ok { IfOk result (GoesOn plan checkpoint.now names.now) }
-        ensures part { IfOk result (λ die. die.part ≡ fresh_part plan) }
+        ensures part { IfOk result (λ die. die.part ≡ record part { stands = true }) }
         ensures fits { OnOk result (Fits plan checkpoint.now) }
         ensures refused { IfErr result (HasCheckpointFault plan checkpoint.now) }
     {
@@ -113,12 +126,15 @@ impl SteppedDie {
             Ok(mirror) => mirror,
             Err(_) => return Err(CheckpointFault::NoMemory),
         };
-        let part = Part::fresh(&plan);
         match DieCore::resume(alloc, plan, mirror, checkpoint) {
             Ok(core) => Ok(SteppedDie {
                 core,
                 begun: None,
-                part,
+                part: Part {
+                    aside: part.aside,
+                    serial: part.serial,
+                    stands: true,
+                },
             }),
             Err(no) => match no.refusal {
                 ResumeRefusal::Unfit { fault } => Err(fault),
@@ -130,7 +146,7 @@ impl SteppedDie {
 
     /// A die that begins where a mount ended, on the part's blocks but the one aside: at slot 0, with an empty log and
     /// full accounts. `names` has by logical page the name of what lies there; a page that lies nowhere, or that has no
-    /// name, is blank. Its programs go on with the mount's serials.
+    /// name, is blank. Its programs go on with the mount's serials. There is no checkpoint that stands.
     ///
     /// Refused with the first cause that stands, as [`CheckpointFault`] lists them: with the plan of the mount that is
     /// `NoMemory` alone.
@@ -142,18 +158,20 @@ impl SteppedDie {
     ) -> Result<SteppedDie, CheckpointFault>
         ensures ok { IfOk result (GoesOn plan end.now.checkpoint names.now) }
         ensures part { IfOk result (λ die.
-            die.part ≡ record { aside = end.now.aside; serial = end.now.next }) }
+            die.part ≡ record { aside = end.now.aside; serial = end.now.next; stands = false }) }
         ensures fits { OnOk result (Fits plan end.now.checkpoint) }
         ensures refused { IfErr result (HasCheckpointFault plan end.now.checkpoint) }
     {
-        match SteppedDie::resume(alloc, plan, &end.checkpoint, names) {
+        let part = Part {
+            aside: end.aside,
+            serial: end.next,
+            stands: false,
+        };
+        match SteppedDie::resume(alloc, plan, &end.checkpoint, names, part) {
             Ok(die) => Ok(SteppedDie {
                 core: die.core,
                 begun: die.begun,
-                part: Part {
-                    aside: end.aside,
-                    serial: end.next,
-                },
+                part,
             }),
             Err(fault) => Err(fault),
         }

@@ -38,7 +38,7 @@ called : (d e : MirrorNand) (needed : Option NandCall) → IsOnlyCall mirror_end
     → Changes d.memory (call_reported d.memory needed) e.memory
 called d e None is = ap (λ (m : MirrorNand). m.memory) is
 called d e (Some (needs.Read place)) is = (is.does, refl)
-called d e (Some (needs.Program place page bytes)) is = is.does
+called d e (Some (needs.Program place page bytes)) is = (is.does, refl)
 called d e (Some (needs.EraseSlot block)) is = (is.does, refl)
 
 -- a trim needs none

@@ -37,7 +37,7 @@ use Rattle.stepped_plan.specs.Stages.{StandsWith}
 pub begins_planned : (pages : List PageData) (before : Shown) (erased next : ℕ) (acts : List Act) (m : Mounting) (end : Mounted) (terms : Terms)
     (longest : ℕ) (names : List PageData) (part : Part) (die : OngoingParts MirrorNand) → GoesBy pages before erased next acts m → IsAtEnd m
     → IsEndOf m end → NamesPages m.cells.places names pages → HasGoneOn m.plan terms longest end.checkpoint names die
-    → part ≡ record { aside = end.aside; serial = end.next }
+    → part ≡ record { aside = end.aside; serial = end.next; stands = false }
     → (first : Labels) × MountsTo m.plan all_count before die.die.core.start first × AreFull die.die.core.start
     × ((from : Start) (past : List PastLife) (tasks : ℕ) → NumbersPlanned from first (begun_after past tasks) part)
 begins_planned pages before erased next acts m end terms longest names part die g h e named on part_is =

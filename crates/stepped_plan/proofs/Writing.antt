@@ -21,6 +21,7 @@ use Rattle.planned_die.specs.Resuming.{HaveEnough, lacked}
 use Rattle.ongoing_die.specs.Resuming.{AreHeldForDeadlines, GoesOnAfter, NoneWaits}
 use Rattle.ongoing_die.specs.Standing.{OngoingParts, StandsAs}
 use Rattle.stepped_die.specs.declared.mirror.MirrorNand.{MirrorNand}
+use Rattle.stepped_die.specs.declared.part.Part.{Part}
 use Rattle.stepped_die.specs.Names.{pages_named}
 use Rattle.stepped_die.proofs.Naming.{names_reported}
 use Rattle.stepped_plan.specs.Resuming.{HasWritten}
@@ -41,8 +42,8 @@ module _ (die : OngoingParts MirrorNand) (c : Checkpoint) (names : List PageData
       → ((first : Start) (d : Ongoing) → StandsAs first d die
       → GoesOnAfter first (shut_down die.die.life (lacked core.start.plan c.balances) d) (resumed_start core.start.plan c blocks))
       → (now core.log ≡ die.die.life → AreHeldForDeadlines die.die.terms → HaveEnough core.start.plan die.die.terms c.balances)
-      → HasWritten die (record { checkpoint = c; names = names })
-  has_written keeps may none is fits named pages chain stocked = record {
+      → (part : Part) → HasWritten die (record { checkpoint = c; names = names; part = part })
+  has_written keeps may none is fits named pages chain stocked part = record {
     may = may;
     none_waits = none;
     checkpoint_is = is;

@@ -94,9 +94,19 @@ BeginsAt caller (Err (stops.Slot (slots.Ended stop))) (Some (stages.Between befo
     HasStopped before stop × (after ≡ Some (stages.Between before))
 BeginsAt caller _ _ _ = ⊥
 
+-- Where a checkpoint stands, none begins, and nothing changes.
+abbrev pub HoldsBack : Result Begun PlanSlotStop → Option Stage → Option Stage → Type 0
+HoldsBack (Err stops.Begun) (Some (stages.Within die begun)) after = after ≡ Some (stages.Within die begun)
+HoldsBack (Err stops.CheckpointStands) (Some (stages.Between die)) after = after ≡ Some (stages.Between die)
+HoldsBack _ _ _ = ⊥
+
+abbrev pub BeginsWhere : (stands : Bool) → ℕ → Result Begun PlanSlotStop → Option Stage → Option Stage → Type 0
+BeginsWhere true caller result before after = HoldsBack result before after
+BeginsWhere false caller result before after = BeginsAt caller result before after
+
 -- and the part stays as it is
 pub record IsBeginning (caller : ℕ) (result : Result Begun PlanSlotStop) (before after : Stepping) : Type 0 where
-  pub begins_at : BeginsAt caller result before.stage after.stage
+  pub begins_at : BeginsWhere before.part.stands caller result before.stage after.stage
   pub part_stays : after.part ≡ before.part
 
 -- what a mirror's calls do, none of which fails

@@ -1,6 +1,6 @@
 //! The serials of a die's programs, and a die that begins where a mount ended. Each law is a function that does nothing.
 
-ghost use Rattle.std.specs.Prelude.{◌≡◌, ◌≢◌, ◌+◌, ◌<◌, ◌^◌, ℕ, Bool, List};
+ghost use Rattle.std.specs.Prelude.{◌≡◌, ◌≢◌, ◌+◌, ◌<◌, ◌^◌, ℕ, Bool, false, List};
 ghost use Rattle.slot_types.specs.declared.acts.Act.{Act};
 ghost use Rattle.slot_types.specs.declared.events.Op.{Op};
 ghost use Rattle.slot_types.specs.declared.pages.PageData.{PageData};
@@ -66,7 +66,7 @@ pub fn a_mounted_plan_begins_a_life()
         (longest : ℕ) (names : List PageData) (p : Stepping) (die : OngoingParts MirrorNand) → GoesBy pages before erased next acts m
         → IsAtEnd m → IsEndOf m end → NamesPages m.cells.places names pages
         → GoesOnPlanned m.plan terms longest end.checkpoint names p → AreParts p die
-        → p.part ≡ record { aside = end.aside; serial = end.next }
+        → p.part ≡ record { aside = end.aside; serial = end.next; stands = false }
         → (first : Labels) × MountsTo m.plan all_count before die.die.core.start first × AreFull die.die.core.start
         × ((from : Start) (past : List PastLife) (tasks : ℕ) → NumbersPlanned from first (begun_after past tasks) p.part) }
 {}

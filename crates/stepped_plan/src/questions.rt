@@ -62,7 +62,8 @@ impl SteppedPlan {
     }
 
     /// What is known of the part: the block that stands aside, and the serial of the next program, within a slot that has begun, too.
-    /// It rises by one with each program that is ended, up to 2^64 - 1, whichever lives pass. A fresh die begins with 1.
+    /// It rises by one with each program that is ended, up to 2^64 - 1, whichever lives pass. A fresh die begins with 1. And whether
+    /// a checkpoint stands from which the die was resumed.
     pub fn part(&self) -> Part
         ensures { result ≡ self.now.part }
     {

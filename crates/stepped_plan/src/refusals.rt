@@ -18,6 +18,8 @@ pub enum PlanSlotStop {
     Begun,
     /// No slot has begun.
     NotBegun,
+    /// A checkpoint stands from which the die was resumed.
+    CheckpointStands,
     /// As a die that goes on by itself refuses it.
     Slot(SlotStop),
 }

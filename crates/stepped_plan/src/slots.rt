@@ -1,8 +1,8 @@
 //! Slots that are begun and ended.
 
-ghost use Rattle.std.specs.Prelude.{◌≡◌, Some};
+ghost use Rattle.std.specs.Prelude.{◌≡◌, Some, Err, false};
 ghost use Rattle.stepped_plan.specs.Stages.{IsAsked, IsSteppedPlan};
-ghost use Rattle.stepped_plan.specs.Calls.{BeginsAt, EndsAt, HasCarriedOut, IsBeginning, IsEnd, part_after};
+ghost use Rattle.stepped_plan.specs.Calls.{BeginsAt, EndsAt, HasCarriedOut, HoldsBack, IsBeginning, IsEnd, part_after};
 
 use crate::plan::SteppedPlan;
 use crate::refusals::PlanSlotStop;
@@ -116,6 +116,7 @@ fn part_after(said: &Result<SlotReply, PlanSlotStop>, begun: Option<Begun>, part
             Some(begun) => Part {
                 aside: part.aside,
                 serial: serial_after(begun.call, part.serial),
+                stands: part.stands,
             },
             None => part,
         },
@@ -128,11 +129,16 @@ impl SteppedPlan {
     /// the plan has in the slot; and what the slot needs is answered: the one call of the device, or the page that it trims, and
     /// for whom. The slot isn't in the log before it has ended.
     ///
-    /// Refused, where nothing changes, with `Begun`, where a slot has begun; else `Slot`, where the whole die carries out no slot
+    /// Refused, where nothing changes, with `Begun`, where a slot has begun; else `CheckpointStands`, where the die was resumed from
+    /// a checkpoint and its owner hasn't said that it is void ([`checkpoint_void`](SteppedPlan::checkpoint_void)), whatever the slot
+    /// would need: the collections that come in a slot can't be taken back; else `Slot`, where the whole die carries out no slot
     /// (`Ended`). There is no other refusal: it is never refused for memory.
     pub fn begin(&mut self, alloc: Global, caller: u32) -> Result<Begun, PlanSlotStop>
         ensures begun { IsBeginning caller result self.old self.new }
     {
+        if self.part.stands {
+            return Err(self.held());
+        }
         match self.stage.take() {
             Some(stage) => {
                 let (stage, said) = begun(stage, alloc, caller);
@@ -141,6 +147,25 @@ impl SteppedPlan {
             }
             None => unreachable!(),
         }
+    }
+
+    /// Why no slot begins while a checkpoint stands.
+    fn held(&self) -> PlanSlotStop
+        ensures { HoldsBack (Err result) self.now.stage self.now.stage }
+    {
+        match &self.stage {
+            Some(Stage::Within { .. }) => PlanSlotStop::Begun,
+            Some(Stage::Between { .. }) => PlanSlotStop::CheckpointStands,
+            None => unreachable!(),
+        }
+    }
+
+    /// Its owner says that the checkpoint from which the die was resumed is void: it will be resumed from no more. From then on
+    /// slots may begin. Where none stands nothing changes.
+    pub fn checkpoint_void(&mut self)
+        ensures { self.new ≡ record self.old { part = record self.old.part { stands = false } } }
+    {
+        self.part.stands = false;
     }
 
     /// Ends the slot that has begun: whether the driver did what it was asked, and the bytes that were read, if a cell was. A read

@@ -7,7 +7,7 @@ use Rattle.std.proofs.lemmas.List.Elements.{All-nil, All-cons, All-weaker}
 use Rattle.slot_types.specs.Arriving.{arrivals_by, arrivals_after}
 use Rattle.slot_types.proofs.Arriving.{arrived_one, arrived_none, later_one, later_none}
 use Rattle.script_texts.specs.declared.script_rows.ScriptItem.{ScriptItem}
-use Rattle.task_script.specs.Batches.{latest_slot}
+use Rattle.task_script.specs.RowDies.{latest_slot}
 use Rattle.task_script.specs.DieRuns.{ScriptCall, Row, Slot, row_slot, calls_from}
 
 -- The last row

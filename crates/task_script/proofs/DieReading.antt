@@ -14,7 +14,7 @@ use Rattle.script_texts.specs.RowTexts.{RowText, item_in}
 use Rattle.script_texts.specs.Script.{Script, with_front}
 use Rattle.script_texts.specs.declared.script_rows.ScriptItem.{ScriptItem}
 use Rattle.task_script.specs.Feeds.{feed_of}
-use Rattle.task_script.specs.RowBatches.{AreInReach}
+use Rattle.task_script.specs.RowRunners.{AreInReach}
 use Rattle.task_script.specs.RowTexts.{AreDealt, AreOfOneDie, AreRead, Ascend, IsFirstFault}
 use Rattle.task_script.specs.RowTexts.{order_of, read_of, texts_of}
 use Rattle.task_script.proofs.ReadSoFar.{IsDealt}

@@ -7,15 +7,15 @@ use Rattle.std.proofs.lemmas.List.{length-map}
 use Rattle.slot_types.specs.declared.plans.DiePlan.{DiePlan}
 use Rattle.slot_types.specs.declared.refusals.Refusal.{Refusal}
 use Rattle.slot_types.specs.declared.refusals.Refusal.TheVariants.{NoMemory}
-use Rattle.rtrb.specs.Ring.{received}
+use Rattle.script_texts.specs.RowTexts.{RowText}
 use Rattle.script_texts.specs.Script.{Script}
 use Rattle.script_texts.specs.declared.script_rows.ScriptItem.{ScriptItem}
-use Rattle.task_script.specs.DieBatches.{RunsBatches}
-use Rattle.task_script.specs.RowBatches.{rows_of_batches}
+use Rattle.task_script.specs.RanScripts.{AllRan, with_die, with_dies}
+use Rattle.task_script.specs.RowRunners.{RunsBatches, rows_of_batches}
 use Rattle.task_script.specs.RowTexts.{AreRead, FailsToRead, order_of, read_of}
-use Rattle.task_script.specs.RunningDies.{AllRan, rows_received, with_die, with_dies}
-use Rattle.task_script.specs.declared.die_stores.DieStore.{DieStore}
-use Rattle.task_script.specs.declared.running_dies.RunningDie.{RunningDie}
+use Rattle.task_script.specs.declared.row_batches.RowBatch.{RowBatch}
+use Rattle.task_script.specs.declared.row_dies.RowDie.{RowDie}
+use Rattle.task_script.specs.declared.row_runners.RowRunner.{RowRunner}
 
 -- The refusal that is reported
 
@@ -126,22 +126,22 @@ reported known (die ∷ dies) e is = by (with_die known die) refl (reported (wit
 -- Of dies that ran
 
 -- whether a die was refused
-abbrev seen : Result DieStore Refusal → Script
+abbrev seen : Result RowDie Refusal → Script
 seen (Ok die) = Ok []
 seen (Err e) = Err e
 
-abbrev all_seen : List RunningDie → List Script
-all_seen dies = map (λ (r : RunningDie). seen r.die) dies
+abbrev all_seen : List RowRunner → List Script
+all_seen dies = map (λ (r : RowRunner). seen r.die) dies
 
-seen_so : (known : Option Refusal) (die : Result DieStore Refusal) → with_die known die ≡ with_die known (seen die)
+seen_so : (known : Option Refusal) (die : Result RowDie Refusal) → with_die known die ≡ with_die known (seen die)
 seen_so known (Ok die) = refl
 seen_so None (Err e) = refl
 seen_so (Some g) (Err e) = refl
 
-seen_all : (known : Option Refusal) (dies : List RunningDie)
-    → with_dies known (map (λ (r : RunningDie). r.die) dies) ≡ with_dies known (all_seen dies)
+seen_all : (known : Option Refusal) (dies : List RowRunner)
+    → with_dies known (map (λ (r : RowRunner). r.die) dies) ≡ with_dies known (all_seen dies)
 seen_all known [] = refl
-seen_all known (r ∷ dies) = ap (λ (o : Option Refusal). with_dies o (map (λ (x : RunningDie). x.die) dies)) (seen_so known r.die)
+seen_all known (r ∷ dies) = ap (λ (o : Option Refusal). with_dies o (map (λ (x : RowRunner). x.die) dies)) (seen_so known r.die)
     ∙ seen_all (with_die known (seen r.die)) dies
 
 -- its rows were read, or not
@@ -149,31 +149,46 @@ abbrev Reads : Script → Script → Type 0
 Reads (Ok none) said = (items : List ScriptItem) × (said ≡ Ok items)
 Reads (Err e) said = (e ≡ NoMemory) ⊎ (said ≡ Err e)
 
-reads : (plan : DiePlan) (r : RunningDie) (die : Result DieStore Refusal) → RunsBatches plan (received r.batches) die
-    → Reads (seen die) (read_of (rows_of_batches (received r.batches)))
-reads plan r (Ok die) runs = (runs.0, runs.1)
-reads plan r (Err e) runs = runs
+reads : (plan : DiePlan) (batches : List RowBatch) (die : Result RowDie Refusal) → RunsBatches plan batches die
+    → Reads (seen die) (read_of (rows_of_batches batches))
+reads plan batches (Ok die) runs = (runs.0, runs.1)
+reads plan batches (Err e) runs = runs
 
-reads_at : (plans : List DiePlan) (dies : List RunningDie) (k : ℕ) → AllRan plans dies → k < length dies
-    → Reads (get_or (all_seen dies) k (Ok [])) (read_of (get_or (rows_received dies) k []))
-reads_at plans [] k ran below = absurd (omega (arith, below))
-reads_at [] (r ∷ dies) k ran below = absurd ran
-reads_at (plan ∷ plans) (r ∷ dies) zero ran below = reads plan r r.die ran.0
-reads_at (plan ∷ plans) (r ∷ dies) (suc k) ran below = reads_at plans dies k ran.1 (omega (arith, below))
+-- the rows that were sent to each
+abbrev rows_all : List (List RowBatch) → List (List RowText)
+rows_all sents = map rows_of_batches sents
+
+reads_at : (plans : List DiePlan) (sents : List (List RowBatch)) (dies : List RowRunner) (k : ℕ) → AllRan plans sents dies → k < length dies
+    → Reads (get_or (all_seen dies) k (Ok [])) (read_of (get_or (rows_all sents) k []))
+reads_at plans sents [] k ran below = absurd (omega (arith, below))
+reads_at [] [] (r ∷ dies) k ran below = absurd ran
+reads_at [] (b ∷ sents) (r ∷ dies) k ran below = absurd ran
+reads_at (plan ∷ plans) [] (r ∷ dies) k ran below = absurd ran
+reads_at (plan ∷ plans) (b ∷ sents) (r ∷ dies) zero ran below = reads plan b r.die ran.0
+reads_at (plan ∷ plans) (b ∷ sents) (r ∷ dies) (suc k) ran below = reads_at plans sents dies k ran.1 (omega (arith, below))
+
+-- each die has its own
+sent_long : (plans : List DiePlan) (sents : List (List RowBatch)) (dies : List RowRunner) → AllRan plans sents dies → length sents ≡ length dies
+sent_long [] [] [] ran = refl
+sent_long [] [] (r ∷ dies) ran = absurd ran
+sent_long [] (b ∷ sents) dies ran = absurd ran
+sent_long (plan ∷ plans) [] dies ran = absurd ran
+sent_long (plan ∷ plans) (b ∷ sents) [] ran = absurd ran
+sent_long (plan ∷ plans) (b ∷ sents) (r ∷ dies) ran = ap suc (sent_long plans sents dies ran.1)
 
 -- what is reported is the first fault, or memory ran out
-pub runs_refused : (plans : List DiePlan) (dies : List RunningDie) (e : Refusal) → AllRan plans dies
-    → with_dies None (map (λ (r : RunningDie). r.die) dies) ≡ Some e → FailsToRead (rows_received dies) e
-runs_refused plans dies e ran is = by t.whose
+pub runs_refused : (plans : List DiePlan) (sents : List (List RowBatch)) (dies : List RowRunner) (e : Refusal) → AllRan plans sents dies
+    → with_dies None (map (λ (r : RowRunner). r.die) dies) ≡ Some e → FailsToRead (rows_all sents) e
+runs_refused plans sents dies e ran is = by t.whose
   where
     t : IsReported None (all_seen dies) e
     t = reported None (all_seen dies) e (sym (seen_all None dies) ∙ is)
 
-    many : (length (all_seen dies) ≡ length dies) × (length (rows_received dies) ≡ length dies)
-    many = (length-map dies (λ (r : RunningDie). seen r.die), length-map dies (λ (r : RunningDie). rows_of_batches (received r.batches)))
+    many : (length (all_seen dies) ≡ length dies) × (length (rows_all sents) ≡ length dies)
+    many = (length-map dies (λ (r : RowRunner). seen r.die), length-map sents rows_of_batches ∙ sent_long plans sents dies ran)
 
     before : (k : ℕ) (f : Refusal) (r : Script) → k < length (all_seen dies) → get_or (all_seen dies) k (Ok []) ≡ r
-        → read_of (get_or (rows_received dies) k []) ≡ Err f → Reads r (read_of (get_or (rows_received dies) k [])) → order_of e ≤ order_of f
+        → read_of (get_or (rows_all sents) k []) ≡ Err f → Reads r (read_of (get_or (rows_all sents) k [])) → order_of e ≤ order_of f
     before k f (Ok none) below at fault (items, says) =
         let apart : ◌≡◌ {A = Script} (Ok items) (Err f) = sym says ∙ fault in absurd cc
     before k f (Err g) below at fault (inl memory) =
@@ -183,23 +198,23 @@ runs_refused plans dies e ran is = by t.whose
         let one : g ≡ f = cc in
         let first = t.least k g below at in omega (arith, first, ap order_of one)
 
-    found : (place : ℕ) → place < length dies → Reads (Err e) (read_of (get_or (rows_received dies) place []))
-        → FailsToRead (rows_received dies) e
+    found : (place : ℕ) → place < length dies → Reads (Err e) (read_of (get_or (rows_all sents) place []))
+        → FailsToRead (rows_all sents) e
     found place below (inl memory) = inl memory
     found place below (inr fault) = inr (record {
       die = place;
       below = omega (arith, below, many.1);
       fault = fault;
       first = λ k f within theirs. before k f (get_or (all_seen dies) k (Ok [])) (omega (arith, within, many.0, many.1)) refl theirs
-          (reads_at plans dies k ran (omega (arith, within, many.1)));
+          (reads_at plans sents dies k ran (omega (arith, within, many.1)));
     })
 
     by : (None ≡ Some e) ⊎ ((place : ℕ) × (place < length (all_seen dies)) × (get_or (all_seen dies) place (Ok []) ≡ Err e))
-        → FailsToRead (rows_received dies) e
+        → FailsToRead (rows_all sents) e
     by (inl apart) = absurd cc
     by (inr (place, below, at)) = found place (omega (arith, below, many.0))
-        (subst (λ (r : Script). Reads r (read_of (get_or (rows_received dies) place []))) at
-        (reads_at plans dies place ran (omega (arith, below, many.0))))
+        (subst (λ (r : Script). Reads r (read_of (get_or (rows_all sents) place []))) at
+        (reads_at plans sents dies place ran (omega (arith, below, many.0))))
 
 -- where none was refused, all rows were read
 
@@ -213,22 +228,24 @@ stays e (Err f ∷ dies) is = by (stays e dies) (stays f dies) (nat_le (order_of
     by own other true is = own is
     by own other false is = other is
 
-pub runs_read : (plans : List DiePlan) (dies : List RunningDie) → AllRan plans dies
-    → with_dies None (map (λ (r : RunningDie). r.die) dies) ≡ None
-    → (items : List (List ScriptItem)) × AreRead (rows_received dies) items
-runs_read plans dies ran is = by plans dies ran (sym (seen_all None dies) ∙ is)
+pub runs_read : (plans : List DiePlan) (sents : List (List RowBatch)) (dies : List RowRunner) → AllRan plans sents dies
+    → with_dies None (map (λ (r : RowRunner). r.die) dies) ≡ None
+    → (items : List (List ScriptItem)) × AreRead (rows_all sents) items
+runs_read plans sents dies ran is = by plans sents dies ran (sym (seen_all None dies) ∙ is)
   where
     first : (s said : Script) (rest : List Script) → Reads s said → with_dies None (s ∷ rest) ≡ None
         → ((items : List ScriptItem) × (said ≡ Ok items)) × (with_dies None rest ≡ None)
     first (Ok none) said rest reads is = (reads, is)
     first (Err e) said rest reads is = absurd (stays e rest is)
 
-    by : (plans : List DiePlan) (dies : List RunningDie) → AllRan plans dies → with_dies None (all_seen dies) ≡ None
-        → (items : List (List ScriptItem)) × AreRead (rows_received dies) items
-    by [] [] ran is = ([], refl)
-    by [] (r ∷ dies) ran is = absurd ran
-    by (plan ∷ plans) [] ran is = absurd ran
-    by (plan ∷ plans) (r ∷ dies) ran is =
-        let here = first (seen r.die) (read_of (rows_of_batches (received r.batches))) (all_seen dies) (reads plan r r.die ran.0) is in
-        let rest = by plans dies ran.1 here.1 in
+    by : (plans : List DiePlan) (sents : List (List RowBatch)) (dies : List RowRunner) → AllRan plans sents dies
+        → with_dies None (all_seen dies) ≡ None → (items : List (List ScriptItem)) × AreRead (rows_all sents) items
+    by [] [] [] ran is = ([], refl)
+    by [] [] (r ∷ dies) ran is = absurd ran
+    by [] (b ∷ sents) dies ran is = absurd ran
+    by (plan ∷ plans) [] dies ran is = absurd ran
+    by (plan ∷ plans) (b ∷ sents) [] ran is = absurd ran
+    by (plan ∷ plans) (b ∷ sents) (r ∷ dies) ran is =
+        let here = first (seen r.die) (read_of (rows_of_batches b)) (all_seen dies) (reads plan b r.die ran.0) is in
+        let rest = by plans sents dies ran.1 here.1 in
         (here.0.0 ∷ rest.0, λ i. here.0.1 i ∷ rest.1 i)

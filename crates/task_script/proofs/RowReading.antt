@@ -190,7 +190,7 @@ in_time dies slots (row ∷ rows) (item ∷ items) heads zip = (
 
 -- with more of the script after them
 
-no_items : (s : Script) → s ≡ with_items [] s
+pub no_items : (s : Script) → s ≡ with_items [] s
 no_items (Ok more) = refl
 no_items (Err e) = refl
 

@@ -9,14 +9,9 @@ pub mod TextRuns
 pub mod PlannedRuns
 pub mod StoreRuns
 pub mod DieTexts
-pub mod Batches
-pub mod DieStores
-pub mod RowBatches
-pub mod DieBatches
-pub mod RunningDies
-pub mod Shares
-pub mod Sending
-pub mod SentRows
+pub mod RowDies
+pub mod RowRunners
+pub mod RanScripts
 pub mod ExactRuns
 pub use Rattle.text_base.specs.Number
 pub use Rattle.text_base.specs.Readings

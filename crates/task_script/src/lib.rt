@@ -2,23 +2,17 @@
 //! `report_texts`.
 #![tactic(auto)]
 
-mod batches;
 mod die_reports;
-mod die_stores;
 mod die_texts;
 mod feeds;
 mod laws;
 mod row_batches;
-mod rows;
+mod row_dies;
+mod row_runners;
 mod run_counts;
-mod run_dies;
-mod running_dies;
 mod sending;
-mod sent_rows;
-mod shares;
 mod stores;
 mod text_runs;
-mod workers;
 
 pub use die_reports::add_die;
 pub use laws::{

@@ -1,51 +1,49 @@
 //! The rows of a script, sent to its dies as they are read.
 
-ghost use Rattle.std.specs.Prelude.{◌≡◌, ◌≢◌, ◌≤◌, [], All, IfOk, Ok, length, replicate};
+ghost use Rattle.std.specs.Prelude.{◌≡◌, ◌≤◌, [], All, IfOk, List, length, replicate};
 ghost use Rattle.std.specs.List.{AllZip};
-ghost use Rattle.rtrb.specs.Ring.{received};
 ghost use Rattle.slot_types.specs.Refusal.{FailsForMemory};
 ghost use Rattle.plan_rules.specs.Bound.{MeetsBound};
-ghost use Rattle.script_texts.specs.ScriptLeft.{dies_of, line_of, reader_failed, script_rows_left, slots_of};
-ghost use Rattle.task_script.specs.RowBatches.{IsSameSender, sent_by, until_of};
-ghost use Rattle.task_script.specs.RowTexts.{EndsWithReader, HasReadTexts};
-ghost use Rattle.task_script.specs.RunningDies.{AllRan, rows_received};
-ghost use Rattle.task_script.specs.Sending.{AreSent, MayAllFollow, SameBatches, rows_sent};
-ghost use Rattle.task_script.specs.SentRows.{HasSentRows};
-ghost use Rattle.task_script.specs.Shares.{StaysShare};
-ghost use Rattle.task_script.specs.declared.feeds.ReadEnd.TheVariants.{Ended, More};
+ghost use Rattle.script_texts.specs.ScriptLeft.{dies_of, line_of, slots_of};
+ghost use Rattle.task_script.specs.RanScripts.{AreSent, HasRanFrom, HasRanRows, MayAllFollow, NoneSent, sent_more};
+ghost use Rattle.task_script.specs.RowRunners.{IsFresh, IsFreshOf};
 
 use crate::feeds::{ReadEnd, read_rows};
-use crate::row_batches::{BatchSender, RowBatch};
-use crate::run_dies::{run_rests, running_dies};
-use crate::running_dies::RunningDie;
-use crate::sent_rows::SentRows;
-use crate::shares::Share;
-use crate::workers::{Signal, end_all, gather, run_here, share_out, signals};
+use crate::row_batches::RowBatch;
+use crate::row_runners::RowRunner;
+use die_service::{Run, Signals};
 use script_texts::{RowTexts, ScriptReader};
 use slot_types::{DiePlan, MAX_SLOT, Refusal};
 use std::alloc::Global;
 use std::io::Read;
 use std::sync::Wait;
 use std::thread;
-use std::thread::{Parker, Scope, Threads};
+use std::thread::{Scope, Threads};
 
 /// What became of a script that was read: its reader, its dies, which have run all rows, and how reading ended.
 #[derive(Drop)]
 pub struct RanRows<S> {
     pub script: ScriptReader<S>,
-    pub dies: Vec<RunningDie>,
+    pub dies: Vec<RowRunner>,
     pub end: ReadEnd,
 }
 
-/// By die an empty list. The only refusal is NoMemory.
-fn empty_lists(alloc: Global, senders: &mut [BatchSender]) -> Result<Vec<RowTexts>, Refusal>
-    ensures empty { IfOk result (λ lists. lists.items ≡ replicate (length senders.old) []) }
-    ensures same { AllZip SameBatches senders.old senders.new }
+/// By die an empty list: one that came back, with its memory, or a new one. The only refusal is NoMemory.
+fn empty_lists(
+    alloc: Global,
+    run: &mut Run<'_, RowRunner, RowBatch>,
+) -> Result<Vec<RowTexts>, Refusal>
+    ensures empty { IfOk result (λ lists. lists.items ≡ replicate (length run.old) []) }
+    ensures same { run.new ≡ run.old }
     ensures refused { FailsForMemory result }
 {
-    let mut lists = Vec::with_capacity(alloc, senders.len())?;
-    for sender in senders.iter_mut() {
-        lists.push(sender.empty_list(alloc))?;
+    let count = run.len();
+    let mut lists = Vec::with_capacity(alloc, count)?;
+    for place in 0..count {
+        lists.push(match run.emptied(place) {
+            Some(batch) => batch.rows,
+            None => RowTexts::new(alloc),
+        })?;
     }
     Ok(lists)
 }
@@ -53,62 +51,48 @@ fn empty_lists(alloc: Global, senders: &mut [BatchSender]) -> Result<Vec<RowText
 /// Sends each die its rows.
 fn send_rows<R: Wait>(
     rt: &R,
-    senders: &mut [BatchSender],
+    run: &mut Run<'_, RowRunner, RowBatch>,
     rows: Vec<RowTexts>,
     until: u32,
-    parker: &Parker,
 )
-    requires follow { MayAllFollow until rows.items senders.old }
-    ensures { AreSent until rows.items senders.old senders.new }
+    requires follow { MayAllFollow until rows.items run.old }
+    ensures { run.new ≡ sent_more until rows.items run.old }
 {
     let mut place = 0;
     for own in rows {
-        senders[place].send(rt, RowBatch { rows: own, until }, parker);
+        run.send(rt, place, RowBatch { rows: own, until });
         place += 1;
     }
 }
 
-/// Reads the rows of a script, and sends them to its dies, until it ends or is refused. Dies that are here are run batch
-/// by batch. The run of a die that is refused stops nothing: a script with a fault takes no longer than one without. The
-/// only refusal of this call is NoMemory.
-fn send_all<R: Threads + Wait + Sync, S: Read + Drop>(
+/// Reads the rows of a script, and sends them to its dies, until it ends or is refused. Dies that no worker has are run
+/// batch by batch. The run of a die that is refused stops nothing: a script with a fault takes no longer than one without.
+/// The only refusal of this call is NoMemory.
+fn send_all<R: Wait, S: Read + Drop>(
     rt: &R,
     alloc: Global,
     script: &mut ScriptReader<S>,
-    senders: &mut [BatchSender],
-    shares: &mut [Share],
-    signals: &[Signal],
-    reader: &Parker,
+    run: &mut Run<'_, RowRunner, RowBatch>,
     slots: u32,
 ) -> Result<ReadEnd, Refusal>
-    requires dies { length senders.old ≡ dies_of script.old }
+    requires dies { length run.old ≡ dies_of script.old }
     requires first { 1 ≤ line_of script.old }
     requires slots { slots_of script.old ≡ slots }
     requires few { slots ≤ MAX_SLOT }
-    requires none { All (λ sender. sent_by sender ≡ []) senders.old }
-    ensures rows { IfOk result (HasReadTexts (script_rows_left S.remaining script.old)
-        (script_rows_left S.remaining script.new) (dies_of script.old) (slots_of script.old)
-        (line_of script.old) (line_of script.new) (rows_sent senders.new)) }
-    ensures last { result ≡ Ok Ended → All (λ sender. until_of (sent_by sender) ≡ slots) senders.new }
-    ensures few { IfOk result (λ _. All (λ sender. length (sent_by sender) ≤ 1000003) senders.new) }
-    ensures failed { IfOk result (EndsWithReader (reader_failed script.new)) }
-    ensures over { IfOk result (λ end. end ≢ More) }
-    ensures same { IfOk result (λ _. AllZip IsSameSender senders.old senders.new) }
-    ensures shares { IfOk result (λ _. AllZip StaysShare shares.old shares.new) }
+    requires none { NoneSent run.old }
+    ensures sent { IfOk result
+        (AreSent S.remaining slots script.old script.new run.old run.new) }
     ensures refused { FailsForMemory result }
 {
     for _ in 0..u32::MAX {
-        let empty = empty_lists(alloc, senders)?;
+        let empty = empty_lists(alloc, run)?;
         let read = read_rows(script, empty)?;
         let until = match read.end {
             ReadEnd::Ended => slots,
             _ => 0,
         };
-        send_rows(rt, senders, read.dies, until, reader);
-        for signal in signals {
-            signal.wake();
-        }
-        run_here(rt, alloc, shares, reader);
+        send_rows(rt, run, read.dies, until);
+        run.go_on(alloc);
         let ReadEnd::More = read.end else {
             return Ok(read.end);
         };
@@ -117,55 +101,46 @@ fn send_all<R: Threads + Wait + Sync, S: Read + Drop>(
     unreachable!()
 }
 
-/// Shares the dies out, reads the script, and gathers the dies. The only refusal of this call is NoMemory.
+/// Begins the run, reads the script, and ends the run. The only refusal of this call is NoMemory.
 fn send_by<'s, 'e: 's, R: Threads + Wait + Sync, S: Read + Drop>(
     scope: &Scope<'s, &'e ()>,
     rt: &'e R,
     alloc: Global,
     script: ScriptReader<S>,
-    senders: Vec<BatchSender>,
-    dies: Vec<RunningDie>,
-    signals: &'e [Signal],
-    reader: &'e Parker,
+    runners: Vec<RowRunner>,
+    signals: &'e Signals,
     slots: u32,
-) -> Result<SentRows<S>, Refusal>
-    requires dies { length senders.items ≡ dies_of script }
+) -> Result<RanRows<S>, Refusal>
+    requires fresh { All IsFresh runners.items }
+    requires dies { length runners.items ≡ dies_of script }
     requires first { 1 ≤ line_of script }
     requires slots { slots_of script ≡ slots }
     requires few { slots ≤ MAX_SLOT }
-    requires none { All (λ sender. sent_by sender ≡ []) senders.items }
-    ensures sent { IfOk result
-        (HasSentRows S.remaining slots script senders.items dies.items) }
+    ensures ran { IfOk result (HasRanFrom S.remaining runners.items slots script) }
     ensures refused { FailsForMemory result }
 {
-    let mut shares = match share_out(scope, rt, alloc, dies, signals, reader) {
-        Ok(shares) => shares,
-        Err(refusal) => {
-            end_all(signals);
-            return Err(refusal);
-        }
+    let mut run = match Run::begin(scope, rt, alloc, runners, signals) {
+        Ok(run) => run,
+        Err(refusal) => return Err(refusal),
     };
     let mut script = script;
-    let mut senders = senders;
-    let end = send_all(
-        rt,
-        alloc,
-        &mut script,
-        senders.as_mut_slice(),
-        shares.as_mut_slice(),
-        signals,
-        reader,
-        slots,
-    );
-    end_all(signals);
-    let dies = gather(rt, alloc, shares)?;
+    let end = send_all(rt, alloc, &mut script, &mut run, slots);
+    let dies = run.end(rt, alloc)?;
     let end = end?;
-    Ok(SentRows {
-        script,
-        senders,
-        dies,
-        end,
-    })
+    Ok(RanRows { script, dies, end })
+}
+
+/// Fresh dies of plans. The only refusal is NoMemory.
+fn fresh_runners(alloc: Global, plans: &[DiePlan]) -> Result<Vec<RowRunner>, Refusal>
+    requires bound { All MeetsBound plans.now }
+    ensures fresh { IfOk result (λ runners. AllZip IsFreshOf plans.now runners.items) }
+    ensures refused { FailsForMemory result }
+{
+    let mut runners = Vec::new(alloc);
+    for plan in plans {
+        runners.push(RowRunner::new(alloc, plan)?)?;
+    }
+    Ok(runners)
 }
 
 /// Reads a script, sends its rows to fresh dies of these plans, and runs them, by `workers` workers, or by this thread
@@ -183,43 +158,20 @@ pub fn send_script<R: Threads + Wait + Sync, S: Read + Drop>(
     requires slots { slots_of script ≡ slots }
     requires few { slots ≤ MAX_SLOT }
     requires bound { All MeetsBound plans.now }
-    ensures ran { IfOk result (λ sent. AllRan plans.now sent.dies.items) }
-    ensures rows { IfOk result (λ sent.
-        HasReadTexts (script_rows_left S.remaining script)
-        (script_rows_left S.remaining sent.script) (dies_of script) (slots_of script)
-        (line_of script) (line_of sent.script) (rows_received sent.dies.items) sent.end) }
-    ensures last { IfOk result (λ sent. sent.end ≡ Ended →
-        All (λ running. until_of (received running.batches) ≡ slots) sent.dies.items) }
-    ensures few { IfOk result (λ sent.
-        All (λ running. length (received running.batches) ≤ 1000003) sent.dies.items) }
-    ensures failed { IfOk result (λ sent. EndsWithReader (reader_failed sent.script) sent.end) }
-    ensures over { IfOk result (λ sent. sent.end ≢ More) }
+    ensures ran { IfOk result (HasRanRows S.remaining plans.now slots script) }
     ensures refused { FailsForMemory result }
 {
-    let (senders, dies) = running_dies(alloc, plans)?;
-    let signals = signals(alloc, if workers == 1 { 0 } else { workers })?;
-    let reader = Parker::new();
-    let (told, reading) = (signals.as_slice(), &reader);
-    let sent = thread::scope(
+    let runners = fresh_runners(alloc, plans)?;
+    let signals = Signals::new(alloc, if workers == 1 { 0 } else { workers })?;
+    let told = &signals;
+    thread::scope(
         thread::scope_env(),
         rt,
-        move |scope| -> Result<SentRows<S>, Refusal>
-            requires { (length senders.items ≡ dies_of script) × (1 ≤ line_of script) × (slots_of script ≡ slots) × (slots ≤ MAX_SLOT)
-                × All (λ sender. sent_by sender ≡ []) senders.items }
+        move |scope| -> Result<RanRows<S>, Refusal>
+            requires { All IsFresh runners.items × (length runners.items ≡ dies_of script)
+                × (1 ≤ line_of script) × (slots_of script ≡ slots) × (slots ≤ MAX_SLOT) }
             ensures { FailsForMemory result × IfOk result
-                (HasSentRows S.remaining slots script senders.items dies.items) }
-        {
-            send_by(
-                scope, rt, alloc, script, senders, dies, told, reading, slots,
-            )
-        },
-    )?;
-    let SentRows {
-        script,
-        senders,
-        dies,
-        end,
-    } = sent;
-    let dies = run_rests(rt, alloc, dies, senders)?;
-    Ok(RanRows { script, dies, end })
+                (HasRanFrom S.remaining runners.items slots script) }
+        { send_by(scope, rt, alloc, script, runners, told, slots) },
+    )
 }

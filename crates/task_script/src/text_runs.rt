@@ -1,26 +1,25 @@
 //! Scripts that are run on the dies of a store.
 
-ghost use Rattle.std.specs.Prelude.{◌≡◌, ◌<◌, ◌≤◌, ◌^◌, All, length, true, IfOk, IfErr, IsSomeAnd, OnOk};
+ghost use Rattle.std.specs.Prelude.{◌≡◌, ◌<◌, ◌≤◌, ◌^◌, All, List, None, Ok, length, map, true, IfOk, IfErr, IsSomeAnd, OnOk};
 ghost use Rattle.script_texts.specs.ScriptLeft.{reader_failed};
 ghost use Rattle.slot_types.specs.Refusal.{FailsForMemory};
 ghost use Rattle.slot_types.specs.declared.refusals.Refusal.TheVariants.{ReadFault};
 ghost use Rattle.plan_rules.specs.Bound.{MeetsBound};
-ghost use Rattle.task_script.specs.Batches.{Closes, joined_counts, rows_counted};
-ghost use Rattle.task_script.specs.DieStores.{CanClose, passes_of, progress_of};
+ghost use Rattle.task_script.specs.RanScripts.{AreReported, dies_in, total_rows, with_die, with_dies};
+ghost use Rattle.task_script.specs.RowDies.{core_of};
+ghost use Rattle.task_script.specs.RowTexts.{order_of};
 ghost use Rattle.task_script.specs.PlannedRuns.{RunsAsPlanned, RunsSo};
 ghost use Rattle.task_script.specs.TextRuns.{RanScript, RunsText};
 ghost use Rattle.task_script.specs.Feeds.{RefusesScript};
 ghost use Rattle.text_base.specs.Flags.{KeepsFlag};
 ghost use Rattle.text_base.specs.Writing.{RefusesOrCuts};
 
-use crate::batches::Progress;
-use crate::die_stores::DieStore;
 use crate::die_texts::parts_of;
 use crate::feeds::ReadEnd;
+use crate::row_dies::RowDie;
+use crate::row_runners::RowRunner;
 use crate::run_counts::RunCount;
-use crate::run_dies::{first_refusal, ran_dies};
 use crate::sending::{RanRows, send_script};
-use die_service::close;
 use report_texts::{ReportText, write_parts};
 use script_texts::ScriptReader;
 use slot_types::{MAX_SLOT, Refusal, StorePlan};
@@ -69,53 +68,66 @@ impl<S: Drop> From<RefusedRun<S>> for Refusal {
     }
 }
 
-/// The count of the rows of all dies.
-fn joined(progress: &[Progress]) -> RunCount
-    requires counted { rows_counted progress.now < 2 ^ 64 }
-    ensures { result ≡ joined_counts progress.now }
+/// Of the refusals of dies the one that is reported.
+fn first_refusal(dies: &[RowRunner]) -> Option<Refusal>
+    ensures { result ≡ with_dies None (map (λ runner. runner.die) dies.now) }
 {
-    let mut count = RunCount::none();
-    let mut left = progress;
-    for _ in 0..progress.len() {
-        let Some((at, later)) = left.split_first() else {
-            unreachable!()
-        };
-        count.add_all(&at.count);
-        left = later;
+    let mut first = None;
+    for runner in dies {
+        first = with_die(first, &runner.die);
     }
-    count
+    first
 }
 
-/// Closes dies that have carried out their slots, and makes their report by `workers` threads. The only refusal is
-/// NoMemory.
-fn finish<R: Threads + Wait + Sync>(
+/// Makes the report of dies that have carried out their slots, by `workers` threads. The only refusal is NoMemory.
+fn finish<R: Threads + Sync>(
     rt: &R,
     alloc: Global,
-    dies: Vec<DieStore>,
+    runners: Vec<RowRunner>,
     workers: u32,
 ) -> Result<RanStore, Refusal>
-    requires close { All CanClose dies.items }
-    requires few { length dies.items ≤ 8 }
-    requires counted { rows_counted (progress_of dies.items) < 2 ^ 64 }
+    requires whole { map (λ runner. runner.die) runners.items ≡ map Ok (dies_in runners.items) }
+    requires few { length (dies_in runners.items) ≤ 8 }
+    requires counted { total_rows (dies_in runners.items) < 2 ^ 64 }
     requires workers { 1 ≤ workers }
-    ensures closed { IfOk result (λ ran.
-        Closes (passes_of dies.items) (progress_of dies.items) ran.parts.items ran.count) }
+    ensures reported { IfOk result (λ ran.
+        AreReported (dies_in runners.items) ran.parts.items ran.count) }
     ensures refused { FailsForMemory result }
 {
     let mut cores = Vec::new(alloc);
-    let mut progress = Vec::new(alloc);
-    for die in dies {
-        let DieStore { store, dies } = die;
-        match close(rt, store, dies.passes) {
-            Ok(mut closed) => cores.append(&mut closed)?,
-            Err(kept) => return Err(kept.refusal),
-        }
-        let mut far = dies.progress;
-        progress.append(&mut far)?;
+    let mut count = RunCount::none();
+    for runner in runners {
+        let Ok(die) = runner.die else { unreachable!() };
+        let (core, own) = die.into_parts();
+        cores.push(Box::into_inner(core))?;
+        count.add_all(&own);
     }
-    let count = joined(progress.as_slice());
     let parts = parts_of(rt, alloc, cores, workers)?;
     Ok(RanStore { parts, count })
+}
+
+/// In which order refusals are reported: out of memory, and then the faults by their records.
+fn order_of(refusal: Refusal) -> u64
+    ensures { result ≡ order_of refusal }
+{
+    match refusal {
+        Refusal::NoMemory => 0,
+        Refusal::ScriptRow { line, .. } => line as u64 + 1,
+        _ => 1,
+    }
+}
+
+/// Of a refusal that is known, if any, and that of one die more the one that is reported.
+fn with_die(known: Option<Refusal>, die: &Result<RowDie, Refusal>) -> Option<Refusal>
+    ensures { result ≡ with_die known die.now }
+{
+    let Err(refusal) = die else {
+        return known;
+    };
+    match known {
+        Some(first) if order_of(first) <= order_of(*refusal) => known,
+        _ => Some(*refusal),
+    }
 }
 
 /// Runs a script on fresh dies in memory.
@@ -150,7 +162,6 @@ fn run_script<R: Threads + Wait + Sync, S: Read + Drop>(
     }
     match end {
         ReadEnd::Ended => {
-            let dies = ran_dies(alloc, dies)?;
             let whole = finish(rt, alloc, dies, workers)?;
             Ok(whole)
         }

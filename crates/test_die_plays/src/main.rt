@@ -11,13 +11,11 @@ mod dies;
 mod events;
 mod fields;
 mod lines;
-mod memory;
 mod next_slots;
 mod plays;
 mod said;
 mod stage;
 
-use memory::Memory;
 use plays::{Tally, play};
 use said::Reported;
 use std::alloc::Global;
@@ -26,6 +24,7 @@ use std::io::Write;
 use std::process::ExitCode;
 use std::rt::Files;
 use std::{env, fs, io};
+use test_memory::Memory;
 
 /// Plays the histories of a file. Answers how many calls were answered otherwise.
 fn play_file<R: Files, W: Write>(

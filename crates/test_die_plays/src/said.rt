@@ -1,9 +1,9 @@
 //! What a die answers, in words.
 
-use crate::memory::Memory;
 use slot_types::{PageData, Refusal};
 use std::alloc::{AllocError, Global};
 use std::io::Write;
+use test_memory::Memory;
 use text_base::put_page;
 
 /// Words with one space between two.
@@ -34,7 +34,7 @@ impl Reported {
 
     /// Whether a call that finds no memory is to be made again.
     pub(crate) fn asks_again(&self) -> bool {
-        self.memory == Memory::OneRefused
+        self.memory == Memory::Scarce
     }
 
     /// A call has met the refused allocation: no other one does.

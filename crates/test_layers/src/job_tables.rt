@@ -3,12 +3,12 @@
 
 ghost use Rattle.std.specs.Prelude.{◌≡◌};
 
-use crate::memory::is_scarce;
 use job_table::{CountedOps, Job, JobTable};
 use slot_types::{JobHead, JobNo, LentOps, MAX_JOBS, MAX_OPS, Op, PageData, Refusal, TaskNo};
 use std::alloc::Global;
 use std::env::Env;
 use std::test::Fail;
+use test_memory::is_scarce;
 
 fn head_of(collects: bool, task: TaskNo, release: u32, due: u32) -> JobHead
     ensures { result ≡ record { collects = collects; task = task; release = release; due = due } }

@@ -13,5 +13,3 @@ mod lists;
 mod log_readings;
 #[cfg(test)]
 mod logs;
-#[cfg(test)]
-mod memory;

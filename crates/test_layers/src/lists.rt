@@ -1,9 +1,9 @@
 //! A list of waivers, longer than any slot's.
 
-use crate::memory::is_scarce;
 use slot_types::{JobNo, Refusal, Waived, WaivedList};
 use std::env::Env;
 use std::test::Fail;
+use test_memory::is_scarce;
 
 fn waived(number: u32) -> Waived {
     Waived {

@@ -10,6 +10,7 @@ use std::env::Env;
 use std::sync::Wait;
 use std::test::Fail;
 use std::thread;
+use test_memory::is_scarce;
 use turn_lock::{Pass, Turned};
 
 // Applies 1 to `count`, each with a 0 after it, and says whether each was added and each 0 refused.
@@ -217,13 +218,6 @@ fn two_threads_note_by_turns(rt: HostRuntime) -> Result<(), Fail> {
     }
     assert_eq!(rt; last, [1000, 1000]);
     Ok(())
-}
-
-// Whether memory is scarce, so that a call that finds none is made again: where `.ci/memory/refused-growths` plays the
-// test, which it says by the variable `REFUSE`. Else a refusal out of memory is a fault.
-fn is_scarce<R: Env>(rt: &R) -> bool {
-    let mut number = [0u8; 20];
-    rt.var("REFUSE", &mut number).is_ok()
 }
 
 // Applies a number that is added to a book of `entries` entries. Where memory is scarce and refused for it, it adds

@@ -10,6 +10,8 @@ mod by_hand;
 #[cfg(test)]
 mod chips;
 #[cfg(test)]
+mod counts;
+#[cfg(test)]
 mod large;
 #[cfg(test)]
 mod mounts;

@@ -42,7 +42,7 @@ pub fn scan(alloc: Global, sizes: Sizes, chip: &Chip, without: Option<u32>) -> R
         } else {
             labels_of(alloc, sizes, chip, block)?
         };
-        if let Err(fault) = scan.tell(labels.as_slice()) {
+        if let Err(fault) = scan.tell(labels.as_slice(), None) {
             return Err(Wrong::Scan(fault));
         }
     }

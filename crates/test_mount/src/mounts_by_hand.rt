@@ -74,7 +74,7 @@ fn mounted(
 
 /// Full accounts have 3 + (4 - 1) = 6 free pages, and with a block it is 10. So at most 6 blocks are emptied: with the
 /// first erase 3 + 6 * (2 * 3 + 3) = 57 calls.
-const FEW: Sizes = Sizes {
+pub const FEW: Sizes = Sizes {
     blocks: 4,
     pages: 4,
     slots: 3,

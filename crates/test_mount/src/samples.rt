@@ -31,8 +31,18 @@ pub enum Fault {
     Scan(ScanFault),
 }
 
-/// Tells a scan the cells of a block.
+/// Tells a scan the cells of a block, whose labels don't say how often it was erased.
 pub fn tell(alloc: Global, scan: &mut Scan, cells: &[Cell]) -> Result<(), Fault> {
+    tell_erases(alloc, scan, cells, None)
+}
+
+/// Tells a scan the cells of a block, and how often it was erased, where its labels say so.
+pub fn tell_erases(
+    alloc: Global,
+    scan: &mut Scan,
+    cells: &[Cell],
+    erases: Option<u32>,
+) -> Result<(), Fault> {
     let mut labels: Vec<Option<Label>> = Vec::new(alloc);
     for cell in cells {
         let label = match *cell {
@@ -43,7 +53,7 @@ pub fn tell(alloc: Global, scan: &mut Scan, cells: &[Cell]) -> Result<(), Fault>
             return Err(Fault::Memory);
         }
     }
-    match scan.tell(labels.as_slice()) {
+    match scan.tell(labels.as_slice(), erases) {
         Ok(()) => Ok(()),
         Err(fault) => Err(Fault::Scan(fault)),
     }

@@ -2,12 +2,12 @@
 //! allocation is refused. An outcome may need memory for what its reads gave. Where memory is scarce, one that is refused
 //! for lack of it is asked for again, and has to be answered then as without the refusal.
 
-use crate::memory::Memory;
 use flash_die::Nand;
 use planned_die::{AskRefusal, Burst, PlannedDie};
 use slot_core::Outcome;
 use slot_types::{JobNo, Op, Refusal, SlotReply, TaskNo};
 use std::alloc::Global;
+use test_memory::Memory;
 
 /// What becomes of an ask: the number of its job, or why it is refused.
 pub(crate) fn ask<N: Nand>(

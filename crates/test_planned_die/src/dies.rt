@@ -2,7 +2,6 @@
 
 ghost use Rattle.flash_die.specs.Flash.{IsFresh};
 
-use crate::memory::Memory;
 use crate::plans::{Plan, SHAPE};
 use crate::played::play;
 use crate::steps::Step;
@@ -12,6 +11,7 @@ use slot_types::Refusal;
 use std::alloc::Global;
 use std::env::Env;
 use std::process::Abort;
+use test_memory::Memory;
 
 /// Plays a table on a new die with this device.
 fn plays_on<N: Nand>(

@@ -24,8 +24,6 @@ mod going_on_bursts;
 #[cfg(test)]
 mod lives;
 #[cfg(test)]
-mod memory;
-#[cfg(test)]
 mod ongoing_dies;
 #[cfg(test)]
 mod ongoing_played;

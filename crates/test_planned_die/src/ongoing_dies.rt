@@ -3,7 +3,6 @@
 
 ghost use Rattle.flash_die.specs.Flash.{IsFresh};
 
-use crate::memory::Memory;
 use crate::ongoing_played::play;
 use crate::ongoing_steps::Turn;
 use crate::plans::{Plan, SHAPE};
@@ -14,6 +13,7 @@ use slot_types::Refusal;
 use std::alloc::Global;
 use std::env::Env;
 use std::process::Abort;
+use test_memory::Memory;
 
 fn as_die(refusal: Refusal) -> OngoingRefusal {
     OngoingRefusal::Plan(PlanRefusal::Die(refusal))

@@ -1,6 +1,5 @@
 //! Plays a table on a die that goes on by itself: what each step asks, and the answer with what the step wants.
 
-use crate::memory::Memory;
 use crate::ongoing_steps::{Answer, Turn};
 use crate::said::Reported;
 use crate::shut_dies::shut;
@@ -10,6 +9,7 @@ use slot_core::Outcome;
 use slot_types::{JobNo, Op, PageData, Refusal, SlotReply, TaskNo};
 use std::alloc::Global;
 use std::process::Abort;
+use test_memory::Memory;
 
 /// An answer as tables have it.
 fn taken_as(taken: &Taken) -> Answer {

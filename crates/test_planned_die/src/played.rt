@@ -1,7 +1,6 @@
 //! Plays a table on a die: what each step asks, and the answer with what the step wants.
 
 use crate::again::{ask, ask_all, carry, outcome_of};
-use crate::memory::Memory;
 use crate::said::Reported;
 use crate::steps::{Fact, Jobs, Step};
 use flash_die::Nand;
@@ -10,6 +9,7 @@ use slot_core::{Outcome, Worst};
 use slot_types::{JobNo, Op, Refusal, SlotReply};
 use std::alloc::Global;
 use std::process::Abort;
+use test_memory::Memory;
 
 /// An answer with a number as tables have it.
 fn numbered(answer: Result<JobNo, AskRefusal>) -> Result<u32, AskRefusal> {

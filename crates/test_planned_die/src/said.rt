@@ -1,8 +1,8 @@
 //! How a table fails: it tells which step went otherwise than it says, what that step wants, and what the die answered.
 
-use crate::memory::Memory;
 use std::fmt::Debug;
 use std::process::Abort;
+use test_memory::Memory;
 
 /// Tells of the step that is played, as `step 4 of the table: want .., got ..`. The first step has number 1.
 #[derive(Drop)]

@@ -4,7 +4,6 @@
 ghost use Rattle.std.specs.Prelude.{◌≡◌, IfOk, IfErr};
 ghost use Rattle.flash_volume.specs.Checkpoints.{IsAsLeft};
 
-use crate::memory::Memory;
 use crate::plans::Plan;
 use die_checkpoint::{Checkpoint, CheckpointFault};
 use flash_die::Nand;
@@ -14,6 +13,7 @@ use ongoing_die::{
 };
 use slot_core::{CheckpointRefusal, ResumeRefusal};
 use std::alloc::Global;
+use test_memory::Memory;
 
 /// A checkpoint of the die, which stays as it is.
 pub(crate) fn shut<N: Nand>(

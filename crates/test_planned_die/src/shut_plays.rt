@@ -3,7 +3,6 @@
 ghost use Rattle.std.specs.Prelude.{◌≡◌, IfOk};
 ghost use Rattle.flash_volume.specs.Checkpoints.{IsAsLeft};
 
-use crate::memory::Memory;
 use crate::ongoing_played::play;
 use crate::ongoing_steps::Turn;
 use crate::plans::{Plan, SHAPE};
@@ -16,6 +15,7 @@ use slot_types::Refusal;
 use std::alloc::Global;
 use std::env::Env;
 use std::process::Abort;
+use test_memory::Memory;
 
 /// Why a die doesn't go on.
 #[derive(Clone, Copy, PartialEq, Eq, Debug, Drop)]

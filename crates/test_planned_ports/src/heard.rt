@@ -1,7 +1,7 @@
 //! What a port is answered.
 
-use ongoing_die::{AskRefusal, AskStop, Taken};
-use planned_ports::{AskRefused, OutcomeRefused, TaskOutcome};
+use ongoing_die::{AskAtStop, AskRefusal, AskStop, Taken};
+use planned_ports::{AskAtRefused, AskRefused, OutcomeRefused, TaskOutcome};
 
 /// What a port is answered, without the number of its first job, which counts all tasks' jobs.
 #[derive(Clone, Copy, PartialEq, Eq, Debug, Drop)]
@@ -12,6 +12,10 @@ pub(crate) enum Heard {
     Foreign { page: u32 },
     /// The task's own part of the plan refuses it.
     Plan(AskRefusal),
+    /// The slot that it is for is over.
+    Past,
+    /// The slot that it is for lies too far ahead.
+    TooFarAhead { last: u64 },
     /// Any other refusal.
     Other(AskRefused),
 }
@@ -31,6 +35,24 @@ pub(crate) fn as_heard(answer: Result<Taken, AskRefused>) -> Heard {
         Err(AskRefused::ForeignPage { page }) => Heard::Foreign { page },
         Err(AskRefused::Die(AskStop::Plan(refusal))) => Heard::Plan(refusal),
         Err(refused) => Heard::Other(refused),
+    }
+}
+
+/// What an answer says to a task that asked for a slot of the clock.
+pub(crate) fn as_heard_at(answer: Result<Taken, AskAtRefused>) -> Heard {
+    match answer {
+        Ok(taken) => as_heard(Ok(taken)),
+        Err(AskAtRefused::ForeignPage { page }) => Heard::Foreign { page },
+        Err(AskAtRefused::LockFull) => Heard::Other(AskRefused::LockFull),
+        Err(AskAtRefused::Die(AskAtStop::Ended(stop))) => {
+            Heard::Other(AskRefused::Die(AskStop::Ended(stop)))
+        }
+        Err(AskAtRefused::Die(AskAtStop::Past)) => Heard::Past,
+        Err(AskAtRefused::Die(AskAtStop::Plan(refusal))) => Heard::Plan(refusal),
+        Err(AskAtRefused::Die(AskAtStop::TooFarAhead { last })) => Heard::TooFarAhead { last },
+        Err(AskAtRefused::Die(AskAtStop::WaitsAlready)) => {
+            Heard::Other(AskRefused::Die(AskStop::WaitsAlready))
+        }
     }
 }
 

@@ -1,12 +1,14 @@
 //! Threads that share a die which keeps its plan: one that asks as fast as it can, beside tasks that ask when they may and
-//! a clock, over many lives. And ports one by one: pages of their own, jobs and bursts, a die that is closed and opened
-//! again, and one of which a port is missing.
+//! a clock, over many lives. And ports one by one: pages of their own, jobs and bursts, also for slots ahead, a die that is
+//! closed and opened again, and one of which a port is missing.
 //!
 //! `plans` has the plans; `careful`, `eager`, `babblers` and `clocks` what a thread does with its port; `threads` has the
 //! clock and a task in step, and `crowd` a clock that waits for nobody. `steps` plays a table at the ports of both tasks.
 //! Dies lie in boxes, and one function has each die, its ports and all ways out: so the proofs are short.
 #![tactic(auto)]
 
+#[cfg(test)]
+mod ahead;
 #[cfg(test)]
 mod babblers;
 #[cfg(test)]

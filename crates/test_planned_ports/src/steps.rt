@@ -3,7 +3,7 @@
 ghost use Rattle.std.specs.Prelude.{◌≡◌};
 
 use crate::clocks::carry;
-use crate::heard::{Heard, Told, as_heard, as_told};
+use crate::heard::{Heard, Told, as_heard, as_heard_at, as_told};
 use crate::shared::{Ports, close_two, open_two};
 use crate::wrong::Wrong;
 use flash_die::Nand;
@@ -35,6 +35,20 @@ pub(crate) enum Step {
         ops: &'static [Op],
         want: Heard,
     },
+    /// A task asks for a job that is released in this slot of the clock.
+    AsksAt {
+        task: Task,
+        ops: &'static [Op],
+        at: u64,
+        want: Heard,
+    },
+    /// A task asks for a burst that is released in this slot of the clock.
+    AsksAllAt {
+        task: Task,
+        ops: &'static [Op],
+        at: u64,
+        want: Heard,
+    },
     /// `count` slots are carried out.
     Slots {
         count: u32,
@@ -52,21 +66,47 @@ pub(crate) enum Step {
     },
 }
 
-/// What this port is answered, to a job or to a burst.
+/// What a port is asked for: a job or a burst, and for which slot of the clock; none is the present one.
+#[derive(Clone, Copy, Drop)]
+struct Asked {
+    is_burst: bool,
+    at: Option<u64>,
+}
+
+const JOB: Asked = Asked {
+    is_burst: false,
+    at: None,
+};
+
+const BURST: Asked = Asked {
+    is_burst: true,
+    at: None,
+};
+
+/// The same for this slot of the clock.
+fn ahead(asked: Asked, at: u64) -> Asked {
+    Asked {
+        is_burst: asked.is_burst,
+        at: Some(at),
+    }
+}
+
+/// What this port is answered.
 fn answered<N: Nand, R: Wait>(
     rt: &R,
     die: &SharedPlannedDie<N>,
     port: &mut TaskPort<N>,
-    is_burst: bool,
+    asked: Asked,
     ops: &[Op],
 ) -> Heard
     requires { port.old.lock ≡ die.now }
     ensures { port.new.lock ≡ die.now }
 {
-    if is_burst {
-        as_heard(port.ask_all(rt, die, ops))
-    } else {
-        as_heard(port.ask(rt, die, ops))
+    match (asked.is_burst, asked.at) {
+        (false, None) => as_heard(port.ask(rt, die, ops)),
+        (true, None) => as_heard(port.ask_all(rt, die, ops)),
+        (false, Some(at)) => as_heard_at(port.ask_at(rt, die, ops, at)),
+        (true, Some(at)) => as_heard_at(port.ask_all_at(rt, die, ops, at)),
     }
 }
 
@@ -76,7 +116,7 @@ fn hears<N: Nand, R: Wait>(
     die: &SharedPlannedDie<N>,
     ports: &mut Ports<N>,
     task: Task,
-    is_burst: bool,
+    asked: Asked,
     ops: &[Op],
 ) -> Heard
     requires clock { ports.old.clock.lock ≡ die.now }
@@ -87,8 +127,8 @@ fn hears<N: Nand, R: Wait>(
     ensures second { ports.new.second.lock ≡ die.now }
 {
     match task {
-        Task::First => answered(rt, die, &mut ports.first, is_burst, ops),
-        Task::Second => answered(rt, die, &mut ports.second, is_burst, ops),
+        Task::First => answered(rt, die, &mut ports.first, asked, ops),
+        Task::Second => answered(rt, die, &mut ports.second, asked, ops),
     }
 }
 
@@ -168,8 +208,20 @@ fn goes<N: Nand, R: Wait>(
     ensures second { ports.new.second.lock ≡ die.now }
 {
     match step {
-        Step::Asks { task, ops, want } => hears(rt, die, ports, *task, false, *ops) == *want,
-        Step::AsksAll { task, ops, want } => hears(rt, die, ports, *task, true, *ops) == *want,
+        Step::Asks { task, ops, want } => hears(rt, die, ports, *task, JOB, *ops) == *want,
+        Step::AsksAll { task, ops, want } => hears(rt, die, ports, *task, BURST, *ops) == *want,
+        Step::AsksAt {
+            task,
+            ops,
+            at,
+            want,
+        } => hears(rt, die, ports, *task, ahead(JOB, *at), *ops) == *want,
+        Step::AsksAllAt {
+            task,
+            ops,
+            at,
+            want,
+        } => hears(rt, die, ports, *task, ahead(BURST, *at), *ops) == *want,
         Step::Slots { count } => carry(rt, die, &mut ports.clock, *count) == *count,
         Step::Takes { task, want } => takes(rt, die, ports, *task) == *want,
         Step::Counts {

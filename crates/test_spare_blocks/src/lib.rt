@@ -1,7 +1,8 @@
 //! Dies on a part whose blocks fail, one after another: at each call of the part in turn, at two, by chance.
 //!
 //! `parts` has the devices and `kinds` the dies, each of which writes and reads pages all the time; `pages` has what each
-//! page is to read as, its last finished write; `played` watches a die slot by slot, until a slot is refused.
+//! page is to read as, its last finished write; `played` watches a die slot by slot, until a slot is refused. `stepped`
+//! has the table that a driver keeps.
 #![tactic(auto)]
 
 #[cfg(test)]
@@ -16,5 +17,7 @@ mod pages;
 mod parts;
 #[cfg(test)]
 mod played;
+#[cfg(test)]
+mod stepped;
 #[cfg(test)]
 mod wrongs;

@@ -4,7 +4,6 @@
 
 ghost use Rattle.std.specs.Prelude.{◌≡◌};
 
-use crate::memory::is_scarce;
 use die_service::{Die, DiePass, RefusedAt};
 use flash_die::Nand;
 use late_cert::Certificate;
@@ -13,6 +12,7 @@ use slot_types::{JobNo, Op, OpList, Refusal, TaskNo};
 use std::alloc::Global;
 use std::env::Env;
 use std::sync::Wait;
+use test_memory::is_scarce;
 
 /// The number of a job of one operation of task 0, which is asked for once.
 pub(crate) fn submit_once<N: Nand, R: Wait>(

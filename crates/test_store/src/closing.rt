@@ -4,7 +4,6 @@ ghost use Rattle.std.specs.Prelude.{◌≡◌, map};
 
 use crate::dies::play_only;
 use crate::made::one_die;
-use crate::memory::is_scarce;
 use crate::steps::Step;
 use die_service::{DiePass, StillOpen, Store, close};
 use flash_die::Nand;
@@ -14,6 +13,7 @@ use std::alloc::Global;
 use std::env::Env;
 use std::process::Abort;
 use std::sync::Wait;
+use test_memory::is_scarce;
 
 /// What becomes of a store that is to be closed.
 #[derive(PartialEq, Debug, Drop)]

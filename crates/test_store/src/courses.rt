@@ -3,10 +3,10 @@
 ghost use Rattle.std.specs.Prelude.{◌≡◌, ◌≤◌, map, All};
 ghost use Rattle.die_service.specs.Runs.{AllArrive};
 
-use crate::feeds::{Job, both, both_batches, three};
+use crate::feeds::{Job, add_jobs, both, three};
 use crate::made::ONES;
 use die_service::{
-    DieEnd, DieEnds, DiePass, Feed, FreeGate, Gate, RefusedAt, RefusedEvent, Store, run_batches,
+    DieEnd, DieEnds, DiePass, Feed, FreeGate, Gate, RefusedAt, RefusedEvent, RunDie, Store,
     run_slots,
 };
 use flash_die::Nand;
@@ -101,26 +101,27 @@ pub(crate) fn run_courses<N: Nand + Send, G: Gate + Sync, R: Threads + Wait + Sy
     Ok(())
 }
 
-/// Runs a part of two dies' run: `slots` slots from `from` on, with the events of these courses. Fails the test where
-/// one doesn't end as it has to.
-pub(crate) fn run_part<N: Nand + Send, R: Threads + Wait + Sync + Abort>(
-    rt: &R,
-    alloc: Global,
-    store: &Store<N>,
-    passes: &mut Vec<DiePass<N>>,
-    courses: &[Course; 2],
-    from: u32,
-    slots: u32,
-) -> Result<(), Refusal>
-    requires own { map (λ pass. pass.lock) passes.old.items ≡ store.now }
-    ensures own { map (λ pass. pass.lock) passes.new.items ≡ store.now }
-{
-    let batches = both_batches(alloc, from, slots, courses[0].jobs, courses[1].jobs)?;
-    if batches.len() != passes.len() {
-        return Err(Refusal::UnknownDie);
-    }
-    let ends = run_batches(rt, store, passes, batches, 2, &FreeGate)?;
-    all_ended(rt, ends.as_slice(), courses.as_slice());
+/// Runs a part of the run of a die that a run owns: up to before this slot, with the events of this course. Fails the test
+/// where it doesn't end as it has to.
+pub(crate) fn run_part<N: Nand>(
+    rt: &impl Abort,
+    die: &mut RunDie<N>,
+    course: &Course,
+    until: u32,
+) -> Result<(), Refusal> {
+    let from = die.clock();
+    add_jobs(die, course.jobs)?;
+    let ran = die.run(until);
+    let want = (course.slots, course.refused.len(), course.stop.is_none());
+    let right = (die.clock() == until)
+        & (from.wrapping_add(course.slots) == until)
+        & (die.refused() == course.refused)
+        & (ran.is_ok() == course.stop.is_none());
+    assert!(rt;
+        right,
+        "the run of a die up to {until}: want {want:?}, got {ran:?}"
+    );
+    die.clear();
     Ok(())
 }
 

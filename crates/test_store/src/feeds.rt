@@ -1,9 +1,10 @@
-//! Jobs as rows of a table, and the feeds and batches that are made of them.
+//! Jobs as rows of a table, and the feeds that are made of them.
 
 ghost use Rattle.std.specs.Prelude.{All, IfOk};
 ghost use Rattle.die_service.specs.Runs.{AllArrive};
 
-use die_service::{Batch, Feed};
+use die_service::{Feed, RunDie};
+use flash_die::Nand;
 use slot_types::{JobHead, LentOps, Op, Refusal, TaskNo};
 use std::alloc::Global;
 
@@ -15,30 +16,33 @@ pub(crate) struct Job {
     pub(crate) op: Op,
 }
 
+// What a job asks, without its operation.
+fn head_of(job: &Job) -> JobHead {
+    JobHead {
+        collects: false,
+        task: TaskNo(0),
+        release: job.release,
+        due: job.due,
+    }
+}
+
 // The feed of these jobs.
 fn feed(alloc: Global, jobs: &[Job]) -> Result<Feed, Refusal>
     ensures { IfOk result AllArrive }
 {
     let mut feed = Feed::new(alloc);
     for job in jobs {
-        let Job { release, due, op } = *job;
-        let head = JobHead {
-            collects: false,
-            task: TaskNo(0),
-            release,
-            due,
-        };
-        feed.push_lent(release, head, &LentOps::list(&[op]))?;
+        feed.push_lent(job.release, head_of(job), &LentOps::list(&[job.op]))?;
     }
     Ok(feed)
 }
 
-// `slots` slots from `from` on, with these jobs.
-fn batch(alloc: Global, from: u32, slots: u32, jobs: &[Job]) -> Result<Batch, Refusal>
-    ensures { IfOk result (λ batch. AllArrive batch.feed) }
-{
-    let feed = feed(alloc, jobs)?;
-    Ok(Batch { from, slots, feed })
+/// Adds these jobs to what comes next to a die that a run owns.
+pub(crate) fn add_jobs<N: Nand>(die: &mut RunDie<N>, jobs: &[Job]) -> Result<(), Refusal> {
+    for job in jobs {
+        die.add(job.release, head_of(job), &LentOps::list(&[job.op]))?;
+    }
+    Ok(())
 }
 
 /// The feeds of three dies.
@@ -78,20 +82,4 @@ pub(crate) fn both(alloc: Global, first: &[Job], second: &[Job]) -> Result<Vec<F
     feeds.push_reserved(feed(alloc, first)?);
     feeds.push_reserved(feed(alloc, second)?);
     Ok(feeds)
-}
-
-/// A batch of each of two dies: `slots` slots from `from` on.
-pub(crate) fn both_batches(
-    alloc: Global,
-    from: u32,
-    slots: u32,
-    first: &[Job],
-    second: &[Job],
-) -> Result<Vec<Batch>, Refusal>
-    ensures { IfOk result (λ batches. All (λ batch. AllArrive batch.feed) batches.items) }
-{
-    let mut batches = Vec::with_capacity(alloc, 2)?;
-    batches.push_reserved(batch(alloc, from, slots, first)?);
-    batches.push_reserved(batch(alloc, from, slots, second)?);
-    Ok(batches)
 }

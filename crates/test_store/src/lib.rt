@@ -32,8 +32,6 @@ mod lives;
 #[cfg(test)]
 mod made;
 #[cfg(test)]
-mod memory;
-#[cfg(test)]
 mod noted;
 #[cfg(test)]
 mod passes;

@@ -5,7 +5,6 @@ ghost use Rattle.die_service.specs.Stores.{IsAtStart};
 
 use crate::dies::{play_both, play_only};
 use crate::made::{ONES, TWOS, faulty_dies, two_dies};
-use crate::memory::is_scarce;
 use crate::steps::Fact::{Entries, Now, Read};
 use crate::steps::Step;
 use crate::steps::Step::{Is, Slot, Submit};
@@ -18,6 +17,7 @@ use std::env::Env;
 use std::process::Abort;
 use std::sync::Wait;
 use std::test::Fail;
+use test_memory::is_scarce;
 
 #[test]
 fn a_store_of_no_dies_is_not_made(rt: HostRuntime) -> Result<(), Fail> {

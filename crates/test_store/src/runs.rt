@@ -7,7 +7,7 @@ use crate::courses::{Course, WRITES_AND_READS, run, run_courses, run_part};
 use crate::feeds::{Job, five_empty};
 use crate::held::{EnterGate, HeldNand, HoldGate, ListGate, Mark, Read};
 use crate::made::{ONES, faulty_dies, five_dies, memory, store_of, two_dies};
-use die_service::{DiePass, FreeGate, RefusedAt, RefusedEvent, Store, close};
+use die_service::{DiePass, FreeGate, RefusedAt, RefusedEvent, RunDie, Store, close};
 use flash_die::{MemoryNand, Nand};
 use slot_core::{DieCore, Outcome};
 use slot_types::{JobNo, Op, Refusal};
@@ -61,6 +61,14 @@ const WAITS_FROM_TWO: Closed = Closed {
     slot: 2,
     release: Some(2),
     waits: true,
+};
+
+// Of four entries two are slots, and job 0 was done in slot 0.
+const READS_FROM_ONE: Closed = Closed {
+    entries: 4,
+    slot: 2,
+    release: Some(0),
+    waits: false,
 };
 
 fn state_of<N: Nand>(alloc: Global, core: &DieCore<N>) -> Closed {
@@ -132,34 +140,58 @@ const READ: [Job; 1] = [Job { release: 1, due: 3, op: Op::Read(3) }];
 const BAD: [Job; 1] = [Job { release: 0, due: 2, op: Op::Read(12) }];
 
 #[rattlefmt::skip]
-const FIRST_PART: [Course; 2] = [
+const FIRST_PARTS: [Course; 2] = [
     Course { jobs: &WRITE, slots: 1, refused: &[], stop: None },
     Course { jobs: &BAD, slots: 1, refused: &[NO_PAGE], stop: None },
 ];
 
 #[rattlefmt::skip]
-const SECOND_PART: [Course; 2] = [
+const SECOND_PARTS: [Course; 2] = [
     Course { jobs: &READ, slots: 1, refused: &[], stop: None },
     Course { jobs: &BAD_AND_LATER, slots: 1, refused: &[NO_PAGE_LATER], stop: None },
 ];
 
-// Runs two dies in two parts of a slot each, and tells what the second has when the store is closed then.
-fn run_in_parts<R: Threads + Wait + Sync + Abort>(
+// Runs a die of its own in two parts of a slot each, and tells what it has then.
+fn run_in_parts<N: Nand>(
+    rt: &impl Abort,
+    alloc: Global,
+    die: DieCore<N>,
+    first: &Course,
+    second: &Course,
+) -> Result<Closed, Refusal> {
+    let Ok(die) = Box::new(alloc, die) else {
+        return Err(Refusal::NoMemory);
+    };
+    let mut die = RunDie::new(alloc, die);
+    run_part(rt, &mut die, first, 1)?;
+    run_part(rt, &mut die, second, 2)?;
+    Ok(state_of(alloc, &*die.into_die()))
+}
+
+// Runs each of two dies, out of the locks of their store, in two parts, and tells what each has then.
+fn run_each_in_parts<R: Wait + Abort>(
     rt: &R,
     alloc: Global,
-) -> Result<Option<Closed>, Refusal> {
-    let (store, mut passes) = two_dies(alloc)?;
-    let first = run_part(rt, alloc, &store, &mut passes, &FIRST_PART, 0, 1);
-    let second = run_part(rt, alloc, &store, &mut passes, &SECOND_PART, 1, 1);
-    let closed = close_second(rt, alloc, store, passes);
-    first?;
-    second?;
-    Ok(closed)
+) -> Result<Option<(Closed, Closed)>, Refusal> {
+    let (store, passes) = two_dies(alloc)?;
+    let mut dies = match close(rt, store, passes) {
+        Ok(dies) => dies,
+        Err(kept) => return Err(kept.refusal),
+    };
+    match (dies.pop(), dies.pop()) {
+        (Some(second), Some(first)) => {
+            let one = run_in_parts(rt, alloc, first, &FIRST_PARTS[0], &SECOND_PARTS[0])?;
+            let other = run_in_parts(rt, alloc, second, &FIRST_PARTS[1], &SECOND_PARTS[1])?;
+            Ok(Some((one, other)))
+        }
+        _ => Ok(None),
+    }
 }
 
 #[test]
 fn a_run_in_two_parts_ends_as_one(rt: HostRuntime) -> Result<(), Fail> {
-    assert_eq!(rt; run_in_parts(&rt, rt.alloc())?, Some(WAITS_FROM_TWO));
+    let ran = run_each_in_parts(&rt, rt.alloc())?;
+    assert_eq!(rt; ran, Some((READS_FROM_ONE, WAITS_FROM_TWO)));
     Ok(())
 }
 

@@ -8,7 +8,6 @@ use crate::courses::{WRITE_AND_READ, run};
 use crate::dies::play_both;
 use crate::feeds::both;
 use crate::made::two_dies;
-use crate::memory::is_scarce;
 use crate::steps::{Fact, Step};
 use die_service::{Die, DieEnd, DieEnds, DiePass, FreeGate, Store};
 use flash_die::Nand;
@@ -18,6 +17,7 @@ use std::env::Env;
 use std::process::Abort;
 use std::sync::Wait;
 use std::thread::Threads;
+use test_memory::is_scarce;
 
 // How many entries a call made: none where memory is scarce and was refused. Nothing, if it was refused otherwise.
 fn made_entries(refusal: Option<Refusal>, scarce: bool) -> Option<u64> {

@@ -3,7 +3,6 @@
 use crate::closing::{End, play_one};
 use crate::dies::play_both;
 use crate::made::{ONES, TWOS, faulty_dies};
-use crate::memory::is_scarce;
 use crate::steps::Fact::{Certified, Done, Entries, Now, Out, Read, Waiting, Worst};
 use crate::steps::Step::{HandOver, Is, LetGo, PassOn, Slot, Submit};
 use crate::steps::{Bounds, Step};
@@ -14,6 +13,7 @@ use std::env::Env;
 use std::process::Abort;
 use std::sync::Wait;
 use std::test::Fail;
+use test_memory::is_scarce;
 
 // The first pass of a die writes, and the second, which takes it in, reads.
 #[rattlefmt::skip]

@@ -2,7 +2,6 @@
 //! again is answered as without the refusal. Without a refusal none of this comes. `.ci/memory/refused-growths` refuses
 //! each allocation in turn; of whole runs it does so in the program.
 
-use crate::memory::is_scarce;
 use example_texts::{TWO_DIES, TWO_REPORT, TWO_SCRIPT};
 use slot_types::{DiePlan, Refusal, StorePlan};
 use std::alloc::Global;
@@ -10,6 +9,7 @@ use std::env::Env;
 use std::io;
 use std::io::Write;
 use task_script::{ReportReader, ScriptReader, read_plan, write_report};
+use test_memory::is_scarce;
 use text_base::Flagged;
 
 /// Compares what it is given with a report, and takes no memory.

@@ -18,8 +18,6 @@ mod interrupted;
 #[cfg(test)]
 mod long_scripts;
 #[cfg(test)]
-mod memory;
-#[cfg(test)]
 mod plan_bounds;
 #[cfg(test)]
 mod reports;

@@ -10,7 +10,7 @@ use Rattle.device_mount.proofs.beginning.begin.Goals as goal
 
 pub new-requires-clause-powered : goal.new-requires-clause-powered
 new-requires-clause-powered g c =
-    powered_still g.N.Nand.shape_of g.N.Nand.blocks g.N.LabelledNand.labels g.N.Nand.failures c.args.part c.mount_of.new.part c.requires.powered
+    powered_still g.N.Nand.shape_of g.N.Nand.blocks g.N.LabelledNand.labels g.N.Nand.failures c.args.part c.prepared.new.part c.requires.powered
     c.in-Ok.ensures.same
 
 pub new-requires-clause-shape : goal.new-requires-clause-shape
@@ -23,7 +23,7 @@ new-requires-clause-first g c =
 
 pub returns-in-Ok-clause-goes : goal.returns-in-Ok-clause-goes
 returns-in-Ok-clause-goes g c =
-    goes_so g.N.LabelledNand.labels c.args.part c.mount_of.new.part c.args.plan c.in-Ok.mount c.new.result c.in-Ok.ensures.same.labels_are
+    goes_so g.N.LabelledNand.labels c.args.part c.prepared.new.part c.args.plan c.in-Ok.mount c.new.result c.in-Ok.ensures.same.labels_are
     c.in-Ok.ensures.first.plan_is c.new.ensures.goes c.in-Ok.ensures.begins
 
 pub returns-in-Ok-clause-safe : goal.returns-in-Ok-clause-safe

@@ -1,5 +1,4 @@
 use Rattle.std.proofs.Common.{◌∙◌, List, ap, subst, sym}
-use Rattle.std.specs.Prelude.{IfErr, IfOk}
 use Rattle.slot_types.specs.declared.pages.PageData.{PageData}
 use Rattle.power_loss.specs.Labels.{Shown}
 use Rattle.part_mount.specs.Going.{GoesBySeen}
@@ -22,12 +21,6 @@ end_of-requires-clause-ended g c =
 
 pub returns-clause-life : goal.returns-clause-life
 returns-clause-life g c =
-    subst (λ (v : OnPart g.row.N.Denot). IfOk c.end_of.result (λ core. (pages : List PageData) (seen : Shown)
-    → GoesBySeen g.N.LabelledNand.labels pages seen v → BeginsLife g.N.LabelledNand.labels v.mount.plan seen pages core))
+    subst (λ (v : OnPart g.row.N.Denot). (pages : List PageData) (seen : Shown)
+    → GoesBySeen g.N.LabelledNand.labels pages seen v → BeginsLife g.N.LabelledNand.labels v.mount.plan seen pages c.end_of.result)
     (sym c.into_parts-parts.ensures.whole) c.end_of.ensures.life
-
-pub returns-clause-goes_on : goal.returns-clause-goes_on
-returns-clause-goes_on g c =
-    subst (λ (v : OnPart g.row.N.Denot). IfErr c.end_of.result (λ again. (pages : List PageData) (seen : Shown)
-    → GoesBySeen g.N.LabelledNand.labels pages seen v → GoesBySeen g.N.LabelledNand.labels pages seen again))
-    (sym c.into_parts-parts.ensures.whole) c.end_of.ensures.goes_on

@@ -24,15 +24,15 @@ part_is plan s block p shape map is fits same at =
     is ∙ ap (λ (x : Shape). closed_but x map.places block) (same ∙ fits.shape) ∙ ap (λ (x : Placing). closed_but (part_of plan).shape x.places block) at
 
 -- and the mount of it
-mount_is : (plan : DiePlan) (places : List (Option Place)) (block next fmax : ℕ) (p : PartState) → MeetsBound plan → fmax ≡ fmax_of plan
-    → p ≡ closed_but (part_of plan).shape places block → begun plan places block next
-    ≡ record { plan = plan; cells = p.cells; next = next; rounds = fmax / plan.alpha; stage = stage.First block 0 }
-mount_is plan places block next fmax p bound most is =
+mount_is : (plan : DiePlan) (places : List (Option Place)) (block next fmax : ℕ) (counts : List ℕ) (p : PartState) → MeetsBound plan → fmax ≡ fmax_of plan
+    → p ≡ closed_but (part_of plan).shape places block → begun plan places block next counts
+    ≡ record { plan = plan; cells = p.cells; counts = counts; next = next; rounds = fmax / plan.alpha; stage = stage.First block 0 }
+mount_is plan places block next fmax counts p bound most is =
     ap (λ (x : PartState). made x.cells (most_rounds_beside plan)) (sym is)
     ∙ ap (λ (n : ℕ). made p.cells (n / plan.alpha)) (enough_fits plan bound ∙ sym most)
   where
     made : Cells → ℕ → Mounting
-    made c rounds = record { plan = plan; cells = c; next = next; rounds = rounds; stage = stage.First block 0 }
+    made c rounds = record { plan = plan; cells = c; counts = counts; next = next; rounds = rounds; stage = stage.First block 0 }
 
 pub invariant_of-result : goal.invariant_of-result
 invariant_of-result c =
@@ -44,17 +44,19 @@ invariant_of-result c =
     let lt : c.args.block < plan.shape.blocks + 1 = omega (arith, c.requires.idle.stands, ap (λ (x : Shape). x.blocks) fits.shape) in
     let is = part_is plan s c.args.block c.in-Ok.part c.into_map-map.result.0 c.into_map-map.result.1 c.in-Ok.ensures.ok fits c.into_map-map.ensures.shape
     c.into_map-map.ensures.map in
-    let at = mount_is plan s.places c.args.block c.args.serial c.figures-fmax.result.fmax c.in-Ok.part bound c.figures-fmax.ensures.fmax is in
+    let at = mount_is plan s.places c.args.block c.args.serial c.figures-fmax.result.fmax c.args.counts.items c.in-Ok.part bound c.figures-fmax.ensures.fmax is in
     let cells : AreCells (part_of plan).shape s.places =
     subst (λ (x : Shape). AreCells x s.places) (c.into_map-map.ensures.shape ∙ fits.shape)
     (subst (λ (x : Placing). AreCells c.into_map-map.result.0 x.places) c.into_map-map.ensures.map c.in-Ok.ensures.cells) in
     let apart : HaveOwnCells s.places = subst (λ (x : Placing). HaveOwnCells x.places) c.into_map-map.ensures.map c.in-Ok.ensures.apart in
     record {
       stands = subst StandsWell at
-          (begun_stands plan s.places c.args.block lt bound beside fits.logical cells apart c.requires.idle.none c.args.serial c.requires.serial);
+          (begun_stands plan s.places c.args.block lt bound beside fits.logical cells apart c.requires.idle.none c.args.serial c.args.counts.items
+          c.requires.serial c.requires.counts);
       counts = subst (λ (p : PartState). CountsPart (record {
         plan = plan;
         cells = p.cells;
+        counts = c.args.counts.items;
         next = c.args.serial;
         rounds = c.figures-fmax.result.fmax / plan.alpha;
         stage = stage.First c.args.block 0;
@@ -62,12 +64,13 @@ invariant_of-result c =
           (subst (λ (n : ℕ). CountsPart (record {
             plan = plan;
             cells = (closed_but (part_of plan).shape s.places c.args.block).cells;
+            counts = c.args.counts.items;
             next = c.args.serial;
             rounds = n / plan.alpha;
             stage = stage.First c.args.block 0;
           }) (closed_but (part_of plan).shape s.places c.args.block))
           (enough_fits plan bound ∙ sym c.figures-fmax.ensures.fmax)
-          (begun_counts plan s.places c.args.block lt bound beside fits.logical cells apart c.requires.idle.none c.args.serial));
+          (begun_counts plan s.places c.args.block lt bound beside fits.logical cells apart c.requires.idle.none c.args.serial c.args.counts.items));
       goal = omega (arith, enough_fits plan bound, c.figures-fmax.ensures.fmax, bound.limits.some_alpha);
     }
 
@@ -80,8 +83,8 @@ returns-clause-ok c = λ seen found may above.
     let is = part_is plan s c.args.block c.in-Ok.part c.into_map-map.result.0 c.into_map-map.result.1 c.in-Ok.ensures.ok fits c.into_map-map.ensures.shape
     c.into_map-map.ensures.map in
     subst (BeginsWith plan seen)
-    (mount_is plan s.places c.args.block c.args.serial c.figures-fmax.result.fmax c.in-Ok.part fits.may.0 c.figures-fmax.ensures.fmax is)
-    (begins plan s.places c.args.block lt c.args.serial seen c.requires.idle.none found may above)
+    (mount_is plan s.places c.args.block c.args.serial c.figures-fmax.result.fmax c.args.counts.items c.in-Ok.part fits.may.0 c.figures-fmax.ensures.fmax is)
+    (begins plan s.places c.args.block lt c.args.serial c.args.counts.items seen c.requires.idle.none found may above)
 
 pub returns-clause-first : goal.returns-clause-first
 returns-clause-first c =
@@ -92,5 +95,5 @@ returns-clause-first c =
     let is = part_is plan s c.args.block c.in-Ok.part c.into_map-map.result.0 c.into_map-map.result.1 c.in-Ok.ensures.ok fits c.into_map-map.ensures.shape
     c.into_map-map.ensures.map in
     subst (BeginsFirst plan)
-    (mount_is plan s.places c.args.block c.args.serial c.figures-fmax.result.fmax c.in-Ok.part fits.may.0 c.figures-fmax.ensures.fmax is)
+    (mount_is plan s.places c.args.block c.args.serial c.figures-fmax.result.fmax c.args.counts.items c.in-Ok.part fits.may.0 c.figures-fmax.ensures.fmax is)
     (record { block = c.args.block; stands = lt; plan_is = refl; stage_is = refl; rounds_is = refl; blocks = refl })

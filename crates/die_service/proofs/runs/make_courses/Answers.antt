@@ -1,7 +1,7 @@
-use Rattle.std.proofs.Common.{◌∙◌, sym, arith}
+use Rattle.std.proofs.Common.{◌∙◌, List, sym, arith}
 use Rattle.std.proofs.lemmas.Grind.{common_steps}
 use Rattle.std.proofs.lemmas.List.Elements.{recursion_from_All}
-use Rattle.die_service.specs.declared.batches.Batch.{Batch}
+use Rattle.die_service.specs.declared.feeds.Arrival.{Arrival}
 use Rattle.die_service.specs.Runs.{AllArrive}
 use Rattle.die_service.proofs.runs.make_courses.Goals as goal
 
@@ -23,15 +23,15 @@ returns-clause-whole c = grind (arith, common_steps)
 pub returns-clause-refused : goal.returns-clause-refused
 returns-clause-refused c = grind (arith, common_steps)
 
-pub loop-batch-init : goal.loop-batch-init
-loop-batch-init c =
-    let gives = c.into_iter-batch-iterator.ensures.into_iter_gives.0 in record {
+pub loop-feed-init : goal.loop-feed-init
+loop-feed-init c =
+    let gives = c.into_iter-feed-iterator.ensures.into_iter_gives.0 in record {
       can_next = tt;
       is_finite = tt;
       room = c.in_ok-courses.ensures.exact ∙ c.len.ensures;
-      batches = sym gives;
+      feeds = sym gives;
       courses = c.in_ok-courses.ensures.items;
-      arrive = rw gives (recursion_from_All (λ (batch : Batch). AllArrive batch.feed) c.args.batches.items c.requires.arrive);
+      arrive = rw gives (recursion_from_All (λ (feed : List Arrival). AllArrive feed) c.args.feeds.items c.requires.arrive);
     }
 
 pub new-requires : goal.new-requires
@@ -40,5 +40,5 @@ new-requires c = grind (arith, common_steps)
 pub push_reserved-requires : goal.push_reserved-requires
 push_reserved-requires c = grind (arith, common_steps)
 
-pub loop-batch-preserved : goal.loop-batch-preserved
-loop-batch-preserved c = grind (arith, common_steps)
+pub loop-feed-preserved : goal.loop-feed-preserved
+loop-feed-preserved c = grind (arith, common_steps)

@@ -1,7 +1,8 @@
 use Rattle.std.proofs.Common.{◌≡◌, ◌≤◌, ◌++◌, length, map}
 use Rattle.std.specs.Prelude.{vec_len, vec_capacity}
 use Rattle.std.specs.Vec.Iter.{into_iter_items}
-use Rattle.die_service.specs.Drives.{first_states}
+use Rattle.die_service.specs.PassWorks.{AreReady}
+use Rattle.die_service.proofs.Gathering.{WaitOn}
 use Rattle.die_service.proofs.runs.make_drivers.Given as goal
 
 abbrev pub invariant-loop-pass : goal.invariant-loop-pass
@@ -13,6 +14,6 @@ invariant-loop-pass g l = record {
   drivers : vec_len l.drivers ≡ length l.yielded;
   own : map (λ pass. pass.lock) (into_iter_items l.pass-iterator) ≡ l.dies;
   courses : length (into_iter_items l.courses) ≡ length (into_iter_items l.pass-iterator);
-  made : map (λ worked. worked.0) l.drivers.items ++ first_states (into_iter_items l.pass-iterator) (into_iter_items l.courses)
-      ≡ first_states l.fn.passes.items l.fn.courses.items;
+  made : WaitOn l.fn.passes.items l.fn.courses.items l.drivers.items (into_iter_items l.pass-iterator) (into_iter_items l.courses);
+  ready : AreReady l.yielded;
 }

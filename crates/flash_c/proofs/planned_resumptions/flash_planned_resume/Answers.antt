@@ -1,4 +1,6 @@
-use Rattle.std.proofs.Common.{sym, ◌∙◌}
+use Rattle.std.proofs.Common.{true, ap, sym, ◌∙◌}
+use Rattle.stepped_die.specs.declared.part.Part.{Part}
+use Rattle.flash_c.specs.Checkpoints.{part_in}
 use Rattle.flash_c.proofs.KeptResuming.{is_kept, says_resumed, says_unresumed}
 use Rattle.flash_c.proofs.Unresumed.{memory_is_alone, unresumed_above}
 use Rattle.flash_c.proofs.planned_resumptions.flash_planned_resume.Goals as goal
@@ -9,7 +11,8 @@ returns-in-Ok-clause-made c = λ zero. is_kept c.put_kept.ensures
 pub returns-in-Ok-clause-goes_on : goal.returns-in-Ok-clause-goes_on
 returns-in-Ok-clause-goes_on c = λ zero.
     says_resumed c.in-Ok-Ok.plan _ c.in-Ok-Ok.terms _ c.args.longest c.in-Ok-Ok-2.checkpoint _ c.in-Ok-Ok.ensures.plan c.in-Ok-Ok.ensures'.terms
-    c.in-Ok-Ok-2.ensures.checkpoint c.resume-made.result _ _ c.in-Ok.kept.value (c.as_slice.ensures ∙ c.in-Ok-Ok-2.ensures'.pages)
+    c.in-Ok-Ok-2.ensures.checkpoint c.resume-made.result _ _ c.part_in.result (part_in c.args.part.now) c.in-Ok.kept.value
+    (c.as_slice.ensures ∙ c.in-Ok-Ok-2.ensures'.pages) (ap (λ (p : Part). record p { stands = true }) c.part_in.ensures)
     c.in-Ok.ensures.ok c.resume-made.ensures.goes_on c.resume-made.ensures.part c.resume-made.ensures.room c.put_kept.ensures
 
 pub returns-clause-made : goal.returns-clause-made

@@ -7,8 +7,8 @@ use Rattle.flash_c.specs.Mounts.{HasSeen}
 use Rattle.flash_c.proofs.Mounting.{calls_seen, goes_by, none_again}
 use Rattle.flash_c.proofs.recoveries.begun_of.Goals as goal
 
-pub returns-in-Idle : goal.returns-in-Idle
-returns-in-Idle c =
+pub returns-in-Idle-clause-seen : goal.returns-in-Idle-clause-seen
+returns-in-Idle-clause-seen c =
     let plan = c.args.plan in
     let scan = c.args.scan in
     calls_seen c.new.result c.calls_of.result
@@ -17,8 +17,8 @@ returns-in-Idle c =
     c.calls_of.ensures.calls c.calls_of.ensures.fault c.new.ensures.ok
     (λ m begins seen s fit. goes_by plan plan seen m refl (begins seen s fit))
 
-pub returns-in-Ok : goal.returns-in-Ok
-returns-in-Ok c = λ seen s fit. (
+pub returns-in-Ok-clause-seen : goal.returns-in-Ok-clause-seen
+returns-in-Ok-clause-seen c = λ seen s fit. (
   refl,
   s,
   c.requires.whole,

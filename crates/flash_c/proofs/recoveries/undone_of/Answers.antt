@@ -9,8 +9,8 @@ use Rattle.flash_c.specs.Mounts.{HasSeen}
 use Rattle.flash_c.proofs.Mounting.{all_again, calls_seen, goes_by}
 use Rattle.flash_c.proofs.recoveries.undone_of.Goals as goal
 
-pub returns : goal.returns
-returns c =
+pub returns-clause-seen : goal.returns-clause-seen
+returns-clause-seen c =
     let plan = c.args.plan in
     let before = c.args.before in
     let again = c.args.again in

@@ -29,6 +29,13 @@ returns-in_err-tell_block-clause-fault g c =
     (subst (λ (s : Shape). s ≡ (part_of plan).shape) c.shape-shape.ensures c.in_ok-scan.ensures.shape) inv.fit
     (subst (λ (l : Labels). RefusesBlock plan l.blocks c.loop-block.block fails e) inv.same.labels_are c.in_err-tell_block.ensures.fault))
 
+pub returns-in_err-tell_block-clause-unchanged : goal.returns-in_err-tell_block-clause-unchanged
+returns-in_err-tell_block-clause-unchanged g c =
+    let e = c.in_err-tell_block.field-0.0 in
+    let refused : c.from_residual-in_err-tell_block.result ≡ Err e = search rules in
+    rw refused (λ other. looked g.N.Nand.shape_of g.N.Nand.failures g.N.Nand.blocks g.N.LabelledNand.labels c.args.part.now c.loop-block.part
+    c.tell_block.new.part c.loop-block.invariant.same (c.in_err-tell_block.ensures.unchanged other))
+
 pub loop-block-preserved : goal.loop-block-preserved
 loop-block-preserved g c =
     let plan = c.args.plan.now in
@@ -41,6 +48,7 @@ loop-block-preserved g c =
       fit = below_more (λ (k : ℕ). HaveFitLabels plan.logical (told_cells (cells_shown ls.blocks k plan.shape.pages))) b inv.fit
           (subst (λ (l : Labels). HaveFitLabels plan.logical (told_cells (cells_shown l.blocks b plan.shape.pages))) inv.same.labels_are
           c.in_ok-tell_block.ensures.fit);
+      untold = c.in_ok-tell_block.ensures.untold;
       room = omega (arith, c.in_ok-tell_block.ensures.room, inv.room);
       same = looked g.N.Nand.shape_of g.N.Nand.failures g.N.Nand.blocks g.N.LabelledNand.labels c.args.part.now c.loop-block.part c.tell_block.new.part
           inv.same c.in_ok-tell_block.ensures.same;

@@ -6,7 +6,7 @@ use Rattle.power_loss.specs.Aside.{part_of}
 use Rattle.power_loss.specs.Labels.{Shown}
 use Rattle.labelled_die.specs.Scanning.{blocks_shown, cells_shown}
 use Rattle.labelled_die.proofs.Passing.{of_ok}
-use Rattle.labelled_die.proofs.Seeing.{blocks_len, blocks_more, cells_len}
+use Rattle.labelled_die.proofs.Seeing.{blocks_len, blocks_more, cells_len, untold_on}
 use Rattle.labelled_die.proofs.scanning.tell_block.Goals as goal
 
 pub unreachable-requires : goal.unreachable-requires
@@ -43,3 +43,6 @@ returns-in-Ok-clause-scan g c =
     subst (λ (seen : Shown). IsScanOf (part_of c.args.plan.now) c.tell.new.self seen) (sym (blocks_more ls pages c.args.block))
     (c.in-Ok.ensures.ok (part_of c.args.plan.now) (blocks_shown ls pages c.args.block) (cells_shown ls c.args.block pages) c.requires.scan
     (c.as_slice.ensures.value ∙ told))
+
+pub returns-in-Ok-clause-untold : goal.returns-in-Ok-clause-untold
+returns-in-Ok-clause-untold g c = untold_on c.args.scan.now.erases c.tell.new.self.erases c.args.scan.now.told c.in-Ok.ensures.erases c.requires.untold

@@ -20,4 +20,4 @@ returns-in-Ok-names_of-clause-written c =
     ∙ (ap (λ (d : MirrorNand). volume.contents d.memory.blocks c.as_slice.result.now) (c.device.ensures.device ∙ ap (λ (k : Core MirrorNand). k.device) core)
     ∙ ap (volume.contents before.die.core.device.memory.blocks) c.as_slice.ensures))
     (rw (← core) (c.device.ensures.pages (ap (λ (k : Core MirrorNand). k.stopped) core ∙ e.may.0.runs)))
-    e.goes_on e.stocked
+    e.goes_on e.stocked c.args.part

@@ -1,10 +1,8 @@
 use Rattle.std.proofs.Common.{◌≡◌, [], replicate}
-use Rattle.std.specs.List.{AllZip}
-use Rattle.task_script.specs.Sending.{SameBatches}
 use Rattle.task_script.proofs.sending.empty_lists.Given as goal
 
-abbrev pub invariant-loop-sender : goal.invariant-loop-sender
-invariant-loop-sender l = record {
-  empty : l.lists.items ≡ replicate l.sender-index [];
-  same : AllZip SameBatches l.fn.senders l.senders;
+abbrev pub invariant-loop-place : goal.invariant-loop-place
+invariant-loop-place l = record {
+  empty : l.lists.items ≡ replicate l.place [];
+  same : l.run ≡ l.fn.run;
 }

@@ -1,29 +1,23 @@
-use Rattle.std.proofs.Common.{◌≡◌, ◌≤◌, ℕ, List, All, arith, refl, sym, ◌∙◌, subst}
+use Rattle.std.proofs.Common.{◌≡◌, ◌≤◌, ℕ, All, arith, refl, sym, ◌∙◌, subst}
 use Rattle.slot_types.specs.declared.limits.TheConstants.{MAX_SLOT}
-use Rattle.task_script.specs.RowBatches.{sent_by, until_of}
-use Rattle.task_script.specs.declared.row_batches.BatchSender.{BatchSender}
-use Rattle.std.specs.List.{AllZip}
-use Rattle.task_script.specs.declared.shares.Share.{Share}
-use Rattle.task_script.specs.Shares.{StaysShare}
+use Rattle.die_service.specs.Runners.{SentTo}
+use Rattle.task_script.specs.RowRunners.{until_of}
 use Rattle.task_script.specs.declared.feeds.ReadEnd.{ReadEnd}
 use Rattle.task_script.specs.declared.feeds.ReadEnd.TheVariants.{Ended, More}
+use Rattle.task_script.specs.declared.row_batches.RowBatch.{RowBatch}
+use Rattle.task_script.specs.declared.row_runners.RowRunner.{RowRunner}
 use Rattle.task_script.proofs.Dealing.{texts_as}
-use Rattle.task_script.proofs.Sent.{batch_few, batch_last, batch_more, batch_read, batch_same, few_batches, follows, sent_first, zip_all, zip_on}
+use Rattle.task_script.proofs.Sent.{batch_alone, batch_few, batch_firsts, batch_last, batch_more, batch_read, few_batches, follows, sent_first}
 use Rattle.task_script.proofs.sending.send_all.Goals as goal
 use Rattle.task_script.proofs.sending.send_all.Goals.{in-Ended, in_default}
-
-shares_on : (a b d : List Share) → AllZip StaysShare a b → AllZip StaysShare b d → AllZip StaysShare a d
-shares_on a b d first second =
-    zip_on StaysShare StaysShare StaysShare (λ x y z p q dies h. q dies (p dies h)) a b d first second
 
 pub loop-init : goal.loop-init
 loop-init g c = record {
   dies = refl;
   slots = refl;
-  sent = sent_first _ _ _ _ c.args.senders.now c.requires.dies c.requires.none;
+  sent = sent_first _ _ _ _ c.args.run.now c.requires.dies c.requires.none;
   later = omega arith;
   below = λ some. omega (arith, some);
-  shares = zip_all StaysShare (λ share dies h. h) c.args.shares.now;
 }
 
 pub send_rows-requires : goal.send_rows-requires
@@ -42,23 +36,27 @@ pub returns-in_default-end : goal.returns-in_default-end
 returns-in_default-end g c =
     let read = texts_as _ _ _ _ _ _ _ _ _ _ c.loop.invariant.dies c.loop.invariant.slots c.in_ok-read.ensures.rows in
     let few : c.loop.counter ≤ 1000002 = few_batches _ _ c.loop.counter c.requires.first c.loop.invariant.later c.loop.invariant.below in
+    let is = c.go_on.ensures ∙ c.send_rows.ensures in
     record {
-      rows = batch_read _ _ _ _ _ _ _ _ c.loop.counter c.match-read.until _ _ _ _ _ c.loop.invariant.sent c.in_ok-empty.ensures.same read
-          _ c.send_rows.ensures;
-      last = λ is.
-          let end : c.in_ok-read.read.end ≡ Ended = cc in
-          let all : c.match-read.until ≡ c.args.slots = elim c.match-read.branch
-          [ in-Ended w ↦ w.until-is | in_default w ↦ absurd (w.in_default.not-Ended end) ] in
-          subst (λ (n : ℕ). All (λ (sender : BatchSender). until_of (sent_by sender) ≡ n) c.send_rows.new.senders) all
-          (batch_last _ _ _ _ _ _ _ _ c.loop.counter c.match-read.until _ _ _ _ _ c.loop.invariant.sent c.in_ok-empty.ensures.same read
-          _ c.send_rows.ensures);
-      few = batch_few _ _ _ _ _ _ _ _ c.loop.counter c.match-read.until _ _ _ _ _ c.loop.invariant.sent c.in_ok-empty.ensures.same read
-          _ c.send_rows.ensures few;
-      failed = c.in_ok-read.ensures.failed;
-      over = c.in_default-end.not-More;
-      same = batch_same _ _ _ _ _ _ _ _ c.loop.counter c.match-read.until _ _ _ _ _ c.loop.invariant.sent c.in_ok-empty.ensures.same read
-          _ c.send_rows.ensures;
-      shares = shares_on _ _ c.run_here.new.shares c.loop.invariant.shares c.run_here.ensures;
+      sent = record {
+        firsts = batch_firsts _ _ _ _ _ _ _ _ c.loop.counter c.match-read.until _ _ _ _ _ c.loop.invariant.sent c.in_ok-empty.ensures.same read
+            _ is c.in_ok-read.ensures.few;
+        rows = batch_read _ _ _ _ _ _ _ _ c.loop.counter c.match-read.until _ _ _ _ _ c.loop.invariant.sent c.in_ok-empty.ensures.same read
+            _ is c.in_ok-read.ensures.few;
+        last = λ is_end.
+            let end : c.in_ok-read.read.end ≡ Ended = cc in
+            let all : c.match-read.until ≡ c.args.slots = elim c.match-read.branch
+            [ in-Ended w ↦ w.until-is | in_default w ↦ absurd (w.in_default.not-Ended end) ] in
+            subst (λ (n : ℕ). All (λ (s : SentTo RowRunner RowBatch). until_of s.batches ≡ n) c.go_on.new.self) all
+            (batch_last _ _ _ _ _ _ _ _ c.loop.counter c.match-read.until _ _ _ _ _ c.loop.invariant.sent c.in_ok-empty.ensures.same read
+            _ is c.in_ok-read.ensures.few);
+        few = batch_few _ _ _ _ _ _ _ _ c.loop.counter c.match-read.until _ _ _ _ _ c.loop.invariant.sent c.in_ok-empty.ensures.same read
+            _ is c.in_ok-read.ensures.few few;
+        alone = batch_alone _ _ _ _ _ _ _ _ c.loop.counter c.match-read.until _ _ _ _ _ c.loop.invariant.sent c.in_ok-empty.ensures.same read
+            _ is c.in_ok-read.ensures.few;
+        failed = c.in_ok-read.ensures.failed;
+        over = c.in_default-end.not-More;
+      };
       refused = tt;
     }
 
@@ -74,8 +72,7 @@ loop-preserved g c =
       dies = c.in_ok-read.ensures.dies ∙ c.loop.invariant.dies;
       slots = c.in_ok-read.ensures.slots ∙ c.loop.invariant.slots;
       sent = batch_more _ _ _ _ _ _ _ _ c.loop.counter c.match-read.until _ _ _ _ _ c.loop.invariant.sent c.in_ok-empty.ensures.same read
-          _ c.send_rows.ensures c.in-More.is none;
+          _ (c.go_on.ensures ∙ c.send_rows.ensures) c.in_ok-read.ensures.few c.in-More.is none;
       later = omega (arith, c.loop.invariant.later, grown.0);
       below = λ some. omega (arith, grown.1);
-      shares = shares_on _ _ c.run_here.new.shares c.loop.invariant.shares c.run_here.ensures;
     }

@@ -1,7 +1,5 @@
 use Rattle.std.proofs.Common.{◌≡◌, ◌≤◌, ◌<◌, ◌+◌}
-use Rattle.std.specs.List.{AllZip}
 use Rattle.script_texts.specs.ScriptLeft.{dies_of, line_of, script_rows_left, slots_of}
-use Rattle.task_script.specs.Shares.{StaysShare}
 use Rattle.task_script.proofs.Sent.{HasSent}
 use Rattle.task_script.proofs.sending.send_all.Given as goal
 
@@ -10,8 +8,7 @@ invariant-loop g l = record {
   dies : dies_of l.script ≡ dies_of l.fn.script;
   slots : slots_of l.script ≡ slots_of l.fn.script;
   sent : HasSent (script_rows_left g.S.Read.remaining l.fn.script) (script_rows_left g.S.Read.remaining l.script) (dies_of l.fn.script)
-      (slots_of l.fn.script) (line_of l.fn.script) (line_of l.script) l.counter l.fn.senders l.senders;
+      (slots_of l.fn.script) (line_of l.fn.script) (line_of l.script) l.counter l.fn.run l.run;
   later : line_of l.fn.script + l.counter ≤ line_of l.script;
   below : 0 < l.counter → line_of l.script ≤ 1000002;
-  shares : AllZip StaysShare l.fn.shares l.shares;
 }

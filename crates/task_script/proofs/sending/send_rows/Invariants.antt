@@ -1,6 +1,6 @@
 use Rattle.std.proofs.Common.{◌≡◌, ◌++◌, length}
 use Rattle.std.specs.Vec.Iter.{into_iter_items}
-use Rattle.task_script.proofs.Sent.{SentTo}
+use Rattle.task_script.specs.RanScripts.{sent_more}
 use Rattle.task_script.proofs.sending.send_rows.Given as goal
 
 abbrev pub invariant-loop-own : goal.invariant-loop-own
@@ -9,5 +9,5 @@ invariant-loop-own g l = record {
   is_finite : (goal.iterator-loop-own g).is_finite l.own-iterator;
   rows : l.fn.rows.items ≡ l.yielded ++ into_iter_items l.own-iterator;
   place : l.place ≡ length l.yielded;
-  sent : SentTo l.until l.place l.fn.rows.items l.fn.senders l.senders;
+  sent : l.run ≡ sent_more l.until l.yielded l.fn.run;
 }

@@ -1,39 +1,50 @@
-use Rattle.std.proofs.Common.{[], ◌∷◌, ◌++◌, ◌∙◌, ap, arith, length, length-append, subst, sym}
+use Rattle.std.proofs.Common.{◌≡◌, ◌∙◌, ◌++◌, ◌∷◌, [], ap, arith, sym}
 use Rattle.std.proofs.lemmas.Grind.{common_steps}
-use Rattle.std.specs.List.{AllZip}
-use Rattle.die_service.specs.Stores.{IsClosedWith}
-use Rattle.task_script.specs.DieStores.{passes_of}
 use Rattle.std.specs.Vec.Iter.{into_iter_items}
-use Rattle.task_script.proofs.RanDies.{closed_more, few_closed, progress_more}
-use Rattle.task_script.proofs.SameDies.{one_passed}
+use Rattle.task_script.specs.DieTexts.{report_parts}
+use Rattle.task_script.specs.RanScripts.{dies_in}
+use Rattle.task_script.specs.RowDies.{core_of}
+use Rattle.task_script.specs.RunCounts.{rows_in, sum_of_counts}
+use Rattle.task_script.specs.declared.row_dies.RowDie.{RowDie}
+use Rattle.task_script.proofs.Ending.{all_left, next_die, none_left, rows_joined, same_die}
 use Rattle.task_script.proofs.text_runs.finish.Goals as goal
 
-pub loop-die-preserved : goal.loop-die-preserved
-loop-die-preserved g c = record {
-  can_next = tt;
-  is_finite = tt;
-  dies = one_passed c.args.dies.items c.loop-die.yielded (into_iter_items c.loop-die.die-iterator) (into_iter_items c.next.new.self)
-      c.in-Some.die c.loop-die.invariant.dies c.in-Some.ensures.steps.0;
-  closed = subst (AllZip IsClosedWith (passes_of (c.loop-die.yielded ++ c.in-Some.die ∷ []))) (sym c.in_ok-append-in-Ok.ensures.items)
-      (closed_more c.loop-die.yielded c.in-Some.die c.loop-die.cores.items c.in-Ok.closed.items
-      c.loop-die.invariant.closed c.in-Ok.ensures.closed);
-  progress = c.in_ok-append.ensures.items ∙ (ap (λ far. far ++ c.in-Some.die.dies.progress.items) c.loop-die.invariant.progress
-      ∙ sym (progress_more c.loop-die.yielded c.in-Some.die));
-}
+pub loop-runner-init : goal.loop-runner-init
+loop-runner-init g c =
+    let gives = c.into_iter-runner-iterator.ensures.into_iter_gives.0 in record {
+      can_next = tt;
+      is_finite = tt;
+      left = rw gives (all_left (dies_in c.args.runners.items) c.args.runners.items c.new-cores.result.items c.none-count.result c.requires.whole
+          c.new-cores.ensures.items c.none-count.ensures);
+    }
 
-pub parts_of-requires-clause-few : goal.parts_of-requires-clause-few
-parts_of-requires-clause-few g c =
-    let same = few_closed c.loop-die.yielded c.loop-die.cores.items c.loop-die.invariant.closed in
-    omega (
-      arith,
-      same,
-      c.requires.few,
-      ap length c.loop-die.invariant.dies,
-      length-append c.loop-die.yielded (into_iter_items c.loop-die.die-iterator),
-    )
+pub unreachable-requires : goal.unreachable-requires
+unreachable-requires g c =
+    let next = next_die _ _ _ _ _ c.in-Some.runner c.in-Some.ensures.steps.0 c.loop-runner.invariant.left in
+    c.in_default.not-Ok next.die next.is
 
-pub returns-clause-closed : goal.returns-clause-closed
-returns-clause-closed g c = grind (arith, common_steps)
+pub add_all-requires : goal.add_all-requires
+add_all-requires g c =
+    let next = next_die _ _ _ _ _ c.in-Some.runner c.in-Some.ensures.steps.0 c.loop-runner.invariant.left in
+    let same = same_die next.die c.in-Ok.die c.in-Some.runner.die next.is c.in-Ok.is in
+    record { few = omega (arith, next.few, c.requires.counted, ap rows_in c.into_parts-core.ensures.count, ap (λ (d : RowDie). rows_in d.count) c.in-Ok.die-is, ap (λ (d : RowDie). rows_in d.count) same) }
 
-pub joined-count-requires : goal.joined-count-requires
-joined-count-requires g c = record { counted = grind (arith, common_steps) }
+pub loop-runner-preserved : goal.loop-runner-preserved
+loop-runner-preserved g c =
+    let next = next_die _ _ _ _ _ c.in-Some.runner c.in-Some.ensures.steps.0 c.loop-runner.invariant.left in
+    let same = same_die next.die c.in-Ok.die c.in-Some.runner.die next.is c.in-Ok.is in
+    let core = c.into_inner.ensures ∙ (c.into_parts-core.ensures.die ∙ ap core_of (c.in-Ok.die-is ∙ sym same)) in
+    let own = c.into_parts-core.ensures.count ∙ ap (λ (d : RowDie). d.count) (c.in-Ok.die-is ∙ sym same) in
+    let joined = c.add_all.ensures ∙ ap (sum_of_counts c.loop-runner.count) own in record {
+      can_next = tt;
+      is_finite = tt;
+      left = next.after c.push.new.self.items c.add_all.new.self
+          (c.in_ok-push.ensures.items ∙ ap (λ x. c.loop-runner.cores.items ++ x ∷ []) core) joined
+          (ap rows_in joined ∙ rows_joined c.loop-runner.count next.die.count);
+    }
+
+pub returns-clause-reported : goal.returns-clause-reported
+returns-clause-reported g c =
+    let gone : into_iter_items c.loop-runner.runner-iterator ≡ [] = grind (arith, common_steps) in
+    let end = none_left (dies_in c.args.runners.items) _ c.loop-runner.cores.items c.loop-runner.count gone c.loop-runner.invariant.left in
+    record { said = c.in_ok-parts.ensures.ok ∙ ap report_parts end.0; counted = end.1 }

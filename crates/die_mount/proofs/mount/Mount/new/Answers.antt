@@ -9,8 +9,8 @@ use Rattle.die_mount.proofs.PagesFound.{idle_stays, none_found}
 use Rattle.die_mount.proofs.Outcomes.{ok_more}
 use Rattle.die_mount.proofs.mount.Mount.new.Goals as goal
 
-pub returns-in-Some-clause-ok : goal.returns-in-Some-clause-ok
-returns-in-Some-clause-ok c =
+pub returns-clause-ok : goal.returns-clause-ok
+returns-clause-ok c =
     let plan = c.args.plan in
     let s = c.args.scan in
     let block = c.in-Some.block in

@@ -1,4 +1,5 @@
 use Rattle.std.proofs.Common.{◌≡◌, ◌+◌, refl, ap, sym, ◌∙◌, subst, arith}
+use Rattle.std.specs.Prelude.{slice_set}
 use Rattle.std.specs.Vec.{with_items}
 use Rattle.std.proofs.lemmas.List.{with_items_is}
 use Rattle.power_loss.specs.Mounted.{all_count, found_in_block}
@@ -17,6 +18,7 @@ returns-clause-ok c = λ plan seen shown h told.
       serials = (with_items c.self.inside.serials c.take_block.new.serials).items;
       told = c.self.inside.told + 1;
       newest = c.newer-self-inside.result;
+      erases = slice_set c.self.inside.erases.items c.self.inside.told c.args.erases;
     } in
     let same : (with_items c.self.inside.serials c.take_block.new.serials).items ≡ c.take_block.new.serials =
     with_items_is c.self.inside.serials c.take_block.new.serials (omega (arith, c.take_block.auto.serials, c.deref_mut.ensures.len)) in

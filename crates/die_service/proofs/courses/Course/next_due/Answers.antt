@@ -23,8 +23,8 @@ pub returns-clause-due : goal.returns-clause-due
 returns-clause-due c =
     let f = c.self.inside in
     let ops : List Op = last_ops (f.place + 1) f.feed in
-    subst (λ (k : Course). Comes c.args.clock k (with_ops c.head.result ops) (on f.from f.slots (f.place + 1) f.feed ops f.refused.items))
+    subst (λ (k : Course). Comes c.args.clock k (with_ops c.head.result ops) (on (f.place + 1) f.feed ops f.refused.items))
     c.self.view_is
-    (comes_now f.from f.slots c.args.clock f.place c.at.result f.feed (with_ops c.head.result ops) (last_ops f.place f.feed)
+    (comes_now c.args.clock f.place c.at.result f.feed (with_ops c.head.result ops) (last_ops f.place f.feed)
     ops f.refused.items c.at.ensures (let by = c.if-at-clock.false in omega (arith, by))
     (c.head.ensures ∙ ap (λ (l : List Op). Some (with_ops c.head.result l)) (sym (last_next f.place f.feed))) c.self.invariant.0)

@@ -12,7 +12,7 @@ invariant_of-result g c =
     let v : OnPart g.row.N.Denot = record { part = c.args.part; mount = m; erased = c.in-Some-EraseSlot.block; held = blank; failed = false } in
     let e : call_at m.next m.stage ≡ Some (calls.EraseSlot v.erased) = cc in
     begins_on g.N.Nand.never_fails g.N.Nand.shape_of g.N.Nand.blocks g.N.LabelledNand.labels g.N.Nand.failures v c.requires.powered c.requires.shape
-    c.requires.first e refl
+    c.requires.first c.requires.counts e refl
 
 pub returns-clause-goes : goal.returns-clause-goes
 returns-clause-goes g c = λ pages stood begins.

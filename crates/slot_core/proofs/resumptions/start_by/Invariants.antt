@@ -1,4 +1,0 @@
-use Rattle.slot_core.proofs.resumptions.start_by.Given as goal
-
-abbrev pub ghost-at : goal.ghost-at
-ghost-at g a = g.start

@@ -1,0 +1,5 @@
+pub mod Stepping
+pub mod Beginning
+pub mod Telling
+pub mod Carrying
+pub mod Erasing
