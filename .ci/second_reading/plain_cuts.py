@@ -82,6 +82,9 @@ class Part:
         if self.begun[block] == self.plan.erase_slots:
             self.begun[block], self.blocks[block] = 0, self.erased()
 
+    def power_up(self):
+        """What is made of the labels before a mount: nothing, since each block keeps its number."""
+
     def in_erase(self):
         """How many blocks are in erase."""
         return sum(had > 0 for had in self.begun)
@@ -112,9 +115,9 @@ class Part:
 class LabelFlash(plain_die.Flash):
     """The flash of a die, each call of which is one of a part, too. The last one is kept."""
 
-    def __init__(self, plan):
+    def __init__(self, plan, part):
         super().__init__(plan.blocks, plan.pages, plan.erase_slots, plan.logical, 0)
-        self.part, self.serial, self.done, self.made = Part(plan), 1, 0, None
+        self.part, self.serial, self.done, self.made = part, 1, 0, None
         self.programs = None
 
     def call(self, words):
@@ -169,9 +172,9 @@ class Run:
     """A script on a die. `losses` goes through its calls: of each, or of those of these numbers, how the power goes in it.
     A slot makes one call at most. `kinds` has by call what it is, once that is done."""
 
-    def __init__(self, plan, rows, slots):
+    def __init__(self, plan, rows, slots, part=None):
         self.die, self.rows, self.slots = plain_die.Die(plan, 0), rows, slots
-        self.die.flash = LabelFlash(plan)
+        self.die.flash = LabelFlash(plan, part or Part(plan))
         self.writes, self.refused, self.kinds = [], 0, []
 
     def losses(self, only=None):
@@ -219,6 +222,7 @@ class Mount:
 
     def __init__(self, part):
         self.part, self.plan = part, part.plan
+        part.power_up()
         tasks = len(self.plan.caps)
         self.accounts = sum(self.plan.caps) + tasks * (self.plan.pages - self.plan.alpha)
         self.labels, self.reads, self.copies, self.slots, self.erased = part.count * self.plan.pages, 0, 0, 0, Counter()
@@ -388,9 +392,10 @@ class Each:
     """Cuts at each call of a run, each with what may be left of it, and where it is asked for at each call of the
     mount."""
 
-    def __init__(self, plan, rows, slots, seed, asked=LEAVES, mounts=False):
+    def __init__(self, plan, rows, slots, seed, asked=LEAVES, mounts=False, part=None):
         self.tally, self.most = Counter(), Counter()
-        for lost in Run(plan, rows, slots).losses():
+        self.run = Run(plan, rows, slots, part)
+        for lost in self.run.losses():
             self.tally["calls"] += 1
             for leaves in asked:
                 self.cut(lost, leaves, Words(seed, lost.number), mounts)

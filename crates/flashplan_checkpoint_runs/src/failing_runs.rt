@@ -16,7 +16,7 @@ use crate::dies::{DiesOn, push_die};
 use crate::store_runs::report_of;
 use flash_die::{FuseNand, MemoryNand};
 use flashplan_script_runs::{RefusedRows, run_dies};
-use flashplan_watched_runs::{FailAt, Failure, RunNand, calls_of, check_failing, failure_in};
+use flashplan_watched_runs::{FailAt, Failure, calls_of, check_failing, failure_in};
 use report_texts::ReportText;
 use script_texts::ScriptReader;
 use slot_core::DieCore;
@@ -24,10 +24,13 @@ use slot_types::{DiePlan, MAX_SLOT, Refusal, StorePlan};
 use std::alloc::Global;
 use std::io::Read;
 
+/// A device in memory that fails from some call on.
+type FailingNand = FuseNand<MemoryNand>;
+
 /// What came of a run in which a device was to fail.
 #[derive(Drop)]
 pub struct FailingRun {
-    pub dies: DiesOn<RunNand>,
+    pub dies: DiesOn<FailingNand>,
     /// What each die's log says over its start.
     pub report: ReportText,
     pub refused: RefusedRows,
@@ -36,7 +39,7 @@ pub struct FailingRun {
 
 /// A die on which nothing was done, whose device makes `calls` calls well and fails from then on. The only refusal is
 /// NoMemory.
-fn fresh_die(alloc: Global, plan: DiePlan, calls: u64) -> Result<DieCore<RunNand>, Refusal>
+fn fresh_die(alloc: Global, plan: DiePlan, calls: u64) -> Result<DieCore<FailingNand>, Refusal>
     requires { MeetsBound plan }
     ensures ok { IfOk result (λ die. die.start ≡ fresh plan) }
     ensures log { IfOk result (λ die. die.log ≡ []) }
@@ -54,7 +57,7 @@ fn fresh_die(alloc: Global, plan: DiePlan, calls: u64) -> Result<DieCore<RunNand
 }
 
 /// Dies on which nothing was done, one of each plan, of which one's device is to fail. The only refusal is NoMemory.
-fn fresh_store(alloc: Global, plan: StorePlan, fail: FailAt) -> Result<DiesOn<RunNand>, Refusal>
+fn fresh_store(alloc: Global, plan: StorePlan, fail: FailAt) -> Result<DiesOn<FailingNand>, Refusal>
     requires few { length plan ≤ 8 }
     requires bound { All MeetsBound plan }
     ensures starts { IfOk result (λ dies. starts_of dies.items ≡ map fresh plan) }

@@ -1,7 +1,8 @@
 //! Runs from a checkpoint that are watched slot by slot: what they wear, what they come to, and what is drawn of them.
 
-ghost use Rattle.std.specs.Prelude.{◌≡◌, ◌≤◌, [], false, All, Err, IfErr, IfOk, None, OnOk, length, map};
+ghost use Rattle.std.specs.Prelude.{◌≡◌, ◌≤◌, [], false, All, Err, IfErr, IfOk, None, OnOk, Some, length, map};
 ghost use Rattle.std.specs.Box.{box_value};
+ghost use Rattle.flashplan_run_parts.specs.RunNands.{calls_left};
 ghost use Rattle.flashplan_script_runs.specs.RunningDies.{HasEmptyLog, starts_of};
 ghost use Rattle.flashplan_script_runs.specs.ScriptRuns.{script_in};
 ghost use Rattle.flashplan_watched_runs.specs.Failing.{IsBeyond};
@@ -18,12 +19,12 @@ use crate::faults::RunFault;
 use crate::lines::{FIRST_LINE, lines_of};
 use crate::starts::{check_bytes, check_die, same_store};
 use checkpoint_texts::{SavedDie, SavedStore};
-use flash_die::FuseNand;
 use flashplan_run_figures::{Levels, Life};
+use flashplan_run_parts::RunNand;
 use flashplan_slot_times::Units;
 use flashplan_watched_runs::{
-    FailAt, Reported, RunNand, Shown, StartedDie, calls_of, check_failing, draw_of, fresh_dies,
-    push_started, report_of, wear_of,
+    FailAt, Reported, Shown, StartedDie, calls_of, check_failing, draw_of, fresh_dies, push_started,
+    report_of, wear_of,
 };
 use script_texts::ScriptReader;
 use slot_core::DieCore;
@@ -42,7 +43,7 @@ fn saved_core(
 ) -> Result<DieCore<RunNand>, RunFault>
     ensures ok { IfOk result (λ core. core.start ≡ saved_start plan saved.now) }
     ensures log { IfOk result (λ core. core.log ≡ []) }
-    ensures calls { IfOk result (λ core. core.device.left ≡ calls) }
+    ensures calls { IfOk result (λ core. calls_left core.device ≡ Some calls) }
     ensures runs { IfOk result (λ core. core.stopped ≡ false) }
     ensures fits { OnOk result (FitsDie plan saved.now) }
     ensures have { OnOk result (HaveBytes saved.now.pages) }
@@ -51,7 +52,7 @@ fn saved_core(
     let checkpoint = check_die(alloc, &plan, saved, die, first)?;
     check_bytes(saved, die, first)?;
     let device = device_of(alloc, &plan, saved)?;
-    match DieCore::resume(alloc, plan, FuseNand::new(device, calls), &checkpoint) {
+    match DieCore::resume(alloc, plan, RunNand::whole(device, calls), &checkpoint) {
         Ok(core) => Ok(core),
         Err(_) => Err(RunFault::Refused(Refusal::NoMemory)),
     }
@@ -68,7 +69,7 @@ fn started_die(
 ) -> Result<StartedDie, RunFault>
     ensures start { IfOk result (λ started. (begun started).start ≡ saved_start plan saved.now) }
     ensures log { IfOk result (λ started. HasEmptyLog (begun started)) }
-    ensures calls { IfOk result (λ started. (box_value started.core).device.left ≡ calls) }
+    ensures calls { IfOk result (λ started. calls_left (box_value started.core).device ≡ Some calls) }
     ensures runs { IfOk result (λ started. (begun started).stopped ≡ false) }
     ensures fits { OnOk result (FitsDie plan saved.now) }
     ensures have { OnOk result (HaveBytes saved.now.pages) }

@@ -403,8 +403,10 @@ EndsSo contents has_failed (command.Keeps plan script slots slot_us) text rows o
     EndsSaying contents has_failed (PrintsKept text rows slots) verdict_status old new status
 EndsSo contents has_failed (command.Wear plan script slots from) text rows old new status =
     Ends contents has_failed (PrintsWear text rows slots (is_none from)) old new status
-EndsSo contents has_failed (command.Report plan script slots endurance slot_us page_bytes as_csv fail from) text rows old new status =
+EndsSo contents has_failed (command.Report plan script slots endurance slot_us page_bytes as_csv fail None from) text rows old new status =
     Ends contents has_failed (PrintsRunFigures text rows slots (failing_in fail) as_csv (is_none from)) old new status
+EndsSo contents has_failed (command.Report plan script slots endurance slot_us page_bytes as_csv fail (Some bad) from) text rows old new status =
+    Ends contents has_failed (PrintsRunFigures text rows slots None as_csv true) old new status
 EndsSo contents has_failed (command.Draw plan script slots die first end slot_us page_bytes worst as_text all fail checkpoint) text rows old new status =
     Ends contents has_failed (PrintsDrawing text rows slots die (failing_in fail) (is_none checkpoint)) old new status
 EndsSo contents has_failed (command.Demand plan die) text rows old new status = Ends contents has_failed PrintsText old new status
@@ -417,5 +419,5 @@ EndsSo contents has_failed (command.Run plan script slots from to (Some fail)) t
     Ends contents has_failed (PrintsFailing text rows slots) old new status
 EndsSo contents has_failed (command.RunKept plan script slots) text rows old new status =
     Ends contents has_failed (PrintsKeptRun text rows slots) old new status
-EndsSo contents has_failed (command.Cut plan script slots at every leaves looks mounts die slot_us to) text rows old new status =
+EndsSo contents has_failed (command.Cut plan script slots at every leaves looks mounts bad die slot_us to) text rows old new status =
     EndsCut contents has_failed (PrintsCutting text rows slots die at leaves looks) old new status

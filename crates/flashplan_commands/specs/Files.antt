@@ -14,24 +14,24 @@ plan_name (command.Arrivals plan slots seed fills phases jitter load from) = pla
 plan_name (command.Fill plan lives seed to) = plan.now
 plan_name (command.Keeps plan script slots slot_us) = plan.now
 plan_name (command.Wear plan script slots from) = plan.now
-plan_name (command.Report plan script slots endurance slot_us page_bytes as_csv fail from) = plan.now
+plan_name (command.Report plan script slots endurance slot_us page_bytes as_csv fail bad from) = plan.now
 plan_name (command.Draw plan script slots die first end slot_us page_bytes worst as_text all fail checkpoint) = plan.now
 plan_name (command.Demand plan die) = plan.now
 plan_name (command.Compare plan script slots first pool slot_us page_bytes as_csv draws die task checkpoint) = plan.now
 plan_name (command.Run plan script slots from to fail) = plan.now
 plan_name (command.RunKept plan script slots) = plan.now
-plan_name (command.Cut plan script slots at every leaves looks mounts die slot_us to) = plan.now
+plan_name (command.Cut plan script slots at every leaves looks mounts bad die slot_us to) = plan.now
 
 -- that of its script, if it has one
 abbrev pub script_name : Command → Option (List ℕ)
 script_name (command.Keeps plan script slots slot_us) = Some script.now
 script_name (command.Wear plan script slots from) = Some script.now
-script_name (command.Report plan script slots endurance slot_us page_bytes as_csv fail from) = Some script.now
+script_name (command.Report plan script slots endurance slot_us page_bytes as_csv fail bad from) = Some script.now
 script_name (command.Draw plan script slots die first end slot_us page_bytes worst as_text all fail checkpoint) = Some script.now
 script_name (command.Compare plan script slots first pool slot_us page_bytes as_csv draws die task checkpoint) = Some script.now
 script_name (command.Run plan script slots from to fail) = Some script.now
 script_name (command.RunKept plan script slots) = Some script.now
-script_name (command.Cut plan script slots at every leaves looks mounts die slot_us to) = Some script.now
+script_name (command.Cut plan script slots at every leaves looks mounts bad die slot_us to) = Some script.now
 script_name _ = None
 
 -- a reader gives what the file of this name holds, where there is such a name and that is known

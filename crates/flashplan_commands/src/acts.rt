@@ -17,12 +17,13 @@ use crate::keeping::act_keeps;
 use crate::kept_acts::act_run_kept;
 use crate::runs::{Told, act_draw, act_report, act_wear};
 use crate::shelves::Shelf;
+use crate::wearing::act_wearing;
 use flashplan_arrivals::Manner;
 use flashplan_plain_layers::Marks;
 use flashplan_slot_times::Units;
 use flashplan_store_compare::{Form, Measure};
-use flashplan_watched_runs::{FailAt, Shown};
-use flashplan_words::{Command, FailingDie};
+use flashplan_watched_runs::{BadBlocks, FailAt, Shown};
+use flashplan_words::{Command, FailingBlocks, FailingDie};
 use std::alloc::Global;
 use std::io::{Read, Write};
 use text_base::Output;
@@ -56,6 +57,19 @@ fn failing_in(fail: Option<FailingDie>) -> Option<FailAt>
     ensures { result ≡ failing_in fail }
 {
     Some(failing(fail?))
+}
+
+/// The blocks that are to fail, as a run takes them.
+fn failing_blocks(bad: FailingBlocks) -> BadBlocks {
+    BadBlocks {
+        count: bad.count,
+        seed: bad.seed,
+    }
+}
+
+/// The blocks that are to fail, if some are.
+fn failing_blocks_in(bad: Option<FailingBlocks>) -> Option<BadBlocks> {
+    Some(failing_blocks(bad?))
 }
 
 /// A number, unless it is 0.
@@ -100,7 +114,8 @@ fn begun<C: Drop>(from: Option<C>, begins_fresh: bool) -> Option<C>
 /// `wear` prints what [`wear`](flashplan_watched_runs::wear) says of the run of the script, `report` what
 /// [`report`](flashplan_watched_runs::report) does, and `draw` what [`draw`](flashplan_watched_runs::draw) draws of it, each
 /// whole; the status is 0, and where rows were refused, `err` gets a line, as `refused 1 first line 6 with 6`. Dies go on
-/// from a checkpoint, where one is named.
+/// from a checkpoint, where one is named. Where blocks are to fail, `report` prints what
+/// [`report_wearing`](flashplan_watched_runs::report_wearing) says, and `err` gets a line where a part begins with too few.
 /// `draw --demand` prints the picture of what may be asked of a die, as [`act_demand`] says, and reads no script.
 /// `compare` prints the table, the records or the picture of [`compare`](flashplan_store_compare::compare), whole. `run`
 /// prints the report of dies that go on from a checkpoint, and has the checkpoint of their end written, as [`act_run`]
@@ -184,6 +199,7 @@ pub fn act<P: Read + Drop, S: Read + Drop, C: Read + Drop, K: Shelf, W: Output, 
             page_bytes,
             as_csv,
             fail,
+            bad,
             from,
             ..
         } => {
@@ -192,9 +208,17 @@ pub fn act<P: Read + Drop, S: Read + Drop, C: Read + Drop, K: Shelf, W: Output, 
                 units: units_of(slot_us, page_bytes),
                 as_csv,
             };
-            let fail = failing_in(fail);
-            let begun = begun(kept.from, from.is_none());
-            act_report(alloc, plan, script, begun, slots, told, fail, out, err)
+            match bad {
+                Some(bad) => {
+                    let bad = failing_blocks(bad);
+                    act_wearing(alloc, plan, script, slots, told, bad, out, err)
+                }
+                None => {
+                    let fail = failing_in(fail);
+                    let begun = begun(kept.from, from.is_none());
+                    act_report(alloc, plan, script, begun, slots, told, fail, out, err)
+                }
+            }
         }
         Command::Draw {
             slots,
@@ -273,6 +297,7 @@ pub fn act<P: Read + Drop, S: Read + Drop, C: Read + Drop, K: Shelf, W: Output, 
             leaves,
             looks,
             mounts,
+            bad,
             die,
             slot_us,
             to,
@@ -285,6 +310,7 @@ pub fn act<P: Read + Drop, S: Read + Drop, C: Read + Drop, K: Shelf, W: Output, 
                 looks,
                 mounts,
                 die,
+                bad: failing_blocks_in(bad),
                 slot_us: unless_zero(slot_us),
             };
             act_cut(alloc, plan, script, cuts, kept.shelf, to, out, err)

@@ -6,13 +6,14 @@ ghost use Rattle.flashplan_commands.specs.Acts.{Says};
 ghost use Rattle.flashplan_commands.specs.CutActs.{CutStatus, EndsCut, PrintsCut, PrintsCutting, PrintsEach, cut_named, leaves_named, leaves_or_blank};
 
 use crate::checkpoint_acts::put_text;
-use crate::endings::{end_refused, report_refused};
+use crate::endings::{end_refused, report_refused, report_too_few};
 use crate::plan_faults::end_unread;
 use crate::shelves::Shelf;
 use crate::stores::{TimedStore, Unread, timed_store_of};
-use flashplan_labelled_parts::{Leaves, Loss};
+use flashplan_labelled_parts::{Leaves, Loss, Misuse, SparesLeft, Unmounted};
 use flashplan_power_cuts::{CutAt, CutFault, Told, Tries, tell_cut, tell_each};
 use flashplan_script_runs::RefusedRows;
+use flashplan_watched_runs::BadBlocks;
 use flashplan_words::Leftover;
 use slot_types::{MAX_SLOT, Refusal};
 use std::alloc::Global;
@@ -30,6 +31,8 @@ pub struct Cuts {
     /// Whether mounts are cut, too.
     pub mounts: bool,
     pub die: u32,
+    /// With these the part has spare blocks.
+    pub bad: Option<BadBlocks>,
     /// How many us a slot takes, where it is said.
     pub slot_us: Option<u32>,
 }
@@ -119,7 +122,9 @@ fn print_cut<P: Read + Drop, S: Read + Drop, W: Output>(
         return Err(Uncut::SeveralDies);
     }
     let at = cut_at(cuts);
-    let told = tell_cut(alloc, &store, script, cuts.slots, at, slot_us, saves)?;
+    let told = tell_cut(
+        alloc, &store, script, cuts.slots, at, cuts.bad, slot_us, saves,
+    )?;
     write_whole(out, &told.text)?;
     Ok(told)
 }
@@ -155,9 +160,20 @@ fn print_each<P: Read + Drop, S: Read + Drop, W: Output>(
 {
     let TimedStore { store, slot_us } = timed_store_of(alloc, plan, cuts.slot_us)?;
     let (slots, die, tries) = (cuts.slots, cuts.die, tries_of(cuts));
-    let told = tell_each(alloc, &store, script, slots, die, tries, slot_us)?;
+    let told = tell_each(alloc, &store, script, slots, die, tries, cuts.bad, slot_us)?;
     write_whole(out, &told.text)?;
     Ok(told)
+}
+
+/// Reports a refusal, and answers the status. No device fails before a run but one that begins with too few blocks.
+fn end_refused_cut<E: Write>(err: &mut E, refusal: Refusal) -> u8
+    ensures { result ≡ 1 }
+{
+    let status = end_refused(err, refusal);
+    if refusal == Refusal::DeviceFault {
+        report_too_few(err);
+    }
+    status
 }
 
 /// Reports why no power was cut, or what was wrong before a page could be looked at, and answers the status. A writer that
@@ -166,7 +182,11 @@ fn end_fault<E: Write>(err: &mut E, fault: CutFault, die: u32) -> u8
     ensures { (result ≡ 1) ⊎ (result ≡ 3) }
 {
     let _ = match fault {
-        CutFault::Refused(refusal) => return end_refused(err, refusal),
+        CutFault::Refused(refusal) => return end_refused_cut(err, refusal),
+        CutFault::Unmounted(Unmounted::Misused(Misuse::WornOut)) => writeln!(
+            err,
+            "error: a block of die {die} failed and no spare one was left: DeviceFault stopped it"
+        ),
         CutFault::Unmounted(unmounted) => {
             let _ = writeln!(err, "die {die}: WRONG: {unmounted}");
             return 3;
@@ -228,6 +248,30 @@ fn before_cut(refused: RefusedRows) -> RefusedRows {
     }
 }
 
+/// Reports how many blocks of a die failed in a run and were replaced, and how many spare ones are left; nothing where none
+/// failed. A writer that fails is passed over.
+fn report_spares<E: Write>(err: &mut E, die: u32, left: Option<SparesLeft>) {
+    let Some(SparesLeft { replaced, spares }) = left else {
+        return;
+    };
+    let (failed, were) = if replaced == 1 {
+        ("block", "was")
+    } else {
+        ("blocks", "were")
+    };
+    let (spare, are) = if spares == 1 {
+        ("block", "is")
+    } else {
+        ("blocks", "are")
+    };
+    if replaced > 0 {
+        let _ = writeln!(
+            err,
+            "die {die}: {replaced} failed {failed} {were} replaced in the run, and {spares} spare {spare} {are} left"
+        );
+    }
+}
+
 /// Puts the checkpoint of a mounted die into a file, where there is one, and answers the status. A writer that fails is
 /// passed over.
 fn put_saved<K: Shelf, E: Write>(
@@ -271,10 +315,17 @@ fn print_cuts<P: Read + Drop, S: Read + Drop, W: Output>(
 
 /// Reports what was refused of a run whose text is printed, puts the checkpoint of the mounted die into a file, where there
 /// is one and nothing is wrong, and answers the status. A writer that fails is passed over.
-fn end_told<K: Shelf, E: Write>(shelf: &K, to: Option<&str>, told: Told, err: &mut E) -> u8
+fn end_told<K: Shelf, E: Write>(
+    shelf: &K,
+    to: Option<&str>,
+    die: u32,
+    told: Told,
+    err: &mut E,
+) -> u8
     ensures { CutStatus told.right result }
 {
     report_refused(err, before_cut(told.refused));
+    report_spares(err, die, told.spares);
     if !told.right {
         return 3;
     }
@@ -293,7 +344,7 @@ fn end_cut<K: Shelf, E: Write>(
     ensures untold { OnErr ran ((result ≡ 1) ⊎ (result ≡ 3)) }
 {
     match ran {
-        Ok(told) => end_told(shelf, to, told, err),
+        Ok(told) => end_told(shelf, to, die, told, err),
         Err(uncut) => end_uncut(err, uncut, die),
     }
 }

@@ -44,6 +44,15 @@ pub fn report_failure<E: Write>(err: &mut E, failure: Option<Failure>, slot_us: 
     };
 }
 
+/// Reports that a part begins with too few blocks. A writer that fails is passed over.
+pub fn report_too_few<E: Write>(err: &mut E) {
+    let _ = writeln!(
+        err,
+        "of a die's part more blocks are bad from the factory than are spare: fewer blocks of --bad would do, or another \
+         seed"
+    );
+}
+
 /// Reports how many rows were refused with a refusal, by its name. A writer that fails is passed over.
 fn report_kind<E: Write>(err: &mut E, number: u8, count: u32) {
     if let Some(named) = refusal_name(number) {

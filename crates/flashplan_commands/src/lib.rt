@@ -25,6 +25,7 @@ mod slot_lengths;
 mod stores;
 mod strict;
 mod strict_runs;
+mod wearing;
 
 pub use acts::act;
 pub use checkpoint_acts::Kept;

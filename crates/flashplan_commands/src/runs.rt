@@ -74,15 +74,15 @@ pub struct Told {
 
 /// What is reported of a run whose figures were printed.
 #[derive(Clone, Copy, Drop)]
-struct Figured {
-    refused: RefusedRows,
-    failure: Option<Failure>,
+pub(crate) struct Figured {
+    pub(crate) refused: RefusedRows,
+    pub(crate) failure: Option<Failure>,
     /// How many us a slot takes, where that is known.
-    slot_us: Option<u32>,
+    pub(crate) slot_us: Option<u32>,
 }
 
 /// How long a part lives, with the length of a slot, if that is known.
-fn life_of(endurance: u32, slot_us: Option<u32>) -> Life {
+pub(crate) fn life_of(endurance: u32, slot_us: Option<u32>) -> Life {
     Life {
         endurance,
         slot_us: slot_us.unwrap_or(0),
@@ -134,7 +134,7 @@ fn print_report<P: Read + Drop, S: Read + Drop, C: Read + Drop, W: Output>(
 }
 
 /// Reports what came of a report's run, and which options said nothing of it, and answers the status.
-fn end_report<E: Write>(err: &mut E, told: Told, ran: Result<Figured, Unprinted>) -> u8
+pub(crate) fn end_report<E: Write>(err: &mut E, told: Told, ran: Result<Figured, Unprinted>) -> u8
     ensures { result ≡ (if is_ok ran then 0 else 1) }
 {
     match ran {

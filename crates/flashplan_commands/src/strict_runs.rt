@@ -49,6 +49,7 @@ fn run_with<'a>(
         page_bytes: 0,
         as_csv: true,
         fail,
+        bad: None,
         from,
     };
     UntoldRun {

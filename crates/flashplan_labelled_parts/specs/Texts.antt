@@ -11,6 +11,7 @@ misuse_text misuses.NotGood = codes "a read of a cell that isn't good"
 misuse_text misuses.NotErased = codes "a program of a cell that wasn't erased"
 misuse_text misuses.NotNext = codes "a program of a cell before which one is free"
 misuse_text misuses.InErase = codes "a call of a block in erase"
+misuse_text misuses.WornOut = codes "an erase of a block that failed, and no spare one was left"
 
 abbrev pub unmounted_text : Unmounted → List ℕ
 unmounted_text unmounted.NoMemory = codes "NoMemory"
@@ -22,3 +23,4 @@ unmounted_text (unmounted.Misused misuse) = misuse_text misuse
 unmounted_text unmounted.Endless = codes "the mount doesn't end"
 unmounted_text unmounted.NotErased = codes "a cell that is free wasn't erased"
 unmounted_text unmounted.Unfit = codes "where the mount ends doesn't fit the plan"
+unmounted_text unmounted.NoTable = codes "more blocks have labels than have numbers"

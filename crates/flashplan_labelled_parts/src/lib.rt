@@ -8,6 +8,7 @@ mod mounts;
 mod part_calls;
 mod parts;
 mod unmounted;
+mod wears;
 
 pub use cells::Cell;
 pub use costs::MountCosts;
@@ -16,3 +17,4 @@ pub use mounts::{MountEnd, cut_mount, mount_part};
 pub use part_calls::{Misuse, PartCall};
 pub use parts::Part;
 pub use unmounted::Unmounted;
+pub use wears::SparesLeft;

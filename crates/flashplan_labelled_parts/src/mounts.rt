@@ -275,6 +275,7 @@ fn is_ready(part: &Part, end: &Mounted) -> bool {
 pub fn mount_part(alloc: Global, plan: &DiePlan, part: &mut Part) -> Result<MountEnd, Unmounted>
     ensures { IfOk result HasMounted }
 {
+    part.power_up(alloc)?;
     let mut mount = PartMount::new(alloc, plan, part)?;
     mount.carry_all(part)?;
     mount.finish(alloc, part)
@@ -290,6 +291,7 @@ pub fn cut_mount(
     leaves: Leaves,
     looks: &mut Looks,
 ) -> Result<bool, Unmounted> {
+    part.power_up(alloc)?;
     let mut mount = PartMount::new(alloc, plan, part)?;
     for _ in 0..calls {
         if !mount.step(part)? {

@@ -34,4 +34,6 @@ pub enum Misuse {
     NotNext,
     /// The block is in erase.
     InErase,
+    /// The block failed, and no spare one is left.
+    WornOut,
 }

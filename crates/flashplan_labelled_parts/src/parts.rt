@@ -2,6 +2,7 @@
 
 use crate::cells::Cell;
 use crate::part_calls::{Misuse, PartCall};
+use crate::wears::Wear;
 use slot_types::{DiePlan, PageData, Place, Refusal};
 use std::alloc::Global;
 
@@ -13,23 +14,35 @@ pub struct Part {
     pages: u32,
     /// How many slots an erase takes.
     erase_slots: u32,
-    /// Block by block.
+    /// Block by block of the part.
     cells: Vec<Cell>,
-    /// By block how many slots its running erase has had.
+    /// By block of the part how many slots its running erase has had.
     erasing: Vec<u32>,
+    /// Which block has which number, where some blocks fail.
+    pub(crate) wear: Option<Wear>,
 }
 
 impl Part {
     /// A part for a plan, all of whose blocks are erased. The only refusal is NoMemory.
     pub fn new(alloc: Global, plan: &DiePlan) -> Result<Part, Refusal> {
-        let blocks = plan.shape.blocks.saturating_add(1);
-        let cells = (blocks as usize).saturating_mul(plan.shape.pages as usize);
+        Part::of_blocks(alloc, plan, plan.shape.blocks.saturating_add(1), None)
+    }
+
+    /// A part that has so many blocks in all, which are erased. The only refusal is NoMemory.
+    pub(crate) fn of_blocks(
+        alloc: Global,
+        plan: &DiePlan,
+        all: u32,
+        wear: Option<Wear>,
+    ) -> Result<Part, Refusal> {
+        let cells = (all as usize).saturating_mul(plan.shape.pages as usize);
         Ok(Part {
-            blocks,
+            blocks: plan.shape.blocks.saturating_add(1),
             pages: plan.shape.pages,
             erase_slots: plan.shape.erase_slots,
             cells: vec![in alloc; Cell::Erased; cells]?,
-            erasing: vec![in alloc; 0; blocks as usize]?,
+            erasing: vec![in alloc; 0; all as usize]?,
+            wear,
         })
     }
 
@@ -41,6 +54,10 @@ impl Part {
             erase_slots: self.erase_slots,
             cells: self.cells.clone()?,
             erasing: self.erasing.clone()?,
+            wear: match &self.wear {
+                Some(wear) => Some(wear.twin()?),
+                None => None,
+            },
         })
     }
 
@@ -54,15 +71,28 @@ impl Part {
         self.pages
     }
 
+    /// How many slots an erase takes.
+    pub(crate) fn erase_slots(&self) -> u32 {
+        self.erase_slots
+    }
+
+    /// The part's block that has this number.
+    pub(crate) fn on_part(&self, block: u32) -> u32 {
+        match &self.wear {
+            Some(wear) => wear.on_part(block),
+            None => block,
+        }
+    }
+
     fn index(&self, place: Place) -> usize {
-        (place.block as usize)
+        (self.on_part(place.block) as usize)
             .saturating_mul(self.pages as usize)
             .saturating_add(place.page as usize)
     }
 
     /// What a cell shows, if it is there.
     pub fn cell(&self, place: Place) -> Option<Cell> {
-        if place.page >= self.pages {
+        if place.page >= self.pages || place.block >= self.blocks {
             return None;
         }
         self.cells.get(self.index(place)).copied()
@@ -83,12 +113,29 @@ impl Part {
         }
     }
 
+    /// How many blocks the part has, with those that have no number.
+    pub(crate) fn all_blocks(&self) -> u32 {
+        self.erasing.len() as u32
+    }
+
+    /// A block of the part is erased, whichever number it has.
+    pub(crate) fn erase_on_part(&mut self, on: u32) {
+        let first = (on as usize).saturating_mul(self.pages as usize);
+        for page in 0..self.pages as usize {
+            if let Some(cell) = self.cells.get_mut(first.saturating_add(page)) {
+                *cell = Cell::Erased;
+            }
+        }
+    }
+
     /// How many slots the running erase of a block has had; 0 where none runs.
     pub fn erasing(&self, block: u32) -> u32 {
+        let block = self.on_part(block);
         self.erasing.get(block as usize).copied().unwrap_or(0)
     }
 
     pub(crate) fn set_erasing(&mut self, block: u32, slots: u32) {
+        let block = self.on_part(block);
         if let Some(own) = self.erasing.get_mut(block as usize) {
             *own = slots;
         }
@@ -174,6 +221,20 @@ impl Part {
         Ok(PageData::BLANK)
     }
 
+    /// The last slot of an erase: the block is erased, or a spare one takes its number.
+    fn end_erase(&mut self, block: u32) -> Result<PageData, Misuse> {
+        if self.bears_erase(block) {
+            self.fill(block, Cell::Erased);
+            return Ok(PageData::BLANK);
+        }
+        self.fill(block, Cell::Torn);
+        if self.replace(block) {
+            Ok(PageData::BLANK)
+        } else {
+            Err(Misuse::WornOut)
+        }
+    }
+
     fn erase_slot(&mut self, block: u32) -> Result<PageData, Misuse> {
         if block >= self.blocks {
             return Err(Misuse::NoSuchCell);
@@ -181,10 +242,9 @@ impl Part {
         let slots = self.erasing(block).saturating_add(1);
         if slots < self.erase_slots {
             self.set_erasing(block, slots);
-        } else {
-            self.set_erasing(block, 0);
-            self.fill(block, Cell::Erased);
+            return Ok(PageData::BLANK);
         }
-        Ok(PageData::BLANK)
+        self.set_erasing(block, 0);
+        self.end_erase(block)
     }
 }

@@ -29,6 +29,8 @@ pub enum Unmounted {
     NotErased,
     /// Where it ends doesn't fit the plan.
     Unfit,
+    /// Of a part with spare blocks more blocks have labels than have numbers.
+    NoTable,
 }
 
 impl From<AllocError> for Unmounted {
@@ -74,6 +76,7 @@ fn misuse_text(misuse: Misuse) -> &'static str
         Misuse::NotErased => "a program of a cell that wasn't erased",
         Misuse::NotNext => "a program of a cell before which one is free",
         Misuse::InErase => "a call of a block in erase",
+        Misuse::WornOut => "an erase of a block that failed, and no spare one was left",
     }
 }
 
@@ -91,6 +94,7 @@ impl Display for Unmounted {
             Unmounted::Endless => f.write_str("the mount doesn't end"),
             Unmounted::NotErased => f.write_str("a cell that is free wasn't erased"),
             Unmounted::Unfit => f.write_str("where the mount ends doesn't fit the plan"),
+            Unmounted::NoTable => f.write_str("more blocks have labels than have numbers"),
         }
     }
 }

@@ -15,8 +15,11 @@ ghost use Rattle.flashplan_power_cuts.specs.Writes.{writes_of};
 use crate::cut_dies::{CutDie, Ended};
 use crate::mounted_dies::{in_box, mounted_die};
 use crate::said::{PageSaid, say_all};
-use crate::trials::{Tally, Trials, Tries, WrongCut};
-use flashplan_labelled_parts::{Loss, MountEnd, Part, PartCall, Unmounted, cut_part, mount_part};
+use crate::trials::{Amiss, Tally, Trials, Tries, WrongCut};
+use flashplan_labelled_parts::{
+    Loss, Misuse, MountEnd, Part, PartCall, SparesLeft, Unmounted, cut_part, mount_part,
+};
+use flashplan_run_parts::BadBlocks;
 use flashplan_script_runs::{RefusedRows, run_die};
 use script_texts::ScriptReader;
 use slot_types::{DiePlan, MAX_BLOCKS, Refusal, StorePlan};
@@ -90,6 +93,8 @@ pub struct TriedRun {
     /// The first cut that was wrong, if one was.
     pub wrong: Option<WrongCut>,
     pub refused: RefusedRows,
+    /// What the spare blocks of the run came to, where the part has some.
+    pub spares: Option<SparesLeft>,
 }
 
 /// The plan of a die of a store, whose part has one block more.
@@ -115,17 +120,33 @@ fn boxed_die(alloc: Global, plan: DiePlan) -> Result<Box<SteppedDie>, Refusal>
     in_box(alloc, SteppedDie::new(alloc, plan)?)
 }
 
-/// A fresh die on a part, whose power goes in this call.
+/// A part for a die of this number, of whose blocks these are to fail, if some are. Refused with DeviceFault where more of
+/// them are bad from the factory than are spare; or NoMemory.
+fn part_of(
+    alloc: Global,
+    plan: &DiePlan,
+    die: u32,
+    bad: Option<BadBlocks>,
+) -> Result<Part, Refusal> {
+    match bad {
+        Some(bad) => Part::wearing(alloc, plan, bad, die),
+        None => Part::new(alloc, plan),
+    }
+}
+
+/// A fresh die of this number on a part, whose power goes in this call.
 fn fresh_die(
     alloc: Global,
     plan: DiePlan,
+    number: u32,
+    bad: Option<BadBlocks>,
     at: Option<u64>,
     trials: Option<Trials>,
 ) -> Result<CutDie, Refusal>
     ensures start { IfOk result (λ die. die.die.core.start ≡ fresh plan) }
     ensures log { IfOk result (λ die. die.die.core.log ≡ []) }
 {
-    let part = Part::new(alloc, &plan)?;
+    let part = part_of(alloc, &plan, number, bad)?;
     let die = boxed_die(alloc, plan)?;
     Ok(CutDie::new(alloc, die, part, Vec::new(alloc), at, trials))
 }
@@ -158,6 +179,17 @@ fn fault_of(ended: Ended) -> CutFault {
         Ended::Misused(misuse) => CutFault::Unmounted(Unmounted::Misused(misuse)),
         Ended::Misread => CutFault::Misread,
         Ended::NoMemory => CutFault::Refused(Refusal::NoMemory),
+    }
+}
+
+/// A mount that found no spare block for one that failed isn't wrong: the part is worn out.
+fn check_worn(wrong: Option<WrongCut>) -> Result<(), CutFault> {
+    match wrong {
+        Some(WrongCut {
+            amiss: Amiss::Unmounted(Unmounted::Misused(Misuse::WornOut)),
+            ..
+        }) => Err(CutFault::Unmounted(Unmounted::Misused(Misuse::WornOut))),
+        _ => Ok(()),
     }
 }
 
@@ -211,9 +243,10 @@ fn after_cut(
 }
 
 /// Runs a script on a fresh die of a plan over a part in memory, lets the power go in a call of the part, and mounts
-/// the part. Later rows of the die are refused with DieStopped.
+/// the part. Later rows of the die are refused with DieStopped. Blocks of the part may be to fail.
 ///
-/// Refused with UnknownDie where the die isn't there; then where it has 1,024 blocks; with the first fault of the
+/// Refused with UnknownDie where the die isn't there; then where it has 1,024 blocks; with DeviceFault where more blocks
+/// are bad from the factory than are spare, and where a block fails and no spare one is left; with the first fault of the
 /// script, as [`ScriptReader`] tells it, with ReadFault or NoMemory; and where the run has fewer calls.
 pub fn cut_at<R: Read + Drop>(
     alloc: Global,
@@ -221,6 +254,7 @@ pub fn cut_at<R: Read + Drop>(
     script: R,
     slots: u32,
     at: CutAt,
+    bad: Option<BadBlocks>,
 ) -> Result<CutRun, CutFault>
     requires few_dies { length store.now ≤ 8 }
     requires bound { All MeetsBound store.now }
@@ -228,7 +262,14 @@ pub fn cut_at<R: Read + Drop>(
     ensures cut { IfOk result (IsCutRun store.now (R.remaining script) slots at.die) }
 {
     let plan = plan_of(store, at.die)?;
-    let mut before = fresh_die(alloc, plan_of(store, at.die)?, Some(at.call), None)?;
+    let mut before = fresh_die(
+        alloc,
+        plan_of(store, at.die)?,
+        at.die,
+        bad,
+        Some(at.call),
+        None,
+    )?;
     let refused = run(alloc, store, script, slots, &mut before, at.die)?;
     let AfterCut {
         call,
@@ -256,6 +297,7 @@ pub fn cut_each<R: Read + Drop>(
     slots: u32,
     die: u32,
     tries: Tries,
+    bad: Option<BadBlocks>,
 ) -> Result<TriedRun, CutFault>
     requires few_dies { length store.now ≤ 8 }
     requires bound { All MeetsBound store.now }
@@ -263,7 +305,14 @@ pub fn cut_each<R: Read + Drop>(
     ensures tried { IfOk result (HasTried store.now (R.remaining script) slots die) }
 {
     let trials = Trials::new(plan_of(store, die)?, tries);
-    let mut tried = fresh_die(alloc, plan_of(store, die)?, None, Some(trials))?;
+    let mut tried = fresh_die(
+        alloc,
+        plan_of(store, die)?,
+        die,
+        bad,
+        None,
+        Some(trials),
+    )?;
     let refused = run(alloc, store, script, slots, &mut tried, die)?;
     if let Some(ended) = tried.ended() {
         return Err(fault_of(ended));
@@ -272,9 +321,11 @@ pub fn cut_each<R: Read + Drop>(
         Some(trials) => (trials.tally(), trials.wrong()),
         None => (Tally::NONE, None),
     };
+    check_worn(wrong)?;
     Ok(TriedRun {
         tally,
         wrong,
         refused,
+        spares: tried.part().spares_left(),
     })
 }

@@ -11,6 +11,8 @@ use crate::saving::save_mounted;
 use crate::texts::cut_text;
 use crate::trials::Tries;
 use crate::tried_texts::tried_text;
+use flashplan_labelled_parts::SparesLeft;
+use flashplan_run_parts::BadBlocks;
 use flashplan_script_runs::RefusedRows;
 use slot_types::{Refusal, StorePlan};
 use std::alloc::Global;
@@ -26,6 +28,9 @@ pub struct Told {
     pub refused: RefusedRows,
     /// The checkpoint of the mounted die, where one is wanted.
     pub saved: Option<Vec<u8>>,
+    /// What the spare blocks came to before the power went, or by the end of a run each call of which is cut, where the part
+    /// has some.
+    pub spares: Option<SparesLeft>,
 }
 
 /// The checkpoint of a mounted die, where one is wanted of it. The only refusal is NoMemory.
@@ -47,6 +52,7 @@ pub fn tell_cut<R: Read + Drop>(
     script: R,
     slots: u32,
     at: CutAt,
+    bad: Option<BadBlocks>,
     slot_us: Option<u32>,
     saves: bool,
 ) -> Result<Told, CutFault>
@@ -55,7 +61,7 @@ pub fn tell_cut<R: Read + Drop>(
     requires few_slots { slots ≤ MAX_SLOT }
     ensures told { IfOk result (TellsCut store.now (R.remaining script) slots at slot_us) }
 {
-    let mut run = cut_at(alloc, store, script, slots, at)?;
+    let mut run = cut_at(alloc, store, script, slots, at, bad)?;
     let text = cut_text(alloc, at.die, &run, at.loss.leaves, slot_us)?;
     let right = is_right(&run.pages);
     let saved = saved_of(alloc, &mut run, saves)?;
@@ -64,6 +70,7 @@ pub fn tell_cut<R: Read + Drop>(
         right,
         refused: run.refused,
         saved,
+        spares: run.before.part().spares_left(),
     })
 }
 
@@ -77,6 +84,7 @@ pub fn tell_each<R: Read + Drop>(
     slots: u32,
     die: u32,
     tries: Tries,
+    bad: Option<BadBlocks>,
     slot_us: Option<u32>,
 ) -> Result<Told, CutFault>
     requires few_dies { length store.now ≤ 8 }
@@ -84,7 +92,7 @@ pub fn tell_each<R: Read + Drop>(
     requires few_slots { slots ≤ MAX_SLOT }
     ensures told { IfOk result (TellsEach store.now (R.remaining script) slots die slot_us) }
 {
-    let run = cut_each(alloc, store, script, slots, die, tries)?;
+    let run = cut_each(alloc, store, script, slots, die, tries, bad)?;
     let right = run.wrong.is_none();
     let text = tried_text(alloc, die, run, slot_us)?;
     Ok(Told {
@@ -92,5 +100,6 @@ pub fn tell_each<R: Read + Drop>(
         right,
         refused: run.refused,
         saved: None,
+        spares: run.spares,
     })
 }

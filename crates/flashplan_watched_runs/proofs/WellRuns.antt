@@ -8,55 +8,73 @@ use Rattle.slot_types.specs.declared.refusals.Refusal.{Refusal}
 use Rattle.slot_types.specs.declared.replies.Reply.TheVariants as replies
 use Rattle.slot_types.specs.declared.replies.SlotReply.{SlotReply}
 use Rattle.die_log.specs.Model.Log.{now}
-use Rattle.flash_die.specs.Fuse.{EndsAsFused, Fuse}
-use Rattle.flash_die.specs.Memory.{Memory}
 use Rattle.flash_die.specs.declared.nand.NandCall.{NandCall}
 use Rattle.slot_core.specs.Calls.{IsCall, RefusesCall, call_for}
 use Rattle.slot_core.specs.Core.{Core}
 use Rattle.slot_core.specs.Needs.{IsOnlyCall}
+use Rattle.flashplan_run_parts.specs.RunNands.{EndsRun, calls_left}
+use Rattle.flashplan_run_parts.specs.declared.run_nands.RunNand.{RunNand}
+use Rattle.flashplan_run_parts.specs.declared.run_nands.RunNand.TheVariants as nands
 use Rattle.flashplan_script_runs.proofs.Calls.{not_both, slot_carried}
-use Rattle.flashplan_watched_runs.specs.Failing.{RunsWell, calls_of}
+use Rattle.flashplan_watched_runs.specs.Failing.{LastsFrom, RunsWell, calls_of}
 use Rattle.flashplan_watched_runs.specs.declared.failing.FailAt.{FailAt}
 
--- the device below the fuse makes each call well
-abbrev EndsWell : Memory → NandCall → Bool → Memory → Type 0
-EndsWell before call well after = well ≡ true
-
 -- one whose device isn't to fail begins so
-pub begins_well : (die : Core (Fuse Memory)) (fail : Option FailAt) (number : ℕ) → fail ≡ None → die.stopped ≡ false
-    → die.device.left ≡ calls_of fail number → RunsWell die
+pub begins_well : (die : Core RunNand) (fail : Option FailAt) (number : ℕ) → fail ≡ None → die.stopped ≡ false
+    → calls_left die.device ≡ Some (calls_of fail number) → RunsWell die
 begins_well die fail number none runs left =
-    let all : die.device.left ≡ calls_of None number = left ∙ ap (λ (f : Option FailAt). calls_of f number) none in
-    (runs, omega (arith, all))
+    let all : calls_left die.device ≡ Some (calls_of None number) = left ∙ ap (λ (f : Option FailAt). Some (calls_of f number)) none in
+    (runs, subst (LastsFrom (now die.log)) (sym all) (omega arith))
 
 no_slot : {A : Type 0} (event : Event) → IsArrival event → event ≡ events.Slot → A
 no_slot event arrives is = absurd (subst IsArrival is arrives)
 
 -- one call of a slot at most is used up
-left_after : (needed : Option NandCall) (before after : Fuse Memory) → IsOnlyCall (EndsAsFused EndsWell) needed true before after
-    → before.left ≤ after.left + 1
-left_after None before after same = omega (arith, ap (λ (f : Fuse Memory). f.left) same)
-left_after (Some call) before after ends = by before.left refl
+lasts_after : (needed : Option NandCall) (before after : RunNand) (slots : ℕ) → IsOnlyCall EndsRun needed true before after
+    → LastsFrom slots (calls_left before) → LastsFrom (suc slots) (calls_left after)
+lasts_after None before after slots same lasts = fewer (calls_left after) (subst (λ (d : RunNand). LastsFrom slots (calls_left d)) (sym same) lasts)
   where
-    by : (left : ℕ) → before.left ≡ left → before.left ≤ after.left + 1
-    by zero is = omega (arith, is)
-    by (suc left) is = omega (arith, (ends.lasting (λ none. absurd (omega (arith, is, none)))).left)
+    fewer : (left : Option ℕ) → LastsFrom slots left → LastsFrom (suc slots) left
+    fewer (Some left) lasts = omega (arith, lasts)
+    fewer None lasts = absurd lasts
+lasts_after (Some call) (nands.Wearing before) after slots ends lasts = absurd lasts
+lasts_after (Some call) (nands.Whole before) (nands.Wearing after) slots ends lasts = absurd ends
+lasts_after (Some call) (nands.Whole before) (nands.Whole after) slots ends lasts = by before.left refl
+  where
+    by : (left : ℕ) → before.left ≡ left → MAX_SLOT ≤ suc slots + after.left
+    by zero is = omega (arith, is, lasts)
+    by (suc left) is = omega (arith, lasts, (ends.lasting (λ none. absurd (omega (arith, is, none)))).left)
 
-module _ {failures : Fuse Memory → ℕ} where
-  pub slot_well : (reply : SlotReply) (before after : Core (Fuse Memory))
-      → IsCall (EndsAsFused EndsWell) failures false 0 events.Slot (Ok (replies.Slot reply)) before after → RunsWell before → RunsWell after
-  slot_well reply before after call well = (
-    call.ended.runs,
-    omega (
-      arith,
-      well.1,
-      (slot_carried reply before after call).counted,
-      left_after (call_for events.Slot before.start before.log) before.device after.device call.device.made,
-    ),
-  )
+-- no call fails that comes within a life
+no_fault : (call : NandCall) (before after : RunNand) (slots : ℕ) → slots < MAX_SLOT → LastsFrom slots (calls_left before)
+    → EndsRun before call false after → ⊥
+no_fault call (nands.Wearing before) after slots few lasts ends = lasts
+no_fault call (nands.Whole before) (nands.Wearing after) slots few lasts ends = ends
+no_fault call (nands.Whole before) (nands.Whole after) slots few lasts ends =
+    let blown : false ≡ true = (ends.lasting (λ none. absurd (omega (arith, few, lasts, none)))).inner in
+    absurd cc
 
-  pub refused_well : (refusal : Refusal) (before after : Core (Fuse Memory)) → now before.log < MAX_SLOT
-      → IsCall (EndsAsFused EndsWell) failures false 0 events.Slot (Err refusal) before after → RunsWell before → RunsWell after
+lasts_as : (before after : Core RunNand) → now after.log ≡ now before.log → after.device ≡ before.device → after.stopped ≡ false
+    → RunsWell before → RunsWell after
+lasts_as before after slots device runs well = (
+  runs,
+  subst (λ (n : ℕ). LastsFrom n (calls_left after.device)) (sym slots)
+  (subst (λ (d : RunNand). LastsFrom (now before.log) (calls_left d)) (sym device) well.1),
+)
+
+module _ {failures : RunNand → ℕ} where
+  pub slot_well : (reply : SlotReply) (before after : Core RunNand)
+      → IsCall EndsRun failures false 0 events.Slot (Ok (replies.Slot reply)) before after → RunsWell before → RunsWell after
+  slot_well reply before after call well =
+      let slots : now after.log ≡ suc (now before.log) = omega (arith, (slot_carried reply before after call).counted) in
+      (
+        call.ended.runs,
+        subst (λ (n : ℕ). LastsFrom n (calls_left after.device)) (sym slots)
+        (lasts_after (call_for events.Slot before.start before.log) before.device after.device (now before.log) call.device.made well.1),
+      )
+
+  pub refused_well : (refusal : Refusal) (before after : Core RunNand) → now before.log < MAX_SLOT
+      → IsCall EndsRun failures false 0 events.Slot (Err refusal) before after → RunsWell before → RunsWell after
   refused_well refusal before after few call well = by call.ended
     where
       by : RefusesCall events.Slot refusal before after → RunsWell after
@@ -64,21 +82,20 @@ module _ {failures : Fuse Memory → ℕ} where
       by (inr (inl h)) = subst RunsWell (sym h.unchanged) well
       by (inr (inr (inl h))) =
           let made = call.device.failed (ap (λ (e : Refusal). Err e) h.refusal_is) in
-          let blown : false ≡ true = (made.ended.lasting (λ none. absurd (omega (arith, few, well.1, none)))).inner in
-          absurd cc
+          absurd (no_fault made.call before.device after.device (now before.log) few well.1 made.ended)
       by (inr (inr (inr h))) = not_both before.stopped well.0 h.was_stopped
 
-  pub taken_well : (event : Event) (number : ℕ) (before after : Core (Fuse Memory)) → IsArrival event
-      → IsCall (EndsAsFused EndsWell) failures false 0 event (Ok (replies.Taken number)) before after → RunsWell before → RunsWell after
+  pub taken_well : (event : Event) (number : ℕ) (before after : Core RunNand) → IsArrival event
+      → IsCall EndsRun failures false 0 event (Ok (replies.Taken number)) before after → RunsWell before → RunsWell after
   taken_well (events.Submit task release due ops) number before after arrives call well =
-      (call.ended.runs, omega (arith, well.1, ap now call.ended.logged, ap (λ (f : Fuse Memory). f.left) call.device.made))
+      lasts_as before after (ap now call.ended.logged) call.device.made call.ended.runs well
   taken_well (events.Collect task release due) number before after arrives call well =
-      (call.ended.runs, omega (arith, well.1, ap now call.ended.logged, ap (λ (f : Fuse Memory). f.left) call.device.made))
+      lasts_as before after (ap now call.ended.logged) call.device.made call.ended.runs well
   taken_well events.Slot number before after arrives call well = absurd arrives
 
   -- a job or a collection that is refused changes nothing
-  pub untaken_well : (event : Event) (refusal : Refusal) (before after : Core (Fuse Memory)) → IsArrival event
-      → IsCall (EndsAsFused EndsWell) failures false 0 event (Err refusal) before after → RunsWell before → RunsWell after
+  pub untaken_well : (event : Event) (refusal : Refusal) (before after : Core RunNand) → IsArrival event
+      → IsCall EndsRun failures false 0 event (Err refusal) before after → RunsWell before → RunsWell after
   untaken_well event refusal before after arrives call well = by call.ended
     where
       by : RefusesCall event refusal before after → RunsWell after

@@ -1,9 +1,11 @@
 -- Devices that are to fail.
-use Rattle.std.specs.Prelude.{◌≡◌, ℕ, ◌+◌, ◌≤◌, ◌-◌, ◌==◌, false, Option, Some, None, if◌then◌else◌}
+use Rattle.std.specs.Prelude.{◌≡◌, ℕ, ◌+◌, ◌≤◌, ◌-◌, ◌==◌, ◌⊎◌, false, Option, Some, None, if◌then◌else◌}
 use Rattle.slot_types.specs.declared.limits.TheConstants.{MAX_SLOT}
 use Rattle.die_log.specs.Model.Log.{now}
-use Rattle.flash_die.specs.Fuse.{Fuse}
-use Rattle.flash_die.specs.Memory.{Memory}
+use Rattle.slot_types.specs.declared.refusals.Refusal.{Refusal}
+use Rattle.slot_types.specs.declared.refusals.Refusal.TheVariants.{DeviceFault, NoMemory}
+use Rattle.flashplan_run_parts.specs.RunNands.{calls_left}
+use Rattle.flashplan_run_parts.specs.declared.run_nands.RunNand.{RunNand}
 use Rattle.slot_core.specs.Core.{Core}
 use Rattle.flashplan_watched_runs.specs.declared.failing.FailAt.{FailAt}
 use Rattle.flashplan_watched_runs.specs.declared.failing.Failure.{Failure}
@@ -22,9 +24,18 @@ abbrev pub IsBeyond : Option FailAt → ℕ → Type 0
 IsBeyond None dies = ⊥
 IsBeyond (Some at) dies = dies ≤ at.die
 
+-- after so many slots a device has a call left for each slot that is left of a life; one whose blocks fail may have none
+abbrev pub LastsFrom : ℕ → Option ℕ → Type 0
+LastsFrom slots None = ⊥
+LastsFrom slots (Some left) = MAX_SLOT ≤ slots + left
+
 -- a die runs, and its device has a call left for each slot that is left of a life: it makes all of them well
-abbrev pub RunsWell : Core (Fuse Memory) → Type 0
-RunsWell die = (die.stopped ≡ false) × (MAX_SLOT ≤ now die.log + die.device.left)
+abbrev pub RunsWell : Core RunNand → Type 0
+RunsWell die = (die.stopped ≡ false) × LastsFrom (now die.log) (calls_left die.device)
+
+-- more blocks of a part are bad from the factory than are spare, or there is no memory
+abbrev pub IsWornOrNoMemory : Refusal → Type 0
+IsWornOrNoMemory refusal = (refusal ≡ DeviceFault) ⊎ (refusal ≡ NoMemory)
 
 -- what became of the device of a die that was to fail: a die that it stopped stays in the slot in which it failed
 abbrev pub failure_in : {N : Type 0} → FailAt → Core N → Failure

@@ -3,14 +3,13 @@ use Rattle.std.specs.Prelude.{◌≡◌, ◌==◌, Bool, ℕ, List, Option, Some
 use Rattle.std.specs.Global.{Box}
 use Rattle.slot_types.specs.declared.plans.DiePlan.{DiePlan}
 use Rattle.die_log.specs.Model.Start.{Start, fresh}
-use Rattle.flash_die.specs.Fuse.{Fuse}
-use Rattle.flash_die.specs.Memory.{Memory}
 use Rattle.slot_core.specs.Core.{Core}
 use Rattle.flashplan_script_runs.specs.RunningDies.{RunningDie, running_of}
 use Rattle.flashplan_script_runs.specs.ScriptRuns.{IsRunAs, IsRunOf}
 use Rattle.flashplan_slot_times.specs.declared.units.Units.{Units}
 use Rattle.flashplan_run_figures.specs.declared.lives.Life.{Life}
 use Rattle.flashplan_run_figures.specs.declared.records.Records.{Records}
+use Rattle.flashplan_run_parts.specs.declared.run_nands.RunNand.{RunNand}
 use Rattle.flashplan_script_runs.specs.Counted.{CountsRows}
 use Rattle.flashplan_script_runs.specs.declared.refused.RefusedRow.{RefusedRow}
 use Rattle.flashplan_watched_runs.specs.Failing.{RunsWell, failure_in}
@@ -24,7 +23,7 @@ use Rattle.flashplan_watched_runs.specs.declared.script_runs.Reported.{Reported}
 use Rattle.flashplan_watched_runs.specs.declared.started_dies.StartedDie.{StartedDie}
 
 -- the die itself
-abbrev pub core_of : Box DieRun → Core (Fuse Memory)
+abbrev pub core_of : Box DieRun → Core RunNand
 core_of run = box_value (box_value run).core
 
 -- as one that runs the rows of a script
@@ -58,7 +57,7 @@ failure_among (Some at) dies = option_map (failure_in at) (slice_get dies at.die
 -- life of a block and these units.
 pub record IsReportFrom (starts : List Start) (script : Option (List ℕ)) (slots : ℕ) (life : Life) (units : Units) (as_csv : Bool)
     (fail : Option FailAt) (said : Reported) : Type 0 where
-  pub dies : List (Core (Fuse Memory))
+  pub dies : List (Core RunNand)
   pub refused : List RefusedRow
   pub ran : IsRunOf starts script slots refused (map running_of dies)
   pub counted : CountsRows refused said.refused
@@ -83,7 +82,7 @@ pub record Tells (dies : List (Box DieRun)) (refused : List RefusedRow) (life : 
 -- of dies that start so that of this number ran alone, and this became of its device
 pub record IsDrawingFrom (starts : List Start) (script : Option (List ℕ)) (slots number : ℕ) (fail : Option FailAt) (said : Reported)
     : Type 0 where
-  pub die : Core (Fuse Memory)
+  pub die : Core RunNand
   pub refused : List RefusedRow
   pub ran : IsRunAs starts script slots number refused (running_of die)
   pub counted : CountsRows refused said.refused

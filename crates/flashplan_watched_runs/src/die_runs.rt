@@ -9,10 +9,10 @@ ghost use Rattle.flashplan_watched_runs.specs.Failing.{RunsWell};
 ghost use Rattle.flashplan_watched_runs.specs.SlotsCarried.{AreCountsOf};
 ghost use Rattle.flashplan_watched_runs.specs.Wear.{IsWearOf, slot_entry};
 
-use crate::failing::RunNand;
 use crate::started_dies::StartedDie;
 use crate::tallies::Tally;
 use flashplan_run_figures::{DieCounts, Levels};
+use flashplan_run_parts::{PartUse, RunNand};
 use flashplan_run_pictures::{Level, Waiver, Whose, Window};
 use flashplan_script_runs::{ScriptDie, arrive};
 use slot_core::{DieCore, Overdue, Stage};
@@ -30,6 +30,8 @@ pub struct DieRun {
     pub counts: DieCounts,
     pub levels: Levels,
     pub window: Window,
+    /// What became of its part's blocks before the run, of a part that has spare ones.
+    pub begun: Option<PartUse>,
     ghost worn: { IsWearOf (box_value core).start.plan.shape.blocks (box_value core).log tally },
     ghost counted: { AreCountsOf (length (box_value core).start.plan.caps) (box_value core).log counts },
 }
@@ -191,6 +193,7 @@ impl DieRun {
         let StartedDie { core, levels } = started;
         let tally = Tally::new(alloc, core.plan().shape.blocks)?;
         let counts = DieCounts::new(alloc, core.plan().caps.len())?;
+        let begun = core.device().part_use();
         Ok(DieRun {
             die,
             core,
@@ -198,6 +201,7 @@ impl DieRun {
             counts,
             levels,
             window: Window::new(alloc, seen.0, seen.1),
+            begun,
         })
     }
 

@@ -12,9 +12,10 @@ ghost use Rattle.flashplan_watched_runs.specs.Failing.{IsBeyond};
 ghost use Rattle.flashplan_watched_runs.specs.Runs.{IsDrawingFrom, IsDrawingOf, begun, core_of, failure_as, running};
 
 use crate::die_runs::{DieRun, whose};
-use crate::failing::{FailAt, Failure, RunNand, check_failing, failure_in};
+use crate::failing::{FailAt, Failure, check_failing, failure_in};
 use crate::script_runs::{Reported, Sights};
 use crate::started_dies::{StartedDie, fresh_dies};
+use flashplan_run_parts::RunNand;
 use flashplan_run_pictures::{
     Counts, End, Kind, Level, Row, Scene, Whose, Window, Worst, lines, picture,
 };

@@ -3,12 +3,9 @@
 ghost use Rattle.std.specs.Prelude.{◌≡◌, IfErr, OnOk};
 ghost use Rattle.flashplan_watched_runs.specs.Failing.{IsBeyond, calls_of, failure_in};
 
-use flash_die::{FuseNand, MemoryNand, Nand};
+use flash_die::Nand;
 use slot_core::DieCore;
 use slot_types::Refusal;
-
-/// The device of a die that runs: in memory, and it fails from some call on, if it is to.
-pub type RunNand = FuseNand<MemoryNand>;
 
 /// From which call on the device of which die fails.
 #[derive(Clone, Copy, PartialEq, Eq, Debug, Drop)]

@@ -3,7 +3,7 @@
 ghost use Rattle.slot_types.specs.Refusal.{FailsForMemory};
 
 use crate::die_runs::{DieRun, whose};
-use crate::failing::RunNand;
+use flashplan_run_parts::RunNand;
 use flashplan_slot_times::Units;
 use late_cert::Certificate;
 use slot_core::{DieCore, Overdue};

@@ -1,6 +1,6 @@
 //! Runs whose figures are printed.
 
-ghost use Rattle.std.specs.Prelude.{◌≡◌, ℕ, ◌≤◌, ◌++◌, ◌∷◌, [], List, Option, All, IfOk, OnOk, length, map};
+ghost use Rattle.std.specs.Prelude.{◌≡◌, ℕ, ◌≤◌, ◌++◌, ◌∷◌, [], List, Option, All, IfOk, None, OnOk, length, map};
 ghost use Rattle.std.specs.Box.{box_value};
 ghost use Rattle.slot_types.specs.Refusal.{FailsForMemory};
 ghost use Rattle.plan_rules.specs.Bound.{MeetsBound};
@@ -16,14 +16,16 @@ ghost use Rattle.flashplan_watched_runs.specs.ReportText.{AreTables, TellsFigure
 ghost use Rattle.flashplan_watched_runs.specs.Runs.{IsReportFrom, IsReportOf, Tells, begun, running};
 
 use crate::die_runs::DieRun;
-use crate::failing::{FailAt, RunNand, check_failing};
+use crate::failing::{FailAt, check_failing};
 use crate::overloads::put_lateness;
 use crate::script_runs::{Ran, Reported, Sights, failure_of, run_started};
-use crate::started_dies::{StartedDie, fresh_dies};
+use crate::sparing::put_spares;
+use crate::started_dies::{StartedDie, fresh_dies, wearing_dies};
 use die_log::exact_keeps_limits;
 use flashplan_run_figures::{
     DieFigures, Ended, JobEnd, Life, Records, Wearing, put_csv, put_table, records_of,
 };
+use flashplan_run_parts::{BadBlocks, RunNand};
 use flashplan_script_runs::{RefusedRow, RefusedRows};
 use flashplan_slot_times::Units;
 use late_cert::lateness;
@@ -171,7 +173,7 @@ fn csv_of(alloc: Global, all: &[Records]) -> Result<Vec<u8>, Refusal>
     }
 }
 
-/// What is said below the table of a die: what was late, and why. The only refusal is NoMemory.
+/// What is said below the table of a die: what was late, and why; and what its spare blocks came to. The only refusal is NoMemory.
 fn lateness_of(
     alloc: Global,
     die: usize,
@@ -183,6 +185,7 @@ fn lateness_of(
     let mut text = Vec::new(alloc);
     if die < dies.len() {
         put_lateness(alloc, &mut text, die, &mut dies[die], units)?;
+        put_spares(&mut text, die, &dies[die], units)?;
     }
     Ok(text)
 }
@@ -321,4 +324,30 @@ pub fn report<R: Read + Drop>(
     let mut script = ScriptReader::new(alloc, script, &plan, slots)?;
     let dies = fresh_dies(alloc, plan, fail)?;
     report_of(alloc, &mut script, dies, slots, life, units, as_csv, fail)
+}
+
+/// Runs a script on a store of fresh dies in memory, and tells what it came to, as [`report_of`] does. The part of each die
+/// has spare blocks, and some of its blocks fail. For eyes each table is followed by how many blocks failed and were
+/// replaced, how many spare ones are left, and how long they last, where the length of a slot is known. A die whose block
+/// fails while no spare one is left stays in that slot, and refuses all later rows.
+///
+/// Refused with DeviceFault where more blocks of a part are bad from the factory than are spare; else as there.
+pub fn report_wearing<R: Read + Drop>(
+    alloc: Global,
+    plan: StorePlan,
+    script: R,
+    slots: u32,
+    life: Life,
+    units: Units,
+    as_csv: bool,
+    bad: BadBlocks,
+) -> Result<Reported, Refusal>
+    requires few { slots ≤ MAX_SLOT }
+    requires bound { All MeetsBound plan }
+    ensures ran { IfOk result (λ reported.
+        IsReportOf plan (R.remaining script) slots life units as_csv None reported) }
+{
+    let mut script = ScriptReader::new(alloc, script, &plan, slots)?;
+    let dies = wearing_dies(alloc, plan, bad)?;
+    report_of(alloc, &mut script, dies, slots, life, units, as_csv, None)
 }

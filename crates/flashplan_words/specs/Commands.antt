@@ -5,7 +5,7 @@ use Rattle.clap.specs.Words.{Row, Text, all_of, first_of}
 use Rattle.flashplan_words.specs.RequestTexts.{CommandText, Explain, Fit, Design, Arrivals, Fill, Keeps, Wear, Report}
 use Rattle.flashplan_words.specs.RequestTexts.{Draw, Demand, Compare, Run, RunKept, Cut, RequestText, Listed}
 use Rattle.flashplan_words.specs.Together.{asked_together}
-use Rattle.flashplan_words.specs.Values.{◌>>=◌, fail_of, leaves_of, number_upto}
+use Rattle.flashplan_words.specs.Values.{◌>>=◌, bad_of, fail_of, leaves_of, number_upto}
 use Rattle.flashplan_words.specs.declared.asked.ListCommand.{ListCommand}
 use Rattle.flashplan_words.specs.declared.asked.ListCommand.TheVariants as listed
 
@@ -75,7 +75,8 @@ report_from rows plan script slots = do
   page_bytes ← first_of (codes "page-bytes") rows >>= number_upto
   as_csv ← first_of (codes "csv") rows
   fail ← fail_of rows
-  Some (Report plan script slots endurance slot_us page_bytes (bytes_eq as_csv (codes "true")) fail
+  bad ← bad_of rows
+  Some (Report plan script slots endurance slot_us page_bytes (bytes_eq as_csv (codes "true")) fail bad
       (first_of (codes "from") rows))
 
 abbrev pub report_of : List Row → Option CommandText
@@ -193,9 +194,10 @@ cut_from rows plan script slots = do
   leaves ← leaves_of rows
   looks ← first_of (codes "looks") rows >>= number_upto
   mounts ← first_of (codes "mounts") rows
+  bad ← bad_of rows
   die ← first_of (codes "die") rows >>= number_upto
   slot_us ← first_of (codes "slot-us") rows >>= number_upto
-  Some (Cut plan script slots at (bytes_eq every (codes "true")) leaves looks (bytes_eq mounts (codes "true")) die slot_us
+  Some (Cut plan script slots at (bytes_eq every (codes "true")) leaves looks (bytes_eq mounts (codes "true")) bad die slot_us
       (first_of (codes "to") rows))
 
 abbrev pub cut_of : List Row → Option CommandText

@@ -1,6 +1,7 @@
 -- What is asked for, with the names of files as texts.
 use Rattle.std.specs.Prelude.{ℕ, ◌≤◌, ⊤, Bool, List, map, Option, option_map}
 use Rattle.std.specs.Borrow.{Bor}
+use Rattle.flashplan_words.specs.declared.asked.FailingBlocks.{FailingBlocks}
 use Rattle.flashplan_words.specs.declared.asked.FailingDie.{FailingDie}
 use Rattle.clap.specs.Words.{Text}
 use Rattle.flashplan_words.specs.declared.asked.Asked.{Asked}
@@ -21,7 +22,7 @@ pub data CommandText : Type 0 where
   Keeps : (plan script : Text) (slots slot_us : ℕ) → CommandText
   Wear : (plan script : Text) (slots : ℕ) (from : Option Text) → CommandText
   Report : (plan script : Text) (slots endurance slot_us page_bytes : ℕ) (as_csv : Bool) (fail : Option FailingDie)
-      (from : Option Text) → CommandText
+      (bad : Option FailingBlocks) (from : Option Text) → CommandText
   Draw : (plan script : Text) (slots die first end slot_us page_bytes : ℕ) (worst as_text all : Bool)
       (fail : Option FailingDie) (checkpoint : Option Text) → CommandText
   Demand : (plan : Text) (die : ℕ) → CommandText
@@ -29,8 +30,8 @@ pub data CommandText : Type 0 where
       (checkpoint : Option Text) → CommandText
   Run : (plan script : Text) (slots : ℕ) (from to : Option Text) (fail : Option FailingDie) → CommandText
   RunKept : (plan script : Text) (slots : ℕ) → CommandText
-  Cut : (plan script : Text) (slots at : ℕ) (every : Bool) (leaves : Option Leftover) (looks : ℕ) (mounts : Bool) (die slot_us : ℕ)
-      (to : Option Text) → CommandText
+  Cut : (plan script : Text) (slots at : ℕ) (every : Bool) (leaves : Option Leftover) (looks : ℕ) (mounts : Bool) (bad : Option FailingBlocks)
+      (die slot_us : ℕ) (to : Option Text) → CommandText
 
 -- what is asked for: a command on the files that it names, or one on several files of a kind
 pub data RequestText : Type 0 where
@@ -50,8 +51,8 @@ text_of_command (command.Arrivals plan slots seed fills phases jitter load from)
 text_of_command (command.Fill plan lives seed to) = Fill plan.now lives seed to.now
 text_of_command (command.Keeps plan script slots slot_us) = Keeps plan.now script.now slots slot_us
 text_of_command (command.Wear plan script slots from) = Wear plan.now script.now slots (name_of from)
-text_of_command (command.Report plan script slots endurance slot_us page_bytes as_csv fail from) =
-    Report plan.now script.now slots endurance slot_us page_bytes as_csv fail (name_of from)
+text_of_command (command.Report plan script slots endurance slot_us page_bytes as_csv fail bad from) =
+    Report plan.now script.now slots endurance slot_us page_bytes as_csv fail bad (name_of from)
 text_of_command (command.Draw plan script slots die first end slot_us page_bytes worst as_text all fail checkpoint) =
     Draw plan.now script.now slots die first end slot_us page_bytes worst as_text all fail (name_of checkpoint)
 text_of_command (command.Demand plan die) = Demand plan.now die
@@ -59,8 +60,8 @@ text_of_command (command.Compare plan script slots first pool slot_us page_bytes
     Compare plan.now script.now slots first pool slot_us page_bytes as_csv draws die task (name_of checkpoint)
 text_of_command (command.Run plan script slots from to fail) = Run plan.now script.now slots (name_of from) (name_of to) fail
 text_of_command (command.RunKept plan script slots) = RunKept plan.now script.now slots
-text_of_command (command.Cut plan script slots at every leaves looks mounts die slot_us to) =
-    Cut plan.now script.now slots at every leaves looks mounts die slot_us (name_of to)
+text_of_command (command.Cut plan script slots at every leaves looks mounts bad die slot_us to) =
+    Cut plan.now script.now slots at every leaves looks mounts bad die slot_us (name_of to)
 
 abbrev pub text_of_request : Request → RequestText
 text_of_request (request.One command) = One (text_of_command command)
@@ -71,14 +72,14 @@ abbrev pub FitsRun : Command → Type 0
 FitsRun (command.Arrivals plan slots seed fills phases jitter load from) = slots ≤ 1048576
 FitsRun (command.Keeps plan script slots slot_us) = slots ≤ 1048576
 FitsRun (command.Wear plan script slots from) = slots ≤ 1048576
-FitsRun (command.Report plan script slots endurance slot_us page_bytes as_csv fail from) = slots ≤ 1048576
+FitsRun (command.Report plan script slots endurance slot_us page_bytes as_csv fail bad from) = slots ≤ 1048576
 FitsRun (command.Draw plan script slots die first end slot_us page_bytes worst as_text all fail checkpoint) =
     slots ≤ 1048576
 FitsRun (command.Compare plan script slots first pool slot_us page_bytes as_csv draws die task checkpoint) =
     slots ≤ 1048576
 FitsRun (command.Run plan script slots from to fail) = slots ≤ 1048576
 FitsRun (command.RunKept plan script slots) = slots ≤ 1048576
-FitsRun (command.Cut plan script slots at every leaves looks mounts die slot_us to) = slots ≤ 1048576
+FitsRun (command.Cut plan script slots at every leaves looks mounts bad die slot_us to) = slots ≤ 1048576
 FitsRun _ = ⊤
 
 abbrev pub RequestFits : Request → Type 0

@@ -54,6 +54,10 @@ list_rule id = record (required_rule id) { action = Some Append }
 abbrev pub fail_rule : Rule
 fail_rule = option_rule (codes "fail-at")
 
+-- `--bad N:SEED`
+abbrev pub bad_rule : Rule
+bad_rule = option_rule (codes "bad")
+
 -- `--page-bytes B`, which is 0 where it isn't there
 abbrev pub page_rule : Rule
 page_rule = count_rule (codes "page-bytes")
@@ -123,8 +127,11 @@ abbrev pub report_timed_app : App
 report_timed_app =
     with_rule (with_rule (with_rule report_run_app (count_rule (codes "endurance"))) (count_rule (codes "slot-us"))) page_rule
 
+abbrev pub report_failing_app : App
+report_failing_app = with_rule (with_rule report_timed_app fail_rule) bad_rule
+
 abbrev pub report_app : App
-report_app = with_rule (with_rule (with_rule report_timed_app fail_rule) (option_rule (codes "from"))) strict_rule
+report_app = with_rule (with_rule report_failing_app (option_rule (codes "from"))) strict_rule
 
 -- without a script and its slots, which are of a run
 abbrev pub draw_files_app : App
@@ -186,7 +193,7 @@ abbrev pub cut_left_app : App
 cut_left_app = with_rule (with_rule (with_rule cut_at_app (option_rule (codes "leaves"))) (count_rule (codes "looks"))) (flag_rule (codes "mounts"))
 
 abbrev pub cut_app : App
-cut_app = with_rule (with_rule (with_rule cut_left_app die_rule) (count_rule (codes "slot-us"))) (option_rule (codes "to"))
+cut_app = with_rule (with_rule (with_rule (with_rule cut_left_app die_rule) bad_rule) (count_rule (codes "slot-us"))) (option_rule (codes "to"))
 
 abbrev pub audit_app : App
 audit_app = with_rule (with_rule (new_app (codes "audit")) (list_rule (codes "REPORT"))) strict_rule

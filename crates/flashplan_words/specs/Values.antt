@@ -1,6 +1,7 @@
 -- The values of arguments.
 use Rattle.std.specs.Prelude.{ℕ, ◌+◌, ◌==◌, Bool, nat_le, nat_lt, List, codes, drop, position, take}
 use Rattle.std.specs.Prelude.{Option, Some, None, option_and_then, option_map, if◌then◌else◌}
+use Rattle.flashplan_words.specs.declared.asked.FailingBlocks.{FailingBlocks}
 use Rattle.flashplan_words.specs.declared.asked.FailingDie.{FailingDie}
 use Rattle.std.specs.Str.{bytes_eq}
 use Rattle.flashplan_words.specs.declared.asked.Leftover.{Leftover}
@@ -35,6 +36,22 @@ fail_read (Some text) = option_map Some (fail_upto text)
 -- the device that is to fail, if one is
 abbrev pub fail_of : List Row → Option (Option FailingDie)
 fail_of rows = fail_read (first_of (codes "fail-at") rows)
+
+-- how many blocks fail, and the seed, of a text, as `2:7`
+abbrev pub bad_upto : Text → Option FailingBlocks
+bad_upto text = do
+  at ← position is_colon text
+  count ← number_upto (take at text)
+  seed ← number_upto (drop (at + 1) text)
+  Some (record { count = count; seed = seed })
+
+abbrev pub bad_read : Option Text → Option (Option FailingBlocks)
+bad_read None = Some None
+bad_read (Some text) = option_map Some (bad_upto text)
+
+-- the blocks that are to fail, if some are
+abbrev pub bad_of : List Row → Option (Option FailingBlocks)
+bad_of rows = bad_read (first_of (codes "bad") rows)
 
 -- what is left of a call, by its word
 abbrev pub leaves_upto : Text → Option Leftover

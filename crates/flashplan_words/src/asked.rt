@@ -9,6 +9,15 @@ pub struct FailingDie {
     pub call: u32,
 }
 
+/// How many blocks of each die's part fail, and what draws which ones, and when.
+#[derive(Clone, Copy, PartialEq, Eq, Drop)]
+pub struct FailingBlocks {
+    /// From 0 to 1,048,576; all where a part has no more.
+    pub count: u32,
+    /// From 0 to 1,048,576.
+    pub seed: u32,
+}
+
 /// What is left of a call in which the power goes: nothing of it, a part, or all.
 #[derive(Clone, Copy, PartialEq, Eq, Drop)]
 pub enum Leftover {
@@ -96,6 +105,8 @@ pub enum Command<'a> {
         /// Whether it is printed as CSV.
         as_csv: bool,
         fail: Option<FailingDie>,
+        /// With these, all dies are fresh, on parts with spare blocks.
+        bad: Option<FailingBlocks>,
         /// The checkpoint from which the dies go on; fresh ones begin where there is none.
         from: Option<&'a str>,
     },
@@ -188,6 +199,8 @@ pub enum Command<'a> {
         looks: u32,
         /// Whether each mount is cut, too, at each of its calls.
         mounts: bool,
+        /// With these, the part has spare blocks.
+        bad: Option<FailingBlocks>,
         /// Which die.
         die: u32,
         /// How many microseconds a slot takes; 0 where it isn't said.

@@ -9,7 +9,7 @@ ghost use Rattle.flashplan_words.specs.Commands.{cut_of, run_kept_of, run_of, ru
 
 use crate::asked::{Command, ListCommand, Request};
 use crate::together::goes_together;
-use crate::values::{fail, leaves, number_at, value, values};
+use crate::values::{bad, fail, leaves, number_at, value, values};
 use clap::ArgMatches;
 use slot_types::MAX_SLOT;
 use std::alloc::{AllocError, Global};
@@ -146,6 +146,7 @@ fn report<'a>(met: &ArgMatches<'a>) -> Option<Command<'a>>
     let page_bytes = number_at(met, "page-bytes")?;
     let as_csv = value(met, "csv")? == "true";
     let fail = fail(met)?;
+    let bad = bad(met)?;
     let from = value(met, "from");
     Some(Command::Report {
         plan,
@@ -156,6 +157,7 @@ fn report<'a>(met: &ArgMatches<'a>) -> Option<Command<'a>>
         page_bytes,
         as_csv,
         fail,
+        bad,
         from,
     })
 }
@@ -363,6 +365,7 @@ fn cut<'a>(met: &ArgMatches<'a>) -> Option<Command<'a>>
     let leaves = leaves(met)?;
     let looks = number_at(met, "looks")?;
     let mounts = value(met, "mounts")? == "true";
+    let bad = bad(met)?;
     let die = number_at(met, "die")?;
     let slot_us = number_at(met, "slot-us")?;
     let to = value(met, "to");
@@ -375,6 +378,7 @@ fn cut<'a>(met: &ArgMatches<'a>) -> Option<Command<'a>>
         leaves,
         looks,
         mounts,
+        bad,
         die,
         slot_us,
         to,

@@ -216,8 +216,20 @@ fn in_compare(words: &[String]) -> Option<Conflict<'_>> {
     units.or(between(words, "--from", "--slots", "no slot is left to count"))
 }
 
+/// Blocks that fail, of a device that is to fail as a whole or that goes on from this checkpoint.
+fn beside_bad<'a>(words: &'a [String], checkpoint: &'static str) -> Option<Conflict<'a>> {
+    let why = "parts with spare blocks begin fresh";
+    let begun = between(words, "--bad", checkpoint, why);
+    let why = "a part with spare blocks fails block by block";
+    begun.or(between(words, "--bad", "--fail-at", why))
+}
+
 /// The options of `report` that don't go together.
 fn in_report(words: &[String]) -> Option<Conflict<'_>> {
+    let bad = beside_bad(words, "--from");
+    if bad.is_some() {
+        return bad;
+    }
     if !has(words, "--csv") {
         return None;
     }

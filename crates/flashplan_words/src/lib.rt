@@ -11,5 +11,5 @@ mod together;
 mod values;
 mod word_faults;
 
-pub use asked::{Asked, Command, FailingDie, Leftover, ListCommand, Request};
+pub use asked::{Asked, Command, FailingBlocks, FailingDie, Leftover, ListCommand, Request};
 pub use reading::read_words;

@@ -87,8 +87,9 @@ fn parsed<'a>(
 ///   go with a checkpoint;
 /// - `fill PLAN --lives L --seed S --to CHECKPOINT`;
 /// - `keeps PLAN SCRIPT --slots N --slot-us U`, `wear PLAN SCRIPT --slots N --from CHECKPOINT`;
-/// - `report PLAN SCRIPT --slots N --csv --endurance E --slot-us U --page-bytes P --fail-at DIE:K --from CHECKPOINT`,
-///   where with `--csv` P doesn't go, and U with E alone;
+/// - `report PLAN SCRIPT --slots N --csv --endurance E --slot-us U --page-bytes P --fail-at DIE:K --bad N:SEED --from
+///   CHECKPOINT`, where with `--csv` P doesn't go, and U with E alone, and `--bad` goes neither with DIE:K nor with a
+///   checkpoint;
 /// - `draw PLAN SCRIPT --slots N --die D --from A --to B --worst --text --all --fail-at DIE:K --slot-us U
 ///   --page-bytes P --checkpoint CHECKPOINT`: the picture begins with slot A, and ends before slot B, or with the run;
 ///   `--worst` goes with neither, and DIE is D;
@@ -99,9 +100,9 @@ fn parsed<'a>(
 /// - `import TRACE.. --slot-us U --due D --plan`;
 /// - `run PLAN SCRIPT --slots N --from CHECKPOINT --to CHECKPOINT --fail-at DIE:K`, where the last goes with neither
 ///   checkpoint; `run PLAN SCRIPT --slots N --keep`, which goes with none of these;
-/// - `cut PLAN SCRIPT --slots N --at K --leaves LEFT --looks S --die D --slot-us U --to CHECKPOINT`, with K from 1, and
-///   LEFT one of `blank`, `torn` and `whole`;
-/// - `cut PLAN SCRIPT --slots N --every --leaves LEFT --looks S --mounts --die D --slot-us U`;
+/// - `cut PLAN SCRIPT --slots N --at K --leaves LEFT --looks S --bad N:SEED --die D --slot-us U --to CHECKPOINT`, with K
+///   from 1, and LEFT one of `blank`, `torn` and `whole`;
+/// - `cut PLAN SCRIPT --slots N --every --leaves LEFT --looks S --mounts --bad N:SEED --die D --slot-us U`;
 /// - `audit REPORT..`.
 ///
 /// The files, N, the checkpoint of `fill` and U of `import` have to be there; the rest may be left out. A number is

@@ -1,10 +1,10 @@
 //! Options that say something together alone.
 
 ghost use Rattle.std.specs.Prelude.{◌≡◌};
-ghost use Rattle.flashplan_words.specs.RequestTexts.{text_of_command};
-ghost use Rattle.flashplan_words.specs.Together.{fails_drawn, goes_together, has_slots, has_units};
+ghost use Rattle.flashplan_words.specs.RequestTexts.{name_of, text_of_command};
+ghost use Rattle.flashplan_words.specs.Together.{begins_fresh, fails_drawn, goes_together, has_slots, has_units};
 
-use crate::asked::{Command, FailingDie};
+use crate::asked::{Command, FailingBlocks, FailingDie};
 use slot_types::MAX_SLOT;
 
 /// Whether a run of `slots` slots has slot `first`, or none is named.
@@ -31,6 +31,13 @@ fn fails_drawn(die: u32, fail: Option<FailingDie>) -> bool
     }
 }
 
+/// Whether a device isn't to fail whose blocks do, and goes on from no checkpoint.
+fn begins_fresh(bad: Option<FailingBlocks>, fail: Option<FailingDie>, from: Option<&str>) -> bool
+    ensures { result ≡ begins_fresh bad fail (name_of from.entry) }
+{
+    bad.is_none() || (fail.is_none() && from.is_none())
+}
+
 /// Whether no option of a command says nothing because of another one.
 pub(crate) fn goes_together(command: Command<'_>) -> bool
     ensures { result ≡ goes_together (text_of_command command.entry) }
@@ -42,8 +49,14 @@ pub(crate) fn goes_together(command: Command<'_>) -> bool
             slot_us,
             page_bytes,
             as_csv,
+            fail,
+            bad,
+            from,
             ..
-        } => !as_csv || (page_bytes == 0 && (slot_us == 0 || 0 < endurance)),
+        } => {
+            let units = !as_csv || (page_bytes == 0 && (slot_us == 0 || 0 < endurance));
+            units && begins_fresh(bad, fail, from)
+        }
         Command::Draw {
             slots,
             die,

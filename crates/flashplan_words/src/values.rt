@@ -2,9 +2,9 @@
 
 ghost use Rattle.std.specs.Prelude.{◌≡◌, ◌≤◌, ◌<◌, IfOk, IfSome, length, map, option_and_then, option_map, position};
 ghost use Rattle.clap.specs.Words.{all_of, first_of, found_of, rows_of};
-ghost use Rattle.flashplan_words.specs.Values.{fail_of, fail_upto, is_colon, leaves_of, leaves_upto, number_upto};
+ghost use Rattle.flashplan_words.specs.Values.{bad_of, bad_upto, fail_of, fail_upto, is_colon, leaves_of, leaves_upto, number_upto};
 
-use crate::asked::{FailingDie, Leftover};
+use crate::asked::{FailingBlocks, FailingDie, Leftover};
 use clap::ArgMatches;
 use slot_types::MAX_SLOT;
 use std::alloc::{AllocError, Global};
@@ -95,6 +95,26 @@ pub(crate) fn fail<'a>(met: &ArgMatches<'a>) -> Option<Option<FailingDie>>
     match value(met, "fail-at") {
         None => Some(None),
         Some(text) => Some(Some(fail_in(text.as_bytes())?)),
+    }
+}
+
+/// How many blocks fail, and the seed, of a text, as `2:7`.
+pub(crate) fn bad_in(text: &[u8]) -> Option<FailingBlocks>
+    ensures { result ≡ bad_upto text.now }
+{
+    let at = colon_in(text)?;
+    let count = number_of(&text[..at])?;
+    let seed = number_of(&text[at + 1..])?;
+    Some(FailingBlocks { count, seed })
+}
+
+/// The blocks that are to fail, if some are; none where it can't be read.
+pub(crate) fn bad<'a>(met: &ArgMatches<'a>) -> Option<Option<FailingBlocks>>
+    ensures { result ≡ bad_of (rows_of (found_of met.now)) }
+{
+    match value(met, "bad") {
+        None => Some(None),
+        Some(text) => Some(Some(bad_in(text.as_bytes())?)),
     }
 }
 

@@ -6,7 +6,7 @@ ghost use Rattle.flashplan_words.specs.Reading.{range_fault};
 
 use crate::conflicts::conflict_in;
 use crate::number_faults::bad_number;
-use crate::values::{fail_in, leaves_in, number_in};
+use crate::values::{bad_in, fail_in, leaves_in, number_in};
 use clap::Error;
 use clap::error::ErrorKind;
 use command_arguments::value_in;
@@ -33,6 +33,17 @@ fn failing_fault(alloc: Global, words: &[String]) -> Result<Option<String>, Allo
         )?));
     }
     Ok(None)
+}
+
+/// Failing blocks that can't be read, as a sentence.
+fn bad_fault(alloc: Global, words: &[String]) -> Result<Option<String>, AllocError> {
+    match value_in(words, "--bad") {
+        Some(value) if bad_in(value.as_bytes()).is_none() => Ok(Some(format!(in alloc;
+            "--bad is {value:?}, and has to be N:SEED, how many blocks fail and what draws them, each from 0 to {MAX_SLOT}, \
+             as 2:7"
+        )?)),
+        _ => Ok(None),
+    }
 }
 
 /// What is left of a call that can't be read, or a cut at no call, as a sentence.
@@ -81,6 +92,9 @@ fn reported_of(alloc: Global, words: &[String]) -> Result<String, AllocError> {
         );
     }
     if let Some(said) = failing_fault(alloc, words)? {
+        return Ok(said);
+    }
+    if let Some(said) = bad_fault(alloc, words)? {
         return Ok(said);
     }
     if let Some(said) = cut_fault(alloc, words)? {

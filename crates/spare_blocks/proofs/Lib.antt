@@ -9,3 +9,4 @@ pub mod Tabled
 pub mod Tries
 pub mod WearingBlocks
 pub mod WearingPower
+pub mod Showing

@@ -36,6 +36,14 @@ torn_at page b = record b { cells = slice_set b.cells page torn_cell }
 abbrev pub with_torn : Place → Wearing → Wearing
 with_torn place m = record m { blocks = slice_set m.blocks place.block (torn_at place.page (part_block m.blocks place.block)) }
 
+-- a block of which this cell shows something else
+abbrev pub shown_at : ℕ → Cell → PartBlock → PartBlock
+shown_at page cell b = record b { cells = slice_set b.cells page cell }
+
+abbrev pub with_shown : Place → Cell → Wearing → Wearing
+with_shown place cell m =
+    record m { blocks = slice_set m.blocks place.block (shown_at place.page cell (part_block m.blocks place.block)) }
+
 -- a block of so many pages counts as closed: each cell that wasn't programmed is one without a label
 abbrev pub closed_part_block : (pages : ℕ) → PartBlock → PartBlock
 closed_part_block pages b = record { cells = b.cells ++ replicate (pages - length b.cells) torn_cell; erasing = 0; failed = false }

@@ -3,7 +3,7 @@
 ghost use Rattle.std.specs.Prelude.{◌≡◌, ◌∷◌, ◌++◌, ◌+◌, ◌<◌, ◌≤◌, [], length, slice_set, IfOk, true, false, slice_get, vec_capacity};
 ghost use Rattle.slot_types.specs.Refusal.{FailsForMemory};
 ghost use Rattle.spare_blocks.specs.Parts.{FaultsAlone, IsCell, IsFreeCell, part_block, cell_on, blocks_after_program, blocks_after_erase};
-ghost use Rattle.spare_blocks.specs.Wearing.{fresh_wearing, closed_part_block, powered_wearing, torn_cell, with_torn};
+ghost use Rattle.spare_blocks.specs.Wearing.{fresh_wearing, closed_part_block, powered_wearing, torn_cell, with_shown, with_torn};
 ghost use Rattle.spare_blocks.specs.WearingView.{seen_block};
 ghost use Rattle.spare_blocks.specs.Powering.{IsPoweredPart, AreWithin};
 
@@ -25,7 +25,8 @@ enum Fate {
 }
 
 /// When the blocks of a part in memory fail: at these of its programs, copies, last slots of an erase and whole erases,
-/// from 0; or at one in `one_in` of them, by a seed; and when the part itself has a fault.
+/// from 0; or at one in `one_in` of them, by a seed; or each where it was erased as often as it bears; and when the part
+/// itself has a fault.
 #[derive(Drop)]
 pub struct Failures {
     /// How many such calls there were.
@@ -37,6 +38,8 @@ pub struct Failures {
     seed: u64,
     /// One call in this number fails; 0 for none.
     one_in: u64,
+    /// By block how many erases by slots end well yet; without a bound of a block that isn't listed.
+    erases_left: Option<Vec<u32>>,
 }
 
 impl Failures {
@@ -49,6 +52,7 @@ impl Failures {
             done: false,
             seed: 0,
             one_in: 0,
+            erases_left: None,
         }
     }
 
@@ -62,6 +66,7 @@ impl Failures {
             done,
             seed: 0,
             one_in: 0,
+            erases_left: None,
         }
     }
 
@@ -74,6 +79,58 @@ impl Failures {
             done: false,
             seed,
             one_in,
+            erases_left: None,
+        }
+    }
+
+    /// By block how many erases end well: each later one fails. Counted are those that are done slot by slot, as a store
+    /// does them, and not whole erases. A block that isn't listed bears all.
+    pub fn worn(alloc: Global, erases_left: Vec<u32>) -> Self {
+        Failures {
+            calls: 0,
+            fails_at: Vec::new(alloc),
+            faults_at: None,
+            done: false,
+            seed: 0,
+            one_in: 0,
+            erases_left: Some(erases_left),
+        }
+    }
+
+    /// By block how many erases end well yet; none where they have no bound.
+    pub fn erases_left(&self) -> Option<&[u32]> {
+        match &self.erases_left {
+            Some(left) => Some(left.as_slice()),
+            None => None,
+        }
+    }
+
+    /// One erase more of a block. Answers whether the block bears it.
+    fn bears_erase(&mut self, block: u32) -> bool {
+        let Some(all) = &mut self.erases_left else {
+            return true;
+        };
+        let Some(left) = all.get_mut(block as usize) else {
+            return true;
+        };
+        if *left == 0 {
+            return false;
+        }
+        *left -= 1;
+        true
+    }
+
+    /// What becomes of the last slot of a block's erase.
+    fn next_erase(&mut self, block: u32) -> Fate {
+        match self.next() {
+            Fate::Well => {
+                if self.bears_erase(block) {
+                    Fate::Well
+                } else {
+                    Fate::Fails
+                }
+            }
+            fate => fate,
         }
     }
 
@@ -214,6 +271,19 @@ impl WearingMemory {
         }
     }
 
+    /// A programmed cell shows this from now on, whatever it showed. Where the cell isn't programmed nothing changes. So
+    /// a part whose power has come is made to show what one was found to show.
+    pub fn show(&mut self, place: Place, cell: Cell)
+        ensures shown { self.new ≡ with_shown place cell self.old }
+        ensures powered { IsPoweredPart self.old.shape self.old.blocks
+            → IsPoweredPart self.new.shape self.new.blocks }
+    {
+        let block = place.block as usize;
+        if block < self.blocks.len() {
+            show_cell(&mut self.blocks[block], place.page as usize, cell);
+        }
+    }
+
     /// The power went, and has come again. No cell counts as free: each block is closed, by cells without a label where
     /// it had fewer than its pages, none is in erase, and none is known to fail. Programs are numbered from 0 on, until the
     /// owner says otherwise. From now on the part's calls fail so.
@@ -273,6 +343,18 @@ fn tear_cell(block: &mut WearingBlock, page: usize)
 {
     if page < block.cells.len() {
         block.cells[page] = TORN;
+    }
+}
+
+/// A cell of a block shows this, if it is programmed.
+fn show_cell(block: &mut WearingBlock, page: usize, cell: Cell)
+    ensures cells { block.new.cells.items ≡ slice_set block.old.cells.items page cell }
+    ensures erasing { block.new.erasing ≡ block.old.erasing }
+    ensures failed { block.new.failed ≡ block.old.failed }
+    ensures capacity { vec_capacity block.new.cells ≡ vec_capacity block.old.cells }
+{
+    if page < block.cells.len() {
+        block.cells[page] = cell;
     }
 }
 
@@ -416,7 +498,7 @@ impl WearingMemory {
     }
 
     /// Empties a block, or fails it, or has a fault.
-    fn empty(&mut self, block: u32) -> Result<Ended, Refusal>
+    fn empty(&mut self, block: u32, fate: Fate) -> Result<Ended, Refusal>
         requires whole { (part_block self.old.blocks block).failed ≡ false }
         requires well { self.old.faulted ≡ false }
         ensures blocks { IfOk result (λ ended. self.new.blocks
@@ -426,7 +508,7 @@ impl WearingMemory {
         ensures shape { self.new.shape ≡ self.old.shape }
         ensures spent { self.new.spent ≡ self.old.spent }
     {
-        match self.failures.next() {
+        match fate {
             Fate::Faults => {
                 self.faulted = true;
                 Err(Refusal::DeviceFault)
@@ -522,14 +604,16 @@ impl WearingNand for WearingMemory {
             self.go_on(block);
             return Ok(Erased::Partly);
         }
-        match self.empty(block)? {
+        let fate = self.failures.next_erase(block);
+        match self.empty(block, fate)? {
             Ended::Done => Ok(Erased::Wholly),
             Ended::Failed => Ok(Erased::Failed),
         }
     }
 
     fn erase(&mut self, block: u32) -> Result<Ended, Refusal> {
-        self.empty(block)
+        let fate = self.failures.next();
+        self.empty(block, fate)
     }
 }
 

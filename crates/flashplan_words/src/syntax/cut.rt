@@ -6,7 +6,7 @@ ghost use Rattle.command_arguments.specs.Arguments.{flag_rule, option_rule};
 ghost use Rattle.flashplan_words.specs.Syntax.{IsCommand, count_rule, cut_app, cut_at_app, cut_files_app, cut_left_app, die_rule};
 
 use crate::syntax::parts::{command, on_files, with_arg};
-use crate::syntax::shared::slot_us;
+use crate::syntax::shared::{bad, slot_us};
 use clap::{Arg, Command};
 use command_arguments::{defaulted, flag, option, slots};
 use std::alloc::{AllocError, Global};
@@ -146,6 +146,7 @@ pub(crate) fn cut_words<'a>(alloc: Global) -> Result<Command<'a>, AllocError>
     ensures { IfOk result (λ c. IsCommand c cut_app) }
 {
     let of_a_die = with_arg(cut_left(alloc), cut_die(alloc));
-    let timed = with_arg(of_a_die, slot_us(alloc));
+    let worn = with_arg(of_a_die, bad(alloc));
+    let timed = with_arg(worn, slot_us(alloc));
     with_arg(timed, left_to(alloc))
 }

@@ -2,10 +2,10 @@
 
 ghost use Rattle.std.specs.Prelude.{◌≡◌, false, codes, IfOk};
 ghost use Rattle.clap.specs.Words.{rule_of};
-ghost use Rattle.flashplan_words.specs.Syntax.{IsCommand, count_rule, report_app, report_files_app, report_run_app, report_timed_app};
+ghost use Rattle.flashplan_words.specs.Syntax.{IsCommand, count_rule, report_app, report_failing_app, report_files_app, report_run_app, report_timed_app};
 
 use crate::syntax::parts::{command, on_files, with_arg};
-use crate::syntax::shared::{begun_from, csv, fail_at, page_bytes, slot_us, strict};
+use crate::syntax::shared::{bad, begun_from, csv, fail_at, page_bytes, slot_us, strict};
 use clap::{Arg, Command};
 use command_arguments::{defaulted, slots};
 use std::alloc::{AllocError, Global};
@@ -51,11 +51,18 @@ fn report_timed<'a>(alloc: Global) -> Result<Command<'a>, AllocError>
     with_arg(timed, page_bytes(alloc))
 }
 
+/// The command `report`, with what fails.
+fn report_failing<'a>(alloc: Global) -> Result<Command<'a>, AllocError>
+    ensures { IfOk result (λ c. IsCommand c report_failing_app) }
+{
+    let failing = with_arg(report_timed(alloc), fail_at(alloc));
+    with_arg(failing, bad(alloc))
+}
+
 /// The command `report`.
 pub(crate) fn report_words<'a>(alloc: Global) -> Result<Command<'a>, AllocError>
     ensures { IfOk result (λ c. IsCommand c report_app) }
 {
-    let failing = with_arg(report_timed(alloc), fail_at(alloc));
-    let begun = with_arg(failing, begun_from(alloc));
+    let begun = with_arg(report_failing(alloc), begun_from(alloc));
     with_arg(begun, strict(alloc))
 }

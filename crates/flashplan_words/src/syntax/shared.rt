@@ -3,7 +3,7 @@
 ghost use Rattle.std.specs.Prelude.{◌≡◌, false, codes};
 ghost use Rattle.clap.specs.Words.{rule_of};
 ghost use Rattle.command_arguments.specs.Arguments.{flag_rule, option_rule};
-ghost use Rattle.flashplan_words.specs.Syntax.{count_rule, die_rule, list_rule, page_rule};
+ghost use Rattle.flashplan_words.specs.Syntax.{bad_rule, count_rule, die_rule, list_rule, page_rule};
 
 use clap::{Arg, ArgAction};
 use command_arguments::{defaulted, flag, option, required};
@@ -62,6 +62,20 @@ pub(crate) fn seed<'a>(alloc: Global) -> Arg<'a>
         "S",
         "0",
         "Another one draws other pages and operations, from 0 to 1048576",
+    )
+}
+
+/// How many blocks fail.
+pub(crate) fn bad<'a>(alloc: Global) -> Arg<'a>
+    ensures rule { rule_of result ≡ bad_rule }
+    ensures local { result.global ≡ false }
+{
+    option(
+        alloc,
+        "bad",
+        "N:SEED",
+        "Let the part have spare blocks, one in 50 of its blocks, rounded up, and let N of its blocks fail, drawn by SEED: each is bad \
+         from the factory or fails in its 1st to 19th erase",
     )
 }
 

@@ -1,4 +1,4 @@
-use Rattle.std.proofs.Common.{rules, Err, ◌≡◌, ◌++◌, ◌∷◌, [], List, ap, sym, subst, ◌∙◌, arith, length, length-append, map}
+use Rattle.std.proofs.Common.{rules, Err, ◌≡◌, ◌++◌, ◌∷◌, [], List, Some, ap, sym, subst, ◌∙◌, arith, length, length-append, map}
 use Rattle.std.proofs.lemmas.List.Elements.{All-push}
 use Rattle.std.specs.Box.{box_value}
 use Rattle.std.specs.Prelude.{All}
@@ -36,7 +36,7 @@ loop-plan-preserved c =
       well = λ none. subst (All StartsWell) (sym pushed)
           (All-push StartsWell c.loop-plan.dies.items c.in_ok-started.started (c.loop-plan.invariant.well none)
           (begins_well (box_value c.in_ok-started.started.core) c.args.fail c.loop-plan.number none c.in_ok-started.ensures.runs
-          (c.in_ok-started.ensures.calls ∙ c.calls_of-calls.ensures)));
+          (c.in_ok-started.ensures.calls ∙ ap Some c.calls_of-calls.ensures)));
       count = omega (
         arith,
         ap length pushed,

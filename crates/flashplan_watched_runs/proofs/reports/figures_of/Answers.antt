@@ -1,7 +1,6 @@
 use Rattle.std.proofs.Common.{ℕ, List, ◌++◌, ◌∙◌, ap, subst}
 use Rattle.std.specs.Prelude.{IfOk}
-use Rattle.flash_die.specs.Fuse.{Fuse}
-use Rattle.flash_die.specs.Memory.{Memory}
+use Rattle.flashplan_run_parts.specs.declared.run_nands.RunNand.{RunNand}
 use Rattle.die_log.specs.Model.Log.{now}
 use Rattle.slot_core.specs.Core.{Core}
 use Rattle.flashplan_run_figures.specs.Wearing.{IsWearing}
@@ -31,12 +30,12 @@ returns-clause-is c =
       wearing = c.of.result;
       wearing_is =
           subst (λ (slots : ℕ). IsWearing slots c.args.run.now.tally.erases.items c.of.result)
-          (c.now.ensures ∙ ap (λ (core : Core (Fuse Memory)). now core.log) c.deref-3.ensures)
+          (c.now.ensures ∙ ap (λ (core : Core RunNand). now core.log) c.deref-3.ensures)
           (rw c.as_slice-2.ensures.value at c.of.ensures);
       are = are;
     })
     (subst (λ (ends : List JobEnd). IfOk c.records_of.result (AreRecords ends c.args.run.now.counts c.of.result c.args.life))
     (c.as_slice.ensures.value ∙ (c.in_ok-put_refused.ensures.ok
     ∙ ap (λ (ends : List JobEnd). ends ++ refused_ends c.args.die c.args.rows.now)
-    (c.in_ok-ends.ensures.is ∙ ap (λ (core : Core (Fuse Memory)). ends_of core.start.plan core.log) c.deref-2.ensures)))
+    (c.in_ok-ends.ensures.is ∙ ap (λ (core : Core RunNand). ends_of core.start.plan core.log) c.deref-2.ensures)))
     c.records_of.ensures.is)

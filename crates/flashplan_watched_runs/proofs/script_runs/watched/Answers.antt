@@ -4,8 +4,7 @@ use Rattle.std.specs.Prelude.{All}
 use Rattle.std.proofs.lemmas.List.{map-append}
 use Rattle.std.proofs.lemmas.List.Elements.{All-push, All-rest}
 use Rattle.std.specs.Vec.Iter.{into_iter_items}
-use Rattle.flash_die.specs.Fuse.{Fuse}
-use Rattle.flash_die.specs.Memory.{Memory}
+use Rattle.flashplan_run_parts.specs.declared.run_nands.RunNand.{RunNand}
 use Rattle.slot_core.specs.Core.{Core}
 use Rattle.flashplan_script_runs.specs.RunningDies.{HasEmptyLog, RunningDie, running_of}
 use Rattle.flashplan_watched_runs.specs.Failing.{RunsWell}
@@ -25,7 +24,7 @@ loop-started-preserved c =
       same = ap (λ (runs : List (Box DieRun)). map running runs ++ map begun left) c.in_ok-push_run.ensures.ok
           ∙ ap (λ (runs : List RunningDie). runs ++ map begun left) (map-append running old (c.in_ok-run.run' ∷ []))
           ∙ append_assoc (map running old) (running c.in_ok-run.run' ∷ []) (map begun left)
-          ∙ ap (λ (core : Core (Fuse Memory)). map running old ++ running_of core ∷ map begun left) c.in_ok-run.ensures.core
+          ∙ ap (λ (core : Core RunNand). map running old ++ running_of core ∷ map begun left) c.in_ok-run.ensures.core
           ∙ ap (λ (dies : List StartedDie). map running old ++ map begun dies) (sym here) ∙ c.loop-started.invariant.same;
       well = λ all. subst (All (λ (run : Box DieRun). RunsWell (core_of run))) (sym c.in_ok-push_run.ensures.ok)
           (All-push (λ (run : Box DieRun). RunsWell (core_of run)) old c.in_ok-run.run'

@@ -1,4 +1,4 @@
-use Rattle.std.proofs.Common.{rules, arith, ◌≡◌, ◌++◌, ◌∷◌, List, ap, sym, subst, ◌∙◌, map}
+use Rattle.std.proofs.Common.{rules, arith, ◌≡◌, ◌++◌, ◌∷◌, List, Some, ap, sym, subst, ◌∙◌, map}
 use Rattle.std.specs.Box.{box_value}
 use Rattle.std.specs.Prelude.{All}
 use Rattle.std.proofs.lemmas.Grind.{common_steps}
@@ -32,7 +32,7 @@ loop-plan-preserved c =
       well = λ none. subst (All StartsWell) (sym pushed)
           (All-push StartsWell c.loop-plan.dies.items c.in_ok-started.started (c.loop-plan.invariant.well none)
           (begins_well (box_value c.in_ok-started.started.core) c.args.fail c.loop-plan.die none c.in_ok-started.ensures.runs
-          (c.in_ok-started.ensures.calls ∙ c.calls_of-calls.ensures)));
+          (c.in_ok-started.ensures.calls ∙ ap Some c.calls_of-calls.ensures)));
       bound = All-rest MeetsBound c.in-Some.plan left (into_iter_items c.loop-plan.plan-iterator) here c.loop-plan.invariant.bound;
     }
 

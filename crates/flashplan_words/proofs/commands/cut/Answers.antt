@@ -15,4 +15,4 @@ returns-clause-cut c =
     let rows = rows_of (found_of c.args.met.now) in
     let met = c.in_ok-plan in
     when_scripted rows (cut_from rows) met.plan.now met.script.now met.slots _ (met.ensures.scripted (cut_from rows))
-    (rw (← c.in_ok-at.ensures.number, ← c.in_ok-value.ensures, ← c.in_ok-leaves.ensures, ← c.in_ok-looks.ensures.number, ← c.in_ok-value-2.ensures, ← c.in_ok-die.ensures.number, ← c.in_ok-slot_us.ensures.number, ← c.value-to.ensures, c.eq-every.ensures, c.eq-mounts.ensures) refl)
+    (rw (← c.in_ok-at.ensures.number, ← c.in_ok-value.ensures, ← c.in_ok-leaves.ensures, ← c.in_ok-looks.ensures.number, ← c.in_ok-value-2.ensures, ← c.in_ok-bad.ensures, ← c.in_ok-die.ensures.number, ← c.in_ok-slot_us.ensures.number, ← c.value-to.ensures, c.eq-every.ensures, c.eq-mounts.ensures) refl)

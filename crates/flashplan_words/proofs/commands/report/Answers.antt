@@ -15,4 +15,4 @@ returns-clause-report c =
     let rows = rows_of (found_of c.args.met.now) in
     let met = c.in_ok-plan in
     when_scripted rows (report_from rows) met.plan.now met.script.now met.slots _ (met.ensures.scripted (report_from rows))
-    (rw (← c.value-from.ensures, ← c.in_ok-endurance.ensures.number, ← c.in_ok-slot_us.ensures.number, ← c.in_ok-page_bytes.ensures.number, ← c.in_ok-value.ensures, ← c.in_ok-fail.ensures, c.eq-as_csv.ensures) refl)
+    (rw (← c.value-from.ensures, ← c.in_ok-endurance.ensures.number, ← c.in_ok-slot_us.ensures.number, ← c.in_ok-page_bytes.ensures.number, ← c.in_ok-value.ensures, ← c.in_ok-fail.ensures, ← c.in_ok-bad.ensures, c.eq-as_csv.ensures) refl)

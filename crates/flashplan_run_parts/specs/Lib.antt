@@ -1,0 +1,2 @@
+pub mod RunNands
+pub mod Sparings
