@@ -205,7 +205,7 @@ impl Part {
     {
         for page in 0..self.pages() {
             let place = Place { block, page };
-            if let Some(Cell::Good { label, bytes }) = self.cell(place) {
+            if let Some(Cell::Good { label, bytes, .. }) = self.cell(place) {
                 let on = Place {
                     block: self.on_part(block),
                     page,
