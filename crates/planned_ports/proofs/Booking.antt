@@ -1,5 +1,5 @@
 -- A request in the book of a shared die.
-use Rattle.std.proofs.Common.{◌≡◌, ◌≢◌, Option, IsSomeAnd, IfOk, OnOk, OnErr, ap, refl, ℕ, ◌<◌, Bool, List, [], ◌∷◌, ◌++◌, length, Result, Ok, Err, sym, subst, ◌∙◌, arith}
+use Rattle.std.proofs.Common.{◌≡◌, ◌≢◌, Option, IsSomeAnd, IfOk, OnOk, OnErr, ap, ℕ, ◌<◌, Bool, List, [], ◌∷◌, ◌++◌, length, Result, Ok, Err, sym, subst, ◌∙◌, arith}
 use Rattle.std.proofs.lemmas.List.{length_push}
 use Rattle.slot_types.specs.declared.events.Op.{Op}
 use Rattle.slot_types.specs.declared.replies.SlotReply.{SlotReply}
@@ -10,10 +10,11 @@ use Rattle.planned_log.specs.declared.ask_kinds.AskKind.{AskKind}
 use Rattle.ongoing_log.specs.Ongoing.{Ongoing}
 use Rattle.turn_lock.specs.Log.{entry}
 use Rattle.ongoing_die.specs.declared.answers.Taken.{Taken}
+use Rattle.ongoing_die.specs.declared.refusals.AskAtStop.{AskAtStop}
 use Rattle.ongoing_die.specs.declared.refusals.AskStop.{AskStop}
 use Rattle.ongoing_die.specs.declared.refusals.SlotStop.{SlotStop}
 use Rattle.ongoing_die.specs.Standing.{OngoingParts, StandsAs}
-use Rattle.ongoing_die.specs.OngoingCalls.{IsOngoingAsk, IsOngoingSlot, HaveOnePlan}
+use Rattle.ongoing_die.specs.OngoingCalls.{IsOngoingAsk, IsOngoingAskAt, IsOngoingSlot, HaveOnePlan}
 use Rattle.task_outcomes.specs.declared.task_outcome.TaskOutcome.{TaskOutcome}
 use Rattle.task_outcomes.specs.Queues.{Queue, first_of, with_taken}
 use Rattle.task_outcomes.specs.OutcomeDies.{OutcomeParts, HasTold}
@@ -25,7 +26,7 @@ use Rattle.planned_ports.specs.declared.calls.Refused.{Refused}
 use Rattle.planned_ports.specs.Calls.{PortCall, after_calls}
 use Rattle.planned_ports.specs.Replies.{IsReply, after_reply, opened_as}
 use Rattle.planned_ports.specs.Shared.{SharedDie, IsSharedDie}
-use Rattle.planned_ports.proofs.Carrying.{of_ask, of_slot, of_take, IsLeft, ask_reply, ask_leaves, take_reply, take_leaves, slot_reply, slot_leaves}
+use Rattle.planned_ports.proofs.Carrying.{of_ask, of_ask_at, of_slot, of_take, IsLeft, ask_reply, ask_leaves, ask_at_reply, ask_at_leaves, take_reply, take_leaves, slot_reply, slot_leaves}
 use Rattle.planned_ports.proofs.Growing.{after_one_more, granted_one_more}
 
 -- how the die answers a request, and what it leaves
@@ -43,6 +44,15 @@ module _ {N : Type 0} (caller : ℕ) (before after : OutcomeParts N) where
   ask_answers plan kind task ops result h same = record {
     reply = λ first d s. ask_reply caller first d before after s kind task ops same result (h first d s);
     leaves = λ first d s. ask_leaves caller first d before after s kind task ops same result (h first d s);
+    plan = plan;
+  }
+
+  pub ask_at_answers : HaveOnePlan before.die after.die → (kind : AskKind) (task : ℕ) (ops : List Op) (at : ℕ) (result : Result Taken AskAtStop)
+      → ((first : Start) (d : Ongoing) → StandsAs first d before.die → IsOngoingAskAt kind caller task ops at first d result before.die after.die)
+      → after.queues ≡ before.queues → Answers caller (requests.AskAt kind task ops at) (of_ask_at result) before after
+  ask_at_answers plan kind task ops at result h same = record {
+    reply = λ first d s. ask_at_reply caller first d before after s kind task ops at same result (h first d s);
+    leaves = λ first d s. ask_at_leaves caller first d before after s kind task ops at same result (h first d s);
     plan = plan;
   }
 

@@ -1,6 +1,5 @@
 -- What the die answers to a request, and how it stands then.
-use Rattle.std.proofs.Common.{◌≡◌, ℕ, ◌≤◌, ◌==◌, Bool, false, List, length, map, ◌≢◌, [], ◌∷◌, drop, set, slice_get, Option, Some, None, IsSomeAnd, IfOk, OnOk, OnErr, Result, Ok, Err, refl, ap, sym, subst, ◌∙◌, arith}
-use Rattle.std.proofs.lemmas.Bool.Decides.{nat_tests}
+use Rattle.std.proofs.Common.{◌≡◌, ℕ, ◌≤◌, Bool, List, length, map, ◌≢◌, [], ◌∷◌, drop, set, slice_get, Option, Some, None, IsSomeAnd, IfOk, OnOk, OnErr, Result, Ok, Err, refl, ap, sym, subst, ◌∙◌, arith}
 use Rattle.std.proofs.lemmas.List.{take_all, set-get_or}
 use Rattle.slot_types.specs.declared.events.Op.{Op}
 use Rattle.slot_types.specs.declared.events.Event.{Event}
@@ -16,17 +15,19 @@ use Rattle.planned_log.specs.declared.ask_kinds.AskKind.{AskKind}
 use Rattle.planned_log.specs.KeptLogs.{collections_at}
 use Rattle.planned_log.specs.Moves.{after_own}
 use Rattle.ongoing_log.specs.PastLives.{PastLife}
-use Rattle.ongoing_log.specs.Ongoing.{Ongoing, start_of, going_on}
+use Rattle.ongoing_log.specs.Ongoing.{Ongoing, start_of}
 use Rattle.planned_die.specs.Planned.{Planned}
 use Rattle.planned_die.specs.PlannedCalls.{own_calls, with_all_own}
 use Rattle.ongoing_die.specs.declared.answers.Taken.{Taken}
 use Rattle.ongoing_die.specs.declared.answers.Taken.TheVariants as taken
+use Rattle.ongoing_die.specs.declared.refusals.AskAtStop.{AskAtStop}
+use Rattle.ongoing_die.specs.declared.refusals.AskAtStop.TheVariants as ahead
 use Rattle.ongoing_die.specs.declared.refusals.AskStop.{AskStop}
 use Rattle.ongoing_die.specs.declared.refusals.AskStop.TheVariants as asks
 use Rattle.ongoing_die.specs.declared.refusals.SlotStop.{SlotStop}
 use Rattle.ongoing_die.specs.declared.refusals.SlotStop.TheVariants as slots
 use Rattle.ongoing_die.specs.Standing.{standing, StandsAs}
-use Rattle.ongoing_die.specs.OngoingCalls.{IsOngoingAsk, IsNumbered, IsOngoingSlot, HasCarried}
+use Rattle.ongoing_die.specs.OngoingCalls.{IsOngoingAsk, IsOngoingAskAt, IsNumbered, IsOngoingSlot, HasCarried}
 use Rattle.task_outcomes.specs.declared.task_outcome.TaskOutcome.{TaskOutcome}
 use Rattle.task_outcomes.specs.Queues.{Queue, no_queue, queue_of, first_of, with_taken}
 use Rattle.task_outcomes.specs.OutcomeDies.{OutcomeParts, HasTold}
@@ -42,6 +43,10 @@ use Rattle.planned_ports.specs.Replies.{IsReply, IsSlotReply, TellsJobs, after_r
 abbrev pub of_ask : Result Taken AskStop → Result Granted Refused
 of_ask (Ok answer) = Ok (granted.Job answer)
 of_ask (Err stop) = Err (refused.Ask stop)
+
+abbrev pub of_ask_at : Result Taken AskAtStop → Result Granted Refused
+of_ask_at (Ok answer) = Ok (granted.Job answer)
+of_ask_at (Err stop) = Err (refused.AskAt stop)
 
 abbrev pub of_slot : Result SlotReply SlotStop → Result Granted Refused
 of_slot (Ok reply) = Ok (granted.Slot reply)
@@ -94,6 +99,29 @@ module _ {N : Type 0} (caller : ℕ) (first : Start) (d : Ongoing) (before after
     ask_leaves (Err (asks.Ended stop)) h = (subst (StandsAs first d) (sym h.1) s, sym same)
     ask_leaves (Err (asks.Plan refusal)) h = (h.1.stands, sym same)
     ask_leaves (Err asks.WaitsAlready) h = (h.1.stands, sym same)
+
+  module _ (kind : AskKind) (task : ℕ) (ops : List Op) (at : ℕ) (same : after.queues ≡ before.queues) where
+    tells_jobs_at : (answer : Taken) → IsNumbered kind caller task ops d answer after.die → TellsJobs kind ops answer
+    tells_jobs_at (taken.Enters release due number jobs) h = h.0
+    tells_jobs_at (taken.Waits release due) h = tt
+
+    pub ask_at_reply : (result : Result Taken AskAtStop) → IsOngoingAskAt kind caller task ops at first d result before.die after.die
+        → IsReply N first terms life t caller (requests.AskAt kind task ops at) (of_ask_at result)
+    ask_at_reply (Ok answer) h = (h.answered, tells_jobs_at answer h.numbered)
+    ask_at_reply (Err (ahead.Ended stop)) h = (before.die, s, h.0)
+    ask_at_reply (Err ahead.Past) h = h.0
+    ask_at_reply (Err (ahead.Plan refusal)) h = h.0
+    ask_at_reply (Err (ahead.TooFarAhead last)) h = h.0
+    ask_at_reply (Err ahead.WaitsAlready) h = h.0
+
+    pub ask_at_leaves : (result : Result Taken AskAtStop) → IsOngoingAskAt kind caller task ops at first d result before.die after.die
+        → IsLeft first (after_reply first terms life t caller (requests.AskAt kind task ops at) (of_ask_at result)) after
+    ask_at_leaves (Ok answer) h = (h.stands, sym same)
+    ask_at_leaves (Err (ahead.Ended stop)) h = (subst (StandsAs first d) (sym h.1) s, sym same)
+    ask_at_leaves (Err ahead.Past) h = (h.1.stands, sym same)
+    ask_at_leaves (Err (ahead.Plan refusal)) h = (h.1.stands, sym same)
+    ask_at_leaves (Err (ahead.TooFarAhead last)) h = (h.1.stands, sym same)
+    ask_at_leaves (Err ahead.WaitsAlready) h = (h.1.stands, sym same)
 
   -- an outcome is taken, or isn't
   module _ (task : ℕ) {E : Type 0} (same : after.die ≡ before.die) where

@@ -1,5 +1,6 @@
 -- What a task is answered in two shared logs in which it sees the same.
-use Rattle.std.proofs.Common.{◌≡◌, ◌<◌, length, ℕ, List, [], ◌∷◌, ◌++◌, ap, sym, subst, ◌∙◌}
+use Rattle.std.proofs.Common.{◌≡◌, ◌<◌, ◌==◌, length, ℕ, List, [], ◌∷◌, ◌++◌, ap, sym, subst, ◌∙◌}
+use Rattle.std.proofs.lemmas.List.{append-nil, append_cancel_left}
 use Rattle.slot_types.specs.declared.events.Op.{Op}
 use Rattle.demand_rules.specs.declared.terms.Terms.{Terms}
 use Rattle.die_log.specs.Model.Log.{now}
@@ -7,23 +8,24 @@ use Rattle.die_log.specs.Model.Start.{Start}
 use Rattle.die_log.specs.Model.Lives.{all_slots}
 use Rattle.planned_log.specs.declared.ask_kinds.AskKind.{AskKind}
 use Rattle.planned_log.specs.Asks.{asked_by}
-use Rattle.planned_log.specs.Laws.{Seen, Asks, seen_by, AreDoneInTime, ForKeptLogs}
-use Rattle.planned_log.specs.Moves.{Move, Ask}
+use Rattle.planned_log.specs.Laws.{AreDoneInTime, ForKeptLogs}
+use Rattle.planned_log.specs.Moves.{Ask}
 use Rattle.ongoing_log.specs.PastLives.{counted}
-use Rattle.ongoing_log.specs.Ongoing.{Ongoing, Answer, answer_to, answers_to, ongoing_after, waiting_of, awaited_of, start_of, AreLongEnough, IsOngoing}
+use Rattle.ongoing_log.specs.Ongoing.{Ongoing, Answer, answer_to, waiting_of, awaited_of, start_of, AreLongEnough, IsOngoing}
 use Rattle.task_outcomes.specs.OutcomeDies.{OutcomeParts}
 use Rattle.task_outcomes.specs.declared.task_outcome.TaskOutcome.{TaskOutcome}
 use Rattle.task_outcomes.specs.OutcomeMoves.{OutcomeMove, Told, told_after, taken_by, AreAccountedFor}
+use Rattle.ongoing_log.specs.Ahead.{AheadMove, Now, AskAt, AheadSeen, answer_at, ahead_after, ahead_answer_to, ahead_answers_to, ahead_seen_of, ahead_seen_by}
 use Rattle.planned_ports.specs.Calls.{PortCall, moves_of, die_moves, after_calls}
 use Rattle.planned_ports.specs.Replies.{WereGranted, opened_as}
 use Rattle.planned_ports.specs.Laws.{IsInTime, RanFrom, SeesTheSame, answers_in, outcomes_in}
-use Rattle.planned_ports.proofs.Answering.{last_same, answers_are, answers_then, seen_then, ongoing_is, outcomes_are}
+use Rattle.planned_ports.proofs.Answering.{same_task, own_same, answers_are, answers_then, seen_then, ongoing_is, outcomes_are}
 
 -- In time
 
 abbrev pub GoesOn : Type 0
-GoesOn = (first : Start) (terms : Terms) (life : ℕ) → AreLongEnough terms life → (d : Ongoing) → IsOngoing first terms life d → (moves : List Move)
-    → IsOngoing first terms life (ongoing_after first terms life d moves)
+GoesOn = (first : Start) (terms : Terms) (life : ℕ) → AreLongEnough terms life → (d : Ongoing) → IsOngoing first terms life d → (moves : List AheadMove)
+    → IsOngoing first terms life (ahead_after first terms life d moves)
 
 module _ {N : Type 0} (law : GoesOn) (opened : OutcomeParts N) (first : Start) (d : Ongoing) (calls : List PortCall) (ran : RanFrom opened first d calls) where
   abbrev t : Told
@@ -47,8 +49,9 @@ abbrev pub Isolates : Type 0
 Isolates = (first other : Start) (terms : Terms) (life task : ℕ) → AreLongEnough terms life → first.plan ≡ other.plan → (one two : Ongoing)
     → IsOngoing first terms life one → IsOngoing other terms life two → all_slots (counted one.earlier) ≡ all_slots (counted two.earlier)
     → now one.log ≡ now two.log → asked_by task (one.log ∷ counted one.earlier) ≡ asked_by task (two.log ∷ counted two.earlier)
-    → awaited_of (waiting_of one task) ≡ awaited_of (waiting_of two task) → (moves others : List Move) → seen_by task moves ≡ seen_by task others
-    → answers_to first terms life task one moves ≡ answers_to other terms life task two others
+    → awaited_of (waiting_of one task) ≡ awaited_of (waiting_of two task) → (moves others : List AheadMove)
+    → ahead_seen_by task moves ≡ ahead_seen_by task others
+    → ahead_answers_to first terms life task one moves ≡ ahead_answers_to other terms life task two others
 
 module _ {N : Type 0} (law : Isolates) (task : ℕ) (opened again : OutcomeParts N) (first other : Start) (one two : Ongoing) (calls others : List PortCall)
     (h : SeesTheSame task opened again first other one two calls others) where
@@ -72,8 +75,8 @@ module _ {N : Type 0} (law : Isolates) (task : ℕ) (opened again : OutcomeParts
   granted_again = subst (λ n. WereGranted other terms n told_two others) h.plan.life
       (subst (λ (x : Terms). WereGranted other x again.die.die.life told_two others) h.plan.terms (h.ran_again.shared.granted other two h.ran_again.stands))
 
-  same : (moves more : List Move) → seen_by task moves ≡ seen_by task more
-      → answers_to first terms life task one moves ≡ answers_to other terms life task two more
+  same : (moves more : List AheadMove) → ahead_seen_by task moves ≡ ahead_seen_by task more
+      → ahead_answers_to first terms life task one moves ≡ ahead_answers_to other terms life task two more
   same = law first other terms life task h.ran.shared.is_die.long h.alike.plan one two (h.ran.stands.runs h.ran.runs).goes_on goes_on_again
       h.alike.clock h.alike.slot h.alike.asked h.alike.waits
 
@@ -82,24 +85,37 @@ module _ {N : Type 0} (law : Isolates) (task : ℕ) (opened again : OutcomeParts
       answers_are first terms life task told_one calls (h.ran.shared.granted first one h.ran.stands)
       ∙ (same (die_moves calls) (die_moves others) h.seen ∙ sym (answers_are other terms life task told_two others granted_again))
 
-  then_same : (kind : AskKind) (ops : List Op) → answer_to first terms life (ongoing_after first terms life one (die_moves calls)) kind task ops
-      ≡ answer_to other terms life (ongoing_after other terms life two (die_moves others)) kind task ops
-  then_same kind ops =
-      let x : Answer = answer_to first terms life (ongoing_after first terms life one (die_moves calls)) kind task ops in
-      let y : Answer = answer_to other terms life (ongoing_after other terms life two (die_moves others)) kind task ops in
-      let seen = seen_then kind task (die_moves calls) 0 ops
-      ∙ (ap (λ (l : List Seen). l ++ Asks kind ops ∷ []) h.seen ∙ sym (seen_then kind task (die_moves others) 0 ops)) in
-      last_same (answers_to first terms life task one (die_moves calls)) x y
-      (sym (answers_then first terms life task kind one (die_moves calls) 0 ops)
-      ∙ (same (die_moves calls ++ Ask kind 0 task ops ∷ []) (die_moves others ++ Ask kind 0 task ops ∷ []) seen
-      ∙ (answers_then other terms life task kind two (die_moves others) 0 ops
-      ∙ ap (λ (l : List Answer). l ++ y ∷ []) (sym (same (die_moves calls) (die_moves others) h.seen)))))
+  -- what the task is answered by one move more
+  then_same : (move : AheadMove) → ahead_answer_to first terms life task (ahead_after first terms life one (die_moves calls)) move
+      ≡ ahead_answer_to other terms life task (ahead_after other terms life two (die_moves others)) move
+  then_same move =
+      let x : List Answer = ahead_answer_to first terms life task (ahead_after first terms life one (die_moves calls)) move in
+      let y : List Answer = ahead_answer_to other terms life task (ahead_after other terms life two (die_moves others)) move in
+      let before : List Answer = ahead_answers_to first terms life task one (die_moves calls) in
+      let seen = seen_then task (die_moves calls) move
+      ∙ (ap (λ (l : List AheadSeen). l ++ (ahead_seen_of task move ++ [])) h.seen ∙ sym (seen_then task (die_moves others) move)) in
+      let both : x ++ [] ≡ y ++ [] =
+      append_cancel_left before (x ++ []) (y ++ [])
+      (sym (answers_then first terms life task one (die_moves calls) move)
+      ∙ (same (die_moves calls ++ move ∷ []) (die_moves others ++ move ∷ []) seen
+      ∙ (answers_then other terms life task two (die_moves others) move
+      ∙ ap (λ (l : List Answer). l ++ (y ++ [])) (sym (same (die_moves calls) (die_moves others) h.seen))))) in
+      sym (append-nil x) ∙ (both ∙ append-nil y)
 
   pub same_next : (kind : AskKind) (ops : List Op) → answer_to first terms life (after_calls first terms life told_one calls).ongoing kind task ops
       ≡ answer_to other terms life (after_calls other terms life told_two others).ongoing kind task ops
   same_next kind ops =
       ap (λ (x : Ongoing). answer_to first terms life x kind task ops) (ongoing_is first terms life task told_one calls)
-      ∙ (then_same kind ops ∙ sym (ap (λ (x : Ongoing). answer_to other terms life x kind task ops) (ongoing_is other terms life task told_two others)))
+      ∙ (own_same (task == task) _ _ (same_task task) (then_same (Now (Ask kind 0 task ops)))
+      ∙ sym (ap (λ (x : Ongoing). answer_to other terms life x kind task ops) (ongoing_is other terms life task told_two others)))
+
+  pub same_next_at : (kind : AskKind) (ops : List Op) (at : ℕ)
+      → answer_at first terms life (after_calls first terms life told_one calls).ongoing kind task ops at
+      ≡ answer_at other terms life (after_calls other terms life told_two others).ongoing kind task ops at
+  same_next_at kind ops at =
+      ap (λ (x : Ongoing). answer_at first terms life x kind task ops at) (ongoing_is first terms life task told_one calls)
+      ∙ (own_same (task == task) _ _ (same_task task) (then_same (AskAt kind 0 task ops at))
+      ∙ sym (ap (λ (x : Ongoing). answer_at other terms life x kind task ops at) (ongoing_is other terms life task told_two others)))
 
 -- Outcomes
 

@@ -15,14 +15,15 @@ use Rattle.planned_ports.specs.declared.calls.Refused.{Refused}
 use Rattle.planned_ports.specs.declared.calls.Refused.TheVariants as refused
 use Rattle.planned_ports.specs.Calls.{PortCall}
 use Rattle.planned_ports.specs.Replies.{IsSharedLog, MayReply}
+use Rattle.planned_ports.specs.declared.refusals.AskAtRefused.{AskAtRefused}
 use Rattle.planned_ports.specs.declared.refusals.AskRefused.{AskRefused}
 use Rattle.task_outcomes.specs.declared.task_outcome.TaskOutcome.{TaskOutcome}
 use Rattle.planned_ports.specs.declared.refusals.OutcomeRefused.{OutcomeRefused}
 use Rattle.planned_ports.specs.declared.refusals.SlotRefused.{SlotRefused}
 use Rattle.planned_ports.specs.Pages.{foreign_page}
 use Rattle.planned_ports.specs.Ports.{PortView, TaskParts, ClockParts, AddsEntry, AddsNone, IsOwnAsk, IsSlotRequest, HasOwnAsks, HasOwnSlots}
-use Rattle.planned_ports.specs.Ports.{RefusesTask, RefusesClock, TellsOutcome, RefusesOutcome}
-use Rattle.planned_ports.specs.Unwrapping.{IsJob, IsSlot, IsOutcome, RefusesAsks, RefusesSlots, RefusesOutcomes, IsAskRefusal, IsSlotRefusal, IsNoOutcome}
+use Rattle.planned_ports.specs.Ports.{RefusesTask, RefusesTaskAt, RefusesClock, TellsOutcome, RefusesOutcome}
+use Rattle.planned_ports.specs.Unwrapping.{IsJob, IsSlot, IsOutcome, RefusesAsks, RefusesAsksAt, RefusesSlots, RefusesOutcomes, IsAskRefusal, IsAskAtRefusal, IsSlotRefusal, IsNoOutcome}
 
 pub all_push : {X : Type 0} (P : X → Type 0) (xs : List X) (x : X) → AllByRecursion P xs → P x → AllByRecursion P (xs ++ x ∷ [])
 all_push P [] x all one = (one, tt)
@@ -78,12 +79,14 @@ module _ {N : Type 0} where
   pub refuses_asks : (v : PortView N) (kind : AskKind) (task : ℕ) (ops : List Op) (refusal : Refused) (w : PortView N) → AddsNone v (requests.Ask kind task ops) refusal w
       → RefusesAsks refusal
   refuses_asks v kind task ops (refused.Ask stop) w a = tt
+  refuses_asks v kind task ops (refused.AskAt stop) w a = let die = a.grown.fit.is_die in a.reason.1 die.first die.ongoing die.stands
   refuses_asks v kind task ops (refused.Slot stop) w a = let die = a.grown.fit.is_die in a.reason.1 die.first die.ongoing die.stands
   refuses_asks v kind task ops refused.NoOutcome w a = let die = a.grown.fit.is_die in a.reason.1 die.first die.ongoing die.stands
   refuses_asks v kind task ops refused.NoMemory w a = let die = a.grown.fit.is_die in a.reason.1 die.first die.ongoing die.stands
   refuses_asks v kind task ops refused.LockFull w a = tt
 
   pub refuses_slots : (v : PortView N) (refusal : Refused) (w : PortView N) → AddsNone v requests.Slot refusal w → RefusesSlots refusal
+  refuses_slots v (refused.AskAt stop) w a = let die = a.grown.fit.is_die in a.reason.1 die.first die.ongoing die.stands
   refuses_slots v (refused.Ask stop) w a = let die = a.grown.fit.is_die in a.reason.1 die.first die.ongoing die.stands
   refuses_slots v (refused.Slot stop) w a = tt
   refuses_slots v refused.NoOutcome w a = let die = a.grown.fit.is_die in a.reason.1 die.first die.ongoing die.stands
@@ -92,6 +95,7 @@ module _ {N : Type 0} where
 
   pub refuses_outcomes : (v : PortView N) (task : ℕ) (refusal : Refused) (w : PortView N) → AddsNone v (requests.Outcome task) refusal w
       → RefusesOutcomes refusal
+  refuses_outcomes v task (refused.AskAt stop) w a = let die = a.grown.fit.is_die in a.reason.1 die.first die.ongoing die.stands
   refuses_outcomes v task (refused.Ask stop) w a = let die = a.grown.fit.is_die in a.reason.1 die.first die.ongoing die.stands
   refuses_outcomes v task (refused.Slot stop) w a = let die = a.grown.fit.is_die in a.reason.1 die.first die.ongoing die.stands
   refuses_outcomes v task refused.NoOutcome w a = tt
@@ -108,6 +112,7 @@ module _ {N : Type 0} where
       subst (λ (r : Result (Option TaskOutcome) OutcomeRefused). IfOk r (λ outcome. TellsOutcome p outcome q)) (sym is) tt
   tells_none p q refused.LockFull result a is =
       subst (λ (r : Result (Option TaskOutcome) OutcomeRefused). IfOk r (λ outcome. TellsOutcome p outcome q)) (sym is) tt
+  tells_none p q (refused.AskAt stop) result a is = absurd is
   tells_none p q (refused.Ask stop) result a is = absurd is
   tells_none p q (refused.Slot stop) result a is = absurd is
 
@@ -120,12 +125,14 @@ module _ {N : Type 0} where
       subst (λ (r : Result (Option TaskOutcome) OutcomeRefused). IfErr r (λ e. RefusesOutcome p e q)) (sym is) a
   refuses_outcome p q refused.LockFull result a is =
       subst (λ (r : Result (Option TaskOutcome) OutcomeRefused). IfErr r (λ e. RefusesOutcome p e q)) (sym is) a
+  refuses_outcome p q (refused.AskAt stop) result a is = absurd is
   refuses_outcome p q (refused.Ask stop) result a is = absurd is
   refuses_outcome p q (refused.Slot stop) result a is = absurd is
 
   pub refuses_task : (kind : AskKind) (p : TaskParts N) (ops : List Op) (refusal : Refused) (result : AskRefused) (q : TaskParts N) → foreign_page p.pages ops ≡ None
       → AddsNone p.view (requests.Ask kind p.task ops) refusal q.view → IsAskRefusal refusal result → RefusesTask kind p ops result q
   refuses_task kind p ops (refused.Ask stop) result q own a is = subst (λ (r : AskRefused). RefusesTask kind p ops r q) (sym is) (own, a)
+  refuses_task kind p ops (refused.AskAt stop) result q own a is = absurd is
   refuses_task kind p ops (refused.Slot stop) result q own a is = absurd is
   refuses_task kind p ops refused.NoOutcome result q own a is = absurd is
   refuses_task kind p ops refused.NoMemory result q own a is = absurd is
@@ -133,11 +140,40 @@ module _ {N : Type 0} where
 
   pub refuses_clock : (p : ClockParts N) (refusal : Refused) (result : SlotRefused) (q : ClockParts N) → AddsNone p.view requests.Slot refusal q.view
       → IsSlotRefusal refusal result → RefusesClock p result q
+  refuses_clock p (refused.AskAt stop) result q a is = absurd is
   refuses_clock p (refused.Ask stop) result q a is = absurd is
   refuses_clock p (refused.Slot stop) result q a is = subst (λ (r : SlotRefused). RefusesClock p r q) (sym is) a
   refuses_clock p refused.NoOutcome result q a is = absurd is
   refuses_clock p refused.NoMemory result q a is = absurd is
   refuses_clock p refused.LockFull result q a is = subst (λ (r : SlotRefused). RefusesClock p r q) (sym is) a
+
+  -- so it is of an ask for a slot of the clock
+  pub is_job_at : (v : PortView N) (kind : AskKind) (task : ℕ) (ops : List Op) (at : ℕ) (answer : Granted) (w : PortView N)
+      → AddsEntry v (requests.AskAt kind task ops at) answer w → IsJob answer
+  is_job_at v kind task ops at (granted.Job answer) w a = tt
+  is_job_at v kind task ops at (granted.Slot reply) w a = let die = a.shared.is_die in a.granted die.first die.ongoing die.stands
+  is_job_at v kind task ops at (granted.Outcome outcome) w a = let die = a.shared.is_die in a.granted die.first die.ongoing die.stands
+
+  pub refuses_asks_at : (v : PortView N) (kind : AskKind) (task : ℕ) (ops : List Op) (at : ℕ) (refusal : Refused) (w : PortView N)
+      → AddsNone v (requests.AskAt kind task ops at) refusal w → RefusesAsksAt refusal
+  refuses_asks_at v kind task ops at (refused.AskAt stop) w a = tt
+  refuses_asks_at v kind task ops at refused.LockFull w a = tt
+  refuses_asks_at v kind task ops at (refused.Ask stop) w a = let die = a.grown.fit.is_die in a.reason.1 die.first die.ongoing die.stands
+  refuses_asks_at v kind task ops at (refused.Slot stop) w a = let die = a.grown.fit.is_die in a.reason.1 die.first die.ongoing die.stands
+  refuses_asks_at v kind task ops at refused.NoOutcome w a = let die = a.grown.fit.is_die in a.reason.1 die.first die.ongoing die.stands
+  refuses_asks_at v kind task ops at refused.NoMemory w a = let die = a.grown.fit.is_die in a.reason.1 die.first die.ongoing die.stands
+
+  pub refuses_task_at : (kind : AskKind) (p : TaskParts N) (ops : List Op) (at : ℕ) (refusal : Refused) (result : AskAtRefused) (q : TaskParts N)
+      → foreign_page p.pages ops ≡ None → AddsNone p.view (requests.AskAt kind p.task ops at) refusal q.view → IsAskAtRefusal refusal result
+      → RefusesTaskAt kind p ops at result q
+  refuses_task_at kind p ops at (refused.AskAt stop) result q own a is =
+      subst (λ (r : AskAtRefused). RefusesTaskAt kind p ops at r q) (sym is) (own, a)
+  refuses_task_at kind p ops at refused.LockFull result q own a is =
+      subst (λ (r : AskAtRefused). RefusesTaskAt kind p ops at r q) (sym is) (own, a)
+  refuses_task_at kind p ops at (refused.Ask stop) result q own a is = absurd is
+  refuses_task_at kind p ops at (refused.Slot stop) result q own a is = absurd is
+  refuses_task_at kind p ops at refused.NoOutcome result q own a is = absurd is
+  refuses_task_at kind p ops at refused.NoMemory result q own a is = absurd is
 
   -- the port's own requests, with one more
   pub own_asks : (kind : AskKind) (p q : TaskParts N) (ops : List Op) (answer : Granted) → HasOwnAsks p → foreign_page p.pages ops ≡ None → q.task ≡ p.task → q.pages ≡ p.pages
@@ -145,6 +181,13 @@ module _ {N : Type 0} where
   own_asks kind p q ops answer own page task pages number a =
       rw (task, pages, number, a.own) (all_push (λ (c : PortCall). IsOwnAsk p.task p.pages c.event) (calls_by p.view.number p.view.seen)
       (entry p.view.number (requests.Ask kind p.task ops) (Ok answer)) own (refl, page))
+
+  pub own_asks_at : (kind : AskKind) (p q : TaskParts N) (ops : List Op) (at : ℕ) (answer : Granted) → HasOwnAsks p
+      → foreign_page p.pages ops ≡ None → q.task ≡ p.task → q.pages ≡ p.pages → q.view.number ≡ p.view.number
+      → AddsEntry p.view (requests.AskAt kind p.task ops at) answer q.view → HasOwnAsks q
+  own_asks_at kind p q ops at answer own page task pages number a =
+      rw (task, pages, number, a.own) (all_push (λ (c : PortCall). IsOwnAsk p.task p.pages c.event) (calls_by p.view.number p.view.seen)
+      (entry p.view.number (requests.AskAt kind p.task ops at) (Ok answer)) own (refl, page))
 
   pub own_outcome : (p q : TaskParts N) (answer : Granted) → HasOwnAsks p → q.task ≡ p.task → q.pages ≡ p.pages
       → q.view.number ≡ p.view.number → AddsEntry p.view (requests.Outcome p.task) answer q.view → HasOwnAsks q
@@ -163,6 +206,10 @@ module _ {N : Type 0} where
   pub same_asks : (kind : AskKind) (p q : TaskParts N) (ops : List Op) (refusal : Refused) → HasOwnAsks p → q.task ≡ p.task → q.pages ≡ p.pages
       → q.view.number ≡ p.view.number → AddsNone p.view (requests.Ask kind p.task ops) refusal q.view → HasOwnAsks q
   same_asks kind p q ops refusal own task pages number a = rw (task, pages, number, a.own) own
+
+  pub same_asks_at : (kind : AskKind) (p q : TaskParts N) (ops : List Op) (at : ℕ) (refusal : Refused) → HasOwnAsks p → q.task ≡ p.task
+      → q.pages ≡ p.pages → q.view.number ≡ p.view.number → AddsNone p.view (requests.AskAt kind p.task ops at) refusal q.view → HasOwnAsks q
+  same_asks_at kind p q ops at refusal own task pages number a = rw (task, pages, number, a.own) own
 
   pub same_outcome : (p q : TaskParts N) (refusal : Refused) → HasOwnAsks p → q.task ≡ p.task → q.pages ≡ p.pages
       → q.view.number ≡ p.view.number → AddsNone p.view (requests.Outcome p.task) refusal q.view → HasOwnAsks q

@@ -2,8 +2,8 @@
 use Rattle.std.specs.Prelude.{ℕ, List, [], ◌∷◌, ◌++◌, map, Result, Ok, Err}
 use Rattle.demand_rules.specs.declared.terms.Terms.{Terms}
 use Rattle.die_log.specs.Model.Start.{Start}
-use Rattle.planned_log.specs.Moves.{Move, Ask, Slot}
-use Rattle.ongoing_log.specs.Ahead.{Now}
+use Rattle.planned_log.specs.Moves.{Ask, Slot}
+use Rattle.ongoing_log.specs.Ahead.{AheadMove, Now, AskAt}
 use Rattle.task_outcomes.specs.OutcomeMoves.{OutcomeMove, Does, Takes, Told, told_after}
 use Rattle.turn_lock.specs.declared.entry.Entry.{Entry}
 use Rattle.turn_lock.specs.Log.{entry}
@@ -18,6 +18,7 @@ PortCall = Entry Request (Result Granted Refused)
 
 abbrev pub move_by : ℕ → Request → OutcomeMove
 move_by caller (requests.Ask kind task ops) = Does (Now (Ask kind caller task ops))
+move_by caller (requests.AskAt kind task ops at) = Does (AskAt kind caller task ops at)
 move_by caller requests.Slot = Does (Now (Slot caller))
 move_by caller (requests.Outcome task) = Takes task
 
@@ -32,12 +33,13 @@ abbrev pub after_calls : Start → Terms → ℕ → Told → List PortCall → 
 after_calls first terms life t calls = told_after first terms life t (moves_of calls)
 
 -- the asks and slots among them
-abbrev pub die_move_by : ℕ → Request → List Move
-die_move_by caller (requests.Ask kind task ops) = Ask kind caller task ops ∷ []
-die_move_by caller requests.Slot = Slot caller ∷ []
+abbrev pub die_move_by : ℕ → Request → List AheadMove
+die_move_by caller (requests.Ask kind task ops) = Now (Ask kind caller task ops) ∷ []
+die_move_by caller (requests.AskAt kind task ops at) = AskAt kind caller task ops at ∷ []
+die_move_by caller requests.Slot = Now (Slot caller) ∷ []
 die_move_by caller (requests.Outcome task) = []
 
-abbrev pub die_moves : List PortCall → List Move
+abbrev pub die_moves : List PortCall → List AheadMove
 die_moves [] = []
 die_moves (call ∷ calls) = die_move_by call.caller call.event ++ die_moves calls
 

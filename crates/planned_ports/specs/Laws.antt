@@ -4,9 +4,10 @@ use Rattle.die_log.specs.Model.Log.{now}
 use Rattle.die_log.specs.Model.Lives.{all_slots}
 use Rattle.die_log.specs.Model.Start.{Start}
 use Rattle.planned_log.specs.Asks.{asked_by}
-use Rattle.planned_log.specs.Laws.{AreDoneInTime, seen_by}
+use Rattle.planned_log.specs.Laws.{AreDoneInTime}
 use Rattle.ongoing_log.specs.PastLives.{counted, HavePassed}
 use Rattle.ongoing_log.specs.Ongoing.{Ongoing, Answer, start_of, waiting_of, awaited_of}
+use Rattle.ongoing_log.specs.Ahead.{ahead_seen_by}
 use Rattle.ongoing_die.specs.Standing.{StandsAs}
 use Rattle.ongoing_die.specs.OngoingCalls.{told, HaveOnePlan}
 use Rattle.task_outcomes.specs.declared.task_outcome.TaskOutcome.{TaskOutcome}
@@ -30,6 +31,7 @@ IsInTime first life d = HavePassed first life d.earlier × AreDoneInTime (start_
 -- what a task was answered by this call, if it was its ask
 abbrev pub answer_in : ℕ → Request → Result Granted Refused → List Answer
 answer_in task (requests.Ask kind other ops) (Ok (granted.Job answer)) = if other == task then told answer ∷ [] else []
+answer_in task (requests.AskAt kind other ops at) (Ok (granted.Job answer)) = if other == task then told answer ∷ [] else []
 answer_in task _ _ = []
 
 -- and by these calls, in order
@@ -60,7 +62,7 @@ pub record SeesTheSame {N : Type 0} (task : ℕ) (opened again : OutcomeParts N)
   pub ran_again : RanFrom again other two others
   pub plan : HaveOnePlan opened.die again.die
   pub alike : AreAlikeFor task first other one two
-  pub seen : seen_by task (die_moves calls) ≡ seen_by task (die_moves others)
+  pub seen : ahead_seen_by task (die_moves calls) ≡ ahead_seen_by task (die_moves others)
 
 -- Outcomes
 

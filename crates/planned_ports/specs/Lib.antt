@@ -1,3 +1,4 @@
+pub mod Heads
 pub mod Calls
 pub mod Replies
 pub mod Shared

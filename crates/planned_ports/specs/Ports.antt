@@ -22,6 +22,8 @@ use Rattle.planned_ports.specs.declared.calls.Granted.{Granted}
 use Rattle.planned_ports.specs.declared.calls.Granted.TheVariants as granted
 use Rattle.planned_ports.specs.declared.calls.Refused.{Refused}
 use Rattle.planned_ports.specs.declared.calls.Refused.TheVariants as refused
+use Rattle.planned_ports.specs.declared.refusals.AskAtRefused.{AskAtRefused}
+use Rattle.planned_ports.specs.declared.refusals.AskAtRefused.TheVariants as ahead
 use Rattle.planned_ports.specs.declared.refusals.AskRefused.{AskRefused}
 use Rattle.planned_ports.specs.declared.refusals.AskRefused.TheVariants as asks
 use Rattle.planned_ports.specs.declared.refusals.OutcomeRefused.{OutcomeRefused}
@@ -52,6 +54,7 @@ pub record TaskParts (N : Type 0) : Type 0 where
 -- an ask of this task, for a job or for a burst, on pages that the port may use; or an outcome of it
 abbrev pub IsOwnAsk : ℕ → Option PageRange → Request → Type 0
 IsOwnAsk task pages (requests.Ask kind other ops) = (other ≡ task) × (foreign_page pages ops ≡ None)
+IsOwnAsk task pages (requests.AskAt kind other ops at) = (other ≡ task) × (foreign_page pages ops ≡ None)
 IsOwnAsk task pages (requests.Outcome other) = other ≡ task
 IsOwnAsk task pages requests.Slot = ⊥
 
@@ -135,6 +138,13 @@ abbrev pub RefusesTask : {N : Type 0} → AskKind → TaskParts N → List Op �
 RefusesTask kind p ops (asks.ForeignPage page) q = (foreign_page p.pages ops ≡ Some page) × (q ≡ p)
 RefusesTask kind p ops asks.LockFull q = (foreign_page p.pages ops ≡ None) × AddsNone p.view (requests.Ask kind p.task ops) refused.LockFull q.view
 RefusesTask kind p ops (asks.Die stop) q = (foreign_page p.pages ops ≡ None) × AddsNone p.view (requests.Ask kind p.task ops) (refused.Ask stop) q.view
+
+abbrev pub RefusesTaskAt : {N : Type 0} → AskKind → TaskParts N → List Op → ℕ → AskAtRefused → TaskParts N → Type 0
+RefusesTaskAt kind p ops at (ahead.ForeignPage page) q = (foreign_page p.pages ops ≡ Some page) × (q ≡ p)
+RefusesTaskAt kind p ops at ahead.LockFull q =
+    (foreign_page p.pages ops ≡ None) × AddsNone p.view (requests.AskAt kind p.task ops at) refused.LockFull q.view
+RefusesTaskAt kind p ops at (ahead.Die stop) q =
+    (foreign_page p.pages ops ≡ None) × AddsNone p.view (requests.AskAt kind p.task ops at) (refused.AskAt stop) q.view
 
 abbrev pub RefusesClock : {N : Type 0} → ClockParts N → SlotRefused → ClockParts N → Type 0
 RefusesClock p slots.LockFull q = AddsNone p.view requests.Slot refused.LockFull q.view

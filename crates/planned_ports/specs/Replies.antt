@@ -1,5 +1,5 @@
 -- What a die behind its lock replies to a request.
-use Rattle.std.specs.Prelude.{◌≡◌, ◌≢◌, ℕ, ◌+◌, ◌<◌, List, [], ◌∷◌, length, Option, Some, None, IsSomeAnd, Result, Ok, Err}
+use Rattle.std.specs.Prelude.{◌≡◌, ◌≢◌, ℕ, ◌<◌, List, [], ◌∷◌, length, Option, Some, None, IsSomeAnd, Result, Ok, Err}
 use Rattle.slot_types.specs.declared.events.Op.{Op}
 use Rattle.slot_types.specs.declared.events.Event.TheVariants as events
 use Rattle.slot_types.specs.declared.replies.Reply.TheVariants as replies
@@ -7,16 +7,16 @@ use Rattle.slot_types.specs.declared.replies.SlotReply.{SlotReply}
 use Rattle.demand_rules.specs.declared.terms.Terms.{Terms}
 use Rattle.die_log.specs.Model.Start.{Start}
 use Rattle.die_log.specs.Model.Answers.{answer}
-use Rattle.die_log.specs.Model.Lives.{all_slots}
-use Rattle.die_log.specs.Model.Log.{now}
 use Rattle.planned_log.specs.declared.ask_kinds.AskKind.{AskKind}
 use Rattle.planned_log.specs.AskKinds.{jobs_as}
 use Rattle.planned_log.specs.Moves.{after_own}
-use Rattle.ongoing_log.specs.PastLives.{counted}
 use Rattle.ongoing_log.specs.Ongoing as rules
 use Rattle.ongoing_log.specs.Ongoing.{Ongoing, start_of, clock_of, answer_to}
 use Rattle.ongoing_die.specs.declared.answers.Taken.{Taken}
 use Rattle.ongoing_die.specs.declared.answers.Taken.TheVariants as taken
+use Rattle.ongoing_log.specs.Ahead.{answer_at}
+use Rattle.ongoing_die.specs.declared.refusals.AskAtStop.{AskAtStop}
+use Rattle.ongoing_die.specs.declared.refusals.AskAtStop.TheVariants as ahead
 use Rattle.ongoing_die.specs.declared.refusals.AskStop.{AskStop}
 use Rattle.ongoing_die.specs.declared.refusals.AskStop.TheVariants as asks
 use Rattle.ongoing_die.specs.declared.refusals.LifeStop.{LifeStop}
@@ -54,6 +54,8 @@ TellsJobs kind ops (taken.Waits release due) = Unit {0}
 abbrev pub IsGranted : Start → Terms → ℕ → Told → ℕ → Request → Granted → Type 0
 IsGranted first terms life t caller (requests.Ask kind task ops) (granted.Job answer) =
     (answer_to first terms life t.ongoing kind task ops ≡ told answer) × TellsJobs kind ops answer
+IsGranted first terms life t caller (requests.AskAt kind task ops at) (granted.Job answer) =
+    (answer_at first terms life t.ongoing kind task ops at ≡ told answer) × TellsJobs kind ops answer
 IsGranted first terms life t caller requests.Slot (granted.Slot reply) = IsSlotReply first terms t.ongoing caller reply
 IsGranted first terms life t caller (requests.Outcome task) (granted.Outcome outcome) = first_of t.queues task ≡ Some outcome
 IsGranted first terms life t caller _ _ = ⊥
@@ -69,6 +71,14 @@ RefusesAsk N first terms life d kind task ops (asks.Ended stop) = MayHaveStopped
 RefusesAsk N first terms life d kind task ops (asks.Plan refusal) = answer_to first terms life d kind task ops ≡ rules.Refused refusal
 RefusesAsk N first terms life d kind task ops asks.WaitsAlready = answer_to first terms life d kind task ops ≡ rules.WaitsAlready
 
+abbrev pub RefusesAskAt : (N : Type 0) → Start → Terms → ℕ → Ongoing → AskKind → ℕ → List Op → ℕ → AskAtStop → Type 0
+RefusesAskAt N first terms life d kind task ops at (ahead.Ended stop) = MayHaveStopped N first d stop
+RefusesAskAt N first terms life d kind task ops at ahead.Past = answer_at first terms life d kind task ops at ≡ rules.Past
+RefusesAskAt N first terms life d kind task ops at (ahead.Plan refusal) = answer_at first terms life d kind task ops at ≡ rules.Refused refusal
+RefusesAskAt N first terms life d kind task ops at (ahead.TooFarAhead last) =
+    answer_at first terms life d kind task ops at ≡ rules.TooFarAhead last
+RefusesAskAt N first terms life d kind task ops at ahead.WaitsAlready = answer_at first terms life d kind task ops at ≡ rules.WaitsAlready
+
 abbrev pub RefusesSlot : (N : Type 0) → Start → Ongoing → SlotStop → Type 0
 RefusesSlot N first d (slots.Ended stop) = MayHaveStopped N first d stop
 RefusesSlot N first d slots.DeviceFault = Unit {0}
@@ -82,6 +92,8 @@ RefusesOutcome t task _ = ⊥
 -- where this stands, the die refuses the request for this
 abbrev pub IsRefused : (N : Type 0) → Start → Terms → ℕ → Told → Request → Refused → Type 0
 IsRefused N first terms life t (requests.Ask kind task ops) (refused.Ask stop) = RefusesAsk N first terms life t.ongoing kind task ops stop
+IsRefused N first terms life t (requests.AskAt kind task ops at) (refused.AskAt stop) =
+    RefusesAskAt N first terms life t.ongoing kind task ops at stop
 IsRefused N first terms life t requests.Slot (refused.Slot stop) = RefusesSlot N first t.ongoing stop
 IsRefused N first terms life t (requests.Outcome task) refusal = RefusesOutcome t task refusal
 IsRefused N first terms life t _ _ = ⊥

@@ -5,6 +5,8 @@ use Rattle.planned_ports.specs.declared.calls.Granted.{Granted}
 use Rattle.planned_ports.specs.declared.calls.Granted.TheVariants as granted
 use Rattle.planned_ports.specs.declared.calls.Refused.{Refused}
 use Rattle.planned_ports.specs.declared.calls.Refused.TheVariants as refused
+use Rattle.planned_ports.specs.declared.refusals.AskAtRefused.{AskAtRefused}
+use Rattle.planned_ports.specs.declared.refusals.AskAtRefused.TheVariants as ahead
 use Rattle.planned_ports.specs.declared.refusals.AskRefused.{AskRefused}
 use Rattle.planned_ports.specs.declared.refusals.AskRefused.TheVariants as asks
 use Rattle.planned_ports.specs.declared.refusals.OutcomeRefused.{OutcomeRefused}
@@ -29,6 +31,11 @@ RefusesAsks (refused.Ask stop) = Unit {0}
 RefusesAsks refused.LockFull = Unit {0}
 RefusesAsks _ = ⊥
 
+abbrev pub RefusesAsksAt : Refused → Type 0
+RefusesAsksAt (refused.AskAt stop) = Unit {0}
+RefusesAsksAt refused.LockFull = Unit {0}
+RefusesAsksAt _ = ⊥
+
 abbrev pub RefusesSlots : Refused → Type 0
 RefusesSlots (refused.Slot stop) = Unit {0}
 RefusesSlots refused.LockFull = Unit {0}
@@ -44,6 +51,11 @@ abbrev pub IsAskRefusal : Refused → AskRefused → Type 0
 IsAskRefusal (refused.Ask stop) refusal = refusal ≡ asks.Die stop
 IsAskRefusal refused.LockFull refusal = refusal ≡ asks.LockFull
 IsAskRefusal _ refusal = ⊥
+
+abbrev pub IsAskAtRefusal : Refused → AskAtRefused → Type 0
+IsAskAtRefusal (refused.AskAt stop) refusal = refusal ≡ ahead.Die stop
+IsAskAtRefusal refused.LockFull refusal = refusal ≡ ahead.LockFull
+IsAskAtRefusal _ refusal = ⊥
 
 abbrev pub IsSlotRefusal : Refused → SlotRefused → Type 0
 IsSlotRefusal (refused.Slot stop) refusal = refusal ≡ slots.Die stop

@@ -4,6 +4,7 @@ ghost use Rattle.std.specs.Prelude.{◌≡◌, []};
 ghost use Rattle.std.specs.Box.{box_value};
 ghost use Rattle.planned_ports.specs.Calls.{calls_after};
 ghost use Rattle.planned_ports.specs.Replies.{MayReply};
+ghost use Rattle.planned_ports.specs.Heads.{whole_ask};
 ghost use Rattle.planned_ports.specs.Shared.{IsSharedDie};
 
 use crate::as_opened::AsOpened;
@@ -101,6 +102,49 @@ impl<N: Nand> PlannedBook<N> {
         }
     }
 
+    /// Asks for a job or a burst of the task that is released in this slot of the clock.
+    fn ask_at_for(
+        &mut self,
+        caller: u32,
+        kind: AskKind,
+        task: TaskNo,
+        ops: &[Op],
+        at: u64,
+    ) -> Result<Granted, Refused>
+        ensures opened { self.new.opened ≡ self.old.opened }
+        ensures replied { MayReply self.old.opened self.old.calls caller (Request.AskAt kind task ops.now at) result }
+        ensures calls { self.new.calls
+            ≡ calls_after self.old.calls caller (Request.AskAt kind task ops.now at) result }
+    {
+        if self.count >= MOST {
+            return Err(Refused::LockFull);
+        }
+        match self.die.ask_at_as(self.alloc, caller, kind, task, ops, at) {
+            Ok(taken) => {
+                let answer = Ok(Granted::Job(taken));
+                self.history = self
+                    .history
+                    .with_ask_at(caller, kind, task, ops, at, &answer);
+                self.count += 1;
+                answer
+            }
+            Err(stop) => Err(Refused::AskAt(stop)),
+        }
+    }
+
+    /// An ask, as its head says.
+    fn ask_by(&mut self, caller: u32, head: AskHead, ops: &[Op]) -> Result<Granted, Refused>
+        ensures opened { self.new.opened ≡ self.old.opened }
+        ensures replied { MayReply self.old.opened self.old.calls caller (whole_ask head ops.now) result }
+        ensures calls { self.new.calls
+            ≡ calls_after self.old.calls caller (whole_ask head ops.now) result }
+    {
+        match head.at {
+            None => self.ask_for(caller, head.kind, head.task, ops),
+            Some(at) => self.ask_at_for(caller, head.kind, head.task, ops, at),
+        }
+    }
+
     /// Carries the present slot out.
     fn carry_slot(&mut self, caller: u32) -> Result<Granted, Refused>
         ensures opened { self.new.opened ≡ self.old.opened }
@@ -174,6 +218,12 @@ impl<N: Nand> Book for PlannedBook<N> {
     fn apply(&mut self, caller: u32, event: Request) -> Result<Granted, Refused> {
         match event {
             Request::Ask { kind, task, ops } => self.ask_for(caller, kind, task, ops.as_slice()),
+            Request::AskAt {
+                kind,
+                task,
+                ops,
+                at,
+            } => self.ask_at_for(caller, kind, task, ops.as_slice(), at),
             Request::Slot => self.carry_slot(caller),
             Request::Outcome { task } => self.take_outcome(caller, task),
         }
@@ -199,7 +249,7 @@ impl<N: Nand> Book for PlannedBook<N> {
 
 /// An ask, whose operations are lent.
 impl<'a, N: Nand> NotingBook<&'a [Op]> for PlannedBook<N> {
-    ghost use Rattle.planned_ports.specs.declared.calls.Request.TheVariants as requests;
+    ghost use Rattle.planned_ports.specs.Heads.{whole_ask};
 
     type Note = Result<Granted, Refused>;
 
@@ -207,9 +257,9 @@ impl<'a, N: Nand> NotingBook<&'a [Op]> for PlannedBook<N> {
 
     ghost noted = { λ answer. answer };
 
-    ghost whole = { λ head ops. requests.Ask head.kind head.task ops.now };
+    ghost whole = { λ head ops. whole_ask head ops.now };
 
     fn note(&mut self, caller: u32, head: AskHead, parts: &&'a [Op]) -> Result<Granted, Refused> {
-        self.ask_for(caller, head.kind, head.task, *parts)
+        self.ask_by(caller, head, *parts)
     }
 }

@@ -1,6 +1,6 @@
 //! What ports ask of a die, and what they are answered.
 
-use ongoing_die::{AskKind, AskStop, SlotStop, Taken};
+use ongoing_die::{AskAtStop, AskKind, AskStop, SlotStop, Taken};
 use slot_types::{OpList, SlotReply, TaskNo};
 use task_outcomes::TaskOutcome;
 
@@ -12,6 +12,13 @@ pub enum Request {
         kind: AskKind,
         task: TaskNo,
         ops: OpList,
+    },
+    /// A job or a burst of the task that is released in slot `at` of the clock, with these operations.
+    AskAt {
+        kind: AskKind,
+        task: TaskNo,
+        ops: OpList,
+        at: u64,
     },
     /// The present slot.
     Slot,
@@ -37,6 +44,8 @@ pub enum Query {
 pub struct AskHead {
     pub kind: AskKind,
     pub task: TaskNo,
+    /// The slot of the clock that it is for; none where it is for the present one.
+    pub at: Option<u64>,
 }
 
 /// What is answered to a request that isn't refused.
@@ -55,6 +64,8 @@ pub enum Granted {
 pub enum Refused {
     /// The die refuses the ask.
     Ask(AskStop),
+    /// The die refuses the ask for a slot of the clock.
+    AskAt(AskAtStop),
     /// The die doesn't carry the slot out.
     Slot(SlotStop),
     /// The task has no outcome to take.

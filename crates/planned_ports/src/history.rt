@@ -54,6 +54,22 @@ impl History {
         beside_ask(self, caller, kind, task, ops, answer)
     }
 
+    /// With an ask for a slot of the clock more.
+    pub(crate) fn with_ask_at(
+        &self,
+        caller: u32,
+        kind: AskKind,
+        task: TaskNo,
+        ops: &[Op],
+        at: u64,
+        answer: &Result<Granted, Refused>,
+    ) -> History
+        ensures { result.calls
+            ≡ self.now.calls ++ entry caller (Request.AskAt kind task ops.now at) answer.now ∷ [] }
+    {
+        beside_ask_at(self, caller, kind, task, ops, at, answer)
+    }
+
     /// With a slot more.
     pub(crate) fn with_slot(&self, caller: u32, answer: &Result<Granted, Refused>) -> History
         ensures { result.calls ≡ self.now.calls ++ entry caller Request.Slot answer.now ∷ [] }
@@ -82,6 +98,22 @@ fn beside_ask(
     _kind: AskKind,
     _task: TaskNo,
     _ops: &[Op],
+    _answer: &Result<Granted, Refused>,
+) -> History
+    ghost calls: { List PortCall }
+    ensures { result.calls ≡ calls }
+{
+    History::at()
+}
+
+/// The calls that the caller picks by these.
+fn beside_ask_at(
+    _before: &History,
+    _caller: u32,
+    _kind: AskKind,
+    _task: TaskNo,
+    _ops: &[Op],
+    _at: u64,
     _answer: &Result<Granted, Refused>,
 ) -> History
     ghost calls: { List PortCall }

@@ -6,6 +6,7 @@ ghost use Rattle.slot_types.specs.declared.events.Op.{Op};
 ghost use Rattle.die_log.specs.Model.Start.{Start};
 ghost use Rattle.planned_log.specs.declared.ask_kinds.AskKind.{AskKind};
 ghost use Rattle.ongoing_log.specs.Ongoing.{Ongoing, IsOngoing, answer_to};
+ghost use Rattle.ongoing_log.specs.Ahead.{answer_at};
 ghost use Rattle.task_outcomes.specs.OutcomeDies.{OutcomeParts};
 ghost use Rattle.task_outcomes.specs.OutcomeMoves.{AreAccountedFor};
 ghost use Rattle.planned_ports.specs.Calls.{PortCall, after_calls};
@@ -36,7 +37,8 @@ pub fn shared_dies_are_in_time<N: Nand>()
 
 /// What a task is answered depends on the slots and on its own asks, and on nothing that other ports do: of two logs in
 /// which it sees the same, each of its asks that were granted has the same release and the same deadline; and so has the
-/// next one, or it is refused for the same cause, with the same slot to come again.
+/// next one, or it is refused for the same cause, with the same slot to come again. So it is with asks for slots ahead, among
+/// those before and as the next one (`next_at`).
 pub fn tasks_are_answered_for_their_own_asks<N: Nand>()
     ensures granted { (task : ℕ) (opened again : OutcomeParts N) (first other : Start) (one two : Ongoing)
         (calls others : List PortCall) → SeesTheSame task opened again first other one two calls others
@@ -46,6 +48,13 @@ pub fn tasks_are_answered_for_their_own_asks<N: Nand>()
         (kind : AskKind) (ops : List Op) → let terms = opened.die.die.terms in let life = opened.die.die.life in
         answer_to first terms life (after_calls first terms life (opened_as opened one) calls).ongoing kind task ops
         ≡ answer_to other terms life (after_calls other terms life (opened_as again two) others).ongoing kind task ops }
+    ensures next_at { (task : ℕ) (opened again : OutcomeParts N) (first other : Start) (one two : Ongoing)
+        (calls others : List PortCall) → SeesTheSame task opened again first other one two calls others →
+        (kind : AskKind) (ops : List Op) (at : ℕ) →
+        let terms = opened.die.die.terms in let life = opened.die.die.life in
+        let d = (after_calls first terms life (opened_as opened one) calls).ongoing in
+        let e = (after_calls other terms life (opened_as again two) others).ongoing in
+        answer_at first terms life d kind task ops at ≡ answer_at other terms life e kind task ops at }
 {
     ongoing_tasks_are_answered_for_their_own_asks();
 }

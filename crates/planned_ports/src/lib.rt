@@ -23,5 +23,5 @@ pub use laws::{
 pub use opening::{NotOpened, Opened, open};
 pub use pages::PageRange;
 pub use ports::{ClockPort, SharedPlannedDie, TaskPort};
-pub use refusals::{AskRefused, OutcomeRefused, SlotRefused};
+pub use refusals::{AskAtRefused, AskRefused, OutcomeRefused, SlotRefused};
 pub use task_outcomes::{OutcomeDie, TaskOutcome};

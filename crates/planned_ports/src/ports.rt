@@ -2,14 +2,14 @@
 
 ghost use Rattle.std.specs.Prelude.{◌≡◌, [], Some, None, IfOk, IfErr};
 ghost use Rattle.planned_ports.specs.Pages.{foreign_page};
-ghost use Rattle.planned_ports.specs.Unwrapping.{IsJob, IsSlot, IsOutcome, RefusesAsks, RefusesSlots, RefusesOutcomes, IsAskRefusal, IsSlotRefusal, IsNoOutcome};
+ghost use Rattle.planned_ports.specs.Unwrapping.{IsJob, IsSlot, IsOutcome, RefusesAsks, RefusesAsksAt, RefusesSlots, RefusesOutcomes, IsAskRefusal, IsAskAtRefusal, IsSlotRefusal, IsNoOutcome};
 ghost use Rattle.turn_lock.specs.Views.{IsSamePass};
-ghost use Rattle.planned_ports.specs.Ports.{AddsEntry, AddsNone, IsSamePort, IsSameClock, HasOwnAsks, HasOwnSlots, IsClock, IsAnswer, RefusesTask, RefusesClock, TellsOutcome, RefusesOutcome};
+ghost use Rattle.planned_ports.specs.Ports.{AddsEntry, AddsNone, IsSamePort, IsSameClock, HasOwnAsks, HasOwnSlots, IsClock, IsAnswer, RefusesTask, RefusesTaskAt, RefusesClock, TellsOutcome, RefusesOutcome};
 
 use crate::book::PlannedBook;
 use crate::calls::{AskHead, Granted, Query, Refused, Request};
 use crate::pages::{PageRange, first_foreign};
-use crate::refusals::{AskRefused, OutcomeRefused, SlotRefused};
+use crate::refusals::{AskAtRefused, AskRefused, OutcomeRefused, SlotRefused};
 use flash_die::Nand;
 use ongoing_die::{AskKind, Taken};
 use slot_types::{Op, SlotReply, TaskNo};
@@ -49,7 +49,45 @@ impl<N: Nand> SharedPlannedDie<N> {
         ensures refused { IfErr result (λ refusal.
             AddsNone pass.old.view (Request.Ask kind task ops.now) refusal pass.new.view) }
     {
-        self.turned.note(rt, pass, AskHead { kind, task }, &ops)
+        self.turned.note(
+            rt,
+            pass,
+            AskHead {
+                kind,
+                task,
+                at: None,
+            },
+            &ops,
+        )
+    }
+
+    /// Asks for a job or a burst of the task that is released in this slot of the clock.
+    fn ask_at_for<R: Wait>(
+        &self,
+        rt: &R,
+        pass: &mut Pass<PlannedBook<N>>,
+        kind: AskKind,
+        task: TaskNo,
+        ops: &[Op],
+        at: u64,
+    ) -> Result<Granted, Refused>
+        requires { pass.old.lock ≡ self.now }
+        ensures same { IsSamePass pass.old pass.new }
+        ensures added { IfOk result (λ answer.
+            AddsEntry pass.old.view (Request.AskAt kind task ops.now at) answer pass.new.view) }
+        ensures refused { IfErr result (λ refusal.
+            AddsNone pass.old.view (Request.AskAt kind task ops.now at) refusal pass.new.view) }
+    {
+        self.turned.note(
+            rt,
+            pass,
+            AskHead {
+                kind,
+                task,
+                at: Some(at),
+            },
+            &ops,
+        )
     }
 
     /// Carries the present slot out.
@@ -171,6 +209,18 @@ fn ask_refusal(refused: Refused) -> AskRefused
     }
 }
 
+/// Why an ask for a slot of the clock is.
+fn ask_at_refusal(refused: Refused) -> AskAtRefused
+    requires { RefusesAsksAt refused }
+    ensures { IsAskAtRefusal refused result }
+{
+    match refused {
+        Refused::AskAt(stop) => AskAtRefused::Die(stop),
+        Refused::LockFull => AskAtRefused::LockFull,
+        _ => unreachable!(),
+    }
+}
+
 /// Why a slot is.
 fn slot_refusal(refused: Refused) -> SlotRefused
     requires { RefusesSlots refused }
@@ -266,6 +316,83 @@ impl<N: Nand> TaskPort<N> {
         match die.ask_for(rt, &mut self.pass, kind, self.task, ops) {
             Ok(granted) => Ok(job_of(granted)),
             Err(refused) => Err(ask_refusal(refused)),
+        }
+    }
+
+    /// Asks for a job of the port's task that is released in slot `at` of the clock of all lives, as
+    /// [`OngoingDie::ask_at`](ongoing_die::OngoingDie::ask_at) does. Slot `at` is the one that stands when the port has its
+    /// turn, or lies ahead of it by less than the task's period. Else than for the present slot the ask waits in the die, one
+    /// of each task, and enters by itself. May wait for the turn, and for nothing else.
+    ///
+    /// The refusals, of which the first that stands is answered, and nothing changes: `ForeignPage` and `LockFull`, as of
+    /// [`ask`](TaskPort::ask); `Die`, as the die lists the causes of such an ask. The slot may be over (`Past`) where others
+    /// had their turn first. It takes no memory.
+    pub fn ask_at<R: Wait>(
+        &mut self,
+        rt: &R,
+        die: &SharedPlannedDie<N>,
+        ops: &[Op],
+        at: u64,
+    ) -> Result<Taken, AskAtRefused>
+        requires { self.old.lock ≡ die.now }
+        ensures same { IsSamePort self.old self.new }
+        ensures own { HasOwnAsks self.new }
+        ensures granted { IfOk result (λ answer. AddsEntry self.old.view
+            (Request.AskAt AskKind.Job self.old.task ops.now at) (Granted.Job answer) self.new.view) }
+        ensures pages { IfOk result (λ _. foreign_page self.old.pages ops.now ≡ None) }
+        ensures refused { IfErr result (λ refusal. RefusesTaskAt AskKind.Job self.old ops.now at refusal self.new) }
+    {
+        self.ask_at_as(rt, die, AskKind::Job, ops, at)
+    }
+
+    /// Asks for a burst of the port's task that is released in slot `at` of the clock of all lives, as
+    /// [`OngoingDie::ask_all_at`](ongoing_die::OngoingDie::ask_all_at) does: all its jobs are released together, as the job
+    /// of [`ask_at`](TaskPort::ask_at) is, or the whole burst is refused. May wait for the turn, and for nothing else.
+    ///
+    /// The refusals are those of [`ask_at`](TaskPort::ask_at), and nothing changes; but that `Die` has the causes of a burst.
+    /// It takes no memory.
+    pub fn ask_all_at<R: Wait>(
+        &mut self,
+        rt: &R,
+        die: &SharedPlannedDie<N>,
+        ops: &[Op],
+        at: u64,
+    ) -> Result<Taken, AskAtRefused>
+        requires { self.old.lock ≡ die.now }
+        ensures same { IsSamePort self.old self.new }
+        ensures own { HasOwnAsks self.new }
+        ensures granted { IfOk result (λ answer. AddsEntry self.old.view
+            (Request.AskAt AskKind.Burst self.old.task ops.now at) (Granted.Job answer) self.new.view) }
+        ensures pages { IfOk result (λ _. foreign_page self.old.pages ops.now ≡ None) }
+        ensures refused { IfErr result (λ refusal. RefusesTaskAt AskKind.Burst self.old ops.now at refusal self.new) }
+    {
+        self.ask_at_as(rt, die, AskKind::Burst, ops, at)
+    }
+
+    /// Asks for a job or for a burst that is released in this slot of the clock.
+    fn ask_at_as<R: Wait>(
+        &mut self,
+        rt: &R,
+        die: &SharedPlannedDie<N>,
+        kind: AskKind,
+        ops: &[Op],
+        at: u64,
+    ) -> Result<Taken, AskAtRefused>
+        requires { self.old.lock ≡ die.now }
+        ensures same { IsSamePort self.old self.new }
+        ensures own { HasOwnAsks self.new }
+        ensures granted { IfOk result (λ answer. AddsEntry self.old.view
+            (Request.AskAt kind self.old.task ops.now at) (Granted.Job answer) self.new.view) }
+        ensures pages { IfOk result (λ _. foreign_page self.old.pages ops.now ≡ None) }
+        ensures refused { IfErr result (λ refusal. RefusesTaskAt kind self.old ops.now at refusal self.new) }
+    {
+        match first_foreign(self.pages, ops) {
+            Some(page) => return Err(AskAtRefused::ForeignPage { page }),
+            None => {}
+        }
+        match die.ask_at_for(rt, &mut self.pass, kind, self.task, ops, at) {
+            Ok(granted) => Ok(job_of(granted)),
+            Err(refused) => Err(ask_at_refusal(refused)),
         }
     }
 

@@ -7,3 +7,7 @@ mod Alike
 mod Calls
 mod Running
 mod LivingOn
+mod Entering
+mod Told
+mod Served
+mod InLives

@@ -31,7 +31,7 @@ use Rattle.task_reads.proofs.Calls.{unnumbered, keys, new_key, keys_other, keys_
 -- Order
 
 module _ (start : Start) (terms : Terms) (earlier : Lives) (life task : ℕ) where
-  jobs_ordered : (log : Log) (caller other : ℕ) (all : List (List Op)) → IsOrdered start terms task log
+  pub jobs_ordered : (log : Log) (caller other : ℕ) (all : List (List Op)) → IsOrdered start terms task log
       → IsOrdered start terms task (with_jobs start terms log caller other all)
   jobs_ordered log caller other [] h = h
   jobs_ordered log caller other (ops ∷ all) h =
@@ -42,7 +42,7 @@ module _ (start : Start) (terms : Terms) (earlier : Lives) (life task : ℕ) whe
   asked_ordered log kind caller other ops None h = jobs_ordered log caller other (jobs_as kind ops) h
   asked_ordered log kind caller other ops (Some refusal) h = h
 
-  slot_if : (log : Log) (caller : ℕ) (b : Bool) → IsOrdered start terms task log
+  pub slot_if : (log : Log) (caller : ℕ) (b : Bool) → IsOrdered start terms task log
       → IsOrdered start terms task (cond b (after_call start (after_own start terms log caller) (caller, events.Slot)) log)
   slot_if log caller true h = slot_ordered start terms task (after_own start terms log caller) caller
       (own_ordered start terms task terms.tasks 0 (now log) log caller h)
@@ -74,10 +74,10 @@ none_ordered start terms task = record {
 -- What comes
 
 module _ (plan : DiePlan) (terms : Terms) (life first task : ℕ) where
-  abbrev new_keys : ℕ → List (List Op) → List Job
+  abbrev pub new_keys : ℕ → List (List Op) → List Job
   new_keys slot all = map (new_key terms task slot) all
 
-  abbrev then_new : ℕ → List (List Op) → Option AskRefusal → List Job
+  abbrev pub then_new : ℕ → List (List Op) → Option AskRefusal → List Job
   then_new slot all None = new_keys slot all
   then_new slot all (Some refusal) = []
 
@@ -97,7 +97,7 @@ module _ (start : Start) (terms : Terms) (earlier : Lives) (life task : ℕ) whe
   entering log caller other ops = after_call start log (caller, asked_job terms log other ops)
 
   -- another task's jobs are none of this one's
-  others_keys : (other : ℕ) → (other == task) ≡ false → (all : List (List Op)) (log : Log) (caller : ℕ)
+  pub others_keys : (other : ℕ) → (other == task) ≡ false → (all : List (List Op)) (log : Log) (caller : ℕ)
       → keys task (with_jobs start terms log caller other all) ≡ keys task log
   others_keys other away [] log caller = refl
   others_keys other away (ops ∷ all) log caller =
@@ -134,7 +134,7 @@ module _ (start : Start) (terms : Terms) (earlier : Lives) (life task : ℕ) whe
       ∙ (ap (λ (l : List Job). l ++ new_keys start.plan terms life first task (now log) all) (one_key log k caller ops u.0)
       ∙ append_assoc (keys task log) (new_key terms task (now log) ops ∷ []) (new_keys start.plan terms life first task (now log) all)))
 
-  own_asked : (log : Log) → IsKept start terms earlier life 0 log → (kind : AskKind) (caller : ℕ) (ops : List Op) (o : Option AskRefusal)
+  pub own_asked : (log : Log) → IsKept start terms earlier life 0 log → (kind : AskKind) (caller : ℕ) (ops : List Op) (o : Option AskRefusal)
       → refusal_as kind start.plan terms life earlier log task ops ≡ o
       → keys task (after_ask start terms log kind caller task ops o)
       ≡ keys task log ++ then_new start.plan terms life first task (now log) (jobs_as kind ops) o
@@ -142,7 +142,7 @@ module _ (start : Start) (terms : Terms) (earlier : Lives) (life task : ℕ) whe
       (unrefused_as start terms earlier life 0 caller task kind log k ops e)
   own_asked log k kind caller ops (Some refusal) e = sym (append-nil (keys task log))
 
-  slot_keys_if : (log : Log) (caller : ℕ) (b : Bool)
+  pub slot_keys_if : (log : Log) (caller : ℕ) (b : Bool)
       → keys task (cond b (after_call start (after_own start terms log caller) (caller, events.Slot)) log) ≡ keys task log
   slot_keys_if log caller true = slot_keys start task (after_own start terms log caller) caller ∙ own_keys start task terms.tasks 0 (now log) log caller
   slot_keys_if log caller false = refl
@@ -205,6 +205,16 @@ module _ (start : Start) (terms : Terms) (earlier : Lives) (life task : ℕ) whe
 
 -- Two runs
 
+of_keys : {X : Type 0} (f : Job → X) → ((j : Job) → f (unnumbered j) ≡ f j) → (js : List Job) → map f (map unnumbered js) ≡ map f js
+of_keys f e [] = refl
+of_keys f e (j ∷ js) = let head : f (unnumbered j) ≡ f j = e j in let tail : map f (map unnumbered js) ≡ map f js = of_keys f e js in cc
+
+-- whatever doesn't tell a job's number is the same where the jobs are the same without it
+pub alike_by : {X : Type 0} (task : ℕ) (one two : Log) → keys task one ≡ keys task two → (f : Job → X) → ((j : Job) → f (unnumbered j) ≡ f j)
+    → map f (task_jobs task one) ≡ map f (task_jobs task two)
+alike_by task one two same f e =
+    sym (of_keys f e (task_jobs task one)) ∙ (ap (λ (l : List Job). map f l) same ∙ of_keys f e (task_jobs task two))
+
 module _ (task life : ℕ) (terms : Terms) (start : Start) (earlier : Lives) (moves : List Move) (other : Start) (before : Lives)
     (others : List Move) (h : AreSeenAlike task life terms start earlier moves other before others) where
   abbrev one : Log
@@ -222,19 +232,11 @@ module _ (task life : ℕ) (terms : Terms) (start : Start) (earlier : Lives) (mo
       ∙ (ap (λ (l : List Seen). seen_keys other.plan terms life (all_slots before) task 0 (asked_by task ([] ∷ before)) l) h.seen
       ∙ sym (keys_told other terms before life task others [] h.kept_two)))))
 
-  of_keys : {X : Type 0} (f : Job → X) → ((j : Job) → f (unnumbered j) ≡ f j) → (js : List Job) → map f (map unnumbered js) ≡ map f js
-  of_keys f e [] = refl
-  of_keys f e (j ∷ js) = let head : f (unnumbered j) ≡ f j = e j in let tail : map f (map unnumbered js) ≡ map f js = of_keys f e js in cc
-
-  -- whatever doesn't tell its number
-  pub alike_by : {X : Type 0} (f : Job → X) → ((j : Job) → f (unnumbered j) ≡ f j) → map f (task_jobs task one) ≡ map f (task_jobs task two)
-  alike_by f e = sym (of_keys f e (task_jobs task one)) ∙ (ap (λ (l : List Job). map f l) keys_alike ∙ of_keys f e (task_jobs task two))
-
   pub releases_alike : map (λ (j : Job). j.release) (task_jobs task one) ≡ map (λ (j : Job). j.release) (task_jobs task two)
-  releases_alike = alike_by (λ (j : Job). j.release) (λ j. refl)
+  releases_alike = alike_by task one two keys_alike (λ (j : Job). j.release) (λ j. refl)
 
   pub dues_alike : map (λ (j : Job). j.due) (task_jobs task one) ≡ map (λ (j : Job). j.due) (task_jobs task two)
-  dues_alike = alike_by (λ (j : Job). j.due) (λ j. refl)
+  dues_alike = alike_by task one two keys_alike (λ (j : Job). j.due) (λ j. refl)
 
   pub asked_alike : AreAskedAlike task start one other two
   asked_alike =
@@ -247,5 +249,5 @@ module _ (task life : ℕ) (terms : Terms) (start : Start) (earlier : Lives) (mo
         exact_two = order_two.exact;
         order_one = come_in_order start terms task one order_one;
         order_two = come_in_order other terms task two order_two;
-        same = alike_by (λ (j : Job). j.ops) (λ j. refl);
+        same = alike_by task one two keys_alike (λ (j : Job). j.ops) (λ j. refl);
       }

@@ -1,12 +1,14 @@
 -- Pages that are a task's own, and two logs in which it asked for the same.
-use Rattle.std.specs.Prelude.{◌≡◌, ℕ, [], Contains, IsFalse}
+use Rattle.std.specs.Prelude.{◌≡◌, ℕ, [], Some, Contains, IsFalse, slice_get}
 use Rattle.std.specs.List.{list_any}
-use Rattle.die_log.specs.Model.Log.{Log, Job, jobs}
+use Rattle.slot_types.specs.declared.pages.PageData.{PageData}
+use Rattle.slot_types.specs.declared.acts.Act.TheVariants as does
+use Rattle.die_log.specs.Model.Log.{Log, Job, jobs, acts}
 use Rattle.die_log.specs.Model.Flash.{content}
 use Rattle.die_log.specs.Model.Start.{Start}
 use Rattle.die_log.specs.Model.Opening.{IsOpening}
 use Rattle.die_log.specs.Model.Answers.{IsExact}
-use Rattle.task_reads.specs.Asked.{is_job_of, asks_of, changes, ComeInOrder}
+use Rattle.task_reads.specs.Asked.{is_job_of, task_jobs, asks_of, changes, ComeInOrder}
 
 -- no job of another task writes or trims the page
 abbrev pub IsOwnPage : (task page : ℕ) → Log → Type 0
@@ -28,6 +30,13 @@ pub record IsOwnInBoth (task page : ℕ) (first : Start) (one : Log) (other : St
   pub own_one : IsOwnPage task page one
   pub own_two : IsOwnPage task page two
   pub same : content first [] page ≡ content other [] page
+
+-- each read of the page by the task, act by act of its jobs, gives the same bytes in both
+abbrev pub ReadAlike : (task page : ℕ) → Log → Log → Type 0
+ReadAlike task page one two =
+    (k : ℕ) (i j : Job) → slice_get (task_jobs task one) k ≡ Some i → slice_get (task_jobs task two) k ≡ Some j → (n p : ℕ)
+    (bytes given : PageData) → slice_get (acts i.number one) n ≡ Some (does.Read page bytes)
+    → slice_get (acts j.number two) n ≡ Some (does.Read p given) → (p ≡ page) × (given ≡ bytes)
 
 -- it holds of each two such logs
 abbrev pub ForAskedAlike : (ℕ → Start → Log → Start → Log → Type 0) → Type 0

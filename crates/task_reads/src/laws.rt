@@ -1,6 +1,6 @@
 //! What a task's reads give. Each law is a function that does nothing.
 
-ghost use Rattle.std.specs.Prelude.{◌≡◌, ◌++◌, ◌<◌, ℕ, List, [], Some, Contains, MatchOption, IsTrue, slice_get, take, map};
+ghost use Rattle.std.specs.Prelude.{◌≡◌, ◌++◌, ◌<◌, ℕ, List, [], Some, Contains, MatchOption, IsTrue, slice_get, take, drop, map};
 ghost use Rattle.slot_types.specs.declared.pages.PageData.{PageData};
 ghost use Rattle.slot_types.specs.declared.acts.Act.{Act};
 ghost use Rattle.slot_types.specs.declared.acts.Act.TheVariants as does;
@@ -14,13 +14,19 @@ ghost use Rattle.die_log.specs.Model.Opening.{IsQuiet};
 ghost use Rattle.die_log.specs.Results.Laws.{ForEveryExactLog};
 ghost use Rattle.die_log.specs.Results.Legal.{Does};
 ghost use Rattle.task_reads.specs.Asked.{task_jobs, operations, ComeInOrder, left_on};
-ghost use Rattle.task_reads.specs.OwnPages.{IsOwnPage, AreAskedAlike, IsOwnInBoth, ForAskedAlike};
+ghost use Rattle.task_reads.specs.OwnPages.{IsOwnPage, AreAskedAlike, IsOwnInBoth, ReadAlike, ForAskedAlike};
 ghost use Rattle.demand_rules.specs.declared.terms.Terms.{Terms};
-ghost use Rattle.die_log.specs.Model.Lives.{start_after};
+ghost use Rattle.die_log.specs.Model.Lives.{start_after, AreLives};
 ghost use Rattle.planned_log.specs.Laws.{seen_by};
 ghost use Rattle.planned_log.specs.Moves.{Move, lives_after};
 ghost use Rattle.task_reads.specs.Runs.{AreSeenAlike, ForRunsSeenAlike};
 ghost use Rattle.task_reads.specs.Lives.{IsOwnInLives, AreLivesSeenAlike};
+ghost use Rattle.ongoing_log.specs.PastLives.{PastLife, starts_after};
+ghost use Rattle.ongoing_log.specs.Ongoing.{start_of};
+ghost use Rattle.ongoing_log.specs.Ahead.{AheadMove};
+ghost use Rattle.task_reads.specs.GoingOn.{BeginsAfter, gone_on, lives_since, ForGoneOnAlike, AskAlikeInLives, HaveAlikeInLives, ForOwnPages};
+
+use ongoing_log::ongoing_tasks_are_answered_for_their_own_asks;
 
 /// Where a task's jobs come in order, a job of the task isn't begun before all that were taken before it are done. The acts
 /// of a job are its operations, in order. So the task's operations are carried out in the order in which it asked for them,
@@ -55,11 +61,7 @@ pub fn own_pages_stand_as_asked()
 /// (`jobs`). And once all is done, the same stands on such a page in both, so the next lives begin alike (`ended`).
 pub fn tasks_read_for_their_own_asks()
     ensures reads { ForAskedAlike (λ task first one other two. (page : ℕ) →
-        IsOwnInBoth task page first one other two → (k : ℕ) (i j : Job) →
-        slice_get (task_jobs task one) k ≡ Some i → slice_get (task_jobs task two) k ≡ Some j →
-        (n p : ℕ) (bytes given : PageData) →
-        slice_get (acts i.number one) n ≡ Some (does.Read page bytes) →
-        slice_get (acts j.number two) n ≡ Some (does.Read p given) → (p ≡ page) × (given ≡ bytes)) }
+        IsOwnInBoth task page first one other two → ReadAlike task page one two) }
     ensures jobs { ForAskedAlike (λ task first one other two. (k : ℕ) (i j : Job) →
         slice_get (task_jobs task one) k ≡ Some i → slice_get (task_jobs task two) k ≡ Some j →
         ((op : Op) → Contains i.ops op → IsTrue (is_read op)
@@ -105,3 +107,26 @@ pub fn lives_read_alike()
         IsOwnInLives task page lives → IsOwnInLives task page twins →
         content (start_after first lives) [] page ≡ content (start_after other twins) [] page }
 {}
+
+/// So it is of a die that begins its lives itself, and lets in what waits for the next life or for a slot ahead. Its lives
+/// since it was made, went on from a checkpoint, or was mounted are lives as `die_log` has them (`lives`), and the present one
+/// starts where they leave it (`starts`). Where a task sees the same of two such dies, its jobs come in order and ask for the
+/// same in both, life by life (`asked`), with the same releases and the same deadlines. In each life the same stands at first on
+/// each page that was its own in all lives so far, if it did in the first (`pages`), and each of its reads of such a page
+/// gives the same bytes (`reads`), whatever the others ask for in either.
+pub fn ongoing_dies_read_alike()
+    ensures lives { (first : Start) (terms : Terms) (life : ℕ) (past : List PastLife) →
+        BeginsAfter first terms life past → (moves : List AheadMove)
+        → AreLives (starts_after first past) (lives_since past (gone_on first terms life past moves)) }
+    ensures starts { (first : Start) (terms : Terms) (life : ℕ) (past : List PastLife) →
+        BeginsAfter first terms life past → (moves : List AheadMove) →
+        let d = gone_on first terms life past moves in
+        start_after (starts_after first past) (drop 1 (lives_since past d)) ≡ start_of first d }
+    ensures asked { ForGoneOnAlike AskAlikeInLives }
+    ensures releases { ForGoneOnAlike (HaveAlikeInLives (λ (j : Job). j.release)) }
+    ensures deadlines { ForGoneOnAlike (HaveAlikeInLives (λ (j : Job). j.due)) }
+    ensures pages { ForGoneOnAlike (λ task. ForOwnPages (IsOwnInBoth task) task) }
+    ensures reads { ForGoneOnAlike (λ task. ForOwnPages (λ page start log other twin. ReadAlike task page log twin) task) }
+{
+    ongoing_tasks_are_answered_for_their_own_asks();
+}

@@ -7,7 +7,7 @@ use Rattle.planned_ports.specs.declared.calls.Request.TheVariants as requests
 use Rattle.planned_ports.specs.declared.calls.Granted.TheVariants as granted
 use Rattle.planned_ports.specs.declared.calls.Refused.TheVariants as refused
 use Rattle.planned_ports.specs.Shared.{SharedDie}
-use Rattle.planned_ports.proofs.Booking.{Answers, take_answers, replied, with_entry, without_entry}
+use Rattle.planned_ports.proofs.Booking.{Answers, take_answers, with_entry, without_entry}
 use Rattle.planned_ports.proofs.book.PlannedBook.take_outcome.Goals as goal
 
 pub invariant_of-self : goal.invariant_of-self

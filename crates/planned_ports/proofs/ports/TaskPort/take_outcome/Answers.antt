@@ -1,4 +1,4 @@
-use Rattle.planned_ports.proofs.Passing.{is_outcome, refuses_outcomes, own_outcome, same_outcome, tells_none, refuses_outcome}
+use Rattle.planned_ports.proofs.Passing.{is_outcome, refuses_outcomes}
 use Rattle.planned_ports.proofs.ports.TaskPort.take_outcome.Goals as goal
 
 pub outcome_of-requires : goal.outcome_of-requires
