@@ -11,10 +11,12 @@ pub report_of-requires-clause-dies : goal.report_of-requires-clause-dies
 report_of-requires-clause-dies g c =
     c.in_ok-script.ensures.dies ∙ sym (as_many begun fresh c.in_ok-dies.dies.items c.args.plan c.in_ok-dies.ensures.starts)
 
-pub returns-clause-ran : goal.returns-clause-ran
-returns-clause-ran g c =
-    let text = g.R.Read.remaining c.args.script in
-    let many = as_many begun fresh c.in_ok-dies.dies.items c.args.plan c.in_ok-dies.ensures.starts in
-    subst (λ (starts : List Start). IfOk c.report_of.result (λ (said : Reported). IsReportFrom starts text c.args.slots c.args.life c.args.units c.args.as_csv None said))
-    c.in_ok-dies.ensures.starts
-    (c.report_of.ensures.ran text (c.in_ok-script.ensures.script ∙ ap (λ (n : ℕ). script_in n c.args.slots text) (sym many)))
+pub returns : goal.returns
+returns g c = record {
+  ran =
+      let text = g.R.Read.remaining c.args.script in
+      let many = as_many begun fresh c.in_ok-dies.dies.items c.args.plan c.in_ok-dies.ensures.starts in
+      subst (λ (starts : List Start). IfOk c.report_of.result (λ (said : Reported). IsReportFrom starts text c.args.slots c.args.life c.args.units c.args.as_csv None said))
+      c.in_ok-dies.ensures.starts
+      (c.report_of.ensures.ran text (c.in_ok-script.ensures.script ∙ ap (λ (n : ℕ). script_in n c.args.slots text) (sym many)));
+}
