@@ -227,15 +227,15 @@ pub record PrintsDrawing (plan script : Option (List ℕ)) (slots die : ℕ) (fa
   pub ran : IsDrawingFrom (starts_by store saved) script slots die fail said
   pub written : Appends old new said.text.items
 
--- dies ran that began fresh by the plans of the store that was read, or as they were saved, if that was asked for; and some text is
--- printed, of which nothing is said
-pub record PrintsCompared (plan script : Option (List ℕ)) (slots : ℕ) (begins_fresh : Bool) (old new : Option (List ℕ)) : Type 0 where
+-- dies ran that began fresh by the plans of the store that was read, or as they were saved, if that was asked for, on devices that
+-- never fail, or that may; and some text is printed, of which nothing is said
+pub record PrintsCompared (never_fails : Bool) (plan script : Option (List ℕ)) (slots : ℕ) (begins_fresh : Bool) (old new : Option (List ℕ)) : Type 0 where
   pub store : List DiePlan
   pub read : ReadsStore plan store
   pub saved : Option (List SavedDie)
   pub begun : begins_fresh ≡ true → saved ≡ None
   pub counts : RefusedRows
-  pub ran : HasStoreRun (starts_by store saved) script slots counts
+  pub ran : HasStoreRun never_fails (starts_by store saved) script slots counts
   pub text : PrintsText old new
 
 -- a script's text keeps plans with times, or breaks one
@@ -410,9 +410,12 @@ EndsSo contents has_failed (command.Report plan script slots endurance slot_us p
 EndsSo contents has_failed (command.Draw plan script slots die first end slot_us page_bytes worst as_text all fail checkpoint) text rows old new status =
     Ends contents has_failed (PrintsDrawing text rows slots die (failing_in fail) (is_none checkpoint)) old new status
 EndsSo contents has_failed (command.Demand plan die) text rows old new status = Ends contents has_failed PrintsText old new status
-EndsSo contents has_failed (command.Compare plan script slots first pool slot_us page_bytes as_csv draws die task checkpoint) text rows old new
-    status =
-    Ends contents has_failed (PrintsCompared text rows slots (is_none checkpoint)) old new status
+EndsSo contents has_failed (command.Compare plan script slots first pool slot_us page_bytes as_csv draws die task None checkpoint) text rows
+    old new status =
+    Ends contents has_failed (PrintsCompared true text rows slots (is_none checkpoint)) old new status
+EndsSo contents has_failed (command.Compare plan script slots first pool slot_us page_bytes as_csv draws die task (Some bad) checkpoint) text
+    rows old new status =
+    Ends contents has_failed (PrintsCompared false text rows slots true) old new status
 EndsSo contents has_failed (command.Run plan script slots from to None) text rows old new status =
     EndsRun contents has_failed (PrintsRun text rows slots (is_none from) (is_some to)) (is_none to) old new status
 EndsSo contents has_failed (command.Run plan script slots from to (Some fail)) text rows old new status =

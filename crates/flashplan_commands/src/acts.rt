@@ -6,7 +6,7 @@ ghost use Rattle.flashplan_commands.specs.Acts.{EndsSo, failing, failing_in, unl
 
 use crate::arriving::act_arrivals;
 use crate::checkpoint_acts::{Kept, act_failing, act_run};
-use crate::comparing::act_compare;
+use crate::comparing::{act_compare, act_compare_worn};
 use crate::cutting::{Cuts, act_cut};
 use crate::demanding::act_demand;
 use crate::designing::act_design;
@@ -259,10 +259,10 @@ pub fn act<P: Read + Drop, S: Read + Drop, C: Read + Drop, K: Shelf, W: Output, 
             draws,
             die,
             task,
+            bad,
             checkpoint,
             ..
         } => {
-            let begun = begun(kept.from, checkpoint.is_none());
             let marks = Marks {
                 low: LOW,
                 pool: pool as usize,
@@ -274,7 +274,16 @@ pub fn act<P: Read + Drop, S: Read + Drop, C: Read + Drop, K: Shelf, W: Output, 
                 units: units_of(slot_us, page_bytes),
             };
             let form = form_of(as_csv, draws, die, task);
-            act_compare(alloc, plan, script, begun, measure, form, out, err)
+            match bad {
+                Some(bad) => {
+                    let bad = failing_blocks(bad);
+                    act_compare_worn(alloc, plan, script, bad, measure, form, out, err)
+                }
+                None => {
+                    let begun = begun(kept.from, checkpoint.is_none());
+                    act_compare(alloc, plan, script, begun, measure, form, out, err)
+                }
+            }
         }
         Command::Run {
             slots,

@@ -1,6 +1,6 @@
 //! A script on the store and on plain layers.
 
-ghost use Rattle.std.specs.Prelude.{◌≡◌, ◌≤◌, All, IfOk, IfSome, OnErr, OnOk, if◌then◌else◌, is_none, is_ok, length, map};
+ghost use Rattle.std.specs.Prelude.{◌≡◌, ◌≤◌, All, IfOk, IfSome, OnErr, OnOk, if◌then◌else◌, false, is_none, is_ok, length, map, true};
 ghost use Rattle.std.specs.List.{AllZip};
 ghost use Rattle.text_base.specs.Writing.{IsNotWhole};
 ghost use Rattle.plan_rules.specs.Bound.{MeetsBound};
@@ -12,18 +12,18 @@ ghost use Rattle.flashplan_commands.specs.KeptActs.{ReadsKept};
 ghost use Rattle.flashplan_commands.specs.PlanKinds.{ReadsStore};
 
 use crate::checkpoint_acts::{begun_in, end_unrun};
-use crate::endings::{end_refused, report_refused};
+use crate::endings::{end_refused, report_refused, report_too_few};
 use crate::plan_faults::end_unread;
 use crate::slot_lengths::{report_unsaid, units_with};
 use crate::stores::{PlanRead, TimedPlan, Unread, timed_plan_in};
 use checkpoint_texts::SavedStore;
 use flashplan_checkpoint_runs::{RunFault, started_store};
 use flashplan_kept_runs::{KeptFault, KeptReason, kept_plans};
-use flashplan_slot_times::Units;
+use flashplan_slot_times::{Slots, Units};
 use flashplan_store_compare::{
-    CompareFault, Form, Measure, StartedDies, compare_started, store_copy,
+    CompareFault, Form, Measure, StartedDies, compare_started, compare_wearing, store_copy,
 };
-use flashplan_watched_runs::RefusedRows;
+use flashplan_watched_runs::{BadBlocks, RefusedRows};
 use slot_types::{MAX_SLOT, Refusal, StorePlan};
 use std::alloc::Global;
 use std::io::{Read, Write};
@@ -121,6 +121,8 @@ struct Beside {
     refused: RefusedRows,
     /// Why there are no dies that keep their plans, where the plan has times or terms.
     unplanned: Option<KeptFault>,
+    /// The first die of the store whose device failed, and in which slot.
+    stopped: Option<(u32, u32)>,
     /// How many us a slot takes, where that is known.
     slot_us: Option<u32>,
 }
@@ -171,11 +173,11 @@ fn print_compared<P: Read + Drop, S: Read + Drop, C: Read + Drop, W: Output>(
 ) -> Result<Beside, Uncompared>
     requires slots { measure.slots ≤ MAX_SLOT }
     ensures printed { OnOk result
-        (PrintsCompared (P.remaining plan) (S.remaining script) measure.slots (is_none from)
+        (PrintsCompared true (P.remaining plan) (S.remaining script) measure.slots (is_none from)
         (W.contents out.old) (W.contents out.new)) }
     ensures part { OnErr result
         (IsNotWhole W.contents W.has_failed
-        (PrintsCompared (P.remaining plan) (S.remaining script) measure.slots (is_none from)) out.old out.new) }
+        (PrintsCompared true (P.remaining plan) (S.remaining script) measure.slots (is_none from)) out.old out.new) }
 {
     let ComparedPlans {
         store,
@@ -191,6 +193,7 @@ fn print_compared<P: Read + Drop, S: Read + Drop, C: Read + Drop, W: Output>(
     Ok(Beside {
         refused: compared.refused,
         unplanned: compared.unplanned,
+        stopped: compared.stopped,
         slot_us,
     })
 }
@@ -199,6 +202,16 @@ fn print_compared<P: Read + Drop, S: Read + Drop, C: Read + Drop, W: Output>(
 /// passed over.
 fn report_beside<E: Write>(err: &mut E, beside: Beside) {
     report_refused(err, beside.refused);
+    if let Some((die, slot)) = beside.stopped {
+        let slot = Slots {
+            count: u64::from(slot),
+            slot_us: beside.slot_us,
+        };
+        let _ = writeln!(
+            err,
+            "die {die}: a block failed in slot {slot} and no spare one was left: DeviceFault stopped the die"
+        );
+    }
     if let Some(fault) = beside.unplanned {
         let reason = KeptReason {
             fault,
@@ -228,7 +241,13 @@ fn end_compared<E: Write>(err: &mut E, units: Units, compared: Result<Beside, Un
         }
         Err(Uncompared::Unread(unread)) => end_unread(err, unread),
         Err(Uncompared::Unrun(fault)) => end_unrun(err, fault),
-        Err(Uncompared::Compared(CompareFault::Refused(refusal))) => end_refused(err, refusal),
+        Err(Uncompared::Compared(CompareFault::Refused(refusal))) => {
+            let status = end_refused(err, refusal);
+            if refusal == Refusal::DeviceFault {
+                report_too_few(err);
+            }
+            status
+        }
         Err(Uncompared::Compared(CompareFault::WrongLayer { policy, fault })) => {
             let _ = writeln!(
                 err,
@@ -258,8 +277,64 @@ pub fn act_compare<P: Read + Drop, S: Read + Drop, C: Read + Drop, W: Output, E:
 ) -> u8
     requires slots { measure.slots ≤ MAX_SLOT }
     ensures { Ends W.contents W.has_failed
-        (PrintsCompared (P.remaining plan) (S.remaining script) measure.slots (is_none from)) out.old out.new result }
+        (PrintsCompared true (P.remaining plan) (S.remaining script) measure.slots (is_none from)) out.old out.new result }
 {
     let compared = print_compared(alloc, plan, script, from, measure, form, out);
+    end_compared(err, measure.units, compared)
+}
+
+/// Prints the same of a store of fresh dies on parts some of whose blocks fail. The dies that keep their plans are on whole
+/// parts.
+fn print_worn<P: Read + Drop, S: Read + Drop, W: Output>(
+    alloc: Global,
+    plan: P,
+    script: S,
+    bad: BadBlocks,
+    measure: Measure,
+    form: Form,
+    out: &mut W,
+) -> Result<Beside, Uncompared>
+    requires slots { measure.slots ≤ MAX_SLOT }
+    ensures printed { OnOk result
+        (PrintsCompared false (P.remaining plan) (S.remaining script) measure.slots true
+        (W.contents out.old) (W.contents out.new)) }
+    ensures part { OnErr result
+        (IsNotWhole W.contents W.has_failed
+        (PrintsCompared false (P.remaining plan) (S.remaining script) measure.slots true) out.old out.new) }
+{
+    let ComparedPlans {
+        store,
+        kept,
+        slot_us,
+    } = plans_in(alloc, plan, measure.units.slot_us)?;
+    let timed = timed_measure(measure, slot_us);
+    let compared = compare_wearing(alloc, &store, bad, kept, script, timed, form)?;
+    write_whole(out, &compared.text)?;
+    Ok(Beside {
+        refused: compared.refused,
+        unplanned: compared.unplanned,
+        stopped: compared.stopped,
+        slot_us,
+    })
+}
+
+/// Prints as [`act_compare`] does, of a store of fresh dies on parts some of whose blocks fail. Where a die is stopped since no
+/// spare block was left, that is reported, and the status stays 0.
+#[tactic(auto, using(crate::proofs::EndedSo::ends))]
+pub fn act_compare_worn<P: Read + Drop, S: Read + Drop, W: Output, E: Write>(
+    alloc: Global,
+    plan: P,
+    script: S,
+    bad: BadBlocks,
+    measure: Measure,
+    form: Form,
+    out: &mut W,
+    err: &mut E,
+) -> u8
+    requires slots { measure.slots ≤ MAX_SLOT }
+    ensures { Ends W.contents W.has_failed
+        (PrintsCompared false (P.remaining plan) (S.remaining script) measure.slots true) out.old out.new result }
+{
+    let compared = print_worn(alloc, plan, script, bad, measure, form, out);
     end_compared(err, measure.units, compared)
 }

@@ -10,7 +10,7 @@ use crate::shelves::Shelf;
 use crate::strict::{Amiss, amiss_in_figures};
 use flash_commands::Folder;
 use flashplan_keeping::script_text;
-use flashplan_words::{Command, FailingDie};
+use flashplan_words::{Command, FailingBlocks, FailingDie};
 use slot_types::Refusal;
 use std::alloc::Global;
 use std::io::Write;
@@ -33,6 +33,7 @@ fn run_with<'a>(
     script: &'a str,
     slots: u32,
     fail: Option<FailingDie>,
+    bad: Option<FailingBlocks>,
     from: Option<&'a str>,
 ) -> UntoldRun<'a>
     requires command { FitsRun command }
@@ -49,7 +50,7 @@ fn run_with<'a>(
         page_bytes: 0,
         as_csv: true,
         fail,
-        bad: None,
+        bad,
         from,
     };
     UntoldRun {
@@ -73,7 +74,7 @@ pub fn untold_run(command: Command<'_>) -> Option<UntoldRun<'_>>
             script,
             slots,
             from,
-        } => Some(run_with(command, plan, script, slots, None, from)),
+        } => Some(run_with(command, plan, script, slots, None, None, from)),
         Command::Draw {
             plan,
             script,
@@ -81,14 +82,15 @@ pub fn untold_run(command: Command<'_>) -> Option<UntoldRun<'_>>
             fail,
             checkpoint,
             ..
-        } => Some(run_with(command, plan, script, slots, fail, checkpoint)),
+        } => Some(run_with(command, plan, script, slots, fail, None, checkpoint)),
         Command::Compare {
             plan,
             script,
             slots,
+            bad,
             checkpoint,
             ..
-        } => Some(run_with(command, plan, script, slots, None, checkpoint)),
+        } => Some(run_with(command, plan, script, slots, None, bad, checkpoint)),
         _ => None,
     }
 }

@@ -5,25 +5,27 @@ ghost use Rattle.std.specs.Box.{box_value};
 
 use crate::planned_dies::PlannedDie;
 use crate::store_dies::StoreDie;
+use flash_die::Nand;
 use flashplan_script_runs::ScriptDie;
 use slot_types::{Event, Refusal};
 use std::alloc::Global;
 
 /// A die of the store, and one that keeps its plan, or none. Contracts see the first.
 #[derive(Drop)]
-pub(crate) struct ComparedDie {
-    pub(crate) store: Box<StoreDie>,
+pub(crate) struct ComparedDie<N: Nand> {
+    pub(crate) store: Box<StoreDie<N>>,
     pub(crate) planned: Option<Box<PlannedDie>>,
 }
 
-impl ScriptDie for ComparedDie {
+impl<N: Nand> ScriptDie for ComparedDie<N> {
     ghost use Rattle.std.specs.Box.{box_value};
-    ghost use Rattle.std.specs.Prelude.{◌≡◌, false};
+    ghost use Rattle.std.specs.Prelude.{◌≡◌, true, false};
     ghost use Rattle.flashplan_script_runs.specs.RunningDies.{running_of};
 
     ghost running = { λ die. running_of (box_value (box_value die.store).core) };
 
-    ghost runs_well = { λ die. (box_value (box_value die.store).core).stopped ≡ false };
+    ghost runs_well = { λ die. (N.never_fails ≡ true)
+        × ((box_value (box_value die.store).core).stopped ≡ false) };
 
     fn carry_to(&mut self, alloc: Global, slot: u32) -> Result<(), Refusal> {
         if let Some(planned) = &mut self.planned {

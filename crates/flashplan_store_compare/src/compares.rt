@@ -1,6 +1,6 @@
 //! A script on the store and on plain layers.
 
-ghost use Rattle.std.specs.Prelude.{◌≡◌, ◌≤◌, ◌++◌, ◌∷◌, [], false, All, length, map, IfOk, OnOk};
+ghost use Rattle.std.specs.Prelude.{◌≡◌, ◌≤◌, ◌++◌, ◌∷◌, [], false, true, All, length, map, IfOk, OnOk};
 ghost use Rattle.std.specs.Box.{box_value};
 ghost use Rattle.slot_types.specs.Refusal.{FailsForMemory};
 ghost use Rattle.die_log.specs.Model.Start.{fresh};
@@ -16,12 +16,13 @@ use crate::forms::Form;
 use crate::pictures::{Caption, picture};
 use crate::planned_dies::{PlannedDie, planned_dies};
 use crate::plays::{Counted, Play};
-use crate::started_dies::{StartedDies, fresh_dies};
+use crate::started_dies::{DiesOn, fresh_dies, wearing_dies};
 use crate::store_dies::{Carried, StoreDie};
 use crate::tables::{Sheet, put_die, put_header};
-use flash_die::MemoryNand;
+use flash_die::Nand;
 use flashplan_kept_runs::KeptFault;
 use flashplan_plain_layers::{Load, Marks, Policy, play};
+use flashplan_run_parts::BadBlocks;
 use flashplan_script_runs::{RefusedRow, RefusedRows, run_dies};
 use flashplan_slot_times::Units;
 use script_texts::ScriptReader;
@@ -71,10 +72,15 @@ pub struct Compared {
     pub unplanned: Option<KeptFault>,
     /// Which rows the store refused.
     pub refused: RefusedRows,
+    /// The first die of the store whose device failed, and in which slot.
+    pub stopped: Option<(u32, u32)>,
 }
 
 /// Adds a die. The only refusal is NoMemory.
-fn push_die(dies: &mut Vec<Box<ComparedDie>>, die: Box<ComparedDie>) -> Result<(), Refusal>
+fn push_die<N: Nand>(
+    dies: &mut Vec<Box<ComparedDie<N>>>,
+    die: Box<ComparedDie<N>>,
+) -> Result<(), Refusal>
     ensures ok { OnOk result (dies.new.items ≡ dies.old.items ++ die ∷ []) }
     ensures refused { FailsForMemory result }
 {
@@ -83,12 +89,12 @@ fn push_die(dies: &mut Vec<Box<ComparedDie>>, die: Box<ComparedDie>) -> Result<(
 }
 
 /// A die that was started, and one that keeps its plan beside it, or none. The only refusal is NoMemory.
-fn compared_die(
+fn compared_die<N: Nand>(
     alloc: Global,
-    core: Box<DieCore<MemoryNand>>,
+    core: Box<DieCore<N>>,
     from: u32,
     planned: Option<Box<PlannedDie>>,
-) -> Result<Box<ComparedDie>, Refusal>
+) -> Result<Box<ComparedDie<N>>, Refusal>
     ensures running { IfOk result (λ die. running die ≡ running_of (box_value core)) }
     ensures refused { FailsForMemory result }
 {
@@ -98,12 +104,12 @@ fn compared_die(
 
 /// Dies that were started, and dies that keep their plans beside them, the last of which stands first; or none. The only
 /// refusal is NoMemory.
-fn compared_dies(
+fn compared_dies<N: Nand>(
     alloc: Global,
-    started: StartedDies,
+    started: DiesOn<N>,
     mut planned: Vec<Box<PlannedDie>>,
     from: u32,
-) -> Result<Vec<Box<ComparedDie>>, Refusal>
+) -> Result<Vec<Box<ComparedDie<N>>>, Refusal>
     ensures running { IfOk result (λ dies. map running dies.items ≡ map begun started.items) }
     ensures refused { FailsForMemory result }
 {
@@ -117,20 +123,20 @@ fn compared_dies(
 
 /// Dies that ran a script, and which of its rows they refused.
 #[derive(Drop)]
-struct Ran {
-    dies: Vec<Box<ComparedDie>>,
+struct Ran<N: Nand> {
+    dies: Vec<Box<ComparedDie<N>>>,
     refused: Vec<RefusedRow>,
 }
 
 /// Runs a script on dies that were started, as [`run_store`] does. It is lent, since a reader is large to free where a row
 /// stops the run.
-fn run_lent<R: Read + Drop>(
+fn run_lent<N: Nand, R: Read + Drop>(
     alloc: Global,
     script: &mut ScriptReader<R>,
-    started: StartedDies,
+    started: DiesOn<N>,
     planned: Vec<Box<PlannedDie>>,
     measure: Measure,
-) -> Result<Ran, Refusal>
+) -> Result<Ran<N>, Refusal>
     requires few { measure.slots ≤ MAX_SLOT }
     requires slots { slots_of script.old ≡ measure.slots }
     requires dies { dies_of script.old ≡ length started.items }
@@ -139,7 +145,7 @@ fn run_lent<R: Read + Drop>(
     ensures starts { IfOk result (λ ran. starts_of (map running ran.dies.items) ≡ starts_of (map begun started.items)) }
     ensures ran { IfOk result (λ ran. RanScript (script_left R.remaining script.old) measure.slots
         ran.refused.items (map running ran.dies.items)) }
-    ensures none_stopped { IfOk result (λ ran. All (λ die. die.stopped ≡ false) (map running ran.dies.items)) }
+    ensures none_stopped { N.never_fails ≡ true → IfOk result (λ ran. All (λ die. die.stopped ≡ false) (map running ran.dies.items)) }
 {
     let mut dies = compared_dies(alloc, started, planned, measure.from)?;
     let refused = run_dies(alloc, script, &mut dies, measure.slots)?;
@@ -147,21 +153,21 @@ fn run_lent<R: Read + Drop>(
 }
 
 /// Runs a script on a store of dies in memory that were started, one of each plan.
-fn run_store<R: Read + Drop>(
+fn run_store<N: Nand, R: Read + Drop>(
     alloc: Global,
     plan: &StorePlan,
-    started: StartedDies,
+    started: DiesOn<N>,
     planned: Vec<Box<PlannedDie>>,
     script: R,
     measure: Measure,
-) -> Result<Ran, Refusal>
+) -> Result<Ran<N>, Refusal>
     requires slots { measure.slots ≤ MAX_SLOT }
     requires dies { length started.items ≡ length plan.now }
     requires empty { All HasEmptyLog (map begun started.items) }
     requires run { All (λ die. die.stopped ≡ false) (map begun started.items) }
     ensures ran { IfOk result (λ ran. IsRunOf (starts_of (map begun started.items)) (R.remaining script) measure.slots
         ran.refused.items (map running ran.dies.items)) }
-    ensures none_stopped { IfOk result (λ ran. All (λ die. die.stopped ≡ false) (map running ran.dies.items)) }
+    ensures none_stopped { N.never_fails ≡ true → IfOk result (λ ran. All (λ die. die.stopped ≡ false) (map running ran.dies.items)) }
 {
     let mut script = ScriptReader::new(alloc, script, plan, measure.slots)?;
     run_lent(alloc, &mut script, started, planned, measure)
@@ -261,12 +267,12 @@ fn tasks_of(plan: &DiePlan) -> u32 {
     u32::try_from(plan.caps.len()).unwrap_or(u32::MAX)
 }
 
-fn add_layer(
+fn add_layer<N: Nand>(
     alloc: Global,
     teller: &mut Teller,
     plan: &DiePlan,
     die: u32,
-    store: &StoreDie,
+    store: &StoreDie<N>,
     policy: Policy,
     measure: Measure,
 ) -> Result<(), CompareFault> {
@@ -300,12 +306,12 @@ fn add_layer(
     Ok(())
 }
 
-fn add_store(
+fn add_store<N: Nand>(
     alloc: Global,
     teller: &mut Teller,
     plan: &DiePlan,
     die: u32,
-    run: &StoreDie,
+    run: &StoreDie<N>,
 ) -> Result<(), Refusal> {
     let ends = run.ends(alloc)?;
     let play = Play {
@@ -319,11 +325,11 @@ fn add_store(
     teller.add(alloc, &play)
 }
 
-fn add_stores(
+fn add_stores<N: Nand>(
     alloc: Global,
     teller: &mut Teller,
     plan: &StorePlan,
-    dies: &[Box<ComparedDie>],
+    dies: &[Box<ComparedDie<N>>],
 ) -> Result<(), Refusal> {
     let mut number: u32 = 0;
     for (plan, die) in plan.as_slice().iter().zip(dies) {
@@ -333,12 +339,12 @@ fn add_stores(
     Ok(())
 }
 
-fn add_planned(
+fn add_planned<N: Nand>(
     alloc: Global,
     teller: &mut Teller,
     plan: &DiePlan,
     die: u32,
-    run: &ComparedDie,
+    run: &ComparedDie<N>,
 ) -> Result<(), Refusal> {
     let Some(planned) = &run.planned else {
         return Ok(());
@@ -355,11 +361,11 @@ fn add_planned(
     teller.add(alloc, &play)
 }
 
-fn add_all_planned(
+fn add_all_planned<N: Nand>(
     alloc: Global,
     teller: &mut Teller,
     plan: &StorePlan,
-    dies: &[Box<ComparedDie>],
+    dies: &[Box<ComparedDie<N>>],
 ) -> Result<(), Refusal> {
     let mut number: u32 = 0;
     for (plan, die) in plan.as_slice().iter().zip(dies) {
@@ -369,11 +375,11 @@ fn add_all_planned(
     Ok(())
 }
 
-fn add_layers(
+fn add_layers<N: Nand>(
     alloc: Global,
     teller: &mut Teller,
     plan: &StorePlan,
-    dies: &[Box<ComparedDie>],
+    dies: &[Box<ComparedDie<N>>],
     policy: Policy,
     measure: Measure,
 ) -> Result<(), CompareFault> {
@@ -413,10 +419,22 @@ fn wanted_dies(
     }
 }
 
+/// The first die whose device failed, and in which slot.
+fn first_stopped<N: Nand>(dies: &[Box<ComparedDie<N>>]) -> Option<(u32, u32)> {
+    let mut number: u32 = 0;
+    for die in dies {
+        if let Some(slot) = die.store.stopped_in() {
+            return Some((number, slot));
+        }
+        number = number.saturating_add(1);
+    }
+    None
+}
+
 /// Runs a script on a store of dies in memory, as `flashrec run` does, on dies that keep these plans, if there are some,
 /// and its jobs once more by each plain policy; and tells how late they were, as a table or records by policy, die and
 /// task, or as a picture: what the store did is that of dies that started so, and ran the script and all slots of the
-/// measure. None of them stopped, since no device in memory fails. A plain layer begins with the pages that lie in
+/// measure. None of them stopped where their devices never fail. A plain layer begins with the pages that lie in
 /// cells of its die of the store, one after the other, so that no cell of it is stale. A die that keeps its plan begins
 /// fresh: there should be plans to keep only where the store does. Counted are the jobs that are released from the
 /// first measured slot on and due within the slots of the run, and that the store takes or refuses for lack of tokens;
@@ -424,10 +442,10 @@ fn wanted_dies(
 /// none is compared. The rows that the store refused are counted by their refusals, too.
 ///
 /// A picture of a die or a task that isn't there is UnknownDie or UnknownTask.
-pub fn compare_started<R: Read + Drop>(
+pub fn compare_started<N: Nand, R: Read + Drop>(
     alloc: Global,
     plan: &StorePlan,
-    started: StartedDies,
+    started: DiesOn<N>,
     kept: Option<StoreTerms>,
     script: R,
     measure: Measure,
@@ -438,7 +456,7 @@ pub fn compare_started<R: Read + Drop>(
     requires empty { All HasEmptyLog (map begun started.items) }
     requires run { All (λ die. die.stopped ≡ false) (map begun started.items) }
     ensures { IfOk result (λ compared.
-        HasStoreRun (starts_of (map begun started.items)) (R.remaining script) measure.slots compared.refused) }
+        HasStoreRun N.never_fails (starts_of (map begun started.items)) (R.remaining script) measure.slots compared.refused) }
 {
     check_form(plan, form)?;
     let (planned, unplanned) = wanted_dies(alloc, kept, measure)?;
@@ -454,6 +472,7 @@ pub fn compare_started<R: Read + Drop>(
         text,
         unplanned,
         refused: RefusedRows::of(&refused),
+        stopped: first_stopped(dies.as_slice()),
     })
 }
 
@@ -468,8 +487,27 @@ pub fn compare<R: Read + Drop>(
 ) -> Result<Compared, CompareFault>
     requires { measure.slots ≤ MAX_SLOT }
     ensures { IfOk result (λ compared.
-        HasStoreRun (map fresh plan.now) (R.remaining script) measure.slots compared.refused) }
+        HasStoreRun true (map fresh plan.now) (R.remaining script) measure.slots compared.refused) }
 {
     let started = fresh_dies(alloc, plan)?;
+    compare_started(alloc, plan, started, kept, script, measure, form)
+}
+
+/// Compares as [`compare_started`] does, with a store of fresh dies on parts some of whose blocks fail. BadShape or BadPlan
+/// where a plan misses its bound; DeviceFault where more blocks of a part are bad from the factory than are spare.
+pub fn compare_wearing<R: Read + Drop>(
+    alloc: Global,
+    plan: &StorePlan,
+    bad: BadBlocks,
+    kept: Option<StoreTerms>,
+    script: R,
+    measure: Measure,
+    form: Form,
+) -> Result<Compared, CompareFault>
+    requires { measure.slots ≤ MAX_SLOT }
+    ensures { IfOk result (λ compared.
+        HasStoreRun false (map fresh plan.now) (R.remaining script) measure.slots compared.refused) }
+{
+    let started = wearing_dies(alloc, plan, bad)?;
     compare_started(alloc, plan, started, kept, script, measure, form)
 }

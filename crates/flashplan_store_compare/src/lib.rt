@@ -19,7 +19,7 @@ mod started_dies;
 mod store_dies;
 mod tables;
 
-pub use compares::{CompareFault, Compared, Measure, compare, compare_started};
+pub use compares::{CompareFault, Compared, Measure, compare, compare_started, compare_wearing};
 pub use forms::Form;
 pub use plan_copies::store_copy;
-pub use started_dies::StartedDies;
+pub use started_dies::{DiesOn, StartedDies};

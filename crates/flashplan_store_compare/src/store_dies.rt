@@ -1,6 +1,6 @@
 //! A die of the store that runs the rows of a script.
 
-ghost use Rattle.std.specs.Prelude.{◌≡◌, ◌<◌, false, IfOk};
+ghost use Rattle.std.specs.Prelude.{◌≡◌, ◌<◌, true, false, IfOk};
 ghost use Rattle.std.specs.Box.{box_value};
 ghost use Rattle.std.specs.Result.{result_err};
 ghost use Rattle.slot_types.specs.Refusal.{FailsForMemory};
@@ -8,7 +8,7 @@ ghost use Rattle.die_log.specs.Model.Log.{now};
 ghost use Rattle.flashplan_script_runs.specs.RunningDies.{IsAsked, TakesSlot, running_of};
 
 use crate::figures::End;
-use flash_die::MemoryNand;
+use flash_die::Nand;
 use flashplan_plain_layers::Load;
 use flashplan_script_runs::ScriptDie;
 use slot_core::{DieCore, Outcome};
@@ -52,10 +52,10 @@ struct JobRow<'a> {
     ops: &'a OpList,
 }
 
-/// A die in memory, and the jobs that it was asked for and took, or refused for lack of tokens.
+/// A die, and the jobs that it was asked for and took, or refused for lack of tokens.
 #[derive(Drop)]
-pub(crate) struct StoreDie {
-    core: Box<DieCore<MemoryNand>>,
+pub(crate) struct StoreDie<N: Nand> {
+    core: Box<DieCore<N>>,
     from: u32,
     pub(crate) carried: Carried,
     /// The pages that lay in cells when it was started, in order.
@@ -66,7 +66,7 @@ pub(crate) struct StoreDie {
 }
 
 /// The pages of a die that lie in cells, in order. The only refusal is NoMemory.
-fn standing_pages(alloc: Global, core: &DieCore<MemoryNand>) -> Result<Vec<u32>, Refusal>
+fn standing_pages<N: Nand>(alloc: Global, core: &DieCore<N>) -> Result<Vec<u32>, Refusal>
     ensures { FailsForMemory result }
 {
     let mut standing = Vec::new(alloc);
@@ -78,13 +78,13 @@ fn standing_pages(alloc: Global, core: &DieCore<MemoryNand>) -> Result<Vec<u32>,
     Ok(standing)
 }
 
-impl StoreDie {
+impl<N: Nand> StoreDie<N> {
     /// A die that was started, whose slots are counted from this one on. The only refusal is NoMemory.
     pub(crate) fn new(
         alloc: Global,
-        core: Box<DieCore<MemoryNand>>,
+        core: Box<DieCore<N>>,
         from: u32,
-    ) -> Result<Box<StoreDie>, Refusal>
+    ) -> Result<Box<StoreDie<N>>, Refusal>
         ensures core { IfOk result (λ die. (box_value die).core ≡ core) }
         ensures refused { FailsForMemory result }
     {
@@ -105,7 +105,7 @@ impl StoreDie {
         requires { now (box_value self.old.core).log < MAX_SLOT }
         ensures took { TakesSlot result (running_of (box_value self.old.core))
             (running_of (box_value self.new.core)) }
-        ensures well { (box_value self.old.core).stopped ≡ false →
+        ensures well { N.never_fails ≡ true → (box_value self.old.core).stopped ≡ false →
             (box_value self.new.core).stopped ≡ false }
     {
         let reply = self.core.slot(alloc, 0)?;
@@ -161,7 +161,7 @@ impl StoreDie {
             refusal (running_of (box_value self.old.core))
             (running_of (box_value self.new.core))) }
         ensures start { (box_value self.new.core).start ≡ (box_value self.old.core).start }
-        ensures well { (box_value self.old.core).stopped ≡ false →
+        ensures well { N.never_fails ≡ true → (box_value self.old.core).stopped ≡ false →
             (box_value self.new.core).stopped ≡ false }
         ensures refused { FailsForMemory result }
     {
@@ -176,6 +176,15 @@ impl StoreDie {
         match self.core.outcome(alloc, number)? {
             Outcome::Done { completion, .. } => Ok(End::Done { completion }),
             _ => Ok(End::Unfinished),
+        }
+    }
+
+    /// The slot in which it was stopped, if its device has failed.
+    pub(crate) fn stopped_in(&self) -> Option<u32> {
+        if self.core.is_stopped() {
+            Some(self.core.now())
+        } else {
+            None
         }
     }
 
@@ -194,15 +203,15 @@ impl StoreDie {
     }
 }
 
-impl ScriptDie for StoreDie {
+impl<N: Nand> ScriptDie for StoreDie<N> {
     ghost use Rattle.std.specs.Box.{box_value};
-    ghost use Rattle.std.specs.Prelude.{◌≡◌, false};
+    ghost use Rattle.std.specs.Prelude.{◌≡◌, true, false};
     ghost use Rattle.flashplan_script_runs.specs.RunningDies.{running_of};
 
     ghost running = { λ die. running_of (box_value die.core) };
 
-    /// Its device is in memory, and never fails.
-    ghost runs_well = { λ die. (box_value die.core).stopped ≡ false };
+    /// Its device never fails.
+    ghost runs_well = { λ die. (N.never_fails ≡ true) × ((box_value die.core).stopped ≡ false) };
 
     fn carry_to(&mut self, alloc: Global, slot: u32) -> Result<(), Refusal> {
         for _present in self.core.now()..slot {

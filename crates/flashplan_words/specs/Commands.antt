@@ -158,8 +158,9 @@ compare_from rows plan script slots = do
   draws ← first_of (codes "draw") rows
   die ← first_of (codes "die") rows >>= number_upto
   task ← first_of (codes "task") rows >>= number_upto
+  bad ← bad_of rows
   Some (Compare plan script slots first pool slot_us page_bytes (bytes_eq as_csv (codes "true"))
-      (bytes_eq draws (codes "true")) die task (first_of (codes "checkpoint") rows))
+      (bytes_eq draws (codes "true")) die task bad (first_of (codes "checkpoint") rows))
 
 abbrev pub compare_of : List Row → Option CommandText
 compare_of rows = on_script rows (compare_from rows)

@@ -27,7 +27,7 @@ pub data CommandText : Type 0 where
       (fail : Option FailingDie) (checkpoint : Option Text) → CommandText
   Demand : (plan : Text) (die : ℕ) → CommandText
   Compare : (plan script : Text) (slots first pool slot_us page_bytes : ℕ) (as_csv draws : Bool) (die task : ℕ)
-      (checkpoint : Option Text) → CommandText
+      (bad : Option FailingBlocks) (checkpoint : Option Text) → CommandText
   Run : (plan script : Text) (slots : ℕ) (from to : Option Text) (fail : Option FailingDie) → CommandText
   RunKept : (plan script : Text) (slots : ℕ) → CommandText
   Cut : (plan script : Text) (slots at : ℕ) (every : Bool) (leaves : Option Leftover) (looks : ℕ) (mounts : Bool) (bad : Option FailingBlocks)
@@ -56,8 +56,8 @@ text_of_command (command.Report plan script slots endurance slot_us page_bytes a
 text_of_command (command.Draw plan script slots die first end slot_us page_bytes worst as_text all fail checkpoint) =
     Draw plan.now script.now slots die first end slot_us page_bytes worst as_text all fail (name_of checkpoint)
 text_of_command (command.Demand plan die) = Demand plan.now die
-text_of_command (command.Compare plan script slots first pool slot_us page_bytes as_csv draws die task checkpoint) =
-    Compare plan.now script.now slots first pool slot_us page_bytes as_csv draws die task (name_of checkpoint)
+text_of_command (command.Compare plan script slots first pool slot_us page_bytes as_csv draws die task bad checkpoint) =
+    Compare plan.now script.now slots first pool slot_us page_bytes as_csv draws die task bad (name_of checkpoint)
 text_of_command (command.Run plan script slots from to fail) = Run plan.now script.now slots (name_of from) (name_of to) fail
 text_of_command (command.RunKept plan script slots) = RunKept plan.now script.now slots
 text_of_command (command.Cut plan script slots at every leaves looks mounts bad die slot_us to) =
@@ -75,7 +75,7 @@ FitsRun (command.Wear plan script slots from) = slots ≤ 1048576
 FitsRun (command.Report plan script slots endurance slot_us page_bytes as_csv fail bad from) = slots ≤ 1048576
 FitsRun (command.Draw plan script slots die first end slot_us page_bytes worst as_text all fail checkpoint) =
     slots ≤ 1048576
-FitsRun (command.Compare plan script slots first pool slot_us page_bytes as_csv draws die task checkpoint) =
+FitsRun (command.Compare plan script slots first pool slot_us page_bytes as_csv draws die task bad checkpoint) =
     slots ≤ 1048576
 FitsRun (command.Run plan script slots from to fail) = slots ≤ 1048576
 FitsRun (command.RunKept plan script slots) = slots ≤ 1048576

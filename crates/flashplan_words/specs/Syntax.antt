@@ -172,7 +172,7 @@ abbrev pub compare_of_task_app : App
 compare_of_task_app = with_rule (with_rule compare_timed_app die_rule) (count_rule (codes "task"))
 
 abbrev pub compare_app : App
-compare_app = with_rule (with_rule compare_of_task_app (option_rule (codes "checkpoint"))) strict_rule
+compare_app = with_rule (with_rule (with_rule compare_of_task_app bad_rule) (option_rule (codes "checkpoint"))) strict_rule
 
 abbrev pub run_files_app : App
 run_files_app = on_files (new_app (codes "run"))

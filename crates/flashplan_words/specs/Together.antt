@@ -35,9 +35,9 @@ goes_together (Report plan script slots endurance slot_us page_bytes as_csv fail
     (not as_csv || (page_bytes == 0 && (slot_us == 0 || nat_lt 0 endurance))) && begins_fresh bad fail from
 goes_together (Draw plan script slots die first end slot_us page_bytes worst as_text all fail checkpoint) =
     (not worst || (first == 0 && end == 1048576)) && ((nat_lt first end && has_slots first slots) && fails_drawn die fail)
-goes_together (Compare plan script slots first pool slot_us page_bytes as_csv draws die task checkpoint) =
+goes_together (Compare plan script slots first pool slot_us page_bytes as_csv draws die task bad checkpoint) =
     not (as_csv && draws) && ((draws || (die == 0 && task == 0))
-    && (has_slots first slots && has_units slot_us page_bytes as_csv draws))
+    && (has_slots first slots && (has_units slot_us page_bytes as_csv draws && begins_fresh bad None checkpoint)))
 goes_together (Cut plan script slots at every leaves looks mounts bad die slot_us to) =
     if every then at == 0 && is_none to else nat_lt 0 at && not mounts
 goes_together command = true

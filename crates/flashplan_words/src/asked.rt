@@ -160,6 +160,8 @@ pub enum Command<'a> {
         draws: bool,
         die: u32,
         task: u32,
+        /// With these, the store's dies are fresh, on parts with spare blocks.
+        bad: Option<FailingBlocks>,
         /// The checkpoint from which the dies go on; fresh ones begin where there is none.
         checkpoint: Option<&'a str>,
     },

@@ -284,6 +284,7 @@ fn compare<'a>(met: &ArgMatches<'a>) -> Option<Command<'a>>
     let draws = value(met, "draw")? == "true";
     let die = number_at(met, "die")?;
     let task = number_at(met, "task")?;
+    let bad = bad(met)?;
     let checkpoint = value(met, "checkpoint");
     Some(Command::Compare {
         plan,
@@ -297,6 +298,7 @@ fn compare<'a>(met: &ArgMatches<'a>) -> Option<Command<'a>>
         draws,
         die,
         task,
+        bad,
         checkpoint,
     })
 }

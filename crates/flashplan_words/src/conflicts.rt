@@ -195,6 +195,10 @@ fn in_draw(words: &[String]) -> Option<Conflict<'_>> {
 
 /// The options of `compare` that don't go together.
 fn in_compare(words: &[String]) -> Option<Conflict<'_>> {
+    let bad = beside_bad(words, "--checkpoint");
+    if bad.is_some() {
+        return bad;
+    }
     if has(words, "--draw") && has(words, "--csv") {
         return Some(Conflict {
             option: "--csv",

@@ -95,7 +95,7 @@ fn parsed<'a>(
 ///   `--worst` goes with neither, and DIE is D;
 /// - `draw PLAN --demand --die D`, which takes no other option;
 /// - `compare PLAN SCRIPT --slots N --from F --pool A --csv --draw --slot-us U --page-bytes P --die D --task T
-///   --checkpoint CHECKPOINT`, where `--csv` goes with neither `--draw` nor U, neither of these two flags with P, and D
+///   --bad N:SEED --checkpoint CHECKPOINT`, where `--bad` doesn't go with a checkpoint, `--csv` goes with neither `--draw` nor U, neither of these two flags with P, and D
 ///   and T with `--draw` alone;
 /// - `import TRACE.. --slot-us U --due D --plan`;
 /// - `run PLAN SCRIPT --slots N --from CHECKPOINT --to CHECKPOINT --fail-at DIE:K`, where the last goes with neither

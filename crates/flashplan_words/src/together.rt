@@ -78,11 +78,15 @@ pub(crate) fn goes_together(command: Command<'_>) -> bool
             draws,
             die,
             task,
+            bad,
+            checkpoint,
             ..
         } => {
             let units = has_units(slot_us, page_bytes, as_csv, draws);
             let window = has_slots(from, slots);
-            !(as_csv && draws) && ((draws || (die == 0 && task == 0)) && (window && units))
+            let fresh = begins_fresh(bad, None, checkpoint);
+            !(as_csv && draws)
+                && ((draws || (die == 0 && task == 0)) && (window && (units && fresh)))
         }
         Command::Cut {
             at,

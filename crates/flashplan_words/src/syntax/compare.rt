@@ -6,7 +6,7 @@ ghost use Rattle.command_arguments.specs.Arguments.{flag_rule};
 ghost use Rattle.flashplan_words.specs.Syntax.{IsCommand, compare_app, compare_files_app, compare_forms_app, compare_of_task_app, compare_run_app, compare_timed_app, count_rule, from_rule, pool_rule};
 
 use crate::syntax::parts::{command, on_files, with_arg};
-use crate::syntax::shared::{checkpoint, csv, die, page_bytes, slot_us, strict};
+use crate::syntax::shared::{bad, checkpoint, csv, die, page_bytes, slot_us, strict};
 use clap::{Arg, Command};
 use command_arguments::{defaulted, flag, slots};
 use std::alloc::{AllocError, Global};
@@ -117,6 +117,7 @@ fn compare_of_task<'a>(alloc: Global) -> Result<Command<'a>, AllocError>
 pub(crate) fn compare_words<'a>(alloc: Global) -> Result<Command<'a>, AllocError>
     ensures { IfOk result (λ c. IsCommand c compare_app) }
 {
-    let begun = with_arg(compare_of_task(alloc), checkpoint(alloc));
+    let worn = with_arg(compare_of_task(alloc), bad(alloc));
+    let begun = with_arg(worn, checkpoint(alloc));
     with_arg(begun, strict(alloc))
 }

@@ -15,4 +15,4 @@ returns-clause-compare c =
     let rows = rows_of (found_of c.args.met.now) in
     let met = c.in_ok-plan in
     when_scripted rows (compare_from rows) met.plan.now met.script.now met.slots _ (met.ensures.scripted (compare_from rows))
-    (rw (← c.value-checkpoint.ensures, ← c.in_ok-from.ensures.number, ← c.in_ok-pool.ensures.number, ← c.in_ok-slot_us.ensures.number, ← c.in_ok-page_bytes.ensures.number, ← c.in_ok-value.ensures, ← c.in_ok-value-2.ensures, ← c.in_ok-die.ensures.number, ← c.in_ok-task.ensures.number, c.eq-as_csv.ensures, c.eq-draws.ensures) refl)
+    (rw (← c.value-checkpoint.ensures, ← c.in_ok-from.ensures.number, ← c.in_ok-pool.ensures.number, ← c.in_ok-slot_us.ensures.number, ← c.in_ok-page_bytes.ensures.number, ← c.in_ok-value.ensures, ← c.in_ok-value-2.ensures, ← c.in_ok-die.ensures.number, ← c.in_ok-task.ensures.number, ← c.in_ok-bad.ensures, c.eq-as_csv.ensures, c.eq-draws.ensures) refl)
