@@ -18,6 +18,7 @@ mod shares;
 mod started_dies;
 mod store_dies;
 mod tables;
+mod wearing_dies;
 
 pub use compares::{CompareFault, Compared, Measure, compare, compare_started, compare_wearing};
 pub use forms::Form;

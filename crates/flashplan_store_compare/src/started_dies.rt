@@ -9,7 +9,6 @@ ghost use Rattle.flashplan_store_compare.specs.Runs.{begun};
 
 use crate::plan_copies::plan_copy;
 use flash_die::{MemoryNand, Nand};
-use flashplan_run_parts::{BadBlocks, RunNand};
 use plan_rules::bound;
 use slot_core::DieCore;
 use slot_types::{DiePlan, Refusal, StorePlan};
@@ -39,7 +38,7 @@ fn fresh_die(alloc: Global, plan: DiePlan) -> Result<Box<DieCore<MemoryNand>>, R
 }
 
 /// Adds a die. The only refusal is NoMemory.
-fn push_started<N: Nand>(dies: &mut DiesOn<N>, die: Box<DieCore<N>>) -> Result<(), Refusal>
+pub(crate) fn push_started<N: Nand>(dies: &mut DiesOn<N>, die: Box<DieCore<N>>) -> Result<(), Refusal>
     ensures ok { OnOk result (dies.new.items ≡ dies.old.items ++ die ∷ []) }
     ensures refused { FailsForMemory result }
 {
@@ -58,48 +57,6 @@ pub(crate) fn fresh_dies(alloc: Global, plans: &StorePlan) -> Result<StartedDies
         let own = plan_copy(alloc, plan)?;
         let die = fresh_die(alloc, own)?;
         push_started(&mut dies, die)?;
-    }
-    Ok(dies)
-}
-
-/// A fresh die of a plan, on a part that has spare blocks and some of whose blocks fail, as they are drawn for this number
-/// ([`RunNand::wearing`]). `BadShape` or `BadPlan` where the plan misses its bound; `DeviceFault` where more of its blocks
-/// are bad from the factory than are spare; or NoMemory.
-fn wearing_die(
-    alloc: Global,
-    plan: DiePlan,
-    bad: BadBlocks,
-    die: u32,
-) -> Result<Box<DieCore<RunNand>>, Refusal>
-    ensures start { IfOk result (λ core. (box_value core).start ≡ fresh plan) }
-    ensures log { IfOk result (λ core. (box_value core).log ≡ []) }
-    ensures runs { IfOk result (λ core. (box_value core).stopped ≡ false) }
-{
-    bound(&plan)?;
-    let nand = RunNand::wearing(alloc, plan.shape, bad, die)?;
-    match DieCore::boxed(alloc, plan, nand) {
-        Ok(core) => Ok(core),
-        Err(_) => Err(Refusal::NoMemory),
-    }
-}
-
-/// A fresh die for each plan, on parts some of whose blocks fail. Refused as [`wearing_die`].
-pub(crate) fn wearing_dies(
-    alloc: Global,
-    plans: &StorePlan,
-    bad: BadBlocks,
-) -> Result<DiesOn<RunNand>, Refusal>
-    ensures starts { IfOk result (λ dies. starts_of (map begun dies.items) ≡ map fresh plans.now) }
-    ensures empty { IfOk result (λ dies. All HasEmptyLog (map begun dies.items)) }
-    ensures run { IfOk result (λ dies. All (λ die. die.stopped ≡ false) (map begun dies.items)) }
-{
-    let mut dies = Vec::new(alloc);
-    let mut number: u32 = 0;
-    for plan in plans.as_slice() {
-        let own = plan_copy(alloc, plan)?;
-        let die = wearing_die(alloc, own, bad, number)?;
-        push_started(&mut dies, die)?;
-        number = number.saturating_add(1);
     }
     Ok(dies)
 }
