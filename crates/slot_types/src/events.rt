@@ -12,7 +12,8 @@ use crate::pages::PageData;
 pub enum Op {
     Read(u32),
     Write(u32, PageData),
-    /// The page reads as 16 bytes 0xFF from now on, until it is written again.
+    /// The page reads as 16 bytes 0xFF from now on, until it is written again. A trim leaves no mark on the device: after a
+    /// loss of power a page that was trimmed since its last write is blank, or has some earlier write of it.
     Trim(u32),
 }
 
